@@ -1,0 +1,5 @@
+pub mod Answers
+pub mod Bytes
+pub mod Faults
+pub mod Record
+pub mod Steps

@@ -1,0 +1,18 @@
+//! What every layer of the reader stands on: errors, byte order, parse modes, and numbers, slices
+//! and texts read at an offset.
+#![tactic(auto)]
+
+pub mod endian;
+pub mod error;
+pub mod permissive;
+pub mod read;
+pub mod record;
+
+pub use endian::Endian;
+pub use error::{Cause, CauseOf, Error, ErrorOf, ReadFault, Result, ResultOf};
+pub use permissive::ParseMode;
+pub use read::{
+    gread_slice, gread_str, gread_str_until, gread_u8, gread_u16, gread_u32, gread_u64,
+    pread_slice, pread_str, pread_str_until, pread_u8, pread_u16, pread_u32, pread_u64,
+};
+pub use record::{field_u8, field_u16, field_u32, field_u64};
