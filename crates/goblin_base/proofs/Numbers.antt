@@ -1,8 +1,6 @@
 -- The number in the bytes of a slice is the number at its place.
-use Rattle.std.proofs.Common.{◌≡◌, ℕ, Bool, true, false, zero, suc, ◌+◌, ◌*◌, ◌^◌, ◌-◌, ◌<◌, ◌≤◌, List, length, drop, slice_index, refl, sym, ap, ◌∙◌, add-one, add-zero, arith}
-use Rattle.std.specs.Prelude.{sum_by, slice_range, nat_lt, nat_le, ◌&&◌, Some}
-use Rattle.std.proofs.lemmas.Option.{cond_some}
-use Rattle.std.proofs.lemmas.Bool.{ltb-true, leb-true}
+use Rattle.std.proofs.Common.{◌≡◌, ℕ, zero, suc, ◌+◌, ◌*◌, ◌^◌, ◌-◌, ◌<◌, ◌≤◌, List, drop, slice_index, refl, ap, ◌∙◌, add-one, add-zero, arith}
+use Rattle.std.specs.Prelude.{sum_by, slice_range}
 use Rattle.std.specs.List.{range_with_len}
 use Rattle.std.proofs.lemmas.List.{get_or-take, get_or-drop}
 use Rattle.std.proofs.lemmas.List.Sums.{sum_by-cons}
@@ -10,7 +8,7 @@ use Rattle.std.proofs.Math.Nat.{pow-suc}
 use Rattle.byteorder.specs.Endian.{big_from, little_from}
 use Rattle.goblin_base.specs.declared.endian.Endian.{Endian}
 use Rattle.goblin_base.specs.declared.endian.Endian.TheVariants.{Little, Big}
-use Rattle.goblin_base.specs.Bytes.{number, slice_at}
+use Rattle.goblin_base.specs.Bytes.{number}
 
 -- a byte of a slice
 pub get_or-slice : (bytes : List ℕ) (p n i : ℕ) → i < n → slice_index (slice_range bytes p (p + n)) i ≡ slice_index bytes (p + i)
@@ -55,22 +53,6 @@ pub number-slice : (endian : Endian) (n : ℕ) (bytes : List ℕ) (p : ℕ) → 
 unfolding number
 number-slice Little n bytes p = little_sum bytes p n n 0 (omega arith) ∙ omega arith
 number-slice Big n bytes p = big_sum bytes p n n 0 (omega arith)
-
-both_true : (a b : Bool) → (a && b) ≡ true → (a ≡ true) × (b ≡ true)
-both_true true b h = (refl, h)
-both_true false b h = absurd cc
-
--- what slice_at says of the slice that is there
-pub record IsSliceOf (bytes : List ℕ) (p n : ℕ) (s : List ℕ) : Type 0 where
-  pub start : p < length bytes
-  pub end : p + n ≤ length bytes
-  pub value : s ≡ slice_range bytes p (p + n)
-
-pub slice_at-some : (bytes : List ℕ) (p n : ℕ) (s : List ℕ) → slice_at bytes p n ≡ Some s → IsSliceOf bytes p n s
-slice_at-some bytes p n s h =
-    let both = cond_some (nat_lt p (length bytes) && nat_le (p + n) (length bytes)) (slice_range bytes p (p + n)) s h in
-    let tests = both_true _ _ both.0 in
-    record { start = ltb-true _ _ tests.0; end = leb-true _ _ tests.1; value = sym both.1 }
 
 pub number_from_little : (n : ℕ) (bytes : List ℕ) (p : ℕ) → number Little n bytes p ≡ little_from 0 n (slice_range bytes p (p + n))
 number_from_little n bytes p = number-slice Little n bytes p
