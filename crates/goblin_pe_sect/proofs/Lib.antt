@@ -1,0 +1,4 @@
+pub mod Numerals
+pub mod ReadBack
+pub mod NameBack
+pub mod NameLaw
