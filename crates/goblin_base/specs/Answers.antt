@@ -1,5 +1,5 @@
--- What a call answers: the value that there is, or a refusal whose cause is true.
-use Rattle.std.specs.Prelude.{◌≡◌, Option, Some, None, Result, Ok, Err}
+-- What a call answers: the value that there is, or a refusal whose cause is true; and what a write leaves.
+use Rattle.std.specs.Prelude.{◌≡◌, ℕ, List, Option, Some, None, Result, Ok, Err}
 use Rattle.goblin_base.specs.declared.error.ErrorOf.{ErrorOf}
 use Rattle.goblin_base.specs.declared.error.ErrorOf.TheVariants.{Memory}
 
@@ -17,3 +17,8 @@ IsMemoryOr e Fact = Fact
 abbrev pub AnswersOrMemory : {X Y : Type 0} → (X → Y) → Result X ErrorOf → Option Y → (ErrorOf → Type 0) → Type 0
 AnswersOrMemory view (Ok x) value IsCause = value ≡ Some (view x)
 AnswersOrMemory view (Err e) value IsCause = IsMemoryOr e ((value ≡ None) × IsCause e)
+
+-- A write that is made leaves the change of the old bytes. One that is refused has no change to make, leaves the bytes as they were, and the cause is true.
+abbrev pub Writes : {X : Type 0} → Result X ErrorOf → Option (List ℕ) → List ℕ → List ℕ → (ErrorOf → Type 0) → Type 0
+Writes (Ok x) change old new IsCause = change ≡ Some new
+Writes (Err e) change old new IsCause = (change ≡ None) × (new ≡ old) × IsCause e

@@ -1,4 +1,4 @@
--- Which causes of a refused read are true.
+-- Which causes of a refused read or write are true.
 use Rattle.std.specs.Prelude.{◌≡◌, ℕ, ◌+◌, ◌<◌, ◌≤◌, List, length, false, IsSomeAnd}
 use Rattle.std.specs.Str.{is_utf8}
 use Rattle.goblin_base.specs.declared.error.ErrorOf.{ErrorOf}
@@ -6,7 +6,7 @@ use Rattle.goblin_base.specs.declared.error.ErrorOf.TheVariants.{Read}
 use Rattle.goblin_base.specs.declared.error.ReadFault.TheVariants.{BadOffset, TooBig, BadInput}
 use Rattle.goblin_base.specs.Bytes.{before_nul, slice_at, stretch}
 
--- which cause is true of a read of n bytes at p that is refused
+-- which cause is true of a read or a write of n bytes at p that is refused
 abbrev pub IsSliceFault : List ℕ → ℕ → ℕ → ErrorOf → Type 0
 IsSliceFault bytes p n (Read BadOffset) = length bytes ≤ p
 IsSliceFault bytes p n (Read TooBig) = length bytes < p + n

@@ -1,5 +1,5 @@
 //! What every layer of the reader stands on: errors, byte order, parse modes, and numbers, slices
-//! and texts read at an offset.
+//! and texts read and written at an offset.
 #![tactic(auto)]
 
 pub mod endian;
@@ -7,6 +7,7 @@ pub mod error;
 pub mod permissive;
 pub mod read;
 pub mod record;
+pub mod write;
 
 pub use endian::Endian;
 pub use error::{Cause, CauseOf, Error, ErrorOf, ReadFault, Result, ResultOf};
@@ -16,3 +17,4 @@ pub use read::{
     pread_slice, pread_str, pread_str_until, pread_u8, pread_u16, pread_u32, pread_u64,
 };
 pub use record::{field_u8, field_u16, field_u32, field_u64};
+pub use write::{pwrite_slice, pwrite_u8, pwrite_u16, pwrite_u32, pwrite_u64};
