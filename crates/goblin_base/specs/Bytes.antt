@@ -1,9 +1,13 @@
 -- What stands in a list of bytes at an offset: numbers, slices and texts; and what a write there makes of them. Offsets are from the front, and without limit.
-use Rattle.std.specs.Prelude.{ℕ, ◌+◌, ◌-◌, ◌*◌, ◌/◌, ◌%◌, ◌^◌, ◌==◌, nat_le, nat_lt, ◌&&◌, if◌then◌else◌, List, ◌++◌, length, map, take, drop, slice_index, slice_range, sum_by, Option, Some, None, option_and_then}
+use Rattle.std.specs.Prelude.{ℕ, ◌<◌, ◌+◌, ◌-◌, ◌*◌, ◌/◌, ◌%◌, ◌^◌, ◌==◌, nat_le, nat_lt, ◌&&◌, if◌then◌else◌, List, ◌++◌, length, map, take, drop, slice_index, slice_range, sum_by, Option, Some, None, option_and_then}
 use Rattle.std.specs.List.{range_with_len, before_first}
 use Rattle.std.specs.Str.{is_utf8}
 use Rattle.goblin_base.specs.declared.endian.Endian.{Endian}
 use Rattle.goblin_base.specs.declared.endian.Endian.TheVariants.{Little, Big}
+
+-- each is a byte
+abbrev pub IsBytes : List ℕ → Type 0
+IsBytes bytes = (i : ℕ) → slice_index bytes i < 256
 
 -- the number of the n bytes at p: each byte times its place
 unfoldable pub number : Endian → ℕ → List ℕ → ℕ → ℕ

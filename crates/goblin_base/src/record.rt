@@ -1,12 +1,33 @@
-//! The fields of a record: numbers in bytes that are known to be there.
+//! The fields of a record: read from bytes that are known to be there, and written.
 
-ghost use Rattle.std.specs.Prelude.{◌≡◌, ◌+◌, ◌≤◌, length};
-ghost use Rattle.goblin_base.specs.Bytes.{number};
+ghost use Rattle.std.specs.Prelude.{◌≡◌, ◌+◌, ◌≤◌, length, slice_range, IfOk};
+ghost use Rattle.goblin_base.specs.Answers.{Writes};
+ghost use Rattle.goblin_base.specs.Bytes.{number, overwritten, replaced};
+ghost use Rattle.goblin_base.specs.Faults.{IsSliceFault};
+ghost use Rattle.goblin_base.specs.Record.{encoding, field_bytes, field_value, field_values, total_width, width_of};
 
 use crate::endian::Endian;
+use crate::error::Result;
+use crate::read::test_room;
+use crate::write::{put_bytes, u16_bytes, u32_bytes, u64_bytes};
 use byteorder::{BigEndian, ByteOrder, LittleEndian};
 
-/// The byte at `at`, for which there is room.
+/// A field of a record that is written.
+#[derive(Debug, PartialEq, Copy, Clone)]
+pub enum Field<'a> {
+    /// A byte.
+    U8(u8),
+    /// A number of two bytes.
+    U16(u16),
+    /// A number of four bytes.
+    U32(u32),
+    /// A number of eight bytes.
+    U64(u64),
+    /// Bytes as they are.
+    Bytes(&'a [u8]),
+}
+
+/// The byte at `at`, which is there.
 #[tactic(auto, using(crate::proofs::Numbers::number_one))]
 pub fn field_u8(bytes: &[u8], at: usize) -> u8
     requires { at + 1 ≤ length bytes.now }
@@ -52,4 +73,81 @@ pub fn field_u64(bytes: &[u8], at: usize, endian: Endian) -> u64
         Endian::Little => LittleEndian::read_u64(field),
         Endian::Big => BigEndian::read_u64(field),
     }
+}
+
+/// The `N` bytes at `at`, which are there.
+pub fn field_bytes<const N: usize>(bytes: &[u8], at: usize) -> [u8; N]
+    requires { at + N ≤ length bytes.now }
+    ensures { result ≡ slice_range bytes.now at (at + N) }
+{
+    let mut field = [0; N];
+    field.copy_from_slice(&bytes[at..at + N]);
+    field
+}
+
+// Writes a field at `at`, where there is room for it, and answers how many bytes it takes.
+#[tactic(auto, using(crate::proofs::Numbers::number_bytes_one))]
+fn put_field(bytes: &mut [u8], at: usize, field: Field, endian: Endian) -> usize
+    requires { at + width_of (field_value field) ≤ length bytes.old }
+    ensures written { bytes.new ≡ replaced bytes.old at (field_bytes endian (field_value field.entry)) }
+    ensures width { result ≡ width_of (field_value field.entry) }
+{
+    match field {
+        Field::U8(value) => {
+            put_bytes(bytes, at, &[value]);
+            1
+        }
+        Field::U16(value) => {
+            put_bytes(bytes, at, &u16_bytes(value, endian));
+            2
+        }
+        Field::U32(value) => {
+            put_bytes(bytes, at, &u32_bytes(value, endian));
+            4
+        }
+        Field::U64(value) => {
+            put_bytes(bytes, at, &u64_bytes(value, endian));
+            8
+        }
+        Field::Bytes(value) => {
+            put_bytes(bytes, at, value);
+            value.len()
+        }
+    }
+}
+
+/// Writes the fields of a record, which take `size` bytes, one after the other from `at` on, where
+/// there is room for them.
+pub fn put_record(bytes: &mut [u8], at: usize, size: usize, fields: &[Field], endian: Endian)
+    requires size_is { size ≡ total_width (field_values fields.now) }
+    requires room { at + size ≤ length bytes.old }
+    ensures { bytes.new ≡ replaced bytes.old at (encoding endian (field_values fields.now)) }
+{
+    let mut end = at;
+    'fields: for field in fields {
+        end += put_field(bytes, end, *field, endian);
+    }
+}
+
+/// Writes the fields of a record, which take `size` bytes, one after the other from `offset` on.
+/// Answers `size`.
+///
+/// # Errors
+/// [`Error::Read`](crate::Error::Read) where there is no room for all of them, or where `offset`
+/// lies at or past the end.
+#[tactic(auto, using(crate::proofs::Writing::length_encoding))]
+pub fn pwrite_record(
+    bytes: &mut [u8],
+    offset: usize,
+    size: usize,
+    fields: &[Field],
+    endian: Endian,
+) -> Result<usize>
+    requires { size ≡ total_width (field_values fields.now) }
+    ensures size { IfOk result (λ n. n ≡ size) }
+    ensures written { Writes result (overwritten bytes.old offset (encoding endian (field_values fields.now))) bytes.old bytes.new (IsSliceFault bytes.old offset size) }
+{
+    test_room(bytes, offset, size)?;
+    put_record(bytes, offset, size, fields, endian);
+    Ok(size)
 }
