@@ -8,7 +8,7 @@ use Rattle.std.proofs.lemmas.Bool.{cases_lt, le-leb, lt-ltb}
 use Rattle.std.proofs.lemmas.List.{drop-drop, get_or-drop, get_or-take, get_or_past, length-drop, length-take}
 use Rattle.std.proofs.lemmas.Nat.{pow-add}
 use Rattle.byteorder.specs.Endian.{big_from, little_from}
-use Rattle.byteorder.specs.Numbers.{big_from-lt}
+use Rattle.byteorder.specs.Numbers.{big_from-lt, little_from-lt}
 use Rattle.goblin_base.specs.declared.endian.Endian.{Endian}
 use Rattle.goblin_base.specs.declared.endian.Endian.TheVariants.{Little, Big}
 use Rattle.goblin_base.specs.Bytes.{IsBytes, number, number_bytes}
@@ -140,3 +140,8 @@ writes_back {R} size value fields slots width lie endian bytes p r h e =
     let back : encoding endian (fields r) ≡ own =
     ap (λ (x : R). encoding endian (fields x)) is.is ∙ ap (encoding endian) (lie endian own fits) ∙ encoding-fields_from endian slots own 0 fits (omega arith) ∙ all in
     rw (start, end, back) refl
+
+-- a number of n bytes is below 256 ^ n
+pub number-lt : (endian : Endian) (n : ℕ) (bytes : List ℕ) (p : ℕ) → IsBytes bytes → number endian n bytes p < 256 ^ n
+number-lt Little n bytes p h = rw (number-slice Little n bytes p) (little_from-lt 0 n (slice_range bytes p (p + n)) (IsBytes-slice bytes p n h))
+number-lt Big n bytes p h = rw (number-slice Big n bytes p) (big_from-lt 0 n (slice_range bytes p (p + n)) (IsBytes-slice bytes p n h))

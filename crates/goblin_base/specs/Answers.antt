@@ -8,6 +8,11 @@ abbrev pub Answers : {X Y : Type 0} → (X → Y) → Result X ErrorOf → Optio
 Answers view (Ok x) value IsCause = value ≡ Some (view x)
 Answers view (Err e) value IsCause = (value ≡ None) × IsCause e
 
+-- the refusal for want of memory
+abbrev pub IsMemory : ErrorOf → Type 0
+IsMemory (Memory e) = Unit {0}
+IsMemory e = ⊥
+
 -- the refusal for want of memory, or one whose cause is true of an input that has no value
 abbrev pub IsMemoryOr : ErrorOf → Type 0 → Type 0
 IsMemoryOr (Memory e) Fact = Unit {0}

@@ -1,9 +1,10 @@
 -- Records: a table of fields, each a number of the record's own bytes by its width and offset; and their encoding, the bytes of the fields in order.
 use Rattle.std.specs.Prelude.{◌≡◌, ℕ, ◌+◌, ◌*◌, ◌==◌, ◌||◌, nat_le, if◌then◌else◌, List, [], ◌∷◌, ◌++◌, map, length, slice_range, Option, Some, None, option_map}
+use Rattle.std.specs.Int.{w16, cast_unsigned}
 use Rattle.std.specs.List.{range_with_len}
 use Rattle.goblin_base.specs.declared.endian.Endian.{Endian}
 use Rattle.goblin_base.specs.declared.record.Field.{Field}
-use Rattle.goblin_base.specs.declared.record.Field.TheVariants.{U8, U16, U32, U64, Bytes}
+use Rattle.goblin_base.specs.declared.record.Field.TheVariants.{U8, U16, I16, U32, U64, Bytes}
 use Rattle.goblin_base.specs.Bytes.{IsBytes, number, number_bytes, slice_at}
 
 -- `count` numbers of n bytes each, one after the other from p on
@@ -52,6 +53,7 @@ total_width (field ∷ fields) = width_of field + total_width fields
 abbrev pub field_value : Field → FieldValue
 field_value (U8 x) = uint 1 x
 field_value (U16 x) = uint 2 x
+field_value (I16 x) = uint 2 (cast_unsigned w16 x)
 field_value (U32 x) = uint 4 x
 field_value (U64 x) = uint 8 x
 field_value (Bytes bytes) = octets bytes.now
