@@ -1,6 +1,6 @@
 -- Fields that are written one after the other.
 use Rattle.std.proofs.Common.{◌≡◌, ℕ, ◌+◌, ◌<◌, ◌≤◌, List, [], ◌∷◌, ◌++◌, length, get_or, take, drop, refl, sym, ap, ◌∙◌, append_assoc, arith}
-use Rattle.std.proofs.lemmas.List.{take_at, drop_at, drop-drop, length-append, length-take, length-drop, at_drop_more}
+use Rattle.std.proofs.lemmas.List.{take_at, drop_at, drop_all, drop-drop, append-nil, length-append, length-take, length-drop, at_drop_more}
 use Rattle.byteorder.specs.Numbers.{length-bytes_high_first, length-bytes_low_first}
 use Rattle.goblin_base.specs.declared.endian.Endian.{Endian}
 use Rattle.goblin_base.specs.declared.endian.Endian.TheVariants.{Little, Big}
@@ -47,6 +47,12 @@ replaced-then bytes at xs ys room =
     let far : drop (at + w + length ys) (first ++ rest) ≡ drop (at + length (xs ++ ys)) bytes =
     sym (drop-drop (length ys) (at + w) (first ++ rest)) ∙ ap (drop (length ys)) back ∙ drop-drop (length ys) (at + w) bytes ∙ ap (λ (n : ℕ). drop n bytes) (omega (arith, length-append xs ys)) in
     rw (front, far) (ap (λ (zs : List ℕ). zs ++ drop (at + length (xs ++ ys)) bytes) (append_assoc (take at bytes) xs ys))
+
+-- as many bytes as there are take the place of all
+pub replaced_all : (bytes xs : List ℕ) → length bytes ≡ length xs → replaced bytes 0 xs ≡ xs
+replaced_all bytes xs len =
+    let none : drop (0 + length xs) bytes ≡ [] = drop_all (0 + length xs) bytes (omega arith) in
+    rw none (append-nil xs)
 
 -- there is room for the fields that are left, and when they are written, all are
 pub record IsGoing (endian : Endian) (fields : List FieldValue) (at : ℕ) (bytes final : List ℕ) : Type 0 where

@@ -20,6 +20,6 @@ pub use read::{
 };
 pub use record::{
     Field, TryFromCtx, field_bytes, field_i16, field_u8, field_u16, field_u32, field_u64,
-    put_record, pwrite_record,
+    record_bytes,
 };
 pub use write::{put_bytes, pwrite_slice, pwrite_u8, pwrite_u16, pwrite_u32, pwrite_u64};

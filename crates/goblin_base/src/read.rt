@@ -11,8 +11,8 @@ use crate::error::{Error, ReadFault, Result};
 use crate::record::{field_u8, field_u16, field_u32, field_u64};
 use std::str;
 
-// Refuses a read or a write of `len` bytes at `offset` that are not all there, or that begin at the end.
-pub(crate) fn test_room(bytes: &[u8], offset: usize, len: usize) -> Result<()>
+// Refuses a read of `len` bytes at `offset` that are not all there, or that begin at the end.
+fn test_room(bytes: &[u8], offset: usize, len: usize) -> Result<()>
     ensures begins { OnOk result (offset < length bytes.now) }
     ensures ends { OnOk result (offset + len ≤ length bytes.now) }
     ensures short { OnErr result (length bytes.now < offset + len + 1) }

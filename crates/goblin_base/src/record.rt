@@ -1,18 +1,16 @@
 //! What is read from the front of bytes, and the fields of a record: read from bytes that are known
 //! to be there, and written.
 
-ghost use Rattle.std.specs.Prelude.{◌≡◌, ◌+◌, ◌≤◌, ℕ, List, length, slice_range, Option, IfOk, IfSome};
+ghost use Rattle.std.specs.Prelude.{◌≡◌, ◌+◌, ◌≤◌, ℕ, List, length, slice_range, Option, IfSome};
 ghost use Rattle.std.specs.Int.{w16, cast_signed};
-ghost use Rattle.goblin_base.specs.Answers.{Answers, IsMemory, Writes};
-ghost use Rattle.goblin_base.specs.Bytes.{number, overwritten, replaced};
-ghost use Rattle.goblin_base.specs.Faults.{IsSliceFault};
+ghost use Rattle.goblin_base.specs.Answers.{Answers, IsMemory};
+ghost use Rattle.goblin_base.specs.Bytes.{number, replaced};
 ghost use Rattle.goblin_base.specs.Record.{encoding, field_bytes, field_value, field_values, total_width, width_of};
 ghost use Rattle.goblin_base.specs.declared.endian.Endian.{Endian};
 ghost use Rattle.goblin_base.specs.declared.error.ErrorOf.{ErrorOf};
 
 use crate::endian::Endian;
 use crate::error::Result;
-use crate::read::test_room;
 use crate::write::{put_bytes, u16_bytes, u32_bytes, u64_bytes};
 use byteorder::{BigEndian, ByteOrder, LittleEndian};
 
@@ -164,9 +162,9 @@ fn put_field(bytes: &mut [u8], at: usize, field: Field, endian: Endian) -> usize
     }
 }
 
-/// Writes the fields of a record, which take `size` bytes, one after the other from `at` on, where
-/// there is room for them.
-pub fn put_record(bytes: &mut [u8], at: usize, size: usize, fields: &[Field], endian: Endian)
+// Writes the fields of a record, which take `size` bytes, one after the other from `at` on, where
+// there is room for them.
+fn put_record(bytes: &mut [u8], at: usize, size: usize, fields: &[Field], endian: Endian)
     requires size_is { size ≡ total_width (field_values fields.now) }
     requires room { at + size ≤ length bytes.old }
     ensures { bytes.new ≡ replaced bytes.old at (encoding endian (field_values fields.now)) }
@@ -177,25 +175,13 @@ pub fn put_record(bytes: &mut [u8], at: usize, size: usize, fields: &[Field], en
     }
 }
 
-/// Writes the fields of a record, which take `size` bytes, one after the other from `offset` on.
-/// Answers `size`.
-///
-/// # Errors
-/// [`Error::Read`](crate::Error::Read) where there is no room for all of them, or where `offset`
-/// lies at or past the end.
-#[tactic(auto, using(crate::proofs::Writing::length_encoding))]
-pub fn pwrite_record(
-    bytes: &mut [u8],
-    offset: usize,
-    size: usize,
-    fields: &[Field],
-    endian: Endian,
-) -> Result<usize>
-    requires { size ≡ total_width (field_values fields.now) }
-    ensures size { IfOk result (λ n. n ≡ size) }
-    ensures written { Writes result (overwritten bytes.old offset (encoding endian (field_values fields.now))) bytes.old bytes.new (IsSliceFault bytes.old offset size) }
+/// The `N` bytes of a record, of which these are the fields.
+#[tactic(auto, using(crate::proofs::Writing::replaced_all, crate::proofs::Writing::length_encoding))]
+pub fn record_bytes<const N: usize>(fields: &[Field], endian: Endian) -> [u8; N]
+    requires { N ≡ total_width (field_values fields.now) }
+    ensures { result ≡ encoding endian (field_values fields.now) }
 {
-    test_room(bytes, offset, size)?;
-    put_record(bytes, offset, size, fields, endian);
-    Ok(size)
+    let mut bytes = [0; N];
+    put_record(&mut bytes, 0, N, fields, endian);
+    bytes
 }
