@@ -1,15 +1,17 @@
 -- What contracts see of a section, and the section record.
-use Rattle.std.specs.Prelude.{ℕ, ◌+◌, ◌-◌, ◌<◌, ◌++◌, Bool, List, length, Option, None, Some, if◌then◌else◌, nat_eq, nat_le, replicate, slice_range}
+use Rattle.std.specs.Prelude.{◌≡◌, ℕ, ◌+◌, ◌-◌, ◌<◌, ◌++◌, Bool, List, [], ◌∷◌, length, Option, None, Some, if◌then◌else◌, nat_eq, nat_le, replicate, slice_range}
 use Rattle.std.specs.Option.{option_eq}
 use Rattle.std.specs.Ordering.{on, eq_of_both}
 use Rattle.std.specs.Cmp.{IsPartialEquivalence, on_per, and_per, partial_equiv_from_equiv}
 use Rattle.std.specs.Cmp.Lexicographic.{pointwise, options_equiv}
 use Rattle.std.proofs.lemmas.Cmp.{nat_eq_equiv, nat_list_eq_equiv}
+use Rattle.goblin_base.specs.declared.endian.Endian.{Endian}
 use Rattle.goblin_base.specs.declared.endian.Endian.TheVariants.{Little}
 use Rattle.goblin_base.specs.declared.error.ErrorOf.{ErrorOf}
-use Rattle.goblin_base.specs.Bytes.{bounded_text_at, number}
+use Rattle.goblin_base.specs.Bytes.{IsBytes, bounded_text_at, number, slice_at}
 use Rattle.goblin_base.specs.Faults.{IsSliceFault, IsBoundedTextFault}
-use Rattle.goblin_base.specs.Record.{record_at}
+use Rattle.goblin_base.specs.Record.{FieldValue, encoding, record_at}
+use Rattle.goblin_base.specs.Record.FieldValue.{octets, uint}
 use Rattle.goblin_base.specs.Steps.{◌>>=◌, FirstFault}
 use Rattle.goblin_pe_sect.specs.SectionName.{name_value, IsNameFault, real_name_at}
 
@@ -28,32 +30,45 @@ pub record Section : Type 0 where
   pub characteristics : ℕ
 
 -- the section in a record's 40 bytes
-unfoldable pub section_record : List ℕ → Section
-section_record bytes = record {
+unfoldable pub section_record : Endian → List ℕ → Section
+section_record endian bytes = record {
   name = slice_range bytes 0 8;
   real_name = None;
-  virtual_size = number Little 4 bytes 8;
-  virtual_address = number Little 4 bytes 12;
-  size_of_raw_data = number Little 4 bytes 16;
-  pointer_to_raw_data = number Little 4 bytes 20;
-  pointer_to_relocations = number Little 4 bytes 24;
-  pointer_to_linenumbers = number Little 4 bytes 28;
-  number_of_relocations = number Little 2 bytes 32;
-  number_of_linenumbers = number Little 2 bytes 34;
-  characteristics = number Little 4 bytes 36;
+  virtual_size = number endian 4 bytes 8;
+  virtual_address = number endian 4 bytes 12;
+  size_of_raw_data = number endian 4 bytes 16;
+  pointer_to_raw_data = number endian 4 bytes 20;
+  pointer_to_relocations = number endian 4 bytes 24;
+  pointer_to_linenumbers = number endian 4 bytes 28;
+  number_of_relocations = number endian 2 bytes 32;
+  number_of_linenumbers = number endian 2 bytes 34;
+  characteristics = number endian 4 bytes 36;
 }
+
+-- the fields of a section record, in order
+unfoldable pub section_fields : Section → List FieldValue
+section_fields s =
+    octets s.name ∷ uint 4 s.virtual_size ∷ uint 4 s.virtual_address ∷ uint 4 s.size_of_raw_data ∷ uint 4 s.pointer_to_raw_data
+    ∷ uint 4 s.pointer_to_relocations ∷ uint 4 s.pointer_to_linenumbers ∷ uint 2 s.number_of_relocations ∷ uint 2 s.number_of_linenumbers
+    ∷ uint 4 s.characteristics ∷ []
 
 -- the section of the record at p, with its name from the string table at `table` where its own name is indirect
 unfoldable pub section_at : Bool → ℕ → List ℕ → ℕ → Option Section
 section_at strict table bytes p = do
-  section ← record_at 40 section_record bytes p
+  section ← record_at 40 (section_record Little) bytes p
   value ← name_value strict section.name
   Some (record section { real_name = real_name_at bytes table value })
+
+-- a section that was read has its record's bytes as its encoding
+abbrev pub SectionWritesBack : Type 0
+SectionWritesBack =
+    (strict : Bool) (table : ℕ) (bytes : List ℕ) (p : ℕ) (section : Section) → IsBytes bytes → section_at strict table bytes p ≡ Some section
+    → slice_at bytes p 40 ≡ Some (encoding Little (section_fields section))
 
 -- which cause is true of a section that is refused: there is no record, or its name is refused
 unfoldable pub IsSectionFault : Bool → List ℕ → ℕ → ErrorOf → Type 0
 IsSectionFault strict bytes p =
-    FirstFault (record_at 40 section_record bytes p) (IsSliceFault bytes p 40) (λ section.
+    FirstFault (record_at 40 (section_record Little) bytes p) (IsSliceFault bytes p 40) (λ section.
     FirstFault (name_value strict section.name) (IsNameFault strict section.name) (λ value e. ⊥))
 
 -- the name to use: that of the string table, else the text of the eight bytes

@@ -6,15 +6,19 @@ ghost use Rattle.std.specs.Option.{option_eq, option_map};
 ghost use Rattle.std.specs.Cmp.Lexicographic.{pointwise};
 ghost use Rattle.goblin_base.specs.declared.error.ErrorOf.TheVariants.{Malformed};
 ghost use Rattle.goblin_base.specs.declared.error.CauseOf.TheVariants.{NameText};
-ghost use Rattle.goblin_base.specs.Answers.{Answers, AnswersOrMemory};
+ghost use Rattle.goblin_base.specs.Answers.{Answers, AnswersOrMemory, Writes};
+ghost use Rattle.goblin_base.specs.Bytes.{overwritten, replaced};
+ghost use Rattle.goblin_base.specs.Faults.{IsSliceFault};
+ghost use Rattle.goblin_base.specs.Record.{encoding};
 ghost use Rattle.goblin_pe_sect.specs.Options.{is_strict};
 ghost use Rattle.goblin_pe_sect.specs.SectionName.{name_value, IsNameFault, indirect_name, IsNameOffsetFault, real_name_at};
-ghost use Rattle.goblin_pe_sect.specs.SectionTable.{Section, section_eq, section_per, section_record, section_at, IsSectionFault, name_of, IsNoName, section_data, OverlapRawData};
+ghost use Rattle.goblin_pe_sect.specs.SectionTable.{Section, section_eq, section_per, SectionWritesBack, section_record, section_fields, section_at, IsSectionFault, name_of, IsNoName, section_data, OverlapRawData};
 
 use crate::digits::{Digits, decimal_number, indirect_name};
 use crate::options::{ParseMode, ParseOptions};
 use goblin_base::{
-    Cause, Endian, Error, Result, field_u16, field_u32, gread_slice, pread_str, pread_str_until,
+    Cause, Endian, Error, Field, Result, field_bytes, field_u16, field_u32, gread_slice, pread_str,
+    pread_str_until, put_bytes, pwrite_slice, record_bytes,
 };
 use std::alloc::Global;
 use std::borrow::CowSlice;
@@ -180,12 +184,10 @@ impl SectionTable {
     #[tactic(auto, unfolding(crate::specs::SectionTable::section_record))]
     fn in_record(bytes: &[u8]) -> SectionTable
         requires { length bytes.now ≡ 40 }
-        ensures { result ≡ section_record bytes.now }
+        ensures { result ≡ section_record Endian.Little bytes.now }
     {
         SectionTable {
-            name: [
-                bytes[0], bytes[1], bytes[2], bytes[3], bytes[4], bytes[5], bytes[6], bytes[7],
-            ],
+            name: field_bytes(bytes, 0),
             real_name: None,
             virtual_size: field_u32(bytes, 8, Endian::Little),
             virtual_address: field_u32(bytes, 12, Endian::Little),
@@ -374,6 +376,59 @@ impl SectionTable {
         let other_end = u64::from(other.pointer_to_raw_data) + u64::from(other.size_of_raw_data);
         u64::from(self.pointer_to_raw_data) < other_end
             && u64::from(other.pointer_to_raw_data) < end
+    }
+}
+
+impl SectionTable {
+    /// The size of a section record in bytes, the same in either order of bytes: 40.
+    pub fn size_with(_ctx: &Endian) -> usize
+        ensures { result ≡ 40 }
+    {
+        SIZEOF_SECTION_TABLE
+    }
+
+    /// Writes the record at the front of `bytes` and answers its size, 40. The real name is no part
+    /// of it. A section that was read is written, little-endian, as the 40 bytes that it was read
+    /// from.
+    ///
+    /// # Errors
+    /// [`Error::Read`] where there is no room; `bytes` then stays.
+    #[tactic(auto, using(crate::proofs::SectionBack::section_back))]
+    pub fn try_into_ctx(&self, bytes: &mut [u8], endian: Endian) -> Result<usize>
+        ensures size { IfOk result (λ size. size ≡ 40) }
+        ensures written { Writes result (overwritten bytes.old 0 (encoding endian (section_fields self.now))) bytes.old bytes.new (IsSliceFault bytes.old 0 40) }
+        ensures back { SectionWritesBack }
+    {
+        pwrite_slice(bytes, 0, &self.record(endian))?;
+        Ok(SIZEOF_SECTION_TABLE)
+    }
+
+    /// Writes the record at the front of `bytes`, which has room for it.
+    pub fn into_ctx(&self, bytes: &mut [u8], endian: Endian)
+        requires { 40 ≤ length bytes.old }
+        ensures { bytes.new ≡ replaced bytes.old 0 (encoding endian (section_fields self.now)) }
+    {
+        put_bytes(bytes, 0, &self.record(endian));
+    }
+
+    // The bytes of the record.
+    #[tactic(auto, unfolding(crate::specs::SectionTable::section_fields))]
+    fn record(&self, endian: Endian) -> [u8; 40]
+        ensures { result ≡ encoding endian (section_fields self.now) }
+    {
+        let fields = [
+            Field::Bytes(&self.name),
+            Field::U32(self.virtual_size),
+            Field::U32(self.virtual_address),
+            Field::U32(self.size_of_raw_data),
+            Field::U32(self.pointer_to_raw_data),
+            Field::U32(self.pointer_to_relocations),
+            Field::U32(self.pointer_to_linenumbers),
+            Field::U16(self.number_of_relocations),
+            Field::U16(self.number_of_linenumbers),
+            Field::U32(self.characteristics),
+        ];
+        record_bytes(&fields, endian)
     }
 }
 
