@@ -1,8 +1,10 @@
 //! The sections of a PE file.
 #![tactic(auto)]
 
+pub mod laws;
 pub mod options;
 pub mod section_table;
+pub mod utils;
 
 pub use options::{ParseMode, ParseOptions};
 pub use section_table::SectionTable;
