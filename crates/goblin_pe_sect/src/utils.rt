@@ -1,10 +1,10 @@
 //! Addresses in memory and their offsets in the file, and what stands there.
 
-ghost use Rattle.std.specs.Prelude.{◌≡◌, ◌+◌, ◌^◌, ◌<◌, ◌≤◌, ◌↔◌, IsTrue, IfSome, MatchOption, find};
+ghost use Rattle.std.specs.Prelude.{◌≡◌, ◌+◌, ◌-◌, ◌^◌, ◌<◌, ◌≤◌, ◌↔◌, IsTrue, IfSome, MatchOption, find};
 ghost use Rattle.std.specs.Int.{is_power_of_two};
 ghost use Rattle.std.specs.Option.{option_copied, option_map};
 ghost use Rattle.goblin_base.specs.Answers.{Answers};
-ghost use Rattle.goblin_pe_sect.specs.Mapping.{read_size, is_in_window, offset_in, file_offset, InWindow, MapsTo, MapsNowhere, name_at, name_or_none, IsMessage, IsNameFault, IsSafeNameFault};
+ghost use Rattle.goblin_pe_sect.specs.Mapping.{read_size, is_in_window, file_offset, InWindow, MapsTo, MapsNowhere, name_at, name_or_none, IsMessage, IsNameFault, IsSafeNameFault};
 ghost use Rattle.goblin_pe_sect.specs.Options.{is_strict};
 
 use crate::options::ParseOptions;
@@ -19,9 +19,9 @@ pub fn is_in_range(rva: usize, r1: usize, r2: usize) -> bool
 }
 
 // How many bytes of the section are read from the file, in whole file blocks and pages.
-#[tactic(auto, using(crate::proofs::Windows::rounding, crate::proofs::Windows::power_positive), unfolding(crate::specs::Mapping::read_size))]
+#[tactic(auto, using(crate::proofs::Windows::rounding), unfolding(crate::specs::Mapping::read_size))]
 fn read_size(section: &SectionTable, file_alignment: u32) -> usize
-    requires { IsTrue (is_power_of_two file_alignment) }
+    requires { 0 < file_alignment }
     ensures value { result ≡ read_size section.now file_alignment }
     ensures bound { result < 2 ^ 32 + 4096 }
 {
@@ -41,7 +41,7 @@ fn read_size(section: &SectionTable, file_alignment: u32) -> usize
 
 // Whether the section's window holds the address.
 fn is_in_window(rva: usize, section: &SectionTable, file_alignment: u32) -> bool
-    requires { IsTrue (is_power_of_two file_alignment) }
+    requires { 0 < file_alignment }
     ensures { result ≡ is_in_window file_alignment rva section.now }
 {
     let begin = section.virtual_address as usize;
@@ -51,7 +51,7 @@ fn is_in_window(rva: usize, section: &SectionTable, file_alignment: u32) -> bool
 // The first section whose window holds the address.
 #[tactic(auto, using(crate::proofs::Windows::found_in_window))]
 fn section_at(rva: usize, sections: &[SectionTable], file_alignment: u32) -> Option<&SectionTable>
-    requires { IsTrue (is_power_of_two file_alignment) }
+    requires { 0 < file_alignment }
     ensures value { option_copied result ≡ find (is_in_window file_alignment rva) sections.now }
     ensures holds { IfSome result (λ s. InWindow file_alignment rva s.now) }
 {
@@ -62,9 +62,9 @@ fn section_at(rva: usize, sections: &[SectionTable], file_alignment: u32) -> Opt
 
 // Where the file has what stands at an address of the section's window.
 #[tactic(auto, using(crate::proofs::Windows::read_size_le))]
-fn offset_in(rva: usize, section: &SectionTable, file_alignment: u32, opts: &ParseOptions) -> usize
+fn offset_in(rva: usize, section: &SectionTable, file_alignment: u32) -> usize
     requires { InWindow file_alignment rva section.now }
-    ensures { result ≡ offset_in opts.now section.now rva }
+    ensures { result ≡ section.now.pointer_to_raw_data + (rva - section.now.virtual_address) }
 {
     let distance = rva - section.virtual_address as usize;
     let raw_size = section.size_of_raw_data as usize;
@@ -73,7 +73,7 @@ fn offset_in(rva: usize, section: &SectionTable, file_alignment: u32, opts: &Par
 }
 
 // The file offset of an address.
-#[tactic(auto, unfolding(crate::specs::Mapping::file_offset))]
+#[tactic(auto, using(crate::proofs::Windows::power_positive), unfolding(crate::specs::Mapping::file_offset))]
 fn file_offset(
     rva: usize,
     sections: &[SectionTable],
@@ -89,7 +89,7 @@ fn file_offset(
         return None;
     }
     let section = section_at(rva, sections, file_alignment)?;
-    Some(offset_in(rva, section, file_alignment, opts))
+    Some(offset_in(rva, section, file_alignment))
 }
 
 /// The file offset of the address `rva`: that of the first section whose window holds it.
