@@ -66,8 +66,8 @@ unfolding file_offset
 file_offset-mapped opts sections alignment rva on even = chosen opts.resolve_rva (is_power_of_two alignment) _ rva on even
 
 -- the file offset of an address is that of the section with the least index among those whose windows hold it
-pub file_offset-first : (opts : ParseOptions) (sections : List Section) (alignment rva : ℕ) → IsTrue opts.resolve_rva → IsTrue (is_power_of_two alignment) → MatchOption (file_offset opts sections alignment rva) (MapsNowhere sections alignment rva) (MapsTo opts sections alignment rva)
-file_offset-first opts sections alignment rva on even =
+pub file_offset_first : (opts : ParseOptions) (sections : List Section) (alignment rva : ℕ) → IsTrue opts.resolve_rva → IsTrue (is_power_of_two alignment) → MatchOption (file_offset opts sections alignment rva) (MapsNowhere sections alignment rva) (MapsTo opts sections alignment rva)
+file_offset_first opts sections alignment rva on even =
     let on' : opts.resolve_rva ≡ true = search (rules, tests) in
     let even' : is_power_of_two alignment ≡ true = search (rules, tests) in
     let Says : Option ℕ → Type 0 = λ o. MatchOption o (MapsNowhere sections alignment rva) (MapsTo opts sections alignment rva) in
@@ -92,9 +92,9 @@ apart_by true false x y first second is same e = absurd (cc)
 apart_by false even x y first second is same e = cc
 
 -- addresses that one section maps to one offset are the same
-pub file_offset-injective : (opts : ParseOptions) (sections : List Section) (alignment first second index : ℕ) → IsTrue (is_power_of_two alignment) → IsFirstWindow sections alignment first index → IsFirstWindow sections alignment second index → file_offset opts sections alignment first ≡ file_offset opts sections alignment second → first ≡ second
+pub file_offset_injective : (opts : ParseOptions) (sections : List Section) (alignment first second index : ℕ) → IsTrue (is_power_of_two alignment) → IsFirstWindow sections alignment first index → IsFirstWindow sections alignment second index → file_offset opts sections alignment first ≡ file_offset opts sections alignment second → first ≡ second
 unfolding file_offset
-file_offset-injective opts sections alignment first second index even x y e =
+file_offset_injective opts sections alignment first second index even x y e =
     let even' : is_power_of_two alignment ≡ true = search (rules, tests) in
     let one : x.section ≡ y.section = cc (x.is, y.is) in
     let pointer = ap (λ (s : Section). s.pointer_to_raw_data) one in

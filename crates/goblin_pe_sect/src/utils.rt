@@ -97,6 +97,7 @@ fn file_offset(
 /// A window begins at its section's address and has the bytes that are read from the file. Where
 /// `opts` leaves addresses unmapped, the answer is the address itself. There is none where
 /// `file_alignment` is no power of two.
+#[tactic(auto, using(crate::proofs::Windows::file_offset_first))]
 pub fn find_offset(
     rva: usize,
     sections: &[SectionTable],
