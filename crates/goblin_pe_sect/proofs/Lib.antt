@@ -1,2 +1,7 @@
 mod First
+pub mod NameBack
+pub mod NameLaw
+pub mod Numerals
+pub mod ReadBack
+pub mod SectionBack
 pub mod Windows
