@@ -1,2 +1,3 @@
+pub mod DataDirectories
 pub mod Options
 pub mod SectionTable
