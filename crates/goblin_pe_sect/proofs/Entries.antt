@@ -67,10 +67,10 @@ are_entries count bytes p entries h =
       each = λ k lt. ap (λ (es : List (Option (ℕ × DataDirectory))). get_or es k None) (sym is) ∙ get_or-map-range_with_len f 0 16 k k None lt (omega arith);
     }
 
-entry_at-below : (count : ℕ) (bytes : List ℕ) (p i : ℕ) → i < count → entry_at count bytes p i ≡ entry_ending (p + 8 * i + 8) (directory_record Little (slice_range bytes (p + 8 * i) (p + 8 * i + 8)))
+pub entry_at-below : (count : ℕ) (bytes : List ℕ) (p i : ℕ) → i < count → entry_at count bytes p i ≡ entry_ending (p + 8 * i + 8) (directory_record Little (slice_range bytes (p + 8 * i) (p + 8 * i + 8)))
 entry_at-below count bytes p i lt = rw (lt-ltb i count lt) refl
 
-entry_at-past : (count : ℕ) (bytes : List ℕ) (p i : ℕ) → count ≤ i → entry_at count bytes p i ≡ None
+pub entry_at-past : (count : ℕ) (bytes : List ℕ) (p i : ℕ) → count ≤ i → entry_at count bytes p i ≡ None
 entry_at-past count bytes p i le = rw (le-ltb i count le) refl
 
 -- one more entry

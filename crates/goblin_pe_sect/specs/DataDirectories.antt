@@ -1,14 +1,14 @@
 -- The data directories of an optional header: what stands in its bytes, and what is written of it.
-use Rattle.std.specs.Prelude.{◌≡◌, ◌<◌, ◌≤◌, ℕ, ◌+◌, ◌*◌, ◌==◌, ◌&&◌, ◌||◌, nat_le, nat_lt, if◌then◌else◌, List, [], ◌∷◌, length, map, drop, slice_get, slice_range, Option, Some, None, option_map, option_and_then, zip, filter_map, flat_map}
+use Rattle.std.specs.Prelude.{◌≡◌, ◌<◌, ◌≤◌, ℕ, ◌+◌, ◌-◌, ◌*◌, ◌==◌, ◌&&◌, ◌||◌, nat_le, nat_lt, if◌then◌else◌, List, [], ◌∷◌, ◌++◌, length, map, drop, replicate, slice_get, slice_range, Option, Some, None, option_map, option_and_then, zip, filter_map, flat_map}
 use Rattle.std.specs.List.{range_with_len}
 use Rattle.goblin_base.specs.declared.endian.Endian.{Endian}
 use Rattle.goblin_base.specs.declared.endian.Endian.TheVariants.{Little}
 use Rattle.goblin_base.specs.declared.error.ErrorOf.{ErrorOf}
 use Rattle.goblin_base.specs.declared.error.ErrorOf.TheVariants.{Malformed, Read}
 use Rattle.goblin_base.specs.declared.error.CauseOf.TheVariants.{DirectoryIndex, DirectoryCount}
-use Rattle.goblin_base.specs.Bytes.{number}
+use Rattle.goblin_base.specs.Bytes.{IsBytes, number}
 use Rattle.goblin_base.specs.Faults.{IsRecordsFault}
-use Rattle.goblin_base.specs.Record.{FieldValue, uint}
+use Rattle.goblin_base.specs.Record.{FieldValue, uint, encoding}
 use Rattle.goblin_pe_sect.specs.declared.data_directories.DataDirectory.{DataDirectory}
 use Rattle.goblin_pe_sect.specs.declared.data_directories.DataDirectoryType.{DataDirectoryType}
 use Rattle.goblin_pe_sect.specs.declared.data_directories.Dirs.{Dirs}
@@ -56,6 +56,12 @@ directory_or_zeros (Some entry) = entry.1
 -- the fields of all entries, in order
 unfoldable pub entries_fields : List (Option (ℕ × DataDirectory)) → List FieldValue
 entries_fields entries = flat_map (λ entry. directory_fields (directory_or_zeros entry)) entries
+
+-- Entries that were read are written as they stood, with zeros behind them up to the sixteenth.
+abbrev pub EntriesWriteBack : Type 0
+EntriesWriteBack =
+    (count : ℕ) (bytes : List ℕ) (p : ℕ) (entries : List (Option (ℕ × DataDirectory))) → IsBytes bytes → directories_at count bytes p ≡ Some entries
+    → encoding Little (entries_fields entries) ≡ slice_range bytes p (p + 8 * count) ++ replicate (8 * (16 - count)) 0
 
 -- the directory of the entry at index i
 abbrev pub directory_in : List (Option (ℕ × DataDirectory)) → ℕ → Option DataDirectory

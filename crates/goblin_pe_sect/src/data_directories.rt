@@ -8,7 +8,7 @@ ghost use Rattle.goblin_base.specs.Faults.{IsSliceFault};
 ghost use Rattle.goblin_base.specs.Record.{WritesBack, encoding, record_at, record_in};
 ghost use Rattle.goblin_base.specs.RecordLaws.{record_in-within, slice_fault-no_memory};
 ghost use Rattle.goblin_pe_sect.specs.declared.data_directories.DataDirectory.{DataDirectory};
-ghost use Rattle.goblin_pe_sect.specs.DataDirectories.{IsDirectoriesFault, IsNoKind, dirs_left, directories_at, directory_fields, directory_in, directory_or_zeros, directory_record, entries_fields, entry_ending, kinds, present_from};
+ghost use Rattle.goblin_pe_sect.specs.DataDirectories.{EntriesWriteBack, IsDirectoriesFault, IsNoKind, dirs_left, directories_at, directory_fields, directory_in, directory_or_zeros, directory_record, entries_fields, entry_ending, kinds, present_from};
 
 use goblin_base::{
     Cause, Endian, Error, Field, Result, TryFromCtx, field_u32, gread_slice, pread_slice,
@@ -230,6 +230,7 @@ impl DataDirectories {
     /// # Errors
     /// [`Error::Malformed`] with [`Cause::DirectoryCount`] where there are more than sixteen;
     /// [`Error::Read`] where they are not all there. `offset` then stays.
+    #[tactic(auto, using(crate::proofs::Entries::too_many))]
     pub fn parse(bytes: &[u8], count: usize, offset: &mut usize) -> Result<DataDirectories>
         ensures value { Answers (λ d. d.data_directories) result (directories_at count bytes.now offset.old) (IsDirectoriesFault count bytes.now offset.old) }
         ensures ok { OnOk result (offset.new ≡ offset.old + 8 * count) }
@@ -248,9 +249,12 @@ impl DataDirectories {
         Ok(DataDirectories { data_directories })
     }
 
-    /// The bytes of all sixteen entries, those that are `None` as zeros.
+    /// The bytes of all sixteen entries, those that are `None` as zeros. Entries that were read are
+    /// written as they stood.
+    #[tactic(auto, using(crate::proofs::EntriesBack::entries_back))]
     pub fn to_bytes(self, endian: Endian) -> [u8; 128]
-        ensures { result ≡ encoding endian (entries_fields self.data_directories) }
+        ensures bytes { result ≡ encoding endian (entries_fields self.data_directories) }
+        ensures back { EntriesWriteBack }
     {
         let mut table = [0; 128];
         'entries: for i in 0..NUM_DATA_DIRECTORIES {

@@ -1,11 +1,8 @@
 use Rattle.std.proofs.Common.{refl, arith}
 use Rattle.std.proofs.lemmas.Result.{err_from_is_err_and}
 use Rattle.goblin_pe_sect.specs.DataDirectories.{directories_at}
-use Rattle.goblin_pe_sect.proofs.Entries.{entries_more, one_missing, too_many}
+use Rattle.goblin_pe_sect.proofs.Entries.{entries_more, one_missing}
 use Rattle.goblin_pe_sect.proofs.data_directories.DataDirectories.parse.Goals as goal
-
-pub returns-then-count-gt-NUM_DATA_DIRECTORIES-clause-value : goal.returns-then-count-gt-NUM_DATA_DIRECTORIES-clause-value
-returns-then-count-gt-NUM_DATA_DIRECTORIES-clause-value c = (too_many c.args.count c.args.bytes.now c.args.offset.now (omega arith), (refl, omega arith))
 
 pub entries-init : goal.entries-init
 unfolding directories_at

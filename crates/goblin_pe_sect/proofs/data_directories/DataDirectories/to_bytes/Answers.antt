@@ -12,5 +12,5 @@ entries-preserved c =
       going = entries-going c.args.endian c.args.self.data_directories c.entries.i c.directory.result c.entries.table c.put_bytes.new.bytes _ (omega arith) c.directory.ensures (rw (← c.to_bytes-record.ensures) c.put_bytes.ensures) c.entries.invariant.going;
     }
 
-pub returns : goal.returns
-returns c = entries_done c.args.endian c.args.self.data_directories c.entries.i c.entries.table _ (omega arith) (omega arith) c.entries.invariant.going
+pub returns-clause-bytes : goal.returns-clause-bytes
+returns-clause-bytes c = entries_done c.args.endian c.args.self.data_directories c.entries.i c.entries.table _ (omega arith) (omega arith) c.entries.invariant.going
