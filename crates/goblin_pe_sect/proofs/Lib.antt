@@ -1,3 +1,5 @@
+pub mod Entries
+pub mod EntriesBack
 mod First
 pub mod NameBack
 pub mod NameLaw

@@ -1,9 +1,12 @@
 -- How an address in memory maps to an offset in the file, and the names that stand at an address.
-use Rattle.std.specs.Prelude.{ℕ, ◌+◌, ◌-◌, ◌*◌, ◌/◌, ◌==◌, ◌≡◌, ◌<◌, ◌≤◌, min, Bool, ◌&&◌, nat_le, nat_lt, if◌then◌else◌, List, Option, Some, None, find, slice_get, option_map}
+use Rattle.std.specs.Prelude.{ℕ, ◌+◌, ◌-◌, ◌*◌, ◌/◌, ◌==◌, ◌≡◌, ◌<◌, ◌≤◌, ◌⊎◌, min, Bool, ◌&&◌, nat_le, nat_lt, if◌then◌else◌, List, length, drop, Option, Some, None, find, slice_get, option_map}
 use Rattle.std.specs.Int.{next_multiple_of, is_power_of_two}
+use Rattle.goblin_base.specs.declared.endian.Endian.{Endian}
+use Rattle.goblin_base.specs.declared.endian.Endian.TheVariants.{Little}
 use Rattle.goblin_base.specs.declared.error.CauseOf.TheVariants.{Message, Unmapped, NameRead}
 use Rattle.goblin_base.specs.declared.error.ErrorOf.{ErrorOf}
-use Rattle.goblin_base.specs.declared.error.ErrorOf.TheVariants.{Malformed}
+use Rattle.goblin_base.specs.declared.error.ErrorOf.TheVariants.{Malformed, Read}
+use Rattle.goblin_base.specs.declared.error.ReadFault.TheVariants.{BadOffset}
 use Rattle.goblin_base.specs.Bytes.{text_at}
 use Rattle.goblin_base.specs.Faults.{IsTextFault}
 use Rattle.goblin_base.specs.Steps.{◌>>=◌, FirstFault}
@@ -74,6 +77,14 @@ abbrev pub name_or_none : Bool → Option (List ℕ) → Option (Option (List �
 name_or_none strict (Some name) = Some (Some name)
 name_or_none strict None = if strict then None else Some None
 
+-- the value at an offset before the end, little-endian, from the bytes that are there
+abbrev pub value_at : {Y : Type 0} → (Endian → List ℕ → Option (Y × ℕ)) → List ℕ → ℕ → Option Y
+value_at value_of bytes p = if nat_lt p (length bytes) then option_map (λ x. x.0) (value_of Little (drop p bytes)) else None
+
+-- the value at an address
+abbrev pub data_at : {Y : Type 0} → (ℕ → Option ℕ) → (Endian → List ℕ → Option (Y × ℕ)) → List ℕ → ℕ → Option Y
+data_at offset_of value_of bytes rva = offset_of rva >>= value_at value_of bytes
+
 -- ---- causes
 
 -- the refusal has this message
@@ -98,3 +109,16 @@ IsNameFault offset_of bytes rva = FirstFault (offset_of rva) (IsUnmapped rva) (I
 -- which cause is true where a strict reader of a name finds none
 abbrev pub IsSafeNameFault : (ℕ → Option ℕ) → ℕ → ErrorOf → Type 0
 IsSafeNameFault offset_of rva = FirstFault (offset_of rva) (IsUnmapped rva) IsNameRead
+
+-- the refusal is that the offset lies at or past the end
+abbrev pub IsBadOffset : ErrorOf → Type 0
+IsBadOffset (Read BadOffset) = Unit {0}
+IsBadOffset e = ⊥
+
+-- which cause is true where no value stands at an offset: it lies at or past the end, or the bytes from there on are refused
+abbrev pub IsValueFault : (Endian → List ℕ → ErrorOf → Type 0) → List ℕ → ℕ → ErrorOf → Type 0
+IsValueFault refusal bytes p e = ((length bytes ≤ p) × IsBadOffset e) ⊎ ((p < length bytes) × refusal Little (drop p bytes) e)
+
+-- which cause is true where no value stands at an address
+abbrev pub IsDataFault : (ℕ → Option ℕ) → (Endian → List ℕ → ErrorOf → Type 0) → List ℕ → ℕ → ErrorOf → Type 0
+IsDataFault offset_of refusal bytes rva = FirstFault (offset_of rva) (IsUnmapped rva) (IsValueFault refusal bytes)

@@ -4,12 +4,15 @@ ghost use Rattle.std.specs.Prelude.{◌≡◌, ◌+◌, ◌-◌, ◌^◌, ◌<�
 ghost use Rattle.std.specs.Int.{is_power_of_two};
 ghost use Rattle.std.specs.Option.{option_copied, option_map};
 ghost use Rattle.goblin_base.specs.Answers.{Answers};
-ghost use Rattle.goblin_pe_sect.specs.Mapping.{read_size, is_in_window, file_offset, InWindow, MapsTo, MapsNowhere, name_at, name_or_none, IsMessage, IsNameFault, IsSafeNameFault};
-ghost use Rattle.goblin_pe_sect.specs.Options.{is_strict};
+ghost use Rattle.goblin_pe_sect.specs.Mapping.{read_size, is_in_window, file_offset, InWindow, MapsTo, MapsNowhere, name_at, name_or_none, data_at, IsMessage, IsNameFault, IsSafeNameFault, IsDataFault};
+ghost use Rattle.goblin_pe_sect.specs.Options.{is_strict, default_options};
 
+use crate::data_directories::DataDirectory;
 use crate::options::ParseOptions;
 use crate::section_table::SectionTable;
-use goblin_base::{Cause, Error, Result, pread_str};
+use goblin_base::{
+    Cause, Endian, Error, ReadFault, Result, ResultOf, TryFromCtx, pread_str,
+};
 
 /// Whether the address `rva` lies in the range from `r1` up to, and without, `r2`.
 pub fn is_in_range(rva: usize, r1: usize, r2: usize) -> bool
@@ -173,4 +176,53 @@ pub fn safe_try_name<'a>(
     } else {
         Err(Error::Malformed(cause))
     }
+}
+
+/// The value at the address of `directory`, read in little-endian order from its file offset on, as
+/// [`get_data_with_opts`] reads it by the default options.
+///
+/// # Errors
+/// As [`get_data_with_opts`].
+pub fn get_data<'a, 'e, T: TryFromCtx<'a>>(
+    bytes: &'a [u8],
+    sections: &[SectionTable],
+    directory: DataDirectory,
+    file_alignment: u32,
+) -> ResultOf<'e, T>
+    ensures { Answers T.plain result (data_at (file_offset default_options sections.now file_alignment) T.value_of bytes.now directory.virtual_address) (IsDataFault (file_offset default_options sections.now file_alignment) T.refusal bytes.now directory.virtual_address) }
+{
+    get_data_with_opts(
+        bytes,
+        sections,
+        directory,
+        file_alignment,
+        &ParseOptions::default(),
+    )
+}
+
+/// The value at the address of `directory`, read in little-endian order from its file offset on. It
+/// may take bytes up to the end of the file, whatever the directory's size.
+///
+/// # Errors
+/// In both modes: [`Error::Malformed`] with [`Cause::Unmapped`] where the address has no file
+/// offset, [`Error::Read`] with `BadOffset` where that lies at or past the end, and else what `T`
+/// refuses.
+pub fn get_data_with_opts<'a, 'e, T: TryFromCtx<'a>>(
+    bytes: &'a [u8],
+    sections: &[SectionTable],
+    directory: DataDirectory,
+    file_alignment: u32,
+    opts: &ParseOptions,
+) -> ResultOf<'e, T>
+    ensures { Answers T.plain result (data_at (file_offset opts.now sections.now file_alignment) T.value_of bytes.now directory.virtual_address) (IsDataFault (file_offset opts.now sections.now file_alignment) T.refusal bytes.now directory.virtual_address) }
+{
+    let rva = directory.virtual_address as usize;
+    let Some(offset) = find_offset(rva, sections, file_alignment, opts) else {
+        return Err(Error::Malformed(Cause::Unmapped(rva)));
+    };
+    if bytes.len() <= offset {
+        return Err(Error::Read(ReadFault::BadOffset));
+    }
+    let (value, _) = T::try_from_ctx(&bytes[offset..], Endian::Little)?;
+    Ok(value)
 }
