@@ -10,9 +10,7 @@ ghost use Rattle.goblin_pe_sect.specs.Options.{is_strict, default_options};
 use crate::data_directories::DataDirectory;
 use crate::options::ParseOptions;
 use crate::section_table::SectionTable;
-use goblin_base::{
-    Cause, Endian, Error, ReadFault, Result, ResultOf, TryFromCtx, pread_str,
-};
+use goblin_base::{Cause, Endian, Error, ReadFault, Result, ResultOf, TryFromCtx, pread_str};
 
 /// Whether the address `rva` lies in the range from `r1` up to, and without, `r2`.
 pub fn is_in_range(rva: usize, r1: usize, r2: usize) -> bool
