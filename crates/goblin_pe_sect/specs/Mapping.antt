@@ -1,0 +1,124 @@
+-- How an address in memory maps to an offset in the file, and the names that stand at an address.
+use Rattle.std.specs.Prelude.{ℕ, ◌+◌, ◌-◌, ◌*◌, ◌/◌, ◌==◌, ◌≡◌, ◌<◌, ◌≤◌, ◌⊎◌, min, Bool, ◌&&◌, nat_le, nat_lt, if◌then◌else◌, List, length, drop, Option, Some, None, find, slice_get, option_map}
+use Rattle.std.specs.Int.{next_multiple_of, is_power_of_two}
+use Rattle.goblin_base.specs.declared.endian.Endian.{Endian}
+use Rattle.goblin_base.specs.declared.endian.Endian.TheVariants.{Little}
+use Rattle.goblin_base.specs.declared.error.CauseOf.TheVariants.{Message, Unmapped, NameRead}
+use Rattle.goblin_base.specs.declared.error.ErrorOf.{ErrorOf}
+use Rattle.goblin_base.specs.declared.error.ErrorOf.TheVariants.{Malformed, Read}
+use Rattle.goblin_base.specs.declared.error.ReadFault.TheVariants.{BadOffset}
+use Rattle.goblin_base.specs.Bytes.{text_at}
+use Rattle.goblin_base.specs.Faults.{IsTextFault}
+use Rattle.goblin_base.specs.Steps.{◌>>=◌, FirstFault}
+use Rattle.goblin_pe_sect.specs.declared.options.ParseOptions.{ParseOptions}
+use Rattle.goblin_pe_sect.specs.SectionTable.{Section}
+
+-- the greatest multiple of y that is at most x
+abbrev pub previous_multiple_of : ℕ → ℕ → ℕ
+previous_multiple_of x y = x / y * y
+
+-- how many bytes of a section are read from the file at this file alignment: none where it has no raw data; else the bytes of
+-- its raw data, out to file borders and at most whole pages, and at most the whole pages of its virtual size, where that is given
+unfoldable pub read_size : Section → ℕ → ℕ
+read_size s alignment =
+    let raw = s.size_of_raw_data in
+    let stored = min (next_multiple_of (s.pointer_to_raw_data + raw) alignment - previous_multiple_of s.pointer_to_raw_data 512) (next_multiple_of raw 4096) in
+    if raw == 0 then 0 else (if s.virtual_size == 0 then stored else min stored (next_multiple_of s.virtual_size 4096))
+
+-- the first address behind a section's window, which begins at the section's address
+abbrev pub window_end : Section → ℕ → ℕ
+window_end s alignment = s.virtual_address + read_size s alignment
+
+-- the window of a section holds this address
+abbrev pub is_in_window : ℕ → ℕ → Section → Bool
+is_in_window alignment rva s = nat_le s.virtual_address rva && nat_lt rva (window_end s alignment)
+
+-- where the file has what stands at an address of a section's window: as far behind the raw data's begin, which is not rounded
+abbrev pub offset_in : ParseOptions → Section → ℕ → ℕ
+offset_in opts s rva = s.pointer_to_raw_data + (rva - s.virtual_address)
+
+-- the file offset of an address: that of the first section whose window holds it; and the address itself where addresses are
+-- not mapped. No address has one where the alignment is no power of two.
+unfoldable pub file_offset : ParseOptions → List Section → ℕ → ℕ → Option ℕ
+file_offset opts sections alignment rva =
+    if opts.resolve_rva
+    then (if is_power_of_two alignment then option_map (λ s. offset_in opts s rva) (find (is_in_window alignment rva) sections) else None)
+    else Some rva
+
+-- ---- the same in words
+
+-- the section's window holds the address
+abbrev pub InWindow : ℕ → ℕ → Section → Type 0
+InWindow alignment rva s = (s.virtual_address ≤ rva) × (rva < window_end s alignment)
+
+-- the section at the index holds the address in its window, and none before it does
+pub record IsFirstWindow (sections : List Section) (alignment rva index : ℕ) : Type 0 where
+  pub section : Section
+  pub is : slice_get sections index ≡ Some section
+  pub holds : InWindow alignment rva section
+  pub least : (k : ℕ) (s : Section) → k < index → slice_get sections k ≡ Some s → ¬ InWindow alignment rva s
+
+-- the offset is that of the section with the least index among those whose windows hold the address
+abbrev pub MapsTo : ParseOptions → List Section → ℕ → ℕ → ℕ → Type 0
+MapsTo opts sections alignment rva offset = (index : ℕ) × (first : IsFirstWindow sections alignment rva index) × (offset ≡ offset_in opts first.section rva)
+
+-- no section's window holds the address
+abbrev pub MapsNowhere : List Section → ℕ → ℕ → Type 0
+MapsNowhere sections alignment rva = (k : ℕ) (s : Section) → slice_get sections k ≡ Some s → ¬ InWindow alignment rva s
+
+-- ---- what stands at an address, over a map of addresses to file offsets
+
+-- the text at an address
+abbrev pub name_at : (ℕ → Option ℕ) → List ℕ → ℕ → Option (List ℕ)
+name_at offset_of bytes rva = offset_of rva >>= text_at bytes
+
+-- what a reader of a name takes: the text at an address, and where there is none, nothing, unless it reads strictly
+abbrev pub name_or_none : Bool → Option (List ℕ) → Option (Option (List ℕ))
+name_or_none strict (Some name) = Some (Some name)
+name_or_none strict None = if strict then None else Some None
+
+-- the value at an offset before the end, little-endian, from the bytes that are there
+abbrev pub value_at : {Y : Type 0} → (Endian → List ℕ → Option (Y × ℕ)) → List ℕ → ℕ → Option Y
+value_at value_of bytes p = if nat_lt p (length bytes) then option_map (λ x. x.0) (value_of Little (drop p bytes)) else None
+
+-- the value at an address
+abbrev pub data_at : {Y : Type 0} → (ℕ → Option ℕ) → (Endian → List ℕ → Option (Y × ℕ)) → List ℕ → ℕ → Option Y
+data_at offset_of value_of bytes rva = offset_of rva >>= value_at value_of bytes
+
+-- ---- causes
+
+-- the refusal has this message
+abbrev pub IsMessage : List ℕ → ErrorOf → Type 0
+IsMessage message (Malformed (Message text)) = text.now ≡ message
+IsMessage message e = ⊥
+
+-- the refusal is that this address is not mapped
+abbrev pub IsUnmapped : ℕ → ErrorOf → Type 0
+IsUnmapped rva (Malformed (Unmapped address)) = address ≡ rva
+IsUnmapped rva e = ⊥
+
+-- the refusal is that no text stands at this offset
+abbrev pub IsNameRead : ℕ → ErrorOf → Type 0
+IsNameRead p (Malformed (NameRead offset)) = offset ≡ p
+IsNameRead p e = ⊥
+
+-- which cause is true where no text stands at an address
+abbrev pub IsNameFault : (ℕ → Option ℕ) → List ℕ → ℕ → ErrorOf → Type 0
+IsNameFault offset_of bytes rva = FirstFault (offset_of rva) (IsUnmapped rva) (IsTextFault bytes)
+
+-- which cause is true where a strict reader of a name finds none
+abbrev pub IsSafeNameFault : (ℕ → Option ℕ) → ℕ → ErrorOf → Type 0
+IsSafeNameFault offset_of rva = FirstFault (offset_of rva) (IsUnmapped rva) IsNameRead
+
+-- the refusal is that the offset lies at or past the end
+abbrev pub IsBadOffset : ErrorOf → Type 0
+IsBadOffset (Read BadOffset) = Unit {0}
+IsBadOffset e = ⊥
+
+-- which cause is true where no value stands at an offset: it lies at or past the end, or the bytes from there on are refused
+abbrev pub IsValueFault : (Endian → List ℕ → ErrorOf → Type 0) → List ℕ → ℕ → ErrorOf → Type 0
+IsValueFault refusal bytes p e = ((length bytes ≤ p) × IsBadOffset e) ⊎ ((p < length bytes) × refusal Little (drop p bytes) e)
+
+-- which cause is true where no value stands at an address
+abbrev pub IsDataFault : (ℕ → Option ℕ) → (Endian → List ℕ → ErrorOf → Type 0) → List ℕ → ℕ → ErrorOf → Type 0
+IsDataFault offset_of refusal bytes rva = FirstFault (offset_of rva) (IsUnmapped rva) (IsValueFault refusal bytes)
