@@ -1,7 +1,7 @@
 //! How damaged parts of a file are met.
 
 ghost use Rattle.std.specs.Prelude.{◌≡◌, ◌↔◌, IsTrue, Result};
-ghost use Rattle.goblin_base.specs.Answers.{Substitutes};
+ghost use Rattle.goblin_base.specs.Answers.{IsMemory, Substitutes};
 ghost use Rattle.goblin_base.specs.declared.error.ErrorOf.{ErrorOf};
 
 use crate::error::{ErrorOf, ResultOf};
@@ -60,6 +60,13 @@ pub trait Permissive<T> {
         ensures { Substitutes permissive (λ x. F.post make x) (outcome self) (outcome result) };
 }
 
+// Whether a refusal is passed over: never one for want of memory.
+fn is_passed_over(error: &ErrorOf, permissive: bool) -> bool
+    ensures { IsTrue result ↔ (IsTrue permissive × ¬ (IsMemory error.now)) }
+{
+    permissive && !matches!(error, ErrorOf::Memory(_))
+}
+
 impl<'e, T: Drop> Permissive<T> for ResultOf<'e, T> {
     ghost outcome = { λ r. r };
 
@@ -68,19 +75,15 @@ impl<'e, T: Drop> Permissive<T> for ResultOf<'e, T> {
         T: Default,
     {
         match self {
-            Ok(value) => Ok(value),
-            Err(ErrorOf::Memory(error)) => Err(ErrorOf::Memory(error)),
-            Err(_) if permissive => Ok(T::default()),
-            Err(error) => Err(error),
+            Err(error) if is_passed_over(&error, permissive) => Ok(T::default()),
+            other => other,
         }
     }
 
     fn or_permissive_and_value(self, permissive: bool, _context: &str, value: T) -> Self {
         match self {
-            Ok(value) => Ok(value),
-            Err(ErrorOf::Memory(error)) => Err(ErrorOf::Memory(error)),
-            Err(_) if permissive => Ok(value),
-            Err(error) => Err(error),
+            Err(error) if is_passed_over(&error, permissive) => Ok(value),
+            other => other,
         }
     }
 
@@ -91,10 +94,8 @@ impl<'e, T: Drop> Permissive<T> for ResultOf<'e, T> {
         make: F,
     ) -> Self {
         match self {
-            Ok(value) => Ok(value),
-            Err(ErrorOf::Memory(error)) => Err(ErrorOf::Memory(error)),
-            Err(_) if permissive => Ok(make()),
-            Err(error) => Err(error),
+            Err(error) if is_passed_over(&error, permissive) => Ok(make()),
+            other => other,
         }
     }
 }
