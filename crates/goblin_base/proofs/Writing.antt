@@ -24,10 +24,10 @@ length_encoding endian (field ∷ fields) =
     let rest = length_encoding endian fields in
     length-append (field_bytes endian field) (encoding endian fields) ∙ omega (arith, first, rest)
 
-pub encoding-append : (endian : Endian) (xs ys : List FieldValue) → encoding endian (xs ++ ys) ≡ encoding endian xs ++ encoding endian ys
-encoding-append endian [] ys = refl
-encoding-append endian (x ∷ xs) ys =
-    ap (λ (bs : List ℕ). field_bytes endian x ++ bs) (encoding-append endian xs ys) ∙ sym (append_assoc (field_bytes endian x) (encoding endian xs) (encoding endian ys))
+pub encoding_append : (endian : Endian) (xs ys : List FieldValue) → encoding endian (xs ++ ys) ≡ encoding endian xs ++ encoding endian ys
+encoding_append endian [] ys = refl
+encoding_append endian (x ∷ xs) ys =
+    ap (λ (bs : List ℕ). field_bytes endian x ++ bs) (encoding_append endian xs ys) ∙ sym (append_assoc (field_bytes endian x) (encoding endian xs) (encoding endian ys))
 
 pub length-replaced : (bytes : List ℕ) (at : ℕ) (xs : List ℕ) → at + length xs ≤ length bytes → length (replaced bytes at xs) ≡ length bytes
 length-replaced bytes at xs room =
@@ -36,8 +36,8 @@ length-replaced bytes at xs room =
     omega (arith, front, whole, length-take at bytes, length-drop (at + length xs) bytes)
 
 -- what is written behind what was written is written at once
-pub replaced-then : (bytes : List ℕ) (at : ℕ) (xs ys : List ℕ) → at + length xs ≤ length bytes → replaced (replaced bytes at xs) (at + length xs) ys ≡ replaced bytes at (xs ++ ys)
-replaced-then bytes at xs ys room =
+pub replaced_then : (bytes : List ℕ) (at : ℕ) (xs ys : List ℕ) → at + length xs ≤ length bytes → replaced (replaced bytes at xs) (at + length xs) ys ≡ replaced bytes at (xs ++ ys)
+replaced_then bytes at xs ys room =
     let first = take at bytes ++ xs in
     let w = length xs in
     let rest = drop (at + w) bytes in
@@ -47,6 +47,11 @@ replaced-then bytes at xs ys room =
     let far : drop (at + w + length ys) (first ++ rest) ≡ drop (at + length (xs ++ ys)) bytes =
     sym (drop-drop (length ys) (at + w) (first ++ rest)) ∙ ap (drop (length ys)) back ∙ drop-drop (length ys) (at + w) bytes ∙ ap (λ (n : ℕ). drop n bytes) (omega (arith, length-append xs ys)) in
     rw (front, far) (ap (λ (zs : List ℕ). zs ++ drop (at + length (xs ++ ys)) bytes) (append_assoc (take at bytes) xs ys))
+
+-- the same of a write that begins where the first one ended
+pub written_then : (bytes mid new : List ℕ) (at next : ℕ) (xs ys : List ℕ) → next ≡ at + length xs → next ≤ length bytes → mid ≡ replaced bytes at xs → new ≡ replaced mid next ys → new ≡ replaced bytes at (xs ++ ys)
+written_then bytes mid new at next xs ys next_is room first second =
+    second ∙ ap (λ (b : List ℕ). replaced b next ys) first ∙ ap (λ (n : ℕ). replaced (replaced bytes at xs) n ys) next_is ∙ replaced_then bytes at xs ys (omega arith)
 
 -- as many bytes as there are take the place of all
 pub replaced_all : (bytes xs : List ℕ) → length bytes ≡ length xs → replaced bytes 0 xs ≡ xs
@@ -75,5 +80,5 @@ IsGoing-more endian fields i at n d bytes new final lt going n_is is =
     let place : at + n ≡ at + length (field_bytes endian field) = omega arith in
     record {
       room = omega arith;
-      same = rw (place, is) (replaced-then bytes at (field_bytes endian field) (encoding endian rest) (omega arith) ∙ ap (λ (fs : List FieldValue). replaced bytes at (encoding endian fs)) (sym split) ∙ going.same);
+      same = rw (place, is) (replaced_then bytes at (field_bytes endian field) (encoding endian rest) (omega arith) ∙ ap (λ (fs : List FieldValue). replaced bytes at (encoding endian fs)) (sym split) ∙ going.same);
     }

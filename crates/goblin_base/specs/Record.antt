@@ -24,7 +24,7 @@ records_at size value count bytes p =
 abbrev pub record_in : {R : Type 0} → ℕ → (Endian → List ℕ → R) → Endian → List ℕ → Option (R × ℕ)
 record_in size value endian bytes = option_map (λ r. (r, size)) (record_at size (value endian) bytes 0)
 
--- a field of a record: a number of so many bytes, or bytes as they are
+-- a field of a record: `uint n x`, the number x in n bytes, or `octets xs`, bytes as they are
 pub data FieldValue : Type 0 where
   uint : ℕ → ℕ → FieldValue
   octets : List ℕ → FieldValue
@@ -61,6 +61,6 @@ field_value (Bytes bytes) = octets bytes.now
 abbrev pub field_values : List Field → List FieldValue
 field_values fields = map field_value fields
 
--- A record that stands anywhere in bytes stands there in its encoding, by the same order of bytes.
+-- A record that was read, wherever it stood, is written as the bytes that it was read from, in the same order of bytes.
 abbrev pub WritesBack : {R : Type 0} → ℕ → (Endian → List ℕ → R) → (R → List FieldValue) → Type 0
 WritesBack {R} size value fields = (endian : Endian) (bytes : List ℕ) (p : ℕ) (r : R) → IsBytes bytes → record_at size (value endian) bytes p ≡ Some r → slice_at bytes p size ≡ Some (encoding endian (fields r))

@@ -22,6 +22,7 @@ pub trait TryFromCtx<'a>: Sized {
     /// A value without where it lies in memory: texts and slices as their bytes.
     ghost Plain: { Type 0 };
 
+    /// A value that was read, as its plain value.
     ghost plain: { Self → Plain };
 
     /// The value at the front of bytes, and how many of them it takes.
@@ -118,7 +119,7 @@ pub fn field_u64(bytes: &[u8], at: usize, endian: Endian) -> u64
 }
 
 /// The `N` bytes at `at`, which are there.
-pub fn field_bytes<const N: usize>(bytes: &[u8], at: usize) -> [u8; N]
+pub fn field_array<const N: usize>(bytes: &[u8], at: usize) -> [u8; N]
     requires { at + N ≤ length bytes.now }
     ensures { result ≡ slice_range bytes.now at (at + N) }
 {
