@@ -25,67 +25,16 @@ pub fn read_all<R: Read>(alloc: Global, reader: &mut Watched<R>) -> Result<Vec<u
     ensures input { result ≡ Err RunFault.Input → IsTrue reader.new.failed }
 {
     let mut bytes = Vec::new(alloc);
-    let mut filled = 0;
+    let mut chunk = [0; CHUNK];
     'reading: loop {
-        let n = read_more(reader, &mut bytes, filled)?;
-        if n == 0 {
-            bytes.truncate(filled);
-            return Ok(bytes);
+        match reader.read(&mut chunk) {
+            Ok(0) => return Ok(bytes),
+            Ok(n) => match bytes.extend_from_slice(&chunk[..n]) {
+                Ok(()) => {}
+                Err(e) => return Err(RunFault::Refused(Error::Memory(e))),
+            },
+            Err(_) => return Err(RunFault::Input),
         }
-        filled += n;
-    }
-}
-
-// One read behind the first `filled` bytes, for which there is room or room is made.
-fn read_more<R: Read>(
-    reader: &mut Watched<R>,
-    bytes: &mut Vec<u8>,
-    filled: usize,
-) -> Result<usize, RunFault>
-    requires { filled ≤ length bytes.old.items }
-    ensures front { OnOk result (take filled bytes.new.items ≡ take filled bytes.old.items) }
-    ensures fits { IfOk result (λ n. filled + n ≤ length bytes.new.items) }
-    ensures took { IfOk result (λ n. Consumes (R.remaining reader.old.inner) (R.remaining reader.new.inner)
-        (take n (drop filled bytes.new.items))) }
-    ensures end { IfOk result (λ n. n ≡ 0 → IsAtEnd (R.remaining reader.new.inner)) }
-    ensures ended { IfOk result (λ n. n ≡ 0 → IsTrue reader.new.ended) }
-    ensures refused { IfErr result (λ fault. fault ≢ RunFault.Input → IsOutOfMemory fault) }
-    ensures input { result ≡ Err RunFault.Input → IsTrue reader.new.failed }
-{
-    if bytes.len() == filled {
-        make_room(bytes)?;
-    }
-    read_at(reader, bytes.as_mut_slice(), filled)
-}
-
-// Lengthens the bytes by zeros, into which the next read goes.
-fn make_room(bytes: &mut Vec<u8>) -> Result<(), RunFault>
-    ensures front { OnOk result (take (length bytes.old.items) bytes.new.items ≡ bytes.old.items) }
-    ensures room { OnOk result (length bytes.old.items < length bytes.new.items) }
-    ensures refused { IfErr result (λ fault. IsOutOfMemory fault) }
-{
-    let longer = bytes.len().saturating_add(CHUNK);
-    match bytes.resize(longer, 0) {
-        Ok(()) => Ok(()),
-        Err(e) => Err(RunFault::Refused(Error::Memory(e))),
-    }
-}
-
-// One read into the room behind the first bytes.
-fn read_at<R: Read>(reader: &mut Watched<R>, bytes: &mut [u8], at: usize) -> Result<usize, RunFault>
-    requires { at < length bytes.old }
-    ensures front { take at bytes.new ≡ take at bytes.old }
-    ensures fits { IfOk result (λ n. at + n ≤ length bytes.new) }
-    ensures took { IfOk result (λ n. Consumes (R.remaining reader.old.inner) (R.remaining reader.new.inner)
-        (take n (drop at bytes.new))) }
-    ensures end { IfOk result (λ n. n ≡ 0 → IsAtEnd (R.remaining reader.new.inner)) }
-    ensures ended { IfOk result (λ n. n ≡ 0 → IsTrue reader.new.ended) }
-    ensures fault { IfErr result (λ fault. fault ≡ RunFault.Input) }
-    ensures failed { OnErr result (IsTrue reader.new.failed) }
-{
-    match reader.read(&mut bytes[at..]) {
-        Ok(n) => Ok(n),
-        Err(_) => Err(RunFault::Input),
     }
 }
 
