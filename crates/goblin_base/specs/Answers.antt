@@ -8,12 +8,12 @@ abbrev pub Answers : {X Y : Type 0} → (X → Y) → Result X ErrorOf → Optio
 Answers view (Ok x) value IsCause = value ≡ Some (view x)
 Answers view (Err e) value IsCause = (value ≡ None) × IsCause e
 
--- the refusal for want of memory, or one whose cause is true of an input that has no value
-abbrev pub IsMemoryOr : ErrorOf → Type 0 → Type 0
-IsMemoryOr (Memory e) Fact = Unit {0}
-IsMemoryOr e Fact = Fact
+-- the refusal is for want of memory
+abbrev pub IsMemory : ErrorOf → Type 0
+IsMemory (Memory e) = Unit {0}
+IsMemory e = ⊥
 
 -- The same for a call that takes memory, which may also be refused for want of it.
 abbrev pub AnswersOrMemory : {X Y : Type 0} → (X → Y) → Result X ErrorOf → Option Y → (ErrorOf → Type 0) → Type 0
 AnswersOrMemory view (Ok x) value IsCause = value ≡ Some (view x)
-AnswersOrMemory view (Err e) value IsCause = IsMemoryOr e ((value ≡ None) × IsCause e)
+AnswersOrMemory view (Err e) value IsCause = ¬ IsMemory e → (value ≡ None) × IsCause e

@@ -1,5 +1,5 @@
 -- Which causes of a refused read are true.
-use Rattle.std.specs.Prelude.{◌≡◌, ℕ, ◌+◌, ◌<◌, ◌≤◌, List, length, false, IsSomeAnd}
+use Rattle.std.specs.Prelude.{◌≡◌, ℕ, ◌+◌, ◌*◌, ◌<◌, ◌≤◌, List, length, false, IsSomeAnd}
 use Rattle.std.specs.Str.{is_utf8}
 use Rattle.goblin_base.specs.declared.error.ErrorOf.{ErrorOf}
 use Rattle.goblin_base.specs.declared.error.ErrorOf.TheVariants.{Read}
@@ -29,3 +29,7 @@ IsBoundedTextFault bytes p n (Read BadOffset) = length bytes ≤ p
 IsBoundedTextFault bytes p n (Read TooBig) = length bytes < p + n
 IsBoundedTextFault bytes p n (Read BadInput) = IsSomeAnd (slice_at bytes p n) (λ s. is_utf8 (before_nul s) ≡ false)
 IsBoundedTextFault bytes p n e = ⊥
+
+-- which cause is true of n records of `size` bytes from p on that are not all there: that of one of them
+abbrev pub IsRecordsFault : ℕ → ℕ → List ℕ → ℕ → ErrorOf → Type 0
+IsRecordsFault size n bytes p e = (i : ℕ) × (i < n) × IsSliceFault bytes (p + size * i) size e

@@ -2,7 +2,7 @@
 
 ghost use Rattle.std.specs.Prelude.{◌≡◌, ◌≢◌, Err, IfSome, IsSomeAnd, IsTrue, None, OnErr, OnOk, Some};
 ghost use Rattle.std.specs.Io.KnownBytes.{Appends, Keeps};
-ghost use Rattle.goblin_base.specs.Answers.{IsMemoryOr};
+ghost use Rattle.goblin_base.specs.Answers.{IsMemory};
 ghost use Rattle.pe_list.specs.Listing.{IsLayoutFault, listing_of};
 ghost use Rattle.pe_list.specs.Run.{AppendsPart, IfRefused};
 
@@ -56,8 +56,8 @@ pub fn run<R: Read, W: Write>(
         IsSomeAnd (listing_of mode file) (Appends (W.contents writer.old.inner) (W.contents writer.new.inner)))) }
     ensures cut { result ≡ Err RunFault.Output → IfSome (R.remaining reader.old.inner) (λ file.
         IsSomeAnd (listing_of mode file) (AppendsPart (W.contents writer.old.inner) (W.contents writer.new.inner))) }
-    ensures refused { IfRefused result (λ cause. IsMemoryOr cause (IfSome (R.remaining reader.old.inner) (λ file.
-        (listing_of mode file ≡ None) × IsLayoutFault mode file cause))) }
+    ensures refused { IfRefused result (λ cause. ¬ IsMemory cause → IfSome (R.remaining reader.old.inner) (λ file.
+        (listing_of mode file ≡ None) × IsLayoutFault mode file cause)) }
 
     // Nothing goes out before the listing is whole.
     ensures nothing_out { OnErr result (result ≢ Err RunFault.Output →
@@ -69,7 +69,7 @@ pub fn run<R: Read, W: Write>(
 
     // The file is judged only when all of it was read.
     ensures ended { OnOk result (IsTrue reader.new.ended) }
-    ensures judged { IfRefused result (λ cause. IsMemoryOr cause (IsTrue reader.new.ended)) }
+    ensures judged { IfRefused result (λ cause. ¬ IsMemory cause → IsTrue reader.new.ended) }
 {
     let bytes = read_all(alloc, reader)?;
     match list(alloc, &bytes, mode) {

@@ -1,0 +1,241 @@
+//! The DOS header and the COFF header of a PE file, and its section table.
+
+ghost use Rattle.std.specs.Prelude.{◌≡◌, ◌+◌, ◌*◌, ◌/◌, ◌<◌, length, OnOk, OnErr, IsErrAnd};
+ghost use Rattle.goblin_base.specs.Answers.{Answers, AnswersOrMemory};
+ghost use Rattle.goblin_base.specs.Faults.{IsSliceFault};
+ghost use Rattle.goblin_base.specs.Record.{record_at, records_at};
+ghost use Rattle.goblin_pe_sect.specs.SectionTable.{section_record};
+ghost use Rattle.goblin_pe_head.specs.Header.{dos_record, dos_header, IsDosFault, coff_header};
+ghost use Rattle.goblin_pe_head.specs.Sections.{IsSectionsFault, IsTooShort};
+
+use goblin_base::{
+    Cause, Endian, Error, Result, field_u16, field_u32, gread_slice, pread_slice, pread_u16,
+    pread_u32,
+};
+use goblin_pe_sect::section_table::{SIZEOF_SECTION_TABLE, SectionTable};
+use std::alloc::Global;
+
+/// The signature of a DOS header, `MZ`.
+pub const DOS_MAGIC: u16 = 0x5A4D;
+/// The signature of a PE header, `PE` and two NULs.
+pub const PE_MAGIC: u32 = 0x0000_4550;
+/// The size of the signature of a PE header, in bytes.
+pub const SIZEOF_PE_MAGIC: usize = 4;
+/// Where the DOS header has the file offset of the PE header.
+pub const PE_POINTER_OFFSET: u32 = 0x3C;
+/// The size of a COFF header, in bytes.
+pub const SIZEOF_COFF_HEADER: usize = 20;
+
+// The size of a DOS header, in bytes.
+const SIZEOF_DOS_HEADER: usize = 64;
+
+/// The header of a DOS program, with which a PE file begins.
+///
+/// Source: PE Format, "MS-DOS Stub (Image Only)"; the fields are those of a DOS executable. Numbers
+/// are as stored, little-endian; the record has 64 bytes. A loader of PE files looks at the
+/// signature and the pointer alone.
+#[derive(Debug, PartialEq, Copy, Clone, Default)]
+pub struct DosHeader {
+    /// [`DOS_MAGIC`], at 0x00.
+    pub signature: u16,
+    /// How many bytes of the last page are used, at 0x02.
+    pub bytes_on_last_page: u16,
+    /// How many pages of 512 bytes the program has, at 0x04.
+    pub pages_in_file: u16,
+    /// How many relocations there are, at 0x06.
+    pub relocations: u16,
+    /// The size of the header in paragraphs of 16 bytes, at 0x08.
+    pub size_of_header_in_paragraphs: u16,
+    /// The least memory that the program needs behind it, in paragraphs, at 0x0A.
+    pub minimum_extra_paragraphs_needed: u16,
+    /// The most memory that the program asks for behind it, in paragraphs, at 0x0C.
+    pub maximum_extra_paragraphs_needed: u16,
+    /// The stack segment at the start, relative to the program, at 0x0E.
+    pub initial_relative_ss: u16,
+    /// The stack pointer at the start, at 0x10.
+    pub initial_sp: u16,
+    /// The checksum, at 0x12.
+    pub checksum: u16,
+    /// The instruction pointer at the start, at 0x14.
+    pub initial_ip: u16,
+    /// The code segment at the start, relative to the program, at 0x16.
+    pub initial_relative_cs: u16,
+    /// The file offset of the relocations, at 0x18.
+    pub file_address_of_relocation_table: u16,
+    /// The overlay's number, at 0x1A.
+    pub overlay_number: u16,
+    /// Reserved, at 0x1C.
+    pub reserved: [u16; 4],
+    /// The maker's identifier, at 0x24.
+    pub oem_id: u16,
+    /// What the maker says, at 0x26.
+    pub oem_info: u16,
+    /// Reserved, at 0x28.
+    pub reserved2: [u16; 10],
+    /// The file offset of the PE header, at 0x3C.
+    pub pe_pointer: u32,
+}
+
+impl DosHeader {
+    // The DOS header in a record's bytes.
+    #[tactic(auto, unfolding(crate::specs::Header::dos_record))]
+    fn in_record(bytes: &[u8]) -> DosHeader
+        requires { length bytes.now ≡ 64 }
+        ensures { result ≡ dos_record bytes.now }
+    {
+        DosHeader {
+            signature: field_u16(bytes, 0, Endian::Little),
+            bytes_on_last_page: field_u16(bytes, 2, Endian::Little),
+            pages_in_file: field_u16(bytes, 4, Endian::Little),
+            relocations: field_u16(bytes, 6, Endian::Little),
+            size_of_header_in_paragraphs: field_u16(bytes, 8, Endian::Little),
+            minimum_extra_paragraphs_needed: field_u16(bytes, 10, Endian::Little),
+            maximum_extra_paragraphs_needed: field_u16(bytes, 12, Endian::Little),
+            initial_relative_ss: field_u16(bytes, 14, Endian::Little),
+            initial_sp: field_u16(bytes, 16, Endian::Little),
+            checksum: field_u16(bytes, 18, Endian::Little),
+            initial_ip: field_u16(bytes, 20, Endian::Little),
+            initial_relative_cs: field_u16(bytes, 22, Endian::Little),
+            file_address_of_relocation_table: field_u16(bytes, 24, Endian::Little),
+            overlay_number: field_u16(bytes, 26, Endian::Little),
+            reserved: [
+                field_u16(bytes, 28, Endian::Little),
+                field_u16(bytes, 30, Endian::Little),
+                field_u16(bytes, 32, Endian::Little),
+                field_u16(bytes, 34, Endian::Little),
+            ],
+            oem_id: field_u16(bytes, 36, Endian::Little),
+            oem_info: field_u16(bytes, 38, Endian::Little),
+            reserved2: [
+                field_u16(bytes, 40, Endian::Little),
+                field_u16(bytes, 42, Endian::Little),
+                field_u16(bytes, 44, Endian::Little),
+                field_u16(bytes, 46, Endian::Little),
+                field_u16(bytes, 48, Endian::Little),
+                field_u16(bytes, 50, Endian::Little),
+                field_u16(bytes, 52, Endian::Little),
+                field_u16(bytes, 54, Endian::Little),
+                field_u16(bytes, 56, Endian::Little),
+                field_u16(bytes, 58, Endian::Little),
+            ],
+            pe_pointer: field_u32(bytes, 60, Endian::Little),
+        }
+    }
+
+    /// Reads the DOS header of a PE file, which begins with the DOS signature and points to the PE
+    /// signature.
+    ///
+    /// # Errors
+    /// [`Error::Malformed`] with [`Cause::NoDosSignature`] or [`Cause::DosMagic`] where the file does
+    /// not begin with the DOS signature, [`Cause::NoPePointer`] where it is shorter than the header,
+    /// [`Cause::NoPeSignature`] or [`Cause::PeMagic`] where the PE signature does not stand at the
+    /// pointer.
+    #[tactic(auto, unfolding(crate::specs::Header::dos_header, crate::specs::Header::IsDosFault))]
+    pub fn parse(bytes: &[u8]) -> Result<DosHeader>
+        ensures { Answers (λ h. h) result (dos_header bytes.now) (IsDosFault bytes.now) }
+    {
+        let Ok(magic) = pread_u16(bytes, 0, Endian::Little) else {
+            return Err(Error::Malformed(Cause::NoDosSignature));
+        };
+        if magic != DOS_MAGIC {
+            return Err(Error::Malformed(Cause::DosMagic(magic)));
+        }
+        let Ok(record) = pread_slice(bytes, 0, SIZEOF_DOS_HEADER) else {
+            return Err(Error::Malformed(Cause::NoPePointer));
+        };
+        let header = DosHeader::in_record(record);
+        let pointer = header.pe_pointer as usize;
+        let Ok(signature) = pread_u32(bytes, pointer, Endian::Little) else {
+            return Err(Error::Malformed(Cause::NoPeSignature(pointer)));
+        };
+        if signature != PE_MAGIC {
+            return Err(Error::Malformed(Cause::PeMagic(signature)));
+        }
+        Ok(header)
+    }
+}
+
+/// The header of a COFF file, or of the COFF part of an image.
+///
+/// Source: PE Format, "COFF File Header (Object and Image)". Numbers are as stored; the record has
+/// 20 bytes. In an image it stands behind the PE signature.
+#[derive(Debug, PartialEq, Copy, Clone, Default)]
+pub struct CoffHeader {
+    /// The machine that the file is for, a `COFF_MACHINE_*`.
+    pub machine: u16,
+    /// How many section records follow the optional header.
+    pub number_of_sections: u16,
+    /// When the file was made, in seconds since the start of 1970, or what its maker put there.
+    pub time_date_stamp: u32,
+    /// The file offset of the symbol table, 0 where there is none.
+    pub pointer_to_symbol_table: u32,
+    /// How many records the symbol table has.
+    pub number_of_symbol_table: u32,
+    /// The size of the optional header, in bytes, 0 where there is none.
+    pub size_of_optional_header: u16,
+    /// What kind of file it is, as bits `IMAGE_FILE_*`.
+    pub characteristics: u16,
+}
+
+impl CoffHeader {
+    // The COFF header in a record's bytes.
+    #[tactic(auto, unfolding(crate::specs::Header::coff_header))]
+    fn in_record(bytes: &[u8], endian: Endian) -> CoffHeader
+        requires { length bytes.now ≡ 20 }
+        ensures { result ≡ coff_header endian bytes.now }
+    {
+        CoffHeader {
+            machine: field_u16(bytes, 0, endian),
+            number_of_sections: field_u16(bytes, 2, endian),
+            time_date_stamp: field_u32(bytes, 4, endian),
+            pointer_to_symbol_table: field_u32(bytes, 8, endian),
+            number_of_symbol_table: field_u32(bytes, 12, endian),
+            size_of_optional_header: field_u16(bytes, 16, endian),
+            characteristics: field_u16(bytes, 18, endian),
+        }
+    }
+
+    /// Reads the record at `offset` and moves `offset` past it.
+    ///
+    /// # Errors
+    /// [`Error::Read`] where the file has no 20 bytes there; `offset` then stays.
+    pub fn parse(bytes: &[u8], offset: &mut usize) -> Result<CoffHeader>
+        ensures value { Answers (λ h. h) result (record_at 20 (coff_header Endian.Little) bytes.now offset.old) (IsSliceFault bytes.now offset.old 20) }
+        ensures ok { OnOk result (offset.new ≡ offset.old + 20) }
+        ensures err { OnErr result (offset.new ≡ offset.old) }
+    {
+        let record = gread_slice(bytes, offset, SIZEOF_COFF_HEADER)?;
+        Ok(CoffHeader::in_record(record, Endian::Little))
+    }
+
+    /// Reads the section table, whose records stand one after the other from `offset` on, and moves
+    /// `offset` past it. In an image it stands behind the optional header.
+    ///
+    /// # Errors
+    /// [`Error::BufferTooShort`] of the number of sections where the whole file has no room for so
+    /// many, tested first; [`Error::Read`] where they are not all there; [`Error::Memory`] where
+    /// memory for them is refused. `offset` then stays.
+    pub fn sections(
+        &self,
+        alloc: Global,
+        bytes: &[u8],
+        offset: &mut usize,
+    ) -> Result<Vec<SectionTable>>
+        ensures value { AnswersOrMemory (λ v. v.items) result (records_at 40 section_record self.now.number_of_sections bytes.now offset.old) (IsSectionsFault self.now.number_of_sections bytes.now offset.old) }
+        ensures first { length bytes.now / 40 < self.now.number_of_sections → IsErrAnd result (IsTooShort self.now.number_of_sections bytes.now) }
+        ensures ok { OnOk result (offset.new ≡ offset.old + 40 * self.now.number_of_sections) }
+        ensures err { OnErr result (offset.new ≡ offset.old) }
+    {
+        let count = self.number_of_sections as usize;
+        if bytes.len() / SIZEOF_SECTION_TABLE < count {
+            return Err(Error::BufferTooShort(count, "sections"));
+        }
+        let mut sections = Vec::with_capacity(alloc, count)?;
+        let mut end = *offset;
+        'records: for _ in 0..count {
+            sections.push(SectionTable::parse(bytes, &mut end)?)?;
+        }
+        *offset = end;
+        Ok(sections)
+    }
+}

@@ -1,0 +1,25 @@
+-- The options that are named.
+use Rattle.std.specs.Prelude.{Bool, true, false}
+use Rattle.goblin_base.specs.declared.permissive.ParseMode.{ParseMode}
+use Rattle.goblin_base.specs.declared.permissive.ParseMode.TheVariants.{Strict, Permissive}
+use Rattle.goblin_pe_sect.specs.declared.options.ParseOptions.{ParseOptions}
+
+-- the options of a file on disk: everything is read, strictly, by the sections
+abbrev pub default_options : ParseOptions
+default_options = record {
+  resolve_rva = true;
+  parse_attribute_certificates = true;
+  parse_tls_data = true;
+  parse_resources = true;
+  parse_mode = Strict;
+  parse_imports = true;
+}
+
+-- the options of a TE image: addresses are offsets, and there are no certificates
+abbrev pub te_options : ParseOptions
+te_options = record default_options { resolve_rva = false; parse_attribute_certificates = false }
+
+-- the mode is strict
+abbrev pub is_strict : ParseMode → Bool
+is_strict Strict = true
+is_strict Permissive = false

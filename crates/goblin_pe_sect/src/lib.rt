@@ -1,0 +1,8 @@
+//! The sections of a PE file.
+#![tactic(auto)]
+
+pub mod options;
+pub mod section_table;
+
+pub use options::{ParseMode, ParseOptions};
+pub use section_table::SectionTable;

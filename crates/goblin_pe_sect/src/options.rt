@@ -1,0 +1,85 @@
+//! How a PE file is read.
+
+ghost use Rattle.std.specs.Prelude.{◌≡◌};
+ghost use Rattle.goblin_pe_sect.specs.Options.{default_options, te_options};
+
+pub use goblin_base::ParseMode;
+
+/// What a reader does and leaves out.
+#[derive(Debug, Copy, Clone)]
+pub struct ParseOptions {
+    /// Whether an address is mapped to a file offset by the sections; where not, it is the offset.
+    /// By default it is mapped.
+    pub resolve_rva: bool,
+    /// Whether attribute certificates are read, by default so. No reader of these crates reads them.
+    pub parse_attribute_certificates: bool,
+    /// Whether thread local storage is read, by default so. No reader of these crates reads it.
+    pub parse_tls_data: bool,
+    /// Whether resources are read, by default so. No reader of these crates reads them.
+    pub parse_resources: bool,
+    /// How damaged parts are met, by default strictly.
+    pub parse_mode: ParseMode,
+    /// Whether a reader of a whole file reads the imports, by default so.
+    pub parse_imports: bool,
+}
+
+impl Default for ParseOptions {
+    ghost is_default = { λ options. options ≡ default_options };
+
+    /// Everything is read, strictly, by the sections.
+    fn default() -> ParseOptions {
+        ParseOptions {
+            resolve_rva: true,
+            parse_attribute_certificates: true,
+            parse_tls_data: true,
+            parse_resources: true,
+            parse_mode: ParseMode::Strict,
+            parse_imports: true,
+        }
+    }
+}
+
+impl ParseOptions {
+    /// The options for a TE image, whose addresses are offsets already and which has no certificates.
+    pub fn te() -> ParseOptions
+        ensures { result ≡ te_options }
+    {
+        ParseOptions {
+            resolve_rva: false,
+            parse_attribute_certificates: false,
+            ..ParseOptions::default()
+        }
+    }
+
+    /// The same with this mode.
+    pub fn with_parse_mode(mut self, parse_mode: ParseMode) -> ParseOptions
+        ensures { result ≡ record self { parse_mode = parse_mode } }
+    {
+        self.parse_mode = parse_mode;
+        self
+    }
+
+    /// The same, with thread local storage read or not.
+    pub fn with_parse_tls_data(mut self, parse_tls_data: bool) -> ParseOptions
+        ensures { result ≡ record self { parse_tls_data = parse_tls_data } }
+    {
+        self.parse_tls_data = parse_tls_data;
+        self
+    }
+
+    /// The same, with resources read or not.
+    pub fn with_parse_resources(mut self, parse_resources: bool) -> ParseOptions
+        ensures { result ≡ record self { parse_resources = parse_resources } }
+    {
+        self.parse_resources = parse_resources;
+        self
+    }
+
+    /// The same, with imports read or not.
+    pub fn with_parse_imports(mut self, parse_imports: bool) -> ParseOptions
+        ensures { result ≡ record self { parse_imports = parse_imports } }
+    {
+        self.parse_imports = parse_imports;
+        self
+    }
+}
