@@ -37,7 +37,10 @@ fn read_sections(alloc: Global, bytes: &[u8], _mode: ParseMode) -> Result<Vec<Se
     coff.sections(alloc, bytes, &mut offset)
 }
 
-fn push_sections(text: &mut String, sections: &[SectionTable]) -> std::result::Result<(), AllocError>
+fn push_sections(
+    text: &mut String,
+    sections: &[SectionTable],
+) -> std::result::Result<(), AllocError>
     ensures { OnOk result (string_bytes text.new ≡ string_bytes text.old ++ section_lines sections.now) }
 {
     'lines: for section in sections {

@@ -4,6 +4,8 @@
 mod command;
 mod lines;
 mod program;
+#[cfg(test)]
+mod tests;
 mod text;
 mod transfer;
 mod watched;
