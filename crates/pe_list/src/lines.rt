@@ -7,7 +7,7 @@ ghost use Rattle.pe_list.specs.Lines.{section_line, section_lines, shown_name};
 ghost use Rattle.pe_list.specs.Listing.{IsLayoutFault, layout_of, listing_of};
 
 use crate::text::{push_escaped, push_hex};
-use goblin_base::{ParseMode, Result};
+use goblin_base::{Error, ParseMode};
 use goblin_pe_head::header::{CoffHeader, DosHeader, SIZEOF_PE_MAGIC};
 use goblin_pe_sect::SectionTable;
 use std::alloc::{AllocError, Global};
@@ -16,8 +16,8 @@ use std::alloc::{AllocError, Global};
 ///
 /// # Errors
 /// Those of [`DosHeader::parse`], [`CoffHeader::parse`] and [`CoffHeader::sections`], in this order;
-/// [`goblin_base::Error::Memory`] where memory is refused.
-pub fn list(alloc: Global, bytes: &[u8], mode: ParseMode) -> Result<String>
+/// [`Error::Memory`] where memory is refused.
+pub fn list(alloc: Global, bytes: &[u8], mode: ParseMode) -> Result<String, Error>
     ensures { AnswersOrMemory (λ text. string_bytes text) result (listing_of mode bytes.now) (IsLayoutFault mode bytes.now) }
 {
     let sections = read_sections(alloc, bytes, mode)?;
@@ -27,7 +27,7 @@ pub fn list(alloc: Global, bytes: &[u8], mode: ParseMode) -> Result<String>
 }
 
 // The sections behind the optional header of the PE header to which the DOS header points.
-fn read_sections(alloc: Global, bytes: &[u8], _mode: ParseMode) -> Result<Vec<SectionTable>>
+fn read_sections(alloc: Global, bytes: &[u8], _mode: ParseMode) -> Result<Vec<SectionTable>, Error>
     ensures { AnswersOrMemory (λ sections. sections.items) result (layout_of _mode bytes.now) (IsLayoutFault _mode bytes.now) }
 {
     let dos = DosHeader::parse(bytes)?;
@@ -37,10 +37,7 @@ fn read_sections(alloc: Global, bytes: &[u8], _mode: ParseMode) -> Result<Vec<Se
     coff.sections(alloc, bytes, &mut offset)
 }
 
-fn push_sections(
-    text: &mut String,
-    sections: &[SectionTable],
-) -> std::result::Result<(), AllocError>
+fn push_sections(text: &mut String, sections: &[SectionTable]) -> Result<(), AllocError>
     ensures { OnOk result (string_bytes text.new ≡ string_bytes text.old ++ section_lines sections.now) }
 {
     'lines: for section in sections {
@@ -49,7 +46,7 @@ fn push_sections(
     Ok(())
 }
 
-fn push_section(text: &mut String, section: &SectionTable) -> std::result::Result<(), AllocError>
+fn push_section(text: &mut String, section: &SectionTable) -> Result<(), AllocError>
     ensures { OnOk result (string_bytes text.new ≡ string_bytes text.old ++ section_line section.now) }
 {
     push_hex(text, "section va=", section.virtual_address)?;
