@@ -26,7 +26,7 @@ pub fn push_escaped(text: &mut String, name: &[u8]) -> Result<(), AllocError>
     Ok(())
 }
 
-#[tactic(auto, using(std::proofs::lemmas::Grind::common_steps, std::proofs::lemmas::Bool::Decides::nat_tests, std::proofs::lemmas::Fmt::hex_byte), unfolding(crate::specs::Text::escaped_byte))]
+#[tactic(auto, using(std::proofs::lemmas::Bool::Decides::nat_tests, std::proofs::lemmas::Fmt::hex_byte), unfolding(crate::specs::Text::escaped_byte))]
 fn push_escaped_byte(text: &mut String, byte: u8) -> Result<(), AllocError>
     ensures { OnOk result (string_bytes text.new ≡ string_bytes text.old ++ escaped_byte byte) }
 {
