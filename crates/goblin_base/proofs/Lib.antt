@@ -1,3 +1,7 @@
+pub mod Encoding
+pub mod Fronts
 pub mod Numbers
-pub mod Texts
 pub mod Records
+pub mod Steps
+pub mod Texts
+pub mod Writing

@@ -1,4 +1,4 @@
--- Which causes of a refused read are true.
+-- Which causes of a refused read or write are true.
 use Rattle.std.specs.Prelude.{◌≡◌, ℕ, ◌+◌, ◌*◌, ◌<◌, ◌≤◌, List, length, false, IsSomeAnd}
 use Rattle.std.specs.Str.{is_utf8}
 use Rattle.goblin_base.specs.declared.error.ErrorOf.{ErrorOf}

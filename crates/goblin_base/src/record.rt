@@ -1,16 +1,71 @@
-//! The fields of a record: numbers in bytes that are known to be there.
+//! What is read from the front of bytes, and the fields of a record: read from bytes that are known
+//! to be there, and written.
 
-ghost use Rattle.std.specs.Prelude.{◌≡◌, ◌+◌, ◌≤◌, length};
-ghost use Rattle.goblin_base.specs.Bytes.{number};
+ghost use Rattle.std.specs.Prelude.{◌≡◌, ◌+◌, ◌≤◌, ℕ, List, length, slice_range, Option, IfSome};
+ghost use Rattle.std.specs.Int.{w16, cast_signed};
+ghost use Rattle.goblin_base.specs.Answers.{Answers, IsMemory};
+ghost use Rattle.goblin_base.specs.Bytes.{number, replaced};
+ghost use Rattle.goblin_base.specs.Record.{encoding, field_bytes, field_value, field_values, total_width, width_of};
+ghost use Rattle.goblin_base.specs.declared.endian.Endian.{Endian};
+ghost use Rattle.goblin_base.specs.declared.error.ErrorOf.{ErrorOf};
 
 use crate::endian::Endian;
+use crate::error::Result;
+use crate::write::{put_bytes, u16_bytes, u32_bytes, u64_bytes};
 use byteorder::{BigEndian, ByteOrder, LittleEndian};
 
-/// The byte at `at`, for which there is room.
+/// A value that is read from the front of bytes.
+///
+/// The bytes and their order alone decide whether there is one, what it is and how many bytes it
+/// takes. A reader takes no memory.
+pub trait TryFromCtx<'a>: Sized {
+    /// A value without where it lies in memory: texts and slices as their bytes.
+    ghost Plain: { Type 0 };
+
+    ghost plain: { Self → Plain };
+
+    /// The value at the front of bytes, and how many of them it takes.
+    ghost value_of: { Endian → List ℕ → Option (Plain × ℕ) };
+
+    /// Which cause is true of bytes that are refused.
+    ghost refusal: { Endian → List ℕ → ErrorOf → Type 0 };
+
+    /// Reads a value from the front of `bytes`, and says how many of them it takes.
+    ///
+    /// # Errors
+    /// Each type says which; never [`Error::Memory`](crate::Error::Memory).
+    fn try_from_ctx(bytes: &'a [u8], endian: Endian) -> Result<(Self, usize)>
+        ensures answers { Answers (λ x. (plain x.0, x.1)) result (value_of endian bytes.now) (refusal endian bytes.now) };
+
+    /// It takes no more bytes than there are.
+    ghost within: { (endian : Endian) (bytes : List ℕ) → IfSome (value_of endian bytes) (λ x. x.1 ≤ length bytes) };
+
+    /// It is never refused for want of memory.
+    ghost no_memory: { (endian : Endian) (bytes : List ℕ) (e : ErrorOf) → IsMemory e → refusal endian bytes e → ⊥ };
+}
+
+/// A field of a record that is written.
+#[derive(Debug, PartialEq, Copy, Clone)]
+pub enum Field<'a> {
+    /// A byte.
+    U8(u8),
+    /// A number of two bytes.
+    U16(u16),
+    /// A signed number of two bytes.
+    I16(i16),
+    /// A number of four bytes.
+    U32(u32),
+    /// A number of eight bytes.
+    U64(u64),
+    /// Bytes as they are.
+    Bytes(&'a [u8]),
+}
+
+/// The byte at `at`, which is there. It is the same in either order.
 #[tactic(auto, using(crate::proofs::Numbers::number_one))]
 pub fn field_u8(bytes: &[u8], at: usize) -> u8
     requires { at + 1 ≤ length bytes.now }
-    ensures { result ≡ number Endian.Little 1 bytes.now at }
+    ensures { (endian : Endian) → result ≡ number endian 1 bytes.now at }
 {
     bytes[at]
 }
@@ -26,6 +81,14 @@ pub fn field_u16(bytes: &[u8], at: usize, endian: Endian) -> u16
         Endian::Little => LittleEndian::read_u16(field),
         Endian::Big => BigEndian::read_u16(field),
     }
+}
+
+/// The signed number of the two bytes at `at`, which are there.
+pub fn field_i16(bytes: &[u8], at: usize, endian: Endian) -> i16
+    requires { at + 2 ≤ length bytes.now }
+    ensures { result ≡ cast_signed w16 (number endian 2 bytes.now at) }
+{
+    field_u16(bytes, at, endian).cast_signed()
 }
 
 /// The number of the four bytes at `at`, which are there.
@@ -52,4 +115,73 @@ pub fn field_u64(bytes: &[u8], at: usize, endian: Endian) -> u64
         Endian::Little => LittleEndian::read_u64(field),
         Endian::Big => BigEndian::read_u64(field),
     }
+}
+
+/// The `N` bytes at `at`, which are there.
+pub fn field_bytes<const N: usize>(bytes: &[u8], at: usize) -> [u8; N]
+    requires { at + N ≤ length bytes.now }
+    ensures { result ≡ slice_range bytes.now at (at + N) }
+{
+    let mut field = [0; N];
+    field.copy_from_slice(&bytes[at..at + N]);
+    field
+}
+
+// Writes a field at `at`, where there is room for it, and answers how many bytes it takes.
+#[tactic(auto, using(crate::proofs::Numbers::number_bytes_one))]
+fn put_field(bytes: &mut [u8], at: usize, field: Field, endian: Endian) -> usize
+    requires { at + width_of (field_value field) ≤ length bytes.old }
+    ensures written { bytes.new ≡ replaced bytes.old at (field_bytes endian (field_value field.entry)) }
+    ensures width { result ≡ width_of (field_value field.entry) }
+{
+    match field {
+        Field::U8(value) => {
+            put_bytes(bytes, at, &[value]);
+            1
+        }
+        Field::U16(value) => {
+            put_bytes(bytes, at, &u16_bytes(value, endian));
+            2
+        }
+        Field::I16(value) => {
+            put_bytes(bytes, at, &u16_bytes(value.cast_unsigned(), endian));
+            2
+        }
+        Field::U32(value) => {
+            put_bytes(bytes, at, &u32_bytes(value, endian));
+            4
+        }
+        Field::U64(value) => {
+            put_bytes(bytes, at, &u64_bytes(value, endian));
+            8
+        }
+        Field::Bytes(value) => {
+            put_bytes(bytes, at, value);
+            value.len()
+        }
+    }
+}
+
+// Writes the fields of a record, which take `size` bytes, one after the other from `at` on, where
+// there is room for them.
+fn put_record(bytes: &mut [u8], at: usize, size: usize, fields: &[Field], endian: Endian)
+    requires size_is { size ≡ total_width (field_values fields.now) }
+    requires room { at + size ≤ length bytes.old }
+    ensures { bytes.new ≡ replaced bytes.old at (encoding endian (field_values fields.now)) }
+{
+    let mut end = at;
+    'fields: for field in fields {
+        end += put_field(bytes, end, *field, endian);
+    }
+}
+
+/// The `N` bytes of a record, of which these are the fields.
+#[tactic(auto, using(crate::proofs::Writing::replaced_all, crate::proofs::Writing::length_encoding))]
+pub fn record_bytes<const N: usize>(fields: &[Field], endian: Endian) -> [u8; N]
+    requires { N ≡ total_width (field_values fields.now) }
+    ensures { result ≡ encoding endian (field_values fields.now) }
+{
+    let mut bytes = [0; N];
+    put_record(&mut bytes, 0, N, fields, endian);
+    bytes
 }

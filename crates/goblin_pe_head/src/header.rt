@@ -1,17 +1,18 @@
 //! The DOS header and the COFF header of a PE file, and its section table.
 
-ghost use Rattle.std.specs.Prelude.{◌≡◌, ◌+◌, ◌*◌, ◌/◌, ◌<◌, length, OnOk, OnErr, IsErrAnd};
+ghost use Rattle.std.specs.Prelude.{◌≡◌, ◌+◌, ◌*◌, ◌/◌, ◌<◌, length, true, OnOk, OnErr, IsErrAnd};
 ghost use Rattle.goblin_base.specs.Answers.{Answers, AnswersOrMemory};
 ghost use Rattle.goblin_base.specs.Faults.{IsSliceFault};
-ghost use Rattle.goblin_base.specs.Record.{record_at, records_at};
-ghost use Rattle.goblin_pe_sect.specs.SectionTable.{section_record};
+ghost use Rattle.goblin_base.specs.Record.{record_at};
+ghost use Rattle.goblin_pe_sect.specs.Options.{is_strict};
 ghost use Rattle.goblin_pe_head.specs.Header.{dos_record, dos_header, IsDosFault, coff_header};
-ghost use Rattle.goblin_pe_head.specs.Sections.{IsSectionsFault, IsTooShort};
+ghost use Rattle.goblin_pe_head.specs.Sections.{string_table_offset, sections_at, IsSectionsFault, IsTooShort};
 
 use goblin_base::{
     Cause, Endian, Error, Result, field_u16, field_u32, gread_slice, pread_slice, pread_u16,
     pread_u32,
 };
+use goblin_pe_sect::options::ParseOptions;
 use goblin_pe_sect::section_table::{SIZEOF_SECTION_TABLE, SectionTable};
 use std::alloc::Global;
 
@@ -25,6 +26,9 @@ pub const SIZEOF_PE_MAGIC: usize = 4;
 pub const PE_POINTER_OFFSET: u32 = 0x3C;
 /// The size of a COFF header, in bytes.
 pub const SIZEOF_COFF_HEADER: usize = 20;
+
+// The size of a record of the symbol table, in bytes.
+const COFF_SYMBOL_SIZE: usize = 18;
 
 // The size of a DOS header, in bytes.
 const SIZEOF_DOS_HEADER: usize = 64;
@@ -208,20 +212,40 @@ impl CoffHeader {
         Ok(CoffHeader::in_record(record, Endian::Little))
     }
 
-    /// Reads the section table, whose records stand one after the other from `offset` on, and moves
-    /// `offset` past it. In an image it stands behind the optional header.
+    /// Reads the section table, as [`CoffHeader::sections_with_opts`] with the default options.
     ///
     /// # Errors
-    /// [`Error::BufferTooShort`] of the number of sections where the whole file has no room for so
-    /// many, tested first; [`Error::Read`] where they are not all there; [`Error::Memory`] where
-    /// memory for them is refused. `offset` then stays.
+    /// As [`CoffHeader::sections_with_opts`] in strict mode.
     pub fn sections(
         &self,
         alloc: Global,
         bytes: &[u8],
         offset: &mut usize,
     ) -> Result<Vec<SectionTable>>
-        ensures value { AnswersOrMemory (λ v. v.items) result (records_at 40 section_record self.now.number_of_sections bytes.now offset.old) (IsSectionsFault self.now.number_of_sections bytes.now offset.old) }
+        ensures value { AnswersOrMemory (λ v. v.items) result (sections_at true (string_table_offset self.now) self.now.number_of_sections bytes.now offset.old) (IsSectionsFault true self.now.number_of_sections bytes.now offset.old) }
+        ensures first { length bytes.now / 40 < self.now.number_of_sections → IsErrAnd result (IsTooShort self.now.number_of_sections bytes.now) }
+        ensures ok { OnOk result (offset.new ≡ offset.old + 40 * self.now.number_of_sections) }
+        ensures err { OnErr result (offset.new ≡ offset.old) }
+    {
+        self.sections_with_opts(alloc, bytes, offset, &ParseOptions::default())
+    }
+
+    /// Reads the section table, whose records stand one after the other from `offset` on, and moves
+    /// `offset` past it. In an image it stands behind the optional header. Indirect names are looked
+    /// up in the string table behind the symbol table.
+    ///
+    /// # Errors
+    /// [`Error::BufferTooShort`] of the number of sections where the whole file has no room for so
+    /// many, tested first; as [`SectionTable::parse_with_opts`] where a record is not all there or
+    /// its name is refused; [`Error::Memory`] where memory is refused. `offset` then stays.
+    pub fn sections_with_opts(
+        &self,
+        alloc: Global,
+        bytes: &[u8],
+        offset: &mut usize,
+        opts: &ParseOptions,
+    ) -> Result<Vec<SectionTable>>
+        ensures value { AnswersOrMemory (λ v. v.items) result (sections_at (is_strict opts.now.parse_mode) (string_table_offset self.now) self.now.number_of_sections bytes.now offset.old) (IsSectionsFault (is_strict opts.now.parse_mode) self.now.number_of_sections bytes.now offset.old) }
         ensures first { length bytes.now / 40 < self.now.number_of_sections → IsErrAnd result (IsTooShort self.now.number_of_sections bytes.now) }
         ensures ok { OnOk result (offset.new ≡ offset.old + 40 * self.now.number_of_sections) }
         ensures err { OnErr result (offset.new ≡ offset.old) }
@@ -230,12 +254,22 @@ impl CoffHeader {
         if bytes.len() / SIZEOF_SECTION_TABLE < count {
             return Err(Error::BufferTooShort(count, "sections"));
         }
+        let table = self.string_table_offset();
         let mut sections = Vec::with_capacity(alloc, count)?;
         let mut end = *offset;
         'records: for _ in 0..count {
-            sections.push(SectionTable::parse(bytes, &mut end)?)?;
+            let section = SectionTable::parse_with_opts(alloc, bytes, &mut end, table, opts)?;
+            sections.push(section)?;
         }
         *offset = end;
         Ok(sections)
+    }
+
+    // The file offset of the string table, which stands behind the symbol table.
+    fn string_table_offset(&self) -> usize
+        ensures { result ≡ string_table_offset self.now }
+    {
+        let symbols = self.number_of_symbol_table as usize;
+        self.pointer_to_symbol_table as usize + COFF_SYMBOL_SIZE * symbols
     }
 }

@@ -1,12 +1,19 @@
 -- What contracts see of a section, and the section record.
-use Rattle.std.specs.Prelude.{ℕ, Bool, List, Option, None, nat_eq, slice_range}
+use Rattle.std.specs.Prelude.{◌≡◌, ℕ, ◌+◌, ◌-◌, ◌<◌, ◌++◌, Bool, List, [], ◌∷◌, length, Option, None, Some, if◌then◌else◌, nat_eq, nat_le, replicate, slice_range}
 use Rattle.std.specs.Option.{option_eq}
 use Rattle.std.specs.Ordering.{on, eq_of_both}
 use Rattle.std.specs.Cmp.{IsPartialEquivalence, on_per, and_per, partial_equiv_from_equiv}
 use Rattle.std.specs.Cmp.Lexicographic.{pointwise, options_equiv}
 use Rattle.std.proofs.lemmas.Cmp.{nat_eq_equiv, nat_list_eq_equiv}
+use Rattle.goblin_base.specs.declared.endian.Endian.{Endian}
 use Rattle.goblin_base.specs.declared.endian.Endian.TheVariants.{Little}
-use Rattle.goblin_base.specs.Bytes.{number}
+use Rattle.goblin_base.specs.declared.error.ErrorOf.{ErrorOf}
+use Rattle.goblin_base.specs.Bytes.{IsBytes, bounded_text_at, number, slice_at}
+use Rattle.goblin_base.specs.Faults.{IsSliceFault, IsBoundedTextFault}
+use Rattle.goblin_base.specs.Record.{FieldValue, encoding, record_at}
+use Rattle.goblin_base.specs.Record.FieldValue.{octets, uint}
+use Rattle.goblin_base.specs.Steps.{◌>>=◌, FirstFault}
+use Rattle.goblin_pe_sect.specs.SectionName.{name_value, IsNameFault, real_name_at}
 
 -- a section, its texts as their bytes
 pub record Section : Type 0 where
@@ -23,20 +30,67 @@ pub record Section : Type 0 where
   pub characteristics : ℕ
 
 -- the section in a record's 40 bytes
-unfoldable pub section_record : List ℕ → Section
-section_record bytes = record {
+unfoldable pub section_record : Endian → List ℕ → Section
+section_record endian bytes = record {
   name = slice_range bytes 0 8;
   real_name = None;
-  virtual_size = number Little 4 bytes 8;
-  virtual_address = number Little 4 bytes 12;
-  size_of_raw_data = number Little 4 bytes 16;
-  pointer_to_raw_data = number Little 4 bytes 20;
-  pointer_to_relocations = number Little 4 bytes 24;
-  pointer_to_linenumbers = number Little 4 bytes 28;
-  number_of_relocations = number Little 2 bytes 32;
-  number_of_linenumbers = number Little 2 bytes 34;
-  characteristics = number Little 4 bytes 36;
+  virtual_size = number endian 4 bytes 8;
+  virtual_address = number endian 4 bytes 12;
+  size_of_raw_data = number endian 4 bytes 16;
+  pointer_to_raw_data = number endian 4 bytes 20;
+  pointer_to_relocations = number endian 4 bytes 24;
+  pointer_to_linenumbers = number endian 4 bytes 28;
+  number_of_relocations = number endian 2 bytes 32;
+  number_of_linenumbers = number endian 2 bytes 34;
+  characteristics = number endian 4 bytes 36;
 }
+
+-- the fields of a section record, in order
+unfoldable pub section_fields : Section → List FieldValue
+section_fields s =
+    octets s.name ∷ uint 4 s.virtual_size ∷ uint 4 s.virtual_address ∷ uint 4 s.size_of_raw_data ∷ uint 4 s.pointer_to_raw_data
+    ∷ uint 4 s.pointer_to_relocations ∷ uint 4 s.pointer_to_linenumbers ∷ uint 2 s.number_of_relocations ∷ uint 2 s.number_of_linenumbers
+    ∷ uint 4 s.characteristics ∷ []
+
+-- the section of the record at p, with its name from the string table at `table` where its own name is indirect
+unfoldable pub section_at : Bool → ℕ → List ℕ → ℕ → Option Section
+section_at strict table bytes p = do
+  section ← record_at 40 (section_record Little) bytes p
+  value ← name_value strict section.name
+  Some (record section { real_name = real_name_at bytes table value })
+
+-- a section that was read has its record's bytes as its encoding
+abbrev pub SectionWritesBack : Type 0
+SectionWritesBack =
+    (strict : Bool) (table : ℕ) (bytes : List ℕ) (p : ℕ) (section : Section) → IsBytes bytes → section_at strict table bytes p ≡ Some section
+    → slice_at bytes p 40 ≡ Some (encoding Little (section_fields section))
+
+-- which cause is true of a section that is refused: there is no record, or its name is refused
+unfoldable pub IsSectionFault : Bool → List ℕ → ℕ → ErrorOf → Type 0
+IsSectionFault strict bytes p =
+    FirstFault (record_at 40 (section_record Little) bytes p) (IsSliceFault bytes p 40) (λ section.
+    FirstFault (name_value strict section.name) (IsNameFault strict section.name) (λ value e. ⊥))
+
+-- the name to use: that of the string table, else the text of the eight bytes
+abbrev pub name_of : Option (List ℕ) → List ℕ → Option (List ℕ)
+name_of (Some real_name) name = Some real_name
+name_of None name = bounded_text_at name 0 8
+
+-- which cause is true of a section without a name to use
+abbrev pub IsNoName : Option (List ℕ) → List ℕ → ErrorOf → Type 0
+IsNoName (Some real_name) name e = ⊥
+IsNoName None name e = IsBoundedTextFault name 0 8 e
+
+-- the section's data: its raw data in the file, followed by zeros up to the virtual size; there is none where the raw data passes the file
+abbrev pub section_data : Section → List ℕ → Option (List ℕ)
+section_data s bytes =
+    if nat_le (s.pointer_to_raw_data + s.size_of_raw_data) (length bytes)
+    then Some (slice_range bytes s.pointer_to_raw_data (s.pointer_to_raw_data + s.size_of_raw_data) ++ replicate (s.virtual_size - s.size_of_raw_data) 0)
+    else None
+
+-- the raw data of two sections overlaps: neither ends at or before the other's pointer
+abbrev pub OverlapRawData : Section → Section → Type 0
+OverlapRawData a b = (a.pointer_to_raw_data < b.pointer_to_raw_data + b.size_of_raw_data) × (b.pointer_to_raw_data < a.pointer_to_raw_data + a.size_of_raw_data)
 
 -- all fields are the same, texts by their bytes
 abbrev pub section_eq : Section → Section → Bool

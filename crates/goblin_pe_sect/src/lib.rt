@@ -1,6 +1,7 @@
 //! The sections of a PE file.
 #![tactic(auto)]
 
+mod digits;
 pub mod options;
 pub mod section_table;
 

@@ -1,14 +1,27 @@
 //! The section records of a PE file.
 
-ghost use Rattle.std.specs.Prelude.{◌≡◌, ◌+◌, length, nat_eq, string_bytes, OnOk, OnErr};
+ghost use Rattle.std.specs.Prelude.{◌≡◌, ◌↔◌, ◌+◌, ◌<◌, ◌≤◌, Bool, Err, IfErr, IfOk, IfSome, IsTrue, None, Ok, OnErr, OnOk, Some, if◌then◌else◌, length, nat_eq, string_bytes, true};
+ghost use Rattle.std.specs.Cow.{cow_slice_items, IsBorrowedSlice};
 ghost use Rattle.std.specs.Option.{option_eq, option_map};
 ghost use Rattle.std.specs.Cmp.Lexicographic.{pointwise};
-ghost use Rattle.goblin_base.specs.Answers.{Answers};
+ghost use Rattle.goblin_base.specs.declared.error.ErrorOf.TheVariants.{Malformed};
+ghost use Rattle.goblin_base.specs.declared.error.CauseOf.TheVariants.{NameText};
+ghost use Rattle.goblin_base.specs.Answers.{Answers, AnswersOrMemory, Writes};
+ghost use Rattle.goblin_base.specs.Bytes.{overwritten, replaced};
 ghost use Rattle.goblin_base.specs.Faults.{IsSliceFault};
-ghost use Rattle.goblin_base.specs.Record.{record_at};
-ghost use Rattle.goblin_pe_sect.specs.SectionTable.{Section, section_eq, section_per, section_record};
+ghost use Rattle.goblin_base.specs.Record.{encoding};
+ghost use Rattle.goblin_pe_sect.specs.Options.{is_strict};
+ghost use Rattle.goblin_pe_sect.specs.SectionName.{name_value, IsNameFault, indirect_name, IsNameOffsetFault, real_name_at};
+ghost use Rattle.goblin_pe_sect.specs.SectionTable.{Section, section_eq, section_per, SectionWritesBack, section_record, section_fields, section_at, IsSectionFault, name_of, IsNoName, section_data, OverlapRawData};
 
-use goblin_base::{Endian, Result, field_u16, field_u32, gread_slice};
+use crate::digits::{Digits, decimal_number, indirect_name};
+use crate::options::{ParseMode, ParseOptions};
+use goblin_base::{
+    Cause, Endian, Error, Field, Result, field_bytes, field_u16, field_u32, gread_slice, pread_str,
+    pread_str_until, put_bytes, pwrite_slice, record_bytes,
+};
+use std::alloc::Global;
+use std::borrow::CowSlice;
 use std::marker::Model;
 
 /// The size of a section record, in bytes.
@@ -171,12 +184,10 @@ impl SectionTable {
     #[tactic(auto, unfolding(crate::specs::SectionTable::section_record))]
     fn in_record(bytes: &[u8]) -> SectionTable
         requires { length bytes.now ≡ 40 }
-        ensures { result ≡ section_record bytes.now }
+        ensures { result ≡ section_record Endian.Little bytes.now }
     {
         SectionTable {
-            name: [
-                bytes[0], bytes[1], bytes[2], bytes[3], bytes[4], bytes[5], bytes[6], bytes[7],
-            ],
+            name: field_bytes(bytes, 0),
             real_name: None,
             virtual_size: field_u32(bytes, 8, Endian::Little),
             virtual_address: field_u32(bytes, 12, Endian::Little),
@@ -190,16 +201,287 @@ impl SectionTable {
         }
     }
 
-    /// Reads the record at `offset` and moves `offset` past it.
+    /// Reads the record at `offset` and moves `offset` past it, as [`SectionTable::parse_with_opts`]
+    /// with the default options.
     ///
     /// # Errors
-    /// [`goblin_base::Error::Read`] where the file has no 40 bytes there; `offset` then stays.
-    pub fn parse(bytes: &[u8], offset: &mut usize) -> Result<SectionTable>
-        ensures value { Answers (λ s. s) result (record_at 40 section_record bytes.now offset.old) (IsSliceFault bytes.now offset.old 40) }
+    /// As [`SectionTable::parse_with_opts`] in strict mode.
+    pub fn parse(
+        alloc: Global,
+        bytes: &[u8],
+        offset: &mut usize,
+        string_table_offset: usize,
+    ) -> Result<SectionTable>
+        ensures value { AnswersOrMemory (λ s. s) result (section_at true string_table_offset bytes.now offset.old) (IsSectionFault true bytes.now offset.old) }
         ensures ok { OnOk result (offset.new ≡ offset.old + 40) }
         ensures err { OnErr result (offset.new ≡ offset.old) }
     {
-        let record = gread_slice(bytes, offset, SIZEOF_SECTION_TABLE)?;
-        Ok(SectionTable::in_record(record))
+        let opts = ParseOptions::default();
+        SectionTable::parse_with_opts(alloc, bytes, offset, string_table_offset, &opts)
+    }
+
+    /// Reads the record at `offset` and moves `offset` past it. Where its name is indirect, the real
+    /// name is a copy of the text that it points to in the string table at `string_table_offset`, if
+    /// a text stands there.
+    ///
+    /// # Errors
+    /// [`Error::Read`] where the file has no 40 bytes there; as
+    /// [`SectionTable::name_offset_with_opts`] where the name is refused; [`Error::Memory`] where
+    /// memory for the real name is refused. `offset` then stays.
+    #[tactic(auto, unfolding(crate::specs::SectionTable::section_at, crate::specs::SectionTable::IsSectionFault))]
+    pub fn parse_with_opts(
+        alloc: Global,
+        bytes: &[u8],
+        offset: &mut usize,
+        string_table_offset: usize,
+        opts: &ParseOptions,
+    ) -> Result<SectionTable>
+        ensures value { AnswersOrMemory (λ s. s) result (section_at (is_strict opts.now.parse_mode) string_table_offset bytes.now offset.old) (IsSectionFault (is_strict opts.now.parse_mode) bytes.now offset.old) }
+        ensures ok { OnOk result (offset.new ≡ offset.old + 40) }
+        ensures err { OnErr result (offset.new ≡ offset.old) }
+    {
+        let mut end = *offset;
+        let record = gread_slice(bytes, &mut end, SIZEOF_SECTION_TABLE)?;
+        let mut section = SectionTable::in_record(record);
+        let value = section.name_offset_with_opts(opts)?;
+        section.real_name = real_name(alloc, bytes, string_table_offset, value)?;
+        *offset = end;
+        Ok(section)
+    }
+
+    /// A copy with its own text.
+    ///
+    /// # Errors
+    /// [`Error::Memory`] where memory for the text is refused.
+    pub fn clone(&self, alloc: Global) -> Result<SectionTable>
+        ensures { AnswersOrMemory (λ s. s) result (Some self.now) (λ e. ⊥) }
+    {
+        let real_name = match &self.real_name {
+            Some(name) => Some(String::from_str(alloc, name.as_str())?),
+            None => None,
+        };
+        Ok(SectionTable {
+            name: self.name,
+            real_name,
+            virtual_size: self.virtual_size,
+            virtual_address: self.virtual_address,
+            size_of_raw_data: self.size_of_raw_data,
+            pointer_to_raw_data: self.pointer_to_raw_data,
+            pointer_to_relocations: self.pointer_to_relocations,
+            pointer_to_linenumbers: self.pointer_to_linenumbers,
+            number_of_relocations: self.number_of_relocations,
+            number_of_linenumbers: self.number_of_linenumbers,
+            characteristics: self.characteristics,
+        })
+    }
+
+    /// The section's data in the file `bytes`: its raw data, followed by zeros up to the virtual size
+    /// where that is greater. It is borrowed where no zeros follow, and then takes no memory. `None`
+    /// where the raw data passes the file.
+    ///
+    /// # Errors
+    /// [`Error::Memory`] where memory for data with zeros is refused.
+    pub fn data<'b>(
+        &self,
+        alloc: Global,
+        bytes: &'b [u8],
+    ) -> Result<Option<CowSlice<'b, u8, Global>>>
+        ensures value { AnswersOrMemory (λ d. option_map cow_slice_items d) result (Some (section_data self.now bytes.now)) (λ e. ⊥) }
+        ensures borrowed { IfOk result (λ d. IfSome d (λ items. IsBorrowedSlice items ↔ (self.now.virtual_size ≤ self.now.size_of_raw_data))) }
+        ensures grown { OnErr result (self.now.size_of_raw_data < self.now.virtual_size) }
+        ensures inside { OnErr result (self.now.pointer_to_raw_data + self.now.size_of_raw_data ≤ length bytes.now) }
+    {
+        let begin = self.pointer_to_raw_data as usize;
+        let size = self.size_of_raw_data as usize;
+        let Some(raw_data) = bytes.get(begin..begin + size) else {
+            return Ok(None);
+        };
+        let virtual_size = self.virtual_size as usize;
+        if virtual_size <= size {
+            return Ok(Some(CowSlice::Borrowed(raw_data)));
+        }
+        let mut padded = Vec::with_capacity(alloc, virtual_size)?;
+        padded.extend_from_slice(raw_data)?;
+        padded.resize(virtual_size, 0)?;
+        Ok(Some(CowSlice::Owned(padded)))
+    }
+
+    /// Where the section's name stands in the string table, as
+    /// [`SectionTable::name_offset_with_opts`] with the default options.
+    ///
+    /// # Errors
+    /// As [`SectionTable::name_offset_with_opts`] in strict mode.
+    pub fn name_offset(&self) -> Result<Option<usize>>
+        ensures { Answers (λ v. v) result (name_value true self.now.name) (IsNameFault true self.now.name) }
+    {
+        self.name_offset_with_opts(&ParseOptions::default())
+    }
+
+    /// Where the section's name stands in the string table, as an offset in bytes from the table's
+    /// start; `None` where the eight bytes are the name.
+    ///
+    /// A name that begins with a slash is indirect: a decimal number stands behind one slash, a number
+    /// of base 64 behind two, the most significant digit first.
+    ///
+    /// # Errors
+    /// [`Error::Malformed`] with [`Cause::NameDecimal`] or [`Cause::NameBase64`] where no such number
+    /// stands there. Where the bytes behind the slashes are not UTF-8, [`Cause::NameText`] in strict
+    /// mode; in permissive mode the name is then direct.
+    pub fn name_offset_with_opts(&self, opts: &ParseOptions) -> Result<Option<usize>>
+        ensures { Answers (λ v. v) result (name_value (is_strict opts.now.parse_mode) self.now.name) (IsNameFault (is_strict opts.now.parse_mode) self.now.name) }
+    {
+        name_value(&self.name, opts.parse_mode)
+    }
+
+    /// Makes the eight bytes say that the section's name stands at `idx` in the string table. The real
+    /// name stays as it is.
+    ///
+    /// # Errors
+    /// [`Error::Malformed`] with [`Cause::NameOffset`] where six digits of base 64 can't say `idx`;
+    /// the section then stays.
+    pub fn set_name_offset(&mut self, idx: usize) -> Result<()>
+        ensures name { OnOk result (indirect_name idx ≡ Some self.new.name) }
+        ensures others { self.new ≡ record self.old { name = self.new.name } }
+        ensures says { OnOk result ((strict : Bool) → name_value strict self.new.name ≡ Some (Some idx)) }
+        ensures refused { IfErr result (λ e. (indirect_name idx ≡ None) × IsNameOffsetFault idx e) }
+        ensures err { OnErr result (self.new ≡ self.old) }
+    {
+        let Some(name) = indirect_name(idx) else {
+            return Err(Error::Malformed(Cause::NameOffset(idx)));
+        };
+        self.name = name;
+        Ok(())
+    }
+
+    /// The section's name: the real name, else the text of the eight bytes.
+    ///
+    /// # Errors
+    /// [`Error::Read`] with `BadInput` where the eight bytes up to a NUL are not UTF-8 and there is no
+    /// real name.
+    pub fn name(&self) -> Result<&str>
+        ensures { Answers (λ s. s.now) result (name_of self.now.real_name self.now.name) (IsNoName self.now.real_name self.now.name) }
+    {
+        match &self.real_name {
+            Some(name) => Ok(name.as_str()),
+            None => pread_str_until(&self.name, 0, 8),
+        }
+    }
+
+    /// Whether the raw data of the two sections overlaps in the file: neither ends at or before the
+    /// place where the other begins.
+    pub fn overlaps_with(&self, other: &SectionTable) -> bool
+        ensures { IsTrue result ↔ OverlapRawData self.now other.now }
+    {
+        let end = u64::from(self.pointer_to_raw_data) + u64::from(self.size_of_raw_data);
+        let other_end = u64::from(other.pointer_to_raw_data) + u64::from(other.size_of_raw_data);
+        u64::from(self.pointer_to_raw_data) < other_end
+            && u64::from(other.pointer_to_raw_data) < end
+    }
+}
+
+impl SectionTable {
+    /// The size of a section record in bytes, the same in either order of bytes: 40.
+    pub fn size_with(_ctx: &Endian) -> usize
+        ensures { result ≡ 40 }
+    {
+        SIZEOF_SECTION_TABLE
+    }
+
+    /// Writes the record at the front of `bytes` and answers its size, 40. The real name is no part
+    /// of it. A section that was read is written, little-endian, as the 40 bytes that it was read
+    /// from.
+    ///
+    /// # Errors
+    /// [`Error::Read`] where there is no room; `bytes` then stays.
+    #[tactic(auto, using(crate::proofs::SectionBack::section_back))]
+    pub fn try_into_ctx(&self, bytes: &mut [u8], endian: Endian) -> Result<usize>
+        ensures size { IfOk result (λ size. size ≡ 40) }
+        ensures written { Writes result (overwritten bytes.old 0 (encoding endian (section_fields self.now))) bytes.old bytes.new (IsSliceFault bytes.old 0 40) }
+        ensures back { SectionWritesBack }
+    {
+        pwrite_slice(bytes, 0, &self.record(endian))?;
+        Ok(SIZEOF_SECTION_TABLE)
+    }
+
+    /// Writes the record at the front of `bytes`, which has room for it.
+    pub fn into_ctx(&self, bytes: &mut [u8], endian: Endian)
+        requires { 40 ≤ length bytes.old }
+        ensures { bytes.new ≡ replaced bytes.old 0 (encoding endian (section_fields self.now)) }
+    {
+        put_bytes(bytes, 0, &self.record(endian));
+    }
+
+    // The bytes of the record.
+    #[tactic(auto, unfolding(crate::specs::SectionTable::section_fields))]
+    fn record(&self, endian: Endian) -> [u8; 40]
+        ensures { result ≡ encoding endian (section_fields self.now) }
+    {
+        let fields = [
+            Field::Bytes(&self.name),
+            Field::U32(self.virtual_size),
+            Field::U32(self.virtual_address),
+            Field::U32(self.size_of_raw_data),
+            Field::U32(self.pointer_to_raw_data),
+            Field::U32(self.pointer_to_relocations),
+            Field::U32(self.pointer_to_linenumbers),
+            Field::U16(self.number_of_relocations),
+            Field::U16(self.number_of_linenumbers),
+            Field::U32(self.characteristics),
+        ];
+        record_bytes(&fields, endian)
+    }
+}
+
+// What the eight bytes of a name say.
+#[tactic(auto, unfolding(crate::specs::SectionName::name_value, crate::specs::SectionName::IsNameFault))]
+fn name_value(name: &[u8; 8], mode: ParseMode) -> Result<Option<usize>>
+    ensures { Answers (λ v. v) result (name_value (is_strict mode) name.now) (IsNameFault (is_strict mode) name.now) }
+{
+    if name[0] != b'/' {
+        return Ok(None);
+    }
+    if name[1] == b'/' {
+        return match pread_str_until(name, 2, 6) {
+            Ok(text) => match Digits::Base64.numeral(text.as_bytes()) {
+                Some(number) => Ok(Some(number)),
+                None => Err(Error::Malformed(Cause::NameBase64)),
+            },
+            Err(_) => no_text(mode),
+        };
+    }
+    match pread_str_until(name, 1, 7) {
+        Ok(text) => match decimal_number(text.as_bytes()) {
+            Some(number) => Ok(Some(number)),
+            None => Err(Error::Malformed(Cause::NameDecimal)),
+        },
+        Err(_) => no_text(mode),
+    }
+}
+
+// What a name says that is not UTF-8 behind its slashes.
+fn no_text(mode: ParseMode) -> Result<Option<usize>>
+    ensures { result ≡ (if is_strict mode then Err (Malformed NameText) else Ok None) }
+{
+    match mode {
+        ParseMode::Strict => Err(Error::Malformed(Cause::NameText)),
+        ParseMode::Permissive => Ok(None),
+    }
+}
+
+// A copy of the text at `value` in the string table, if a text stands there.
+fn real_name(
+    alloc: Global,
+    bytes: &[u8],
+    string_table_offset: usize,
+    value: Option<usize>,
+) -> Result<Option<String>>
+    ensures { AnswersOrMemory (λ name. option_map string_bytes name) result (Some (real_name_at bytes.now string_table_offset value)) (λ e. ⊥) }
+{
+    let Some(offset) = value.and_then(|value| string_table_offset.checked_add(value)) else {
+        return Ok(None);
+    };
+    match pread_str(bytes, offset) {
+        Ok(name) => Ok(Some(String::from_str(alloc, name)?)),
+        Err(_) => Ok(None),
     }
 }
