@@ -1,0 +1,79 @@
+//! A run of the program: the whole input is read, listed, and the listing is written.
+
+ghost use Rattle.std.specs.Prelude.{◌≡◌, ◌≢◌, Err, IfSome, IsSomeAnd, IsTrue, None, OnErr, OnOk, Some};
+ghost use Rattle.std.specs.Io.KnownBytes.{Appends, Keeps};
+ghost use Rattle.goblin_base.specs.Answers.{IsMemory};
+ghost use Rattle.pe_list.specs.Listing.{IsLayoutFault, listing_of};
+ghost use Rattle.pe_list.specs.Run.{AppendsPart, IfRefused};
+
+use crate::lines::list;
+use crate::transfer::{read_all, write_text};
+use crate::watched::Watched;
+use goblin_base::{Error, ParseMode};
+use std::alloc::Global;
+use std::io::{Read, Write};
+
+/// Why a run gave up.
+#[derive(Debug, Drop)]
+pub enum RunFault {
+    /// The file has no listing, or memory was asked for and refused.
+    Refused(Error),
+    /// A read failed.
+    Input,
+    /// A write failed, or took no byte.
+    Output,
+}
+
+impl RunFault {
+    ghost use Rattle.pe_list.specs.Run.{fault_line};
+
+    /// The line that says so.
+    pub fn line(&self) -> &'static str
+        ensures { result.now ≡ fault_line self.now }
+    {
+        match self {
+            RunFault::Refused(Error::Memory(_)) => "out of memory",
+            RunFault::Refused(_) => "refused",
+            RunFault::Input => "read failed",
+            RunFault::Output => "write failed",
+        }
+    }
+}
+
+/// Reads to the end, and writes the listing of what was read.
+///
+/// # Errors
+/// [`RunFault::Refused`] where the bytes have no listing, or where memory was refused;
+/// [`RunFault::Input`] and [`RunFault::Output`] where a read or a write failed, which isn't tried
+/// again. Nothing goes out before the whole listing is there; on `Output` a beginning of it went out.
+pub fn run<R: Read, W: Write>(
+    alloc: Global,
+    reader: &mut Watched<R>,
+    writer: &mut Watched<W>,
+    mode: ParseMode,
+) -> Result<(), RunFault>
+    ensures listed { OnOk result (IfSome (R.remaining reader.old.inner) (λ file.
+        IsSomeAnd (listing_of mode file) (Appends (W.contents writer.old.inner) (W.contents writer.new.inner)))) }
+    ensures cut { result ≡ Err RunFault.Output → IfSome (R.remaining reader.old.inner) (λ file.
+        IsSomeAnd (listing_of mode file) (AppendsPart (W.contents writer.old.inner) (W.contents writer.new.inner))) }
+    ensures refused { IfRefused result (λ cause. ¬ IsMemory cause → IfSome (R.remaining reader.old.inner) (λ file.
+        (listing_of mode file ≡ None) × IsLayoutFault mode file cause)) }
+
+    // Nothing goes out before the listing is whole.
+    ensures nothing_out { OnErr result (result ≢ Err RunFault.Output →
+        Keeps (W.contents writer.old.inner) (W.contents writer.new.inner)) }
+
+    // A fault of the reader or the writer comes only where it showed one.
+    ensures input { result ≡ Err RunFault.Input → IsTrue reader.new.failed }
+    ensures output { result ≡ Err RunFault.Output → IsTrue writer.new.failed }
+
+    // The file is judged only when all of it was read.
+    ensures ended { OnOk result (IsTrue reader.new.ended) }
+    ensures judged { IfRefused result (λ cause. ¬ IsMemory cause → IsTrue reader.new.ended) }
+{
+    let bytes = read_all(alloc, reader)?;
+    match list(alloc, &bytes, mode) {
+        Ok(text) => write_text(writer, text.as_bytes()),
+        Err(cause) => Err(RunFault::Refused(cause)),
+    }
+}
