@@ -9,13 +9,13 @@ ghost use Rattle.pe_list.specs.Listing.{IsLayoutFault, layout_of, listing_of};
 use crate::text::{push_escaped, push_hex};
 use goblin_base::{Error, ParseMode};
 use goblin_pe_head::header::{CoffHeader, DosHeader, SIZEOF_PE_MAGIC};
-use goblin_pe_sect::SectionTable;
+use goblin_pe_sect::{ParseOptions, SectionTable};
 use std::alloc::{AllocError, Global};
 
-/// The listing of a file: a line for each section. The mode has no effect on it.
+/// The listing of a file: a line for each section.
 ///
 /// # Errors
-/// Those of [`DosHeader::parse`], [`CoffHeader::parse`] and [`CoffHeader::sections`], in this order;
+/// Those of [`DosHeader::parse`], [`CoffHeader::parse`] and [`CoffHeader::sections_with_opts`] in this mode, in this order;
 /// [`Error::Memory`] where memory is refused.
 pub fn list(alloc: Global, bytes: &[u8], mode: ParseMode) -> Result<String, Error>
     ensures { AnswersOrMemory (λ text. string_bytes text) result (listing_of mode bytes.now) (IsLayoutFault mode bytes.now) }
@@ -27,14 +27,15 @@ pub fn list(alloc: Global, bytes: &[u8], mode: ParseMode) -> Result<String, Erro
 }
 
 // The sections behind the optional header of the PE header to which the DOS header points.
-fn read_sections(alloc: Global, bytes: &[u8], _mode: ParseMode) -> Result<Vec<SectionTable>, Error>
-    ensures { AnswersOrMemory (λ sections. sections.items) result (layout_of _mode bytes.now) (IsLayoutFault _mode bytes.now) }
+fn read_sections(alloc: Global, bytes: &[u8], mode: ParseMode) -> Result<Vec<SectionTable>, Error>
+    ensures { AnswersOrMemory (λ sections. sections.items) result (layout_of mode bytes.now) (IsLayoutFault mode bytes.now) }
 {
     let dos = DosHeader::parse(bytes)?;
     let mut offset = dos.pe_pointer as usize + SIZEOF_PE_MAGIC;
     let coff = CoffHeader::parse(bytes, &mut offset)?;
     offset += coff.size_of_optional_header as usize;
-    coff.sections(alloc, bytes, &mut offset)
+    let opts = ParseOptions::default().with_parse_mode(mode);
+    coff.sections_with_opts(alloc, bytes, &mut offset, &opts)
 }
 
 fn push_sections(text: &mut String, sections: &[SectionTable]) -> Result<(), AllocError>
