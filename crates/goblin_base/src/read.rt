@@ -92,9 +92,9 @@ fn nul_position(bytes: &[u8]) -> Option<usize>
     bytes.iter().position(|b| *b == 0)
 }
 
-// The longest run of bytes without a NUL at the front.
+/// The bytes up to the first NUL, or all of them where there is none.
 #[tactic(auto, using(crate::proofs::Texts::before_nul_to, crate::proofs::Texts::before_nul_all))]
-fn before_nul(bytes: &[u8]) -> &[u8]
+pub fn before_nul(bytes: &[u8]) -> &[u8]
     ensures { result.now ≡ before_nul bytes.now }
 {
     match nul_position(bytes) {

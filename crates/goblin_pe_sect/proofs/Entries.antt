@@ -19,7 +19,7 @@ use Rattle.goblin_base.specs.Faults.{IsSliceFault}
 use Rattle.goblin_base.specs.Record.{FieldValue, WritesBack, encoding, record_at, total_width}
 use Rattle.goblin_base.proofs.Encoding.{uint_slot, writes_back}
 use Rattle.goblin_base.proofs.Records.{record_at-some}
-use Rattle.goblin_base.proofs.Writing.{IsGoing, encoding-append, length-replaced, length_encoding, replaced-then}
+use Rattle.goblin_base.proofs.Writing.{IsGoing, encoding_append, length-replaced, length_encoding, replaced_then}
 use Rattle.goblin_pe_sect.specs.declared.data_directories.DataDirectory.{DataDirectory}
 use Rattle.goblin_pe_sect.specs.declared.data_directories.DataDirectoryType.{DataDirectoryType}
 use Rattle.goblin_pe_sect.specs.declared.data_directories.DataDirectoryType.TheVariants.{ExportTable}
@@ -121,7 +121,7 @@ entries-going endian entries i d bytes new final lt d_is is going =
     let same_len : length new ≡ length bytes = ap length is ∙ length-replaced bytes (8 * i) (encoding endian own) (omega (arith, len)) in
     record {
       room = omega arith;
-      same = rw (place, is) (replaced-then bytes (8 * i) (encoding endian own) (encoding endian rest) (omega (arith, len)) ∙ ap (replaced bytes (8 * i)) (sym (encoding-append endian own rest)) ∙ ap (λ (fs : List FieldValue). replaced bytes (8 * i) (encoding endian fs)) (sym split) ∙ going.same);
+      same = rw (place, is) (replaced_then bytes (8 * i) (encoding endian own) (encoding endian rest) (omega (arith, len)) ∙ ap (replaced bytes (8 * i)) (sym (encoding_append endian own rest)) ∙ ap (λ (fs : List FieldValue). replaced bytes (8 * i) (encoding endian fs)) (sym split) ∙ going.same);
     }
 
 -- how many bytes all entries take

@@ -10,7 +10,7 @@ use Rattle.std.proofs.lemmas.List.Concat.{flat_map-append}
 use Rattle.goblin_base.specs.declared.endian.Endian.TheVariants.{Little}
 use Rattle.goblin_base.specs.Bytes.{IsBytes, number_bytes, slice_at}
 use Rattle.goblin_base.specs.Record.{FieldValue, encoding, record_at}
-use Rattle.goblin_base.proofs.Writing.{encoding-append}
+use Rattle.goblin_base.proofs.Writing.{encoding_append}
 use Rattle.goblin_pe_sect.specs.declared.data_directories.DataDirectory.{DataDirectory}
 use Rattle.goblin_pe_sect.specs.DataDirectories.{EntriesWriteBack, directories_at, directory_fields, directory_or_zeros, directory_record, entries_fields, entry_at, entry_ending, no_directory}
 use Rattle.goblin_pe_sect.proofs.Entries.{directory_back, entry_at-below, entry_at-past}
@@ -48,7 +48,7 @@ bytes_of count bytes p a n = encoding Little (entries_fields (map (entry_at coun
 bytes_of-more : (count : ℕ) (bytes : List ℕ) (p a n : ℕ) → bytes_of count bytes p a (suc n) ≡ encoding Little (directory_fields (directory_or_zeros (entry_at count bytes p a))) ++ bytes_of count bytes p (a + 1) n
 unfolding entries_fields
 bytes_of-more count bytes p a n =
-    encoding-append Little (directory_fields (directory_or_zeros (entry_at count bytes p a))) (entries_fields (map (entry_at count bytes p) (range_with_len (a + 1) n)))
+    encoding_append Little (directory_fields (directory_or_zeros (entry_at count bytes p a))) (entries_fields (map (entry_at count bytes p) (range_with_len (a + 1) n)))
 
 -- those below the count are written as they stand
 below : (count : ℕ) (bytes : List ℕ) (p a n : ℕ) → IsBytes bytes → a + n ≤ count → p + 8 * (a + n) ≤ length bytes → bytes_of count bytes p a n ≡ take (8 * n) (drop (p + 8 * a) bytes)
@@ -101,7 +101,7 @@ split count bytes p n m =
     ap (λ (r : List ℕ). encoding Little (flat_map g (map f r))) (range_with_len-split 0 n m ∙ ap (λ (k : ℕ). range_with_len 0 n ++ range_with_len k m) (zero_plus n))
     ∙ ap (λ (es : List (Option (ℕ × DataDirectory))). encoding Little (flat_map g es)) (map-append f (range_with_len 0 n) (range_with_len n m))
     ∙ ap (encoding Little) (flat_map-append g (map f (range_with_len 0 n)) (map f (range_with_len n m)))
-    ∙ encoding-append Little (flat_map g (map f (range_with_len 0 n))) (flat_map g (map f (range_with_len n m)))
+    ∙ encoding_append Little (flat_map g (map f (range_with_len 0 n))) (flat_map g (map f (range_with_len n m)))
 
 none_read : (count n : ℕ) (bytes : List ℕ) (p : ℕ) → n ≡ 0 → bytes_of count bytes p 0 n ≡ take (8 * n) (drop p bytes)
 unfolding entries_fields

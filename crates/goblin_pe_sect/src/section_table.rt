@@ -17,7 +17,7 @@ ghost use Rattle.goblin_pe_sect.specs.SectionTable.{Section, section_eq, section
 use crate::digits::{Digits, decimal_number, indirect_name};
 use crate::options::{ParseMode, ParseOptions};
 use goblin_base::{
-    Cause, Endian, Error, Field, Result, field_bytes, field_u16, field_u32, gread_slice, pread_str,
+    Cause, Endian, Error, Field, Result, field_array, field_u16, field_u32, gread_slice, pread_str,
     pread_str_until, put_bytes, pwrite_slice, record_bytes,
 };
 use std::alloc::Global;
@@ -187,7 +187,7 @@ impl SectionTable {
         ensures { result ≡ section_record Endian.Little bytes.now }
     {
         SectionTable {
-            name: field_bytes(bytes, 0),
+            name: field_array(bytes, 0),
             real_name: None,
             virtual_size: field_u32(bytes, 8, Endian::Little),
             virtual_address: field_u32(bytes, 12, Endian::Little),

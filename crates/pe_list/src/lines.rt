@@ -1,13 +1,12 @@
 //! The lines that list a file.
 
-ghost use Rattle.std.specs.Prelude.{◌==◌, ◌≡◌, ◌++◌, OnOk, position, string_bytes};
+ghost use Rattle.std.specs.Prelude.{◌≡◌, ◌++◌, OnOk, string_bytes};
 ghost use Rattle.goblin_base.specs.Answers.{AnswersOrMemory};
-ghost use Rattle.goblin_base.specs.Bytes.{before_nul};
 ghost use Rattle.pe_list.specs.Lines.{section_line, section_lines, shown_name};
 ghost use Rattle.pe_list.specs.Listing.{IsLayoutFault, layout_of, listing_of};
 
 use crate::text::{push_escaped, push_hex};
-use goblin_base::{Error, ParseMode};
+use goblin_base::{Error, ParseMode, before_nul};
 use goblin_pe_head::header::{CoffHeader, DosHeader, SIZEOF_PE_MAGIC};
 use goblin_pe_sect::{ParseOptions, SectionTable};
 use std::alloc::{AllocError, Global};
@@ -69,22 +68,4 @@ fn name_of(section: &SectionTable) -> &[u8]
         Some(name) => name.as_bytes(),
         None => before_nul(&section.name),
     }
-}
-
-// The bytes up to the first NUL.
-#[tactic(auto, using(goblin_base::proofs::Texts::before_nul_to, goblin_base::proofs::Texts::before_nul_all))]
-fn before_nul(bytes: &[u8]) -> &[u8]
-    ensures { result.now ≡ before_nul bytes.now }
-{
-    match nul_position(bytes) {
-        Some(end) => &bytes[..end],
-        None => bytes,
-    }
-}
-
-// Where the first NUL stands.
-fn nul_position(bytes: &[u8]) -> Option<usize>
-    ensures { result ≡ position (λ b. b == 0) bytes.now }
-{
-    bytes.iter().position(|b| *b == 0)
 }
