@@ -1,3 +1,5 @@
+pub mod Entries
+pub mod EntriesBack
 pub mod NameBack
 pub mod NameLaw
 pub mod Numerals

@@ -1,3 +1,4 @@
+pub mod DataDirectories
 pub mod Options
 pub mod SectionName
 pub mod SectionTable

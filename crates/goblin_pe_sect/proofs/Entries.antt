@@ -1,0 +1,191 @@
+-- The entries of the data directories: read and written one after the other, and walked by their kinds.
+use Rattle.std.proofs.Common.{◌≡◌, ℕ, zero, suc, ◌+◌, ◌-◌, ◌*◌, ◌<◌, ◌≤◌, true, false, nat_le, List, [], ◌∷◌, ◌++◌, length, drop, get_or, set, map, Option, Some, None, refl, sym, ap, ◌∙◌, inl, inr, add-one, arith}
+use Rattle.std.specs.List.{cons_option}
+use Rattle.std.specs.Prelude.{◌==◌, ◌&&◌, ◌||◌, if◌then◌else◌, slice_range, zip, filter_map}
+use Rattle.std.specs.List.{range_with_len}
+use Rattle.std.proofs.lemmas.Bool.{le-leb, lt-leb, lt-ltb, le-ltb, ne_eqb, cases_lt}
+use Rattle.std.proofs.lemmas.Option.{cond_some}
+use Rattle.std.proofs.lemmas.Slice.Zip.{length-zip}
+use Rattle.std.proofs.lemmas.List.{append-nil, at_drop_more, drop_all, length-drop, take_all, get_or-set_same, get_or-set_other, length-set}
+use Rattle.std.proofs.lemmas.List.Concat.{flat_map-cons}
+use Rattle.std.proofs.lemmas.List.FromFn.{fill_by_all, get_or-map-range_with_len, length-map-range_with_len}
+use Rattle.std.proofs.Math.Bool.{or-true}
+use Rattle.goblin_base.specs.declared.endian.Endian.{Endian}
+use Rattle.goblin_base.specs.declared.endian.Endian.TheVariants.{Little}
+use Rattle.goblin_base.specs.declared.error.ErrorOf.{ErrorOf}
+use Rattle.goblin_base.specs.declared.error.ErrorOf.TheVariants.{Read}
+use Rattle.goblin_base.specs.declared.error.ReadFault.TheVariants.{BadOffset, TooBig}
+use Rattle.goblin_base.specs.Bytes.{replaced}
+use Rattle.goblin_base.specs.Faults.{IsSliceFault}
+use Rattle.goblin_base.specs.Record.{FieldValue, WritesBack, encoding, record_at, total_width}
+use Rattle.goblin_base.proofs.Encoding.{uint_slot, writes_back}
+use Rattle.goblin_base.proofs.Records.{record_at-some}
+use Rattle.goblin_base.proofs.Writing.{IsGoing, encoding-append, length-replaced, length_encoding, replaced-then}
+use Rattle.goblin_pe_sect.specs.declared.data_directories.DataDirectory.{DataDirectory}
+use Rattle.goblin_pe_sect.specs.declared.data_directories.DataDirectoryType.{DataDirectoryType}
+use Rattle.goblin_pe_sect.specs.declared.data_directories.DataDirectoryType.TheVariants.{ExportTable}
+use Rattle.goblin_pe_sect.specs.DataDirectories.{IsDirectoriesFault, directories_at, directory_fields, directory_or_zeros, directory_record, entries_fields, entry_at, entry_ending, kinds, present_from, with_kind}
+
+-- a directory that was read is written as it stood
+pub directory_back : WritesBack 8 directory_record directory_fields
+unfolding directory_record directory_fields
+directory_back = writes_back 8 directory_record directory_fields (uint_slot 4 ∷ uint_slot 4 ∷ []) refl (λ endian own h. refl)
+
+-- too many entries are refused
+pub too_many : (count : ℕ) (bytes : List ℕ) (p : ℕ) → 16 < count → directories_at count bytes p ≡ None
+unfolding directories_at
+too_many count bytes p many = rw (lt-leb count 16 many) refl
+
+-- entries that pass the end are refused
+past_end : (count : ℕ) (bytes : List ℕ) (p : ℕ) → 0 < count → length bytes < p + 8 * count → directories_at count bytes p ≡ None
+unfolding directories_at
+past_end count bytes p some past =
+    let more : (count == 0) ≡ false = ne_eqb count 0 (λ e. omega arith) in
+    elim (nat_le count 16) as (λ b. (if b && (count == 0 || nat_le (p + 8 * count) (length bytes)) then Some (map (entry_at count bytes p) (range_with_len 0 16)) else None) ≡ None) [
+      | true ↦ rw (more, lt-leb _ _ past) refl
+      | false ↦ refl
+    ]
+
+-- one that is not there refuses them all
+pub one_missing : (count i : ℕ) (bytes : List ℕ) (p at : ℕ) (e : ErrorOf) → i < count → count ≤ 16 → at ≡ p + 8 * i → IsSliceFault bytes at 8 e
+    → (directories_at count bytes p ≡ None) × IsDirectoriesFault count bytes p e
+one_missing count i bytes p at (Read BadOffset) lt most is h = (past_end count bytes p (omega arith) (omega arith), (most, (i, lt, omega arith)))
+one_missing count i bytes p at (Read TooBig) lt most is h = (past_end count bytes p (omega arith) (omega arith), (most, (i, lt, omega arith)))
+one_missing count i bytes p at e lt most is h = absurd h
+
+-- what entries that were read are
+record AreEntries (count : ℕ) (bytes : List ℕ) (p : ℕ) (entries : List (Option (ℕ × DataDirectory))) : Type 0 where
+  pub sixteen : length entries ≡ 16
+  pub each : (k : ℕ) → k < 16 → get_or entries k None ≡ entry_at count bytes p k
+
+are_entries : (count : ℕ) (bytes : List ℕ) (p : ℕ) (entries : List (Option (ℕ × DataDirectory))) → directories_at count bytes p ≡ Some entries → AreEntries count bytes p entries
+unfolding directories_at
+are_entries count bytes p entries h =
+    let f = entry_at count bytes p in
+    let is : map f (range_with_len 0 16) ≡ entries = (cond_some (nat_le count 16 && (count == 0 || nat_le (p + 8 * count) (length bytes))) (map f (range_with_len 0 16)) entries h).1 in
+    record {
+      sixteen = ap length (sym is) ∙ length-map-range_with_len f 0 16;
+      each = λ k lt. ap (λ (es : List (Option (ℕ × DataDirectory))). get_or es k None) (sym is) ∙ get_or-map-range_with_len f 0 16 k k None lt (omega arith);
+    }
+
+pub entry_at-below : (count : ℕ) (bytes : List ℕ) (p i : ℕ) → i < count → entry_at count bytes p i ≡ entry_ending (p + 8 * i + 8) (directory_record Little (slice_range bytes (p + 8 * i) (p + 8 * i + 8)))
+entry_at-below count bytes p i lt = rw (lt-ltb i count lt) refl
+
+pub entry_at-past : (count : ℕ) (bytes : List ℕ) (p i : ℕ) → count ≤ i → entry_at count bytes p i ≡ None
+entry_at-past count bytes p i le = rw (le-ltb i count le) refl
+
+-- one more entry
+pub entries_more : (i : ℕ) (bytes : List ℕ) (p at end : ℕ) (entries : List (Option (ℕ × DataDirectory))) (d : DataDirectory) (x : Option (ℕ × DataDirectory)) → i < 16
+    → at ≡ p + 8 * i → end ≡ at + 8 → directories_at i bytes p ≡ Some entries → record_at 8 (directory_record Little) bytes at ≡ Some d → x ≡ entry_ending end d
+    → directories_at (i + 1) bytes p ≡ Some (set entries i x)
+unfolding directories_at
+entries_more i bytes p at end entries d x lt at_is end_is so_far next is =
+    let are = are_entries i bytes p entries so_far in
+    let here = record_at-some 8 (directory_record Little) bytes at d next in
+    let most : nat_le (i + 1) 16 ≡ true = le-leb _ _ (omega arith) in
+    let room : nat_le (p + 8 * (i + 1)) (length bytes) ≡ true = le-leb _ _ (omega (arith, here.end)) in
+    let e1 : end ≡ p + 8 * i + 8 = omega arith in
+    let new : x ≡ entry_at (i + 1) bytes p i =
+    is ∙ ap (entry_ending end) here.is ∙ rw (at_is) (rw e1 (sym (entry_at-below (i + 1) bytes p i (omega arith)))) in
+    let each : (k : ℕ) → k < 16 → get_or (set entries i x) k None ≡ entry_at (i + 1) bytes p k =
+    λ k k_lt. elim (cases_lt k i) [
+      | inl less ↦
+          get_or-set_other entries i k x None (λ e. omega arith) ∙ are.each k k_lt ∙ entry_at-below i bytes p k less ∙ sym (entry_at-below (i + 1) bytes p k (omega arith))
+      | inr le ↦ elim (cases_lt i k) [
+        | inl more ↦
+            get_or-set_other entries i k x None (λ e. omega arith) ∙ are.each k k_lt ∙ entry_at-past i bytes p k le ∙ sym (entry_at-past (i + 1) bytes p k (omega arith))
+        | inr ge ↦
+            let e : i ≡ k = omega arith in
+            rw (← e) (get_or-set_same entries i x None (omega (arith, are.sixteen)) ∙ new)
+      ]
+    ] in
+    let len : length (set entries i x) ≡ 16 = length-set entries i x ∙ are.sixteen in
+    let all : set entries i x ≡ map (entry_at (i + 1) bytes p) (range_with_len 0 16) = fill_by_all (entry_at (i + 1) bytes p) (set entries i x) 16 None len each in
+    rw (most, room, or-true, all) refl
+
+-- what is left to write, once an entry is written
+pub entries-going : (endian : Endian) (entries : List (Option (ℕ × DataDirectory))) (i : ℕ) (d : DataDirectory) (bytes new final : List ℕ)
+    → i < length entries → d ≡ directory_or_zeros (get_or entries i None)
+    → new ≡ replaced bytes (8 * i) (encoding endian (directory_fields d))
+    → IsGoing endian (entries_fields (drop i entries)) (8 * i) bytes final
+    → IsGoing endian (entries_fields (drop (i + 1) entries)) (8 * (i + 1)) new final
+unfolding entries_fields directory_fields
+entries-going endian entries i d bytes new final lt d_is is going =
+    let rest = entries_fields (drop (i + 1) entries) in
+    let own = directory_fields d in
+    let split : entries_fields (drop i entries) ≡ own ++ rest =
+    at_drop_more entries_fields entries i None lt ∙ flat_map-cons (λ e. directory_fields (directory_or_zeros e)) (get_or entries i None) (drop (i + 1) entries)
+    ∙ ap (λ (x : DataDirectory). directory_fields x ++ rest) (sym d_is) in
+    let len : length (encoding endian own) ≡ 8 = length_encoding endian own in
+    let whole : 8 * i + (8 + total_width rest) ≤ length bytes = omega (arith, ap total_width split, going.room) in
+    let place : 8 * (i + 1) ≡ 8 * i + length (encoding endian own) = omega (arith, len) in
+    let same_len : length new ≡ length bytes = ap length is ∙ length-replaced bytes (8 * i) (encoding endian own) (omega (arith, len)) in
+    record {
+      room = omega arith;
+      same = rw (place, is) (replaced-then bytes (8 * i) (encoding endian own) (encoding endian rest) (omega (arith, len)) ∙ ap (replaced bytes (8 * i)) (sym (encoding-append endian own rest)) ∙ ap (λ (fs : List FieldValue). replaced bytes (8 * i) (encoding endian fs)) (sym split) ∙ going.same);
+    }
+
+-- how many bytes all entries take
+pub width-entries : (entries : List (Option (ℕ × DataDirectory))) → total_width (entries_fields entries) ≡ 8 * length entries
+unfolding entries_fields directory_fields
+width-entries [] = refl
+width-entries (e ∷ entries) = let rest = width-entries entries in omega arith
+
+-- before the first is written
+pub all_going : (endian : Endian) (entries : List (Option (ℕ × DataDirectory))) (bytes : List ℕ) → length entries ≡ 16 → length bytes ≡ 128
+    → IsGoing endian (entries_fields entries) 0 bytes (encoding endian (entries_fields entries))
+all_going endian entries bytes sixteen len =
+    let fields = entries_fields entries in
+    let width = width-entries entries in
+    let none : drop (0 + length (encoding endian fields)) bytes ≡ [] = drop_all _ bytes (omega (arith, length_encoding endian fields)) in
+    record { room = omega (arith, width); same = rw none (append-nil (encoding endian fields)) }
+
+-- once the last is written
+pub entries_done : (endian : Endian) (entries : List (Option (ℕ × DataDirectory))) (i : ℕ) (bytes final : List ℕ) → length entries ≡ i → length bytes ≤ 8 * i
+    → IsGoing endian (entries_fields (drop i entries)) (8 * i) bytes final → bytes ≡ final
+unfolding entries_fields
+entries_done endian entries i bytes final len past going =
+    let none : drop i entries ≡ [] = drop_all i entries (omega arith) in
+    let last : entries_fields (drop i entries) ≡ [] = ap entries_fields none in
+    let whole : replaced bytes (8 * i) [] ≡ bytes = rw (take_all (8 * i) bytes past, drop_all (8 * i + 0) bytes (omega arith)) (simp append-nil) in
+    sym whole ∙ ap (λ (fs : List FieldValue). replaced bytes (8 * i) (encoding endian fs)) (sym last) ∙ going.same
+
+drop-zip : {K E : Type 0} (ks : List K) (es : List E) (i : ℕ) (k : K) (e : E) → i < length ks → i < length es → drop i (zip ks es) ≡ (get_or ks i k, get_or es i e) ∷ drop (suc i) (zip ks es)
+drop-zip [] es i k e ks_lt es_lt = absurd (omega arith)
+drop-zip (x ∷ ks) [] i k e ks_lt es_lt = absurd (omega arith)
+drop-zip (x ∷ ks) (y ∷ es) zero k e ks_lt es_lt = refl
+drop-zip (x ∷ ks) (y ∷ es) (suc i) k e ks_lt es_lt = drop-zip ks es i k e (omega arith) (omega arith)
+
+walk : (entries : List (Option (ℕ × DataDirectory))) (i : ℕ) (kind : DataDirectoryType) → i < 15 → length entries ≡ 16
+    → present_from i entries ≡ filter_map with_kind ((get_or kinds i kind, get_or entries i None) ∷ drop (i + 1) (zip kinds entries))
+unfolding kinds
+walk entries i kind lt len =
+    let step : drop i (zip kinds entries) ≡ (get_or kinds i kind, get_or entries i None) ∷ drop (i + 1) (zip kinds entries) =
+    rw (add-one i) (drop-zip kinds entries i kind None lt (omega arith)) in
+    ap (filter_map with_kind) step
+
+-- an entry that is none is passed over
+pub walk_none : (entries : List (Option (ℕ × DataDirectory))) (i : ℕ) → i < 15 → length entries ≡ 16 → get_or entries i None ≡ None
+    → present_from (i + 1) entries ≡ present_from i entries
+walk_none entries i lt len none = sym (walk entries i ExportTable lt len ∙ rw none refl)
+
+-- another comes beside its kind
+pub walk_some : (entries : List (Option (ℕ × DataDirectory))) (i : ℕ) (kind : DataDirectoryType) (entry : ℕ × DataDirectory) → i < 15 → length entries ≡ 16 → get_or entries i None ≡ Some entry
+    → present_from i entries ≡ (get_or kinds i kind, entry.1) ∷ present_from (i + 1) entries
+walk_some entries i kind entry lt len some = walk entries i kind lt len ∙ rw some refl
+
+-- behind the last kind nothing is left
+pub walk_end : (entries : List (Option (ℕ × DataDirectory))) (i : ℕ) → 15 ≤ i → present_from i entries ≡ []
+unfolding kinds
+walk_end entries i le = ap (filter_map with_kind) (drop_all i (zip kinds entries) (omega (arith, length-zip kinds entries)))
+
+length-filter_map : {X Y : Type 0} (h : X → Option Y) (xs : List X) → length (filter_map h xs) ≤ length xs
+length-filter_map h [] = omega arith
+length-filter_map h (x ∷ xs) =
+    let rest = length-filter_map h xs in
+    elim (h x) as (λ o. length (cons_option o (filter_map h xs)) ≤ length (x ∷ xs)) [ None ↦ omega arith | Some y ↦ omega arith ]
+
+-- no more are left than there are kinds
+pub walk_most : (entries : List (Option (ℕ × DataDirectory))) (i : ℕ) → length (present_from i entries) ≤ 15 - i
+unfolding kinds
+walk_most entries i = omega (arith, length-filter_map with_kind (drop i (zip kinds entries)), length-drop i (zip kinds entries), length-zip kinds entries)

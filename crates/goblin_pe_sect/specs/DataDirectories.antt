@@ -1,0 +1,91 @@
+-- The data directories of an optional header: what stands in its bytes, and what is written of it.
+use Rattle.std.specs.Prelude.{◌≡◌, ◌<◌, ◌≤◌, ℕ, ◌+◌, ◌-◌, ◌*◌, ◌==◌, ◌&&◌, ◌||◌, nat_le, nat_lt, if◌then◌else◌, List, [], ◌∷◌, ◌++◌, length, map, drop, replicate, slice_get, slice_range, Option, Some, None, option_map, option_and_then, zip, filter_map, flat_map}
+use Rattle.std.specs.List.{range_with_len}
+use Rattle.goblin_base.specs.declared.endian.Endian.{Endian}
+use Rattle.goblin_base.specs.declared.endian.Endian.TheVariants.{Little}
+use Rattle.goblin_base.specs.declared.error.ErrorOf.{ErrorOf}
+use Rattle.goblin_base.specs.declared.error.ErrorOf.TheVariants.{Malformed, Read}
+use Rattle.goblin_base.specs.declared.error.CauseOf.TheVariants.{DirectoryIndex, DirectoryCount}
+use Rattle.goblin_base.specs.Bytes.{IsBytes, number}
+use Rattle.goblin_base.specs.Faults.{IsRecordsFault}
+use Rattle.goblin_base.specs.Record.{FieldValue, uint, encoding}
+use Rattle.goblin_pe_sect.specs.declared.data_directories.DataDirectory.{DataDirectory}
+use Rattle.goblin_pe_sect.specs.declared.data_directories.DataDirectoryType.{DataDirectoryType}
+use Rattle.goblin_pe_sect.specs.declared.data_directories.Dirs.{Dirs}
+use Rattle.goblin_pe_sect.specs.declared.data_directories.DataDirectoryType.TheVariants.{ExportTable, ImportTable, ResourceTable, ExceptionTable, CertificateTable, BaseRelocationTable, DebugTable, Architecture, GlobalPtr, TlsTable, LoadConfigTable, BoundImportTable, ImportAddressTable, DelayImportDescriptor, ClrRuntimeHeader}
+
+-- the directory in a record's 8 bytes
+unfoldable pub directory_record : Endian → List ℕ → DataDirectory
+directory_record endian bytes = record {
+  virtual_address = number endian 4 bytes 0;
+  size = number endian 4 bytes 4;
+}
+
+-- the fields of a directory, in order
+unfoldable pub directory_fields : DataDirectory → List FieldValue
+directory_fields d = uint 4 d.virtual_address ∷ uint 4 d.size ∷ []
+
+-- a directory that ends at an offset, which stands beside it; one of zeros is none
+abbrev pub entry_ending : ℕ → DataDirectory → Option (ℕ × DataDirectory)
+entry_ending end d = if d.virtual_address == 0 && d.size == 0 then None else Some (end, d)
+
+-- the entry at index i of `count` that stand one after the other from p on, with the offset just past it; one past the count is none
+abbrev pub entry_at : ℕ → List ℕ → ℕ → ℕ → Option (ℕ × DataDirectory)
+entry_at count bytes p i = if nat_lt i count then entry_ending (p + 8 * i + 8) (directory_record Little (slice_range bytes (p + 8 * i) (p + 8 * i + 8))) else None
+
+-- the sixteen entries of which `count` stand one after the other from p on, where these are no more than sixteen and all there; none are there at any offset
+unfoldable pub directories_at : ℕ → List ℕ → ℕ → Option (List (Option (ℕ × DataDirectory)))
+directories_at count bytes p =
+    if nat_le count 16 && (count == 0 || nat_le (p + 8 * count) (length bytes)) then Some (map (entry_at count bytes p) (range_with_len 0 16)) else None
+
+-- which cause is true of `count` entries from p on that are refused: there are too many, or one of them is not there
+abbrev pub IsDirectoriesFault : ℕ → List ℕ → ℕ → ErrorOf → Type 0
+IsDirectoriesFault count bytes p (Malformed (DirectoryCount n)) = (n ≡ count) × (16 < count)
+IsDirectoriesFault count bytes p (Read fault) = (count ≤ 16) × IsRecordsFault 8 count bytes p (Read fault)
+IsDirectoriesFault count bytes p e = ⊥
+
+-- a directory of zeros
+abbrev pub no_directory : DataDirectory
+no_directory = record { virtual_address = 0; size = 0 }
+
+-- the directory of an entry, zeros where there is none
+abbrev pub directory_or_zeros : Option (ℕ × DataDirectory) → DataDirectory
+directory_or_zeros None = no_directory
+directory_or_zeros (Some entry) = entry.1
+
+-- the fields of all entries, in order
+unfoldable pub entries_fields : List (Option (ℕ × DataDirectory)) → List FieldValue
+entries_fields entries = flat_map (λ entry. directory_fields (directory_or_zeros entry)) entries
+
+-- Entries that were read are written as they stood, with zeros behind them up to the sixteenth.
+abbrev pub EntriesWriteBack : Type 0
+EntriesWriteBack =
+    (count : ℕ) (bytes : List ℕ) (p : ℕ) (entries : List (Option (ℕ × DataDirectory))) → IsBytes bytes → directories_at count bytes p ≡ Some entries
+    → encoding Little (entries_fields entries) ≡ slice_range bytes p (p + 8 * count) ++ replicate (8 * (16 - count)) 0
+
+-- the directory of the entry at index i
+abbrev pub directory_in : List (Option (ℕ × DataDirectory)) → ℕ → Option DataDirectory
+directory_in entries i = option_and_then (λ entry. option_map (λ e. e.1) entry) (slice_get entries i)
+
+-- the kinds of directories, each at its index
+unfoldable pub kinds : List DataDirectoryType
+kinds =
+    ExportTable ∷ ImportTable ∷ ResourceTable ∷ ExceptionTable ∷ CertificateTable ∷ BaseRelocationTable ∷ DebugTable ∷ Architecture ∷ GlobalPtr ∷ TlsTable
+    ∷ LoadConfigTable ∷ BoundImportTable ∷ ImportAddressTable ∷ DelayImportDescriptor ∷ ClrRuntimeHeader ∷ []
+
+-- which cause is true of an index that has no kind
+abbrev pub IsNoKind : ℕ → ErrorOf → Type 0
+IsNoKind i (Malformed (DirectoryIndex n)) = n ≡ i
+IsNoKind i e = ⊥
+
+-- a kind beside its directory, where there is one
+abbrev pub with_kind : DataDirectoryType × Option (ℕ × DataDirectory) → Option (DataDirectoryType × DataDirectory)
+with_kind (kind, entry) = option_map (λ e. (kind, e.1)) entry
+
+-- the directories from index i on, each beside its kind, in order, without those that are none; the sixteenth entry has no kind
+abbrev pub present_from : ℕ → List (Option (ℕ × DataDirectory)) → List (DataDirectoryType × DataDirectory)
+present_from i entries = filter_map with_kind (drop i (zip kinds entries))
+
+-- what an iterator over the directories has left
+abbrev pub dirs_left : Dirs → List (DataDirectoryType × DataDirectory)
+dirs_left dirs = present_from dirs.index dirs.directories.data_directories

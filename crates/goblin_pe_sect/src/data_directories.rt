@@ -1,0 +1,443 @@
+//! The data directories of an optional header: where the tables of an image lie.
+
+ghost use Rattle.std.specs.Prelude.{◌≡◌, ◌+◌, ◌*◌, ◌<◌, ◌≤◌, length, slice_get, option_map, IfOk, IfSome, IsSomeAnd, OnOk, OnErr};
+ghost use Rattle.std.specs.Iterator.{UpTo, YieldsFirst, at_most, item_count};
+ghost use Rattle.std.specs.Iterator.SizeHint.{IsWithinCount};
+ghost use Rattle.goblin_base.specs.Answers.{Answers, Writes};
+ghost use Rattle.goblin_base.specs.Bytes.{overwritten};
+ghost use Rattle.goblin_base.specs.Faults.{IsSliceFault};
+ghost use Rattle.goblin_base.specs.Record.{WritesBack, encoding, record_at, record_in};
+ghost use Rattle.goblin_base.specs.RecordLaws.{record_in-within, slice_fault-no_memory};
+ghost use Rattle.goblin_pe_sect.specs.declared.data_directories.DataDirectory.{DataDirectory};
+ghost use Rattle.goblin_pe_sect.specs.DataDirectories.{EntriesWriteBack, IsDirectoriesFault, IsNoKind, dirs_left, directories_at, directory_fields, directory_in, directory_or_zeros, directory_record, entries_fields, entry_ending, kinds, present_from};
+
+use goblin_base::{
+    Cause, Endian, Error, Field, Result, TryFromCtx, field_u32, gread_slice, pread_slice,
+    put_bytes, pwrite_slice, record_bytes,
+};
+
+/// The size of a directory's record, in bytes.
+pub const SIZEOF_DATA_DIRECTORY: usize = 8;
+
+// How many entries the table has.
+const NUM_DATA_DIRECTORIES: usize = 16;
+
+// The kinds of directories, each at its index.
+const KINDS: [DataDirectoryType; 15] = [
+    DataDirectoryType::ExportTable,
+    DataDirectoryType::ImportTable,
+    DataDirectoryType::ResourceTable,
+    DataDirectoryType::ExceptionTable,
+    DataDirectoryType::CertificateTable,
+    DataDirectoryType::BaseRelocationTable,
+    DataDirectoryType::DebugTable,
+    DataDirectoryType::Architecture,
+    DataDirectoryType::GlobalPtr,
+    DataDirectoryType::TlsTable,
+    DataDirectoryType::LoadConfigTable,
+    DataDirectoryType::BoundImportTable,
+    DataDirectoryType::ImportAddressTable,
+    DataDirectoryType::DelayImportDescriptor,
+    DataDirectoryType::ClrRuntimeHeader,
+];
+
+/// Where a table of an image lies.
+///
+/// Source: PE Format, "Optional Header Data Directories (Image Only)". Numbers are as stored; the
+/// record has 8 bytes.
+#[derive(Debug, PartialEq, Copy, Clone, Default)]
+pub struct DataDirectory {
+    /// The table's address in memory, relative to the image's base. Of the certificate table it is
+    /// the file offset.
+    pub virtual_address: u32,
+    /// The table's size, in bytes.
+    pub size: u32,
+}
+
+impl DataDirectory {
+    // The directory in a record's bytes.
+    #[tactic(auto, unfolding(crate::specs::DataDirectories::directory_record))]
+    fn in_record(bytes: &[u8], endian: Endian) -> DataDirectory
+        requires { length bytes.now ≡ 8 }
+        ensures { result ≡ directory_record endian bytes.now }
+    {
+        DataDirectory {
+            virtual_address: field_u32(bytes, 0, endian),
+            size: field_u32(bytes, 4, endian),
+        }
+    }
+
+    /// Reads the record at `offset` and moves `offset` past it.
+    ///
+    /// # Errors
+    /// [`Error::Read`] where the file has no 8 bytes there; `offset` then stays.
+    pub fn parse(bytes: &[u8], offset: &mut usize) -> Result<DataDirectory>
+        ensures value { Answers (λ d. d) result (record_at 8 (directory_record Endian.Little) bytes.now offset.old) (IsSliceFault bytes.now offset.old 8) }
+        ensures ok { OnOk result (offset.new ≡ offset.old + 8) }
+        ensures err { OnErr result (offset.new ≡ offset.old) }
+    {
+        let record = gread_slice(bytes, offset, SIZEOF_DATA_DIRECTORY)?;
+        Ok(DataDirectory::in_record(record, Endian::Little))
+    }
+
+    // The record's bytes.
+    #[tactic(auto, unfolding(crate::specs::DataDirectories::directory_fields))]
+    fn to_bytes(self, endian: Endian) -> [u8; SIZEOF_DATA_DIRECTORY]
+        ensures { result ≡ encoding endian (directory_fields self) }
+    {
+        let fields = [Field::U32(self.virtual_address), Field::U32(self.size)];
+        record_bytes(&fields, endian)
+    }
+
+    /// Writes the record to the front of `bytes`, and answers its size. A directory that was read is
+    /// written as it stood, by the same order of bytes.
+    ///
+    /// # Errors
+    /// [`Error::Read`] where there is no room for 8 bytes; `bytes` are then as they were.
+    #[tactic(auto, using(crate::proofs::Entries::directory_back))]
+    pub fn try_into_ctx(self, bytes: &mut [u8], endian: Endian) -> Result<usize>
+        ensures size { IfOk result (λ n. n ≡ 8) }
+        ensures written { Writes result (overwritten bytes.old 0 (encoding endian (directory_fields self))) bytes.old bytes.new (IsSliceFault bytes.old 0 8) }
+        ensures back { WritesBack 8 directory_record directory_fields }
+    {
+        let record = self.to_bytes(endian);
+        pwrite_slice(bytes, 0, &record)?;
+        Ok(SIZEOF_DATA_DIRECTORY)
+    }
+
+    /// The size of the record, in bytes, in either order.
+    pub fn size_with(_endian: &Endian) -> usize
+        ensures { result ≡ 8 }
+    {
+        SIZEOF_DATA_DIRECTORY
+    }
+}
+
+impl TryFromCtx<'_> for DataDirectory {
+    ghost Plain = { DataDirectory };
+
+    ghost plain = { λ d. d };
+
+    ghost value_of = { record_in 8 directory_record };
+
+    ghost refusal = { λ _ bytes e. IsSliceFault bytes 0 8 e };
+
+    ghost within = { record_in-within 8 directory_record };
+
+    ghost no_memory = { λ _ bytes e. slice_fault-no_memory bytes 0 8 e };
+
+    /// Reads the record at the front of `bytes`, which takes 8 bytes.
+    ///
+    /// # Errors
+    /// [`Error::Read`] where there are no 8 bytes.
+    fn try_from_ctx(bytes: &[u8], endian: Endian) -> Result<(DataDirectory, usize)> {
+        let record = pread_slice(bytes, 0, SIZEOF_DATA_DIRECTORY)?;
+        let directory = DataDirectory::in_record(record, endian);
+        Ok((directory, SIZEOF_DATA_DIRECTORY))
+    }
+}
+
+/// What the table of a directory is: the kinds, in the order of their indexes 0 to 14.
+///
+/// Source: PE Format, "Optional Header Data Directories (Image Only)". The sixteenth entry is
+/// reserved and has no kind.
+#[derive(Debug, PartialEq, Copy, Clone)]
+pub enum DataDirectoryType {
+    /// The exports (`.edata`), at index 0.
+    ExportTable,
+    /// The import directory (`.idata`), at index 1.
+    ImportTable,
+    /// The resources (`.rsrc`), at index 2.
+    ResourceTable,
+    /// How exceptions are handled (`.pdata`), at index 3.
+    ExceptionTable,
+    /// The attribute certificates, at index 4. They are no part of the image in memory.
+    CertificateTable,
+    /// The base relocations (`.reloc`), at index 5.
+    BaseRelocationTable,
+    /// The debug data (`.debug`), at index 6.
+    DebugTable,
+    /// Reserved, at index 7.
+    Architecture,
+    /// The value of the global pointer register, at index 8. It has no size.
+    GlobalPtr,
+    /// The thread local storage (`.tls`), at index 9.
+    TlsTable,
+    /// The load configuration, at index 10.
+    LoadConfigTable,
+    /// The bound imports, at index 11.
+    BoundImportTable,
+    /// The import address table, at index 12.
+    ImportAddressTable,
+    /// The delayed imports, at index 13.
+    DelayImportDescriptor,
+    /// The header of the common language runtime (`.cormeta`), at index 14.
+    ClrRuntimeHeader,
+}
+
+impl TryFrom<usize> for DataDirectoryType {
+    type Error = Error;
+
+    ghost try_from_gives = { λ i r. Answers (λ kind. kind) r (slice_get kinds i) (IsNoKind i) };
+
+    /// The kind with this index.
+    ///
+    /// # Errors
+    /// [`Error::Malformed`] with [`Cause::DirectoryIndex`] where no kind has it.
+    #[tactic(auto, unfolding(crate::specs::DataDirectories::kinds))]
+    fn try_from(index: usize) -> Result<DataDirectoryType> {
+        match KINDS.get(index) {
+            Some(kind) => Ok(*kind),
+            None => Err(Error::Malformed(Cause::DirectoryIndex(index))),
+        }
+    }
+}
+
+/// The data directories of an optional header: sixteen entries, one after the other.
+///
+/// Source: PE Format, "Optional Header Data Directories (Image Only)". A file may have fewer; the
+/// others are then `None`, as is an entry of zeros.
+#[derive(Debug, PartialEq, Copy, Clone, Default)]
+pub struct DataDirectories {
+    /// The directories by their indexes, each with the offset just past its record.
+    pub data_directories: [Option<(usize, DataDirectory)>; 16],
+}
+
+// A directory whose record ends at an offset, `None` where it is all zeros.
+fn entry(end: usize, directory: DataDirectory) -> Option<(usize, DataDirectory)>
+    ensures { result ≡ entry_ending end directory }
+{
+    if directory == DataDirectory::default() {
+        None
+    } else {
+        Some((end, directory))
+    }
+}
+
+// The directory of an entry, zeros where there is none.
+fn directory(entry: Option<(usize, DataDirectory)>) -> DataDirectory
+    ensures { result ≡ directory_or_zeros entry }
+{
+    match entry {
+        Some((_, directory)) => directory,
+        None => DataDirectory::default(),
+    }
+}
+
+impl DataDirectories {
+    /// Reads `count` entries, which stand one after the other from `offset` on, and moves `offset`
+    /// past them. None are read at any offset.
+    ///
+    /// # Errors
+    /// [`Error::Malformed`] with [`Cause::DirectoryCount`] where there are more than sixteen;
+    /// [`Error::Read`] where they are not all there. `offset` then stays.
+    #[tactic(auto, using(crate::proofs::Entries::too_many))]
+    pub fn parse(bytes: &[u8], count: usize, offset: &mut usize) -> Result<DataDirectories>
+        ensures value { Answers (λ d. d.data_directories) result (directories_at count bytes.now offset.old) (IsDirectoriesFault count bytes.now offset.old) }
+        ensures ok { OnOk result (offset.new ≡ offset.old + 8 * count) }
+        ensures err { OnErr result (offset.new ≡ offset.old) }
+    {
+        if count > NUM_DATA_DIRECTORIES {
+            return Err(Error::Malformed(Cause::DirectoryCount(count)));
+        }
+        let mut data_directories = [None; NUM_DATA_DIRECTORIES];
+        let mut end = *offset;
+        'entries: for i in 0..count {
+            let directory = DataDirectory::parse(bytes, &mut end)?;
+            data_directories[i] = entry(end, directory);
+        }
+        *offset = end;
+        Ok(DataDirectories { data_directories })
+    }
+
+    /// The bytes of all sixteen entries, those that are `None` as zeros. Entries that were read are
+    /// written as they stood.
+    #[tactic(auto, using(crate::proofs::EntriesBack::entries_back))]
+    pub fn to_bytes(self, endian: Endian) -> [u8; 128]
+        ensures bytes { result ≡ encoding endian (entries_fields self.data_directories) }
+        ensures back { EntriesWriteBack }
+    {
+        let mut table = [0; 128];
+        'entries: for i in 0..NUM_DATA_DIRECTORIES {
+            let record = directory(self.data_directories[i]).to_bytes(endian);
+            put_bytes(&mut table, SIZEOF_DATA_DIRECTORY * i, &record);
+        }
+        table
+    }
+
+    /// Writes all sixteen entries to the front of `bytes`, those that are `None` as zeros, and
+    /// answers their size.
+    ///
+    /// # Errors
+    /// [`Error::Read`] where there is no room for 128 bytes; `bytes` are then as they were.
+    pub fn try_into_ctx(self, bytes: &mut [u8], endian: Endian) -> Result<usize>
+        ensures size { IfOk result (λ n. n ≡ 128) }
+        ensures written { Writes result (overwritten bytes.old 0 (encoding endian (entries_fields self.data_directories))) bytes.old bytes.new (IsSliceFault bytes.old 0 128) }
+    {
+        let table = self.to_bytes(endian);
+        pwrite_slice(bytes, 0, &table)?;
+        Ok(table.len())
+    }
+
+    // The directory at an index.
+    fn get(&self, index: usize) -> Option<&DataDirectory>
+        requires { index < 16 }
+        ensures { option_map (λ d. d.now) result ≡ directory_in self.now.data_directories index }
+    {
+        match &self.data_directories[index] {
+            Some((_, directory)) => Some(directory),
+            None => None,
+        }
+    }
+
+    /// Where the exports lie.
+    pub fn get_export_table(&self) -> Option<&DataDirectory>
+        ensures { option_map (λ d. d.now) result ≡ directory_in self.now.data_directories 0 }
+    {
+        self.get(0)
+    }
+
+    /// Where the import directory lies.
+    pub fn get_import_table(&self) -> Option<&DataDirectory>
+        ensures { option_map (λ d. d.now) result ≡ directory_in self.now.data_directories 1 }
+    {
+        self.get(1)
+    }
+
+    /// Where the resources lie.
+    pub fn get_resource_table(&self) -> Option<&DataDirectory>
+        ensures { option_map (λ d. d.now) result ≡ directory_in self.now.data_directories 2 }
+    {
+        self.get(2)
+    }
+
+    /// Where the exception table lies.
+    pub fn get_exception_table(&self) -> Option<&DataDirectory>
+        ensures { option_map (λ d. d.now) result ≡ directory_in self.now.data_directories 3 }
+    {
+        self.get(3)
+    }
+
+    /// Where the attribute certificates lie; the address is a file offset.
+    pub fn get_certificate_table(&self) -> Option<&DataDirectory>
+        ensures { option_map (λ d. d.now) result ≡ directory_in self.now.data_directories 4 }
+    {
+        self.get(4)
+    }
+
+    /// Where the base relocations lie.
+    pub fn get_base_relocation_table(&self) -> Option<&DataDirectory>
+        ensures { option_map (λ d. d.now) result ≡ directory_in self.now.data_directories 5 }
+    {
+        self.get(5)
+    }
+
+    /// Where the debug data lie.
+    pub fn get_debug_table(&self) -> Option<&DataDirectory>
+        ensures { option_map (λ d. d.now) result ≡ directory_in self.now.data_directories 6 }
+    {
+        self.get(6)
+    }
+
+    /// The entry of architecture data, which is reserved.
+    pub fn get_architecture(&self) -> Option<&DataDirectory>
+        ensures { option_map (λ d. d.now) result ≡ directory_in self.now.data_directories 7 }
+    {
+        self.get(7)
+    }
+
+    /// Where the value of the global pointer register lies.
+    pub fn get_global_ptr(&self) -> Option<&DataDirectory>
+        ensures { option_map (λ d. d.now) result ≡ directory_in self.now.data_directories 8 }
+    {
+        self.get(8)
+    }
+
+    /// Where the thread local storage lies.
+    pub fn get_tls_table(&self) -> Option<&DataDirectory>
+        ensures { option_map (λ d. d.now) result ≡ directory_in self.now.data_directories 9 }
+    {
+        self.get(9)
+    }
+
+    /// Where the load configuration lies.
+    pub fn get_load_config_table(&self) -> Option<&DataDirectory>
+        ensures { option_map (λ d. d.now) result ≡ directory_in self.now.data_directories 10 }
+    {
+        self.get(10)
+    }
+
+    /// Where the bound imports lie.
+    pub fn get_bound_import_table(&self) -> Option<&DataDirectory>
+        ensures { option_map (λ d. d.now) result ≡ directory_in self.now.data_directories 11 }
+    {
+        self.get(11)
+    }
+
+    /// Where the import address table lies.
+    pub fn get_import_address_table(&self) -> Option<&DataDirectory>
+        ensures { option_map (λ d. d.now) result ≡ directory_in self.now.data_directories 12 }
+    {
+        self.get(12)
+    }
+
+    /// Where the delayed imports lie.
+    pub fn get_delay_import_descriptor(&self) -> Option<&DataDirectory>
+        ensures { option_map (λ d. d.now) result ≡ directory_in self.now.data_directories 13 }
+    {
+        self.get(13)
+    }
+
+    /// Where the header of the common language runtime lies.
+    pub fn get_clr_runtime_header(&self) -> Option<&DataDirectory>
+        ensures { option_map (λ d. d.now) result ≡ directory_in self.now.data_directories 14 }
+    {
+        self.get(14)
+    }
+
+    /// The directories that are there, each with its kind, in order. The sixteenth has no kind and
+    /// is left out.
+    pub fn dirs(&self) -> Dirs
+        ensures { dirs_left result ≡ present_from 0 self.now.data_directories }
+    {
+        Dirs {
+            directories: *self,
+            index: 0,
+        }
+    }
+}
+
+/// The directories that are there, each with its kind, in order.
+#[derive(Debug, Clone, Drop)]
+pub struct Dirs {
+    directories: DataDirectories,
+    index: usize,
+}
+
+impl Iterator for Dirs {
+    type Item = (DataDirectoryType, DataDirectory);
+
+    ghost next_gives = { YieldsFirst dirs_left };
+
+    ghost remaining = { item_count dirs_left };
+
+    fn next(&mut self) -> Option<(DataDirectoryType, DataDirectory)> {
+        'entries: for index in self.index..KINDS.len() {
+            self.index = index + 1;
+            if let Some((_, directory)) = self.directories.data_directories[index] {
+                return Some((KINDS[index], directory));
+            }
+        }
+        None
+    }
+
+    /// No more come than there are kinds.
+    #[tactic(auto, using(crate::proofs::Entries::walk_most))]
+    fn size_hint(&self) -> (usize, Option<usize>)
+        ensures lower { IsWithinCount result.0 (at_most (length (dirs_left self.now))) }
+        ensures upper { IfSome result.1 (UpTo (at_most (length (dirs_left self.now)))) }
+        ensures bounded { IsSomeAnd result.1 (λ n. n ≤ 15) }
+    {
+        (0, Some(KINDS.len().saturating_sub(self.index)))
+    }
+}
