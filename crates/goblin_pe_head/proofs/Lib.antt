@@ -1,1 +1,2 @@
+pub mod RichEntries
 pub mod Sections
