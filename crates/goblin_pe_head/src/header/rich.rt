@@ -86,6 +86,7 @@ impl<'a> RichHeader<'a> {
     }
 
     /// The entries, which stand behind the padding.
+    #[tactic(auto, using(crate::proofs::RichLaw::entries_of))]
     pub fn metadatas(&self) -> RichMetadataIterator<'a>
         requires { self.now.padding_size ≤ length self.now.bytes.now }
         ensures entries { metadata_left result ≡ metadata_items self.now.key (drop self.now.padding_size self.now.bytes.now) }
