@@ -1,7 +1,8 @@
 //! The Rich header, in which a linker says which tools made a file.
 
 ghost use Rattle.std.specs.Prelude.{◌≡◌, ◌≤◌, ◌<◌, ◌+◌, ◌*◌, ◌^◌, List, ℕ, Some, length, drop, option_map, IfOk, IfSome};
-ghost use Rattle.std.specs.Iterator.{YieldsFirst, item_count};
+ghost use Rattle.std.specs.Iterator.{UpTo, YieldsFirst, at_most, item_count};
+ghost use Rattle.std.specs.Iterator.SizeHint.{IsWithinCount};
 ghost use Rattle.goblin_base.specs.Answers.{Answers, Writes};
 ghost use Rattle.goblin_base.specs.Bytes.{IsBytes, overwritten};
 ghost use Rattle.goblin_base.specs.Faults.{IsSliceFault};
@@ -234,7 +235,11 @@ impl Iterator for RichMetadataIterator<'_> {
     }
 
     #[tactic(auto, using(crate::proofs::RichEntries::length_items))]
-    fn size_hint(&self) -> (usize, Option<usize>) {
+    fn size_hint(&self) -> (usize, Option<usize>)
+        ensures lower { IsWithinCount result.0 (at_most (length (metadata_left self.now))) }
+        ensures upper { IfSome result.1 (UpTo (at_most (length (metadata_left self.now)))) }
+        ensures value { result ≡ (length (metadata_left self.now), Some (length (metadata_left self.now))) }
+    {
         let count = self.bytes.len().div_ceil(RICH_METADATA_SIZE);
         (count, Some(count))
     }
