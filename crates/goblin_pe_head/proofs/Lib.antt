@@ -1,1 +1,3 @@
+pub mod RichEntries
+pub mod RichLaw
 pub mod Sections

@@ -1,6 +1,7 @@
-//! The DOS header and the COFF header of a PE file, and its section table.
+//! The headers of a PE file: the DOS header and the stub behind it, the Rich header, the COFF header
+//! and the section table.
 
-ghost use Rattle.std.specs.Prelude.{◌≡◌, ◌+◌, ◌*◌, ◌/◌, ◌<◌, length, true, OnOk, OnErr, IsErrAnd};
+ghost use Rattle.std.specs.Prelude.{◌≡◌, ◌+◌, ◌*◌, ◌/◌, ◌<◌, ◌≤◌, length, true, IfOk, OnOk, OnErr, IsErrAnd};
 ghost use Rattle.goblin_base.specs.Answers.{Answers, AnswersOrMemory};
 ghost use Rattle.goblin_base.specs.Faults.{IsSliceFault};
 ghost use Rattle.goblin_base.specs.Record.{record_at};
@@ -15,6 +16,15 @@ use goblin_base::{
 use goblin_pe_sect::options::ParseOptions;
 use goblin_pe_sect::section_table::{SIZEOF_SECTION_TABLE, SectionTable};
 use std::alloc::Global;
+
+mod rich;
+mod stub;
+
+pub use rich::{
+    DANS_MARKER, DANS_MARKER_SIZE, RICH_MARKER, RICH_MARKER_SIZE, RichHeader, RichMetadata,
+    RichMetadataIterator,
+};
+pub use stub::{DOS_STUB_OFFSET, DosStub};
 
 /// The signature of a DOS header, `MZ`.
 pub const DOS_MAGIC: u16 = 0x5A4D;
@@ -136,7 +146,8 @@ impl DosHeader {
     /// pointer.
     #[tactic(auto, unfolding(crate::specs::Header::dos_header, crate::specs::Header::IsDosFault))]
     pub fn parse(bytes: &[u8]) -> Result<DosHeader>
-        ensures { Answers (λ h. h) result (dos_header bytes.now) (IsDosFault bytes.now) }
+        ensures value { Answers (λ h. h) result (dos_header bytes.now) (IsDosFault bytes.now) }
+        ensures pointer { IfOk result (λ h. h.pe_pointer + 4 ≤ length bytes.now) }
     {
         let Ok(magic) = pread_u16(bytes, 0, Endian::Little) else {
             return Err(Error::Malformed(Cause::NoDosSignature));

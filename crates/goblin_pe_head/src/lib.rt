@@ -3,4 +3,4 @@
 
 pub mod header;
 
-pub use header::{CoffHeader, DosHeader};
+pub use header::{CoffHeader, DosHeader, DosStub, RichHeader, RichMetadata, RichMetadataIterator};
