@@ -5,6 +5,7 @@ use Rattle.std.specs.Prelude.{◌==◌, ◌&&◌, ◌||◌, if◌then◌else◌,
 use Rattle.std.specs.List.{range_with_len}
 use Rattle.std.proofs.lemmas.Bool.{le-leb, lt-leb, lt-ltb, le-ltb, ne_eqb, cases_lt}
 use Rattle.std.proofs.lemmas.Option.{cond_some}
+use Rattle.std.proofs.lemmas.Slice.Zip.{length-zip}
 use Rattle.std.proofs.lemmas.List.{append-nil, at_drop_more, drop_all, length-drop, take_all, get_or-set_same, get_or-set_other, length-set}
 use Rattle.std.proofs.lemmas.List.Concat.{flat_map-cons}
 use Rattle.std.proofs.lemmas.List.FromFn.{fill_by_all, get_or-map-range_with_len, length-map-range_with_len}
@@ -146,7 +147,7 @@ unfolding entries_fields
 entries_done endian entries i bytes final len past going =
     let none : drop i entries ≡ [] = drop_all i entries (omega arith) in
     let last : entries_fields (drop i entries) ≡ [] = ap entries_fields none in
-    let whole : replaced bytes (8 * i) [] ≡ bytes = rw (take_all (8 * i) bytes past, drop_all (8 * i + 0) bytes (omega arith), append-nil, append-nil) refl in
+    let whole : replaced bytes (8 * i) [] ≡ bytes = rw (take_all (8 * i) bytes past, drop_all (8 * i + 0) bytes (omega arith)) (simp append-nil) in
     sym whole ∙ ap (λ (fs : List FieldValue). replaced bytes (8 * i) (encoding endian fs)) (sym last) ∙ going.same
 
 drop-zip : {K E : Type 0} (ks : List K) (es : List E) (i : ℕ) (k : K) (e : E) → i < length ks → i < length es → drop i (zip ks es) ≡ (get_or ks i k, get_or es i e) ∷ drop (suc i) (zip ks es)
@@ -154,11 +155,6 @@ drop-zip [] es i k e ks_lt es_lt = absurd (omega arith)
 drop-zip (x ∷ ks) [] i k e ks_lt es_lt = absurd (omega arith)
 drop-zip (x ∷ ks) (y ∷ es) zero k e ks_lt es_lt = refl
 drop-zip (x ∷ ks) (y ∷ es) (suc i) k e ks_lt es_lt = drop-zip ks es i k e (omega arith) (omega arith)
-
-length-zip : {K E : Type 0} (ks : List K) (es : List E) → length (zip ks es) ≤ length ks
-length-zip [] es = omega arith
-length-zip (x ∷ ks) [] = omega arith
-length-zip (x ∷ ks) (y ∷ es) = let rest = length-zip ks es in omega arith
 
 walk : (entries : List (Option (ℕ × DataDirectory))) (i : ℕ) (kind : DataDirectoryType) → i < 15 → length entries ≡ 16
     → present_from i entries ≡ filter_map with_kind ((get_or kinds i kind, get_or entries i None) ∷ drop (i + 1) (zip kinds entries))

@@ -1,4 +1,4 @@
--- How an address in memory maps to an offset in the file, and the names that stand at an address.
+-- How an address in memory maps to an offset in the file, and what stands at an address.
 use Rattle.std.specs.Prelude.{ℕ, ◌+◌, ◌-◌, ◌*◌, ◌/◌, ◌==◌, ◌≡◌, ◌<◌, ◌≤◌, ◌⊎◌, min, Bool, ◌&&◌, nat_le, nat_lt, if◌then◌else◌, List, length, drop, Option, Some, None, find, slice_get, option_map}
 use Rattle.std.specs.Int.{next_multiple_of, is_power_of_two}
 use Rattle.goblin_base.specs.declared.endian.Endian.{Endian}
@@ -17,8 +17,9 @@ use Rattle.goblin_pe_sect.specs.SectionTable.{Section}
 abbrev pub previous_multiple_of : ℕ → ℕ → ℕ
 previous_multiple_of x y = x / y * y
 
--- how many bytes of a section are read from the file at this file alignment: none where it has no raw data; else the bytes of
--- its raw data, out to file borders and at most whole pages, and at most the whole pages of its virtual size, where that is given
+-- how many bytes of a section are read from the file at this file alignment: none where it has no raw data; else those from the
+-- 512-byte border before its raw data to the file border behind it, at most the whole pages of the raw size, and at most the whole
+-- pages of the virtual size, where that is given
 unfoldable pub read_size : Section → ℕ → ℕ
 read_size s alignment =
     let raw = s.size_of_raw_data in

@@ -1,8 +1,9 @@
 //! Laws of the format. Each is the contract of a function that gives the answers it speaks of.
 
-ghost use Rattle.std.specs.Prelude.{◌≡◌, ℕ, IsTrue};
+ghost use Rattle.std.specs.Prelude.{◌≡◌, ◌↔◌, ℕ, IsTrue};
 ghost use Rattle.std.specs.Int.{is_power_of_two};
 ghost use Rattle.goblin_pe_sect.specs.Mapping.{IsFirstWindow, file_offset};
+ghost use Rattle.goblin_pe_sect.specs.SectionTable.{OverlapRawData};
 
 use crate::options::ParseOptions;
 use crate::section_table::SectionTable;
@@ -25,4 +26,13 @@ pub fn offsets_in_one_section(
         find_offset(first, sections, file_alignment, opts),
         find_offset(second, sections, file_alignment, opts),
     )
+}
+
+/// Whether the raw data of two sections overlaps, asked of the one and then of the other: the
+/// answers are the same.
+pub fn overlap_either_way(first: &SectionTable, second: &SectionTable) -> (bool, bool)
+    ensures first { IsTrue result.0 ↔ OverlapRawData first.now second.now }
+    ensures second { IsTrue result.1 ↔ OverlapRawData first.now second.now }
+{
+    (first.overlaps_with(second), second.overlaps_with(first))
 }

@@ -1,4 +1,4 @@
-//! The sections of a PE file.
+//! The sections of a PE file, its data directories, and where the file has what stands at an address.
 #![tactic(auto)]
 
 pub mod data_directories;
