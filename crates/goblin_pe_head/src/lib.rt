@@ -2,5 +2,7 @@
 #![tactic(auto)]
 
 pub mod header;
+pub mod optional_header;
 
 pub use header::{CoffHeader, DosHeader, DosStub, RichHeader, RichMetadata, RichMetadataIterator};
+pub use optional_header::OptionalHeader;
