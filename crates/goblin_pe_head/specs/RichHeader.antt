@@ -72,11 +72,15 @@ rich_before stretch (Some i) = do
 unfoldable pub rich_in : List ℕ → Option (Option Rich)
 rich_in stretch = rich_before stretch (marker_place stretch)
 
--- the Rich header of a file, where there is one: in the stretch from 64 up to the PE signature, if that has at least four bytes
+-- the Rich header in front of a PE signature at p, where there is one: in the stretch from 64 up to there, if that has at least four bytes
+abbrev pub rich_at : List ℕ → ℕ → Option (Option Rich)
+rich_at bytes p = if nat_lt p 68 then Some None else rich_in (slice_range bytes 64 p)
+
+-- the Rich header of a file, where there is one
 unfoldable pub rich_header : List ℕ → Option (Option Rich)
 rich_header bytes = do
   dos ← dos_header bytes
-  if nat_lt dos.pe_pointer 68 then Some None else rich_in (slice_range bytes 64 dos.pe_pointer)
+  rich_at bytes dos.pe_pointer
 
 -- there is no DanS
 abbrev pub IsNoDans : ErrorOf → Type 0
@@ -94,6 +98,10 @@ unfoldable pub IsStretchFault : List ℕ → ErrorOf → Type 0
 IsStretchFault stretch e =
     IsSomeAnd (marker_place stretch) (λ i. FirstFault (dans_place (word_at stretch (i + 4)) stretch) IsNoDans (λ j. IsBetweenFault j i) e)
 
+-- which cause is true where the Rich header in front of a PE signature at p is refused
+abbrev pub IsRichAtFault : List ℕ → ℕ → ErrorOf → Type 0
+IsRichAtFault bytes p = IsStretchFault (slice_range bytes 64 p)
+
 -- which cause is true of a file whose Rich header is refused
 unfoldable pub IsRichFault : List ℕ → ErrorOf → Type 0
-IsRichFault bytes = FirstFault (dos_header bytes) (IsDosFault bytes) (λ dos. IsStretchFault (slice_range bytes 64 dos.pe_pointer))
+IsRichFault bytes = FirstFault (dos_header bytes) (IsDosFault bytes) (λ dos. IsRichAtFault bytes dos.pe_pointer)

@@ -17,9 +17,11 @@ use goblin_pe_sect::options::ParseOptions;
 use goblin_pe_sect::section_table::{SIZEOF_SECTION_TABLE, SectionTable};
 use std::alloc::Global;
 
+mod pe_header;
 mod rich;
 mod stub;
 
+pub use pe_header::Header;
 pub use rich::{
     DANS_MARKER, DANS_MARKER_SIZE, RICH_MARKER, RICH_MARKER_SIZE, RichHeader, RichMetadata,
     RichMetadataIterator,

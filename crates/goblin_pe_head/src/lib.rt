@@ -4,5 +4,7 @@
 pub mod header;
 pub mod optional_header;
 
-pub use header::{CoffHeader, DosHeader, DosStub, RichHeader, RichMetadata, RichMetadataIterator};
+pub use header::{
+    CoffHeader, DosHeader, DosStub, Header, RichHeader, RichMetadata, RichMetadataIterator,
+};
 pub use optional_header::OptionalHeader;

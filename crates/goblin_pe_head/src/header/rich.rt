@@ -9,7 +9,7 @@ ghost use Rattle.goblin_base.specs.Faults.{IsSliceFault};
 ghost use Rattle.goblin_base.specs.Record.{WritesBack, encoding, record_in};
 ghost use Rattle.goblin_base.specs.RecordLaws.{record_in-within, slice_fault-no_memory};
 ghost use Rattle.goblin_pe_head.specs.declared.header.rich.RichMetadata.{RichMetadata};
-ghost use Rattle.goblin_pe_head.specs.RichHeader.{marker_place, dans_place, other_place, leading_words, rich_in, rich_header, rich_value, IsStretchFault, IsRichFault};
+ghost use Rattle.goblin_pe_head.specs.RichHeader.{marker_place, dans_place, other_place, leading_words, rich_in, rich_at, rich_header, IsRichAtFault, rich_value, IsStretchFault, IsRichFault};
 ghost use Rattle.goblin_pe_head.specs.RichMetadata.{AreEntriesOf, metadata_at, metadata_fields, metadata_items, metadata_left, metadata_record};
 
 use crate::header::{DOS_STUB_OFFSET, DosHeader};
@@ -78,12 +78,20 @@ impl<'a> RichHeader<'a> {
     pub fn parse_with_opts(bytes: &'a [u8], _opts: &ParseOptions) -> Result<Option<Self>>
         ensures { Answers (option_map rich_value) result (rich_header bytes.now) (IsRichFault bytes.now) }
     {
+        let dos = DosHeader::parse(bytes)?;
+        RichHeader::parse_at(bytes, dos.pe_pointer as usize)
+    }
+
+    // Finds the Rich header in front of a PE signature.
+    pub(super) fn parse_at(bytes: &'a [u8], pe_pointer: usize) -> Result<Option<Self>>
+        requires { pe_pointer ≤ length bytes.now }
+        ensures { Answers (option_map rich_value) result (rich_at bytes.now pe_pointer) (IsRichAtFault bytes.now pe_pointer) }
+    {
         let start = DOS_STUB_OFFSET as usize;
-        let pointer = DosHeader::parse(bytes)?.pe_pointer as usize;
-        if pointer < start + DANS_MARKER_SIZE {
+        if pe_pointer < start + DANS_MARKER_SIZE {
             return Ok(None);
         }
-        rich_in(&bytes[start..pointer])
+        rich_in(&bytes[start..pe_pointer])
     }
 
     /// The entries, which stand behind the padding.
