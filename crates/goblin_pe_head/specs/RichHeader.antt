@@ -82,12 +82,12 @@ rich_header bytes = do
   dos ← dos_header bytes
   rich_at bytes dos.pe_pointer
 
--- there is no DanS
+-- the cause is that no word is `DanS`
 abbrev pub IsNoDans : ErrorOf → Type 0
 IsNoDans (Malformed NoDans) = Unit {0}
 IsNoDans e = ⊥
 
--- which cause is true of markers at j and i with no data between them
+-- which cause is true of markers at j and i with no Rich header between them: its data would have no bytes, or have no whole number of words
 abbrev pub IsBetweenFault : ℕ → ℕ → ErrorOf → Type 0
 IsBetweenFault j i (Malformed (RichBounds start end)) = (start ≡ j + 4) × (end ≡ i) × (i ≤ j + 4)
 IsBetweenFault j i (Read TooBig) = (j + 4 < i) × ((i - j - 4) % 4 ≢ 0)
