@@ -11,7 +11,6 @@ use Rattle.goblin_base.specs.Bytes.{number_at}
 use Rattle.goblin_base.specs.Record.{record_at}
 use Rattle.goblin_base.specs.Steps.{◌>>=◌, FirstFault}
 use Rattle.goblin_pe_sect.specs.DataDirectories.{directories_at}
-use Rattle.goblin_pe_head.specs.declared.optional_header.FixedFields.{FixedFields}
 use Rattle.goblin_pe_head.specs.OptionalHeader.{fields_32, fields_64, fixed_fields, optional_header, IsFieldsFault_32, IsFieldsFault_64, IsFixedFault, IsOptionalFault, standard_32_record, standard_64_record, windows_32_record, windows_64_record}
 
 bind-within : {A B : Type 0} (o : Option A) (f : A → Option B) (P : A → Type 0) (Q : B → Type 0) → IfSome o P → ((x : A) → P x → IfSome (f x) Q) → IfSome (o >>= f) Q

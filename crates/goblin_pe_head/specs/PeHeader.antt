@@ -85,6 +85,25 @@ zero_dos_header = record {
   pe_pointer = 0;
 }
 
+-- the header that stands for none: zeros, the default stub, and neither a Rich header nor an optional header
+unfoldable pub default_header : PeHeader
+default_header = record {
+  dos_header = zero_dos_header;
+  dos_stub = default_stub;
+  rich_header = None;
+  signature = 0;
+  coff_header = record {
+    machine = 0;
+    number_of_sections = 0;
+    time_date_stamp = 0;
+    pointer_to_symbol_table = 0;
+    number_of_symbol_table = 0;
+    size_of_optional_header = 0;
+    characteristics = 0;
+  };
+  optional_header = None;
+}
+
 -- the header of bytes that begin with a signature, whatever it is, behind a DOS header of zeros and the default stub
 unfoldable pub header_without_dos : List ℕ → Option PeHeader
 header_without_dos bytes = header_at zero_dos_header default_stub None bytes 0

@@ -5,7 +5,7 @@ ghost use Rattle.goblin_base.specs.Answers.{Answers};
 ghost use Rattle.goblin_pe_sect.specs.Options.{is_strict};
 ghost use Rattle.goblin_pe_head.specs.DosStub.{stub_bytes, IsStubFault};
 ghost use Rattle.goblin_pe_head.specs.OptionalHeader.{IsOptionalFault};
-ghost use Rattle.goblin_pe_head.specs.PeHeader.{header_at, header_value, header_without_dos, optional_at, pe_header, stub_in, IsHeaderAtFault, IsHeaderFault};
+ghost use Rattle.goblin_pe_head.specs.PeHeader.{default_header, header_at, header_value, header_without_dos, optional_at, pe_header, stub_in, IsHeaderAtFault, IsHeaderFault};
 ghost use Rattle.goblin_pe_head.specs.RichHeader.{rich_value};
 
 use crate::header::{CoffHeader, DosHeader, DosStub, RichHeader, SIZEOF_PE_MAGIC};
@@ -30,6 +30,23 @@ pub struct Header<'a> {
     pub coff_header: CoffHeader,
     /// The optional header, behind the COFF header, where that says that it has a size.
     pub optional_header: Option<OptionalHeader>,
+}
+
+impl Default for Header<'_> {
+    ghost is_default = { λ header. header_value header ≡ default_header };
+
+    /// Zeros, the default stub, and neither a Rich header nor an optional header.
+    #[tactic(auto, unfolding(crate::specs::PeHeader::default_header, crate::specs::PeHeader::zero_dos_header))]
+    fn default() -> Self {
+        Header {
+            dos_header: DosHeader::default(),
+            dos_stub: DosStub::default(),
+            rich_header: None,
+            signature: 0,
+            coff_header: CoffHeader::default(),
+            optional_header: None,
+        }
+    }
 }
 
 // The stub in front of the PE signature; where there is none, permissive mode takes the default one.
@@ -77,7 +94,7 @@ impl<'a> Header<'a> {
     {
         let dos_header = DosHeader::parse(bytes)?;
         let dos_stub = stub_in(bytes, dos_header.pe_pointer, opts)?;
-        let rich_header = RichHeader::parse_at(bytes, dos_header.pe_pointer as usize)?;
+        let rich_header = RichHeader::parse_at(bytes, dos_header.pe_pointer)?;
         let offset = dos_header.pe_pointer as usize;
         Header::parse_at(bytes, offset, dos_header, dos_stub, rich_header)
     }

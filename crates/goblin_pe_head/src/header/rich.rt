@@ -79,19 +79,20 @@ impl<'a> RichHeader<'a> {
         ensures { Answers (option_map rich_value) result (rich_header bytes.now) (IsRichFault bytes.now) }
     {
         let dos = DosHeader::parse(bytes)?;
-        RichHeader::parse_at(bytes, dos.pe_pointer as usize)
+        RichHeader::parse_at(bytes, dos.pe_pointer)
     }
 
     // Finds the Rich header in front of a PE signature.
-    pub(super) fn parse_at(bytes: &'a [u8], pe_pointer: usize) -> Result<Option<Self>>
+    pub(super) fn parse_at(bytes: &'a [u8], pe_pointer: u32) -> Result<Option<Self>>
         requires { pe_pointer ≤ length bytes.now }
         ensures { Answers (option_map rich_value) result (rich_at bytes.now pe_pointer) (IsRichAtFault bytes.now pe_pointer) }
     {
         let start = DOS_STUB_OFFSET as usize;
-        if pe_pointer < start + DANS_MARKER_SIZE {
+        let end = pe_pointer as usize;
+        if end < start + DANS_MARKER_SIZE {
             return Ok(None);
         }
-        rich_in(&bytes[start..pe_pointer])
+        rich_in(&bytes[start..end])
     }
 
     /// The entries, which stand behind the padding.
