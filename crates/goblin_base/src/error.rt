@@ -40,8 +40,8 @@ pub enum CauseOf<'e> {
     StubPastEnd(usize, usize),
     /// The DOS stub has a Rich marker, but no DanS.
     NoDans,
-    /// The Rich header's data would have no whole number of words: where it begins and ends in the
-    /// DOS stub.
+    /// The Rich header's data would not end behind where it begins: where it begins and ends, counted
+    /// from 0x40.
     RichBounds(usize, usize),
     /// A TE header says that fewer bytes were stripped off than it has itself.
     StrippedSize(u32),

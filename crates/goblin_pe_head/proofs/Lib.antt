@@ -1,1 +1,4 @@
+pub mod OptionalBack
+pub mod RichEntries
+pub mod RichLaw
 pub mod Sections

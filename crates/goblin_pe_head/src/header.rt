@@ -1,6 +1,7 @@
-//! The DOS header and the COFF header of a PE file, and its section table.
+//! The headers of a PE file: the DOS header and the stub behind it, the Rich header, the COFF header
+//! and the section table.
 
-ghost use Rattle.std.specs.Prelude.{◌≡◌, ◌+◌, ◌*◌, ◌/◌, ◌<◌, length, true, OnOk, OnErr, IsErrAnd};
+ghost use Rattle.std.specs.Prelude.{◌≡◌, ◌+◌, ◌*◌, ◌/◌, ◌<◌, ◌≤◌, length, true, IfOk, OnOk, OnErr, IsErrAnd};
 ghost use Rattle.goblin_base.specs.Answers.{Answers, AnswersOrMemory};
 ghost use Rattle.goblin_base.specs.Faults.{IsSliceFault};
 ghost use Rattle.goblin_base.specs.Record.{record_at};
@@ -16,6 +17,17 @@ use goblin_pe_sect::options::ParseOptions;
 use goblin_pe_sect::section_table::{SIZEOF_SECTION_TABLE, SectionTable};
 use std::alloc::Global;
 
+mod pe_header;
+mod rich;
+mod stub;
+
+pub use pe_header::Header;
+pub use rich::{
+    DANS_MARKER, DANS_MARKER_SIZE, RICH_MARKER, RICH_MARKER_SIZE, RichHeader, RichMetadata,
+    RichMetadataIterator,
+};
+pub use stub::{DOS_STUB_OFFSET, DosStub};
+
 /// The signature of a DOS header, `MZ`.
 pub const DOS_MAGIC: u16 = 0x5A4D;
 /// The signature of a PE header, `PE` and two NULs.
@@ -26,6 +38,65 @@ pub const SIZEOF_PE_MAGIC: usize = 4;
 pub const PE_POINTER_OFFSET: u32 = 0x3C;
 /// The size of a COFF header, in bytes.
 pub const SIZEOF_COFF_HEADER: usize = 20;
+
+/// The machine: any machine.
+pub const COFF_MACHINE_UNKNOWN: u16 = 0x0;
+/// The machine: Alpha AXP, 32 bits.
+pub const COFF_MACHINE_ALPHA: u16 = 0x184;
+/// The machine: Alpha, 64 bits.
+pub const COFF_MACHINE_ALPHA64: u16 = 0x284;
+/// The machine: Matsushita AM33.
+pub const COFF_MACHINE_AM33: u16 = 0x1D3;
+/// The machine: x86-64.
+pub const COFF_MACHINE_X86_64: u16 = 0x8664;
+/// The machine: ARM, little-endian.
+pub const COFF_MACHINE_ARM: u16 = 0x1C0;
+/// The machine: ARM64, little-endian.
+pub const COFF_MACHINE_ARM64: u16 = 0xAA64;
+/// The machine: ARM Thumb-2, little-endian.
+pub const COFF_MACHINE_ARMNT: u16 = 0x1C4;
+/// The machine: EFI byte code.
+pub const COFF_MACHINE_EBC: u16 = 0xEBC;
+/// The machine: Intel 386 and later.
+pub const COFF_MACHINE_X86: u16 = 0x14C;
+/// The machine: Intel Itanium.
+pub const COFF_MACHINE_IA64: u16 = 0x200;
+/// The machine: LoongArch, 32 bits.
+pub const COFF_MACHINE_LOONGARCH32: u16 = 0x6232;
+/// The machine: LoongArch, 64 bits.
+pub const COFF_MACHINE_LOONGARCH64: u16 = 0x6264;
+/// The machine: Mitsubishi M32R, little-endian.
+pub const COFF_MACHINE_M32R: u16 = 0x9041;
+/// The machine: MIPS16.
+pub const COFF_MACHINE_MIPS16: u16 = 0x266;
+/// The machine: MIPS with a floating-point unit.
+pub const COFF_MACHINE_MIPSFPU: u16 = 0x366;
+/// The machine: MIPS16 with a floating-point unit.
+pub const COFF_MACHINE_MIPSFPU16: u16 = 0x466;
+/// The machine: PowerPC, little-endian.
+pub const COFF_MACHINE_POWERPC: u16 = 0x1F0;
+/// The machine: PowerPC with floating point.
+pub const COFF_MACHINE_POWERPCFP: u16 = 0x1F1;
+/// The machine: MIPS R4000, little-endian.
+pub const COFF_MACHINE_R4000: u16 = 0x166;
+/// The machine: RISC-V, 32 bits.
+pub const COFF_MACHINE_RISCV32: u16 = 0x5032;
+/// The machine: RISC-V, 64 bits.
+pub const COFF_MACHINE_RISCV64: u16 = 0x5064;
+/// The machine: RISC-V, 128 bits.
+pub const COFF_MACHINE_RISCV128: u16 = 0x5128;
+/// The machine: Hitachi SH3.
+pub const COFF_MACHINE_SH3: u16 = 0x1A2;
+/// The machine: Hitachi SH3 DSP.
+pub const COFF_MACHINE_SH3DSP: u16 = 0x1A3;
+/// The machine: Hitachi SH4.
+pub const COFF_MACHINE_SH4: u16 = 0x1A6;
+/// The machine: Hitachi SH5.
+pub const COFF_MACHINE_SH5: u16 = 0x1A8;
+/// The machine: ARM or Thumb.
+pub const COFF_MACHINE_THUMB: u16 = 0x1C2;
+/// The machine: MIPS WCE v2, little-endian.
+pub const COFF_MACHINE_WCEMIPSV2: u16 = 0x169;
 
 // The size of a record of the symbol table, in bytes.
 const COFF_SYMBOL_SIZE: usize = 18;
@@ -136,7 +207,8 @@ impl DosHeader {
     /// pointer.
     #[tactic(auto, unfolding(crate::specs::Header::dos_header, crate::specs::Header::IsDosFault))]
     pub fn parse(bytes: &[u8]) -> Result<DosHeader>
-        ensures { Answers (λ h. h) result (dos_header bytes.now) (IsDosFault bytes.now) }
+        ensures value { Answers (λ h. h) result (dos_header bytes.now) (IsDosFault bytes.now) }
+        ensures pointer { IfOk result (λ h. h.pe_pointer + 4 ≤ length bytes.now) }
     {
         let Ok(magic) = pread_u16(bytes, 0, Endian::Little) else {
             return Err(Error::Malformed(Cause::NoDosSignature));

@@ -2,5 +2,9 @@
 #![tactic(auto)]
 
 pub mod header;
+pub mod optional_header;
 
-pub use header::{CoffHeader, DosHeader};
+pub use header::{
+    CoffHeader, DosHeader, DosStub, Header, RichHeader, RichMetadata, RichMetadataIterator,
+};
+pub use optional_header::OptionalHeader;

@@ -1,0 +1,171 @@
+-- The entries of a Rich header that was read are its data.
+use Rattle.std.proofs.Common.{◌≡◌, ℕ, Bool, true, false, cond, zero, suc, ◌+◌, ◌-◌, ◌*◌, ◌/◌, ◌%◌, ◌<◌, ◌≤◌, List, ◌++◌, length, map, take, drop, take_all, refl, sym, ap, subst, ◌∙◌, inl, inr, arith}
+use Rattle.std.specs.Prelude.{◌⊎◌, ◌&&◌, ◌==◌, nat_lt, Option, Some, None, Result, Ok, slice_range, flat_map}
+use Rattle.std.specs.List.{find, range_with_len}
+use Rattle.std.specs.Option.{unwrap_or}
+use Rattle.std.specs.Int.Bits.{bit_xor, xor_assoc, xor_self, xor_zero_r}
+use Rattle.std.proofs.Math.Seq.{take-add}
+use Rattle.std.proofs.lemmas.Bool.{cases_lt, eqb-true}
+use Rattle.std.proofs.lemmas.List.{drop-drop, get_or-drop, get_or-take, get_or_past, length-drop, length-take, take-append-drop}
+use Rattle.std.proofs.lemmas.List.Concat.{flat_map-cons}
+use Rattle.std.proofs.lemmas.Option.{cond_some}
+use Rattle.std.proofs.lemmas.Simd.{map-map}
+use Rattle.goblin_base.specs.declared.endian.Endian.TheVariants.{Little}
+use Rattle.goblin_base.specs.declared.error.ErrorOf.{ErrorOf}
+use Rattle.goblin_base.specs.Bytes.{IsBytes, number_bytes}
+use Rattle.goblin_base.proofs.Encoding.{number_bytes-number}
+use Rattle.goblin_base.proofs.Steps.{same_value, step}
+use Rattle.goblin_pe_head.specs.Header.{dos_header}
+use Rattle.goblin_pe_head.specs.RichHeader.{Rich, dans_place, leading_words, least_below, marker_place, other_place, rich_before, rich_between, rich_header, rich_in, rich_value, word_at}
+use Rattle.goblin_pe_head.specs.RichMetadata.{AreEntriesOf, metadata_at, metadata_items, stored_entry, word_under}
+use Rattle.goblin_pe_head.specs.declared.header.rich.RichHeader.{RichHeader}
+use Rattle.goblin_pe_head.specs.declared.header.rich.RichMetadata.{RichMetadata}
+
+-- a word under the key twice is the word
+under_twice : (word key : ℕ) → bit_xor (bit_xor word key) key ≡ word
+under_twice word key = xor_assoc word key key ∙ ap (bit_xor word) (xor_self key) ∙ xor_zero_r word
+
+-- an entry is stored as the bytes that it was read from
+stored_entry-metadata_at : (key : ℕ) (bytes : List ℕ) (p : ℕ) → IsBytes bytes → p + 8 ≤ length bytes → stored_entry key (metadata_at key bytes p) ≡ take 8 (drop p bytes)
+stored_entry-metadata_at key bytes p h le =
+    let w = word_under key bytes p in
+    let whole : w / 65536 * 65536 + w % 65536 ≡ w = omega arith in
+    let first : number_bytes Little 4 (bit_xor (w / 65536 * 65536 + w % 65536) key) ≡ slice_range bytes p (p + 4) =
+    ap (λ (x : ℕ). number_bytes Little 4 (bit_xor x key)) whole ∙ ap (number_bytes Little 4) (under_twice (word_at bytes p) key) ∙ number_bytes-number Little 4 bytes p h (omega arith) in
+    let second : number_bytes Little 4 (bit_xor (word_under key bytes (p + 4)) key) ≡ slice_range bytes (p + 4) (p + 4 + 4) =
+    ap (number_bytes Little 4) (under_twice (word_at bytes (p + 4)) key) ∙ number_bytes-number Little 4 bytes (p + 4) h (omega arith) in
+    let e1 : p + 4 - p ≡ 4 = omega arith in
+    let e2 : p + 4 + 4 - (p + 4) ≡ 4 = omega arith in
+    rw (first, second, e1, e2) (sym (take-add 4 4 (drop p bytes) ∙ ap (λ (xs : List ℕ). take 4 (drop p bytes) ++ take 4 xs) (drop-drop 4 p bytes)))
+
+-- n entries from the a-th on are stored as the bytes that they were read from
+stored_entries : (key : ℕ) (bytes : List ℕ) (n a : ℕ) → IsBytes bytes → 8 * (a + n) ≤ length bytes
+    → flat_map (stored_entry key) (map (λ i. metadata_at key bytes (8 * i)) (range_with_len a n)) ≡ take (8 * n) (drop (8 * a) bytes)
+stored_entries key bytes zero a h le = refl
+stored_entries key bytes (suc n) a h le =
+    let f : ℕ → RichMetadata = λ (i : ℕ). metadata_at key bytes (8 * i) in
+    let first = stored_entry-metadata_at key bytes (8 * a) h (omega arith) in
+    let rest = stored_entries key bytes n (a + 1) h (omega arith) in
+    let next : 8 * (a + 1) ≡ 8 * a + 8 = omega arith in
+    let size : 8 * suc n ≡ 8 + 8 * n = omega arith in
+    let behind : take (8 * n) (drop (8 * (a + 1)) bytes) ≡ take (8 * n) (drop 8 (drop (8 * a) bytes)) = rw (next, drop-drop 8 (8 * a) bytes) refl in
+    flat_map-cons (stored_entry key) (f a) (map f (range_with_len (a + 1) n)) ∙ ap (λ (xs : List ℕ). xs ++ flat_map (stored_entry key) (map f (range_with_len (a + 1) n))) first
+    ∙ ap (λ (xs : List ℕ). take 8 (drop (8 * a) bytes) ++ xs) (rest ∙ behind) ∙ sym (ap (λ (k : ℕ). take k (drop (8 * a) bytes)) size ∙ take-add 8 (8 * n) (drop (8 * a) bytes))
+
+-- whole words are entries up to a rest of one word
+are_entries : (key : ℕ) (bytes : List ℕ) → IsBytes bytes → length bytes % 4 ≡ 0 → AreEntriesOf key bytes (metadata_items key bytes)
+unfolding metadata_items
+are_entries key bytes h words =
+    let n = length bytes / 8 in
+    let f : ℕ → RichMetadata = λ (i : ℕ). metadata_at key bytes (8 * i) in
+    let left : length (drop (8 * n) bytes) ≡ length bytes % 8 = omega (arith, length-drop (8 * n) bytes) in
+    let made : map (λ i. Ok (f i)) (range_with_len 0 n) ≡ map {A = RichMetadata} {B = Result RichMetadata ErrorOf} Ok (map f (range_with_len 0 n)) = sym (map-map Ok f (range_with_len 0 n)) in
+    record {
+      entries = map f (range_with_len 0 n);
+      rest = drop (8 * n) bytes;
+      are = rw (left, made) refl;
+      joined = sym (ap (λ (xs : List ℕ). xs ++ drop (8 * n) bytes) (stored_entries key bytes n 0 h (omega arith)) ∙ take-append-drop (8 * n) bytes);
+      short = elim (cases_lt (length bytes % 8) 1) [
+        | inl none ↦ inl (omega (arith, left, none))
+        | inr some ↦ inr (omega (arith, left, some, words))
+      ];
+    }
+
+-- what is behind the first bytes, or within so many of them, is made of bytes
+IsBytes-drop : (n : ℕ) (bytes : List ℕ) → IsBytes bytes → IsBytes (drop n bytes)
+IsBytes-drop n bytes h i = rw (get_or-drop n bytes i 0) (h (n + i))
+
+IsBytes-take : (n : ℕ) (bytes : List ℕ) → IsBytes bytes → IsBytes (take n bytes)
+IsBytes-take n bytes h i = elim (cases_lt i n) [
+  | inl lt ↦ rw (get_or-take n bytes i 0 lt) (h i)
+  | inr le ↦ rw (get_or_past (take n bytes) i 0 (omega (arith, length-take n bytes))) (omega arith)
+]
+
+IsBytes-range : (bytes : List ℕ) (p q : ℕ) → IsBytes bytes → IsBytes (slice_range bytes p q)
+IsBytes-range bytes p q h = IsBytes-take (q - p) (drop p bytes) (IsBytes-drop p bytes h)
+
+found : (passes : Bool) (a i : ℕ) (later : Option ℕ) → cond passes (Some a) later ≡ Some i → (a ≡ i) ⊎ (later ≡ Some i)
+found true a i later e = inl cc
+found false a i later e = inr e
+
+-- the first of n numbers that passes is one of them
+find-lt : (test : ℕ → Bool) (n a i : ℕ) → find test (range_with_len a n) ≡ Some i → i < a + n
+find-lt test zero a i e = absurd cc
+find-lt test (suc n) a i e =
+    elim (found (test a) a i (find test (range_with_len (a + 1) n)) e) [
+      | inl here ↦ omega (arith, here)
+      | inr later ↦ omega (arith, find-lt test n (a + 1) i later)
+    ]
+
+least_below-lt : (n : ℕ) (test : ℕ → Bool) (i : ℕ) → least_below n test ≡ Some i → i < n
+least_below-lt n test i e = let lt = find-lt test n 0 i e in omega (arith, lt)
+
+words_below : (o : Option ℕ) (n : ℕ) → ((k : ℕ) → o ≡ Some k → k < n) → unwrap_or o n ≤ n
+words_below None n h = omega arith
+words_below (Some k) n h = let lt = h k refl in omega (arith, lt)
+
+-- the leading words are within the data
+leading_words-le : (key : ℕ) (bytes : List ℕ) → leading_words key bytes ≤ length bytes / 4
+unfolding leading_words other_place
+leading_words-le key bytes = words_below (other_place key bytes) (length bytes / 4) (λ k e. least_below-lt (length bytes / 4) _ k e)
+
+-- what is known of a Rich header that was read from a stretch
+record IsRichOf (stretch : List ℕ) (r : Rich) : Type 0 where
+  pub start : ℕ
+  pub end : ℕ
+  pub inside : end ≤ length stretch
+  pub words : (end - start) % 4 ≡ 0
+  pub bytes : r.bytes ≡ slice_range stretch start end
+  pub padding : r.padding_size ≡ 4 * leading_words r.key r.bytes
+
+both_true : (a b : Bool) → (a && b) ≡ true → (a ≡ true) × (b ≡ true)
+both_true true b h = (refl, h)
+both_true false b h = absurd cc
+
+between : (stretch : List ℕ) (key j i : ℕ) (r : Rich) → i ≤ length stretch → rich_between stretch key j i ≡ Some (Some r) → IsRichOf stretch r
+between stretch key j i r inside e =
+    let own = slice_range stretch (j + 4) i in
+    let made : Rich = record { key = key; bytes = own; padding_size = 4 * leading_words key own; start_offset = 64 + j; end_offset = 64 + i } in
+    let both = cond_some (nat_lt (j + 4) i && ((i - j - 4) % 4 == 0)) (Some made) (Some r) e in
+    let tests = both_true (nat_lt (j + 4) i) ((i - j - 4) % 4 == 0) both.0 in
+    let words : (i - j - 4) % 4 ≡ 0 = eqb-true ((i - j - 4) % 4) 0 tests.1 in
+    let same : i - (j + 4) ≡ i - j - 4 = omega arith in
+    subst (IsRichOf stretch) (same_value made r both.1) (record { start = j + 4; end = i; inside = inside; words = rw same words; bytes = refl; padding = refl })
+
+before : (stretch : List ℕ) (marker : Option ℕ) (r : Rich) → ((i : ℕ) → marker ≡ Some i → i ≤ length stretch) → rich_before stretch marker ≡ Some (Some r) → IsRichOf stretch r
+before stretch None r h e = absurd cc
+before stretch (Some i) r h e =
+    let key = word_at stretch (i + 4) in
+    let s = step (dans_place key stretch) (λ j. rich_between stretch key j i) (Some r) e in
+    between stretch key s.value i r (h i refl) s.then
+
+in_stretch : (stretch : List ℕ) (r : Rich) → rich_in stretch ≡ Some (Some r) → IsRichOf stretch r
+unfolding rich_in marker_place
+in_stretch stretch r e = before stretch (marker_place stretch) r (λ i is. let lt = least_below-lt (length stretch - 7) _ i is in omega (arith, lt)) e
+
+long_enough : (short : Bool) (found : Option (Option Rich)) (r : Rich) → cond short (Some None) found ≡ Some (Some r) → found ≡ Some (Some r)
+long_enough true found r e = absurd cc
+long_enough false found r e = e
+
+-- the data behind the padding are entries
+entries_behind : (stretch : List ℕ) (r : Rich) → IsBytes stretch → IsRichOf stretch r → AreEntriesOf r.key (drop r.padding_size r.bytes) (metadata_items r.key (drop r.padding_size r.bytes))
+entries_behind stretch r h is =
+    let own : IsBytes r.bytes = subst IsBytes (sym is.bytes) (IsBytes-range stretch is.start is.end h) in
+    let size : length r.bytes ≡ is.end - is.start = ap length is.bytes ∙ omega (arith, length-take (is.end - is.start) (drop is.start stretch), length-drop is.start stretch, is.inside) in
+    let most = leading_words-le r.key r.bytes in
+    let words : length (drop r.padding_size r.bytes) % 4 ≡ 0 = omega (arith, length-drop r.padding_size r.bytes, size, is.words, is.padding, most) in
+    are_entries r.key (drop r.padding_size r.bytes) (IsBytes-drop r.padding_size r.bytes own) words
+
+-- the entries of a Rich header that was read are its data behind the padding
+pub entries_of : (header : RichHeader) (bytes : List ℕ) → IsBytes bytes → rich_header bytes ≡ Some (Some (rich_value header))
+    → AreEntriesOf header.key (drop header.padding_size header.bytes.now) (metadata_items header.key (slice_range header.bytes.now header.padding_size (length header.bytes.now)))
+unfolding rich_header
+entries_of header bytes h e =
+    let s = step (dos_header bytes) (λ dos. cond (nat_lt dos.pe_pointer 68) (Some None) (rich_in (slice_range bytes 64 dos.pe_pointer))) (Some (rich_value header)) e in
+    let p = s.value.pe_pointer in
+    let stretch = slice_range bytes 64 p in
+    let is = in_stretch stretch (rich_value header) (long_enough (nat_lt p 68) (rich_in stretch) (rich_value header) s.then) in
+    let n = header.padding_size in
+    let own = header.bytes.now in
+    let all : slice_range own n (length own) ≡ drop n own = take_all (length own - n) (drop n own) (omega (arith, length-drop n own)) in
+    rw all (entries_behind stretch (rich_value header) (IsBytes-range bytes 64 p h) is)

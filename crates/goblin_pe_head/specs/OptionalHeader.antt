@@ -1,0 +1,324 @@
+-- The optional header: standard fields and Windows fields by its magic, and then the directories.
+use Rattle.std.specs.Prelude.{◌≡◌, ◌≢◌, ◌⊎◌, ℕ, ◌+◌, ◌*◌, ◌%◌, ◌^◌, ◌==◌, if◌then◌else◌, List, [], ◌∷◌, nat_lt, Option, Some, None, Result}
+use Rattle.goblin_base.specs.declared.endian.Endian.{Endian}
+use Rattle.goblin_base.specs.declared.endian.Endian.TheVariants.{Little}
+use Rattle.goblin_base.specs.declared.error.ErrorOf.{ErrorOf}
+use Rattle.goblin_base.specs.declared.error.ErrorOf.TheVariants.{BadMagic, Malformed}
+use Rattle.goblin_base.specs.declared.error.CauseOf.TheVariants.{FieldTooWide}
+use Rattle.goblin_base.specs.declared.container.Container.{Container}
+use Rattle.goblin_base.specs.declared.container.Container.TheVariants as container
+use Rattle.goblin_base.specs.Answers.{Answers}
+use Rattle.goblin_base.specs.Bytes.{number, number_at}
+use Rattle.goblin_base.specs.Faults.{IsSliceFault}
+use Rattle.goblin_base.specs.Record.{FieldValue, record_at}
+use Rattle.goblin_base.specs.Record.FieldValue.{uint}
+use Rattle.goblin_base.specs.Steps.{◌>>=◌, FirstFault}
+use Rattle.goblin_pe_sect.specs.DataDirectories.{IsDirectoriesFault, directories_at}
+use Rattle.goblin_pe_head.specs.declared.optional_header.TheConstants.{MAGIC_32, MAGIC_64}
+use Rattle.goblin_pe_head.specs.declared.optional_header.standard_fields.StandardFields32.{StandardFields32}
+use Rattle.goblin_pe_head.specs.declared.optional_header.standard_fields.StandardFields64.{StandardFields64}
+use Rattle.goblin_pe_head.specs.declared.optional_header.standard_fields.StandardFields.{StandardFields}
+use Rattle.goblin_pe_head.specs.declared.optional_header.windows_fields.WindowsFields32.{WindowsFields32}
+use Rattle.goblin_pe_head.specs.declared.optional_header.windows_fields.WindowsFields64.{WindowsFields64}
+use Rattle.goblin_pe_head.specs.declared.optional_header.FixedFields.{FixedFields}
+use Rattle.goblin_pe_head.specs.declared.optional_header.OptionalHeader.{OptionalHeader}
+
+-- the standard fields for 32 bits in a record's 28 bytes
+unfoldable pub standard_32_record : Endian → List ℕ → StandardFields32
+standard_32_record endian bytes = record {
+  magic = number endian 2 bytes 0;
+  major_linker_version = number endian 1 bytes 2;
+  minor_linker_version = number endian 1 bytes 3;
+  size_of_code = number endian 4 bytes 4;
+  size_of_initialized_data = number endian 4 bytes 8;
+  size_of_uninitialized_data = number endian 4 bytes 12;
+  address_of_entry_point = number endian 4 bytes 16;
+  base_of_code = number endian 4 bytes 20;
+  base_of_data = number endian 4 bytes 24;
+}
+
+-- their fields, in order
+unfoldable pub standard_32_written : StandardFields32 → List FieldValue
+standard_32_written f =
+    uint 2 f.magic ∷ uint 1 f.major_linker_version ∷ uint 1 f.minor_linker_version ∷ uint 4 f.size_of_code
+    ∷ uint 4 f.size_of_initialized_data ∷ uint 4 f.size_of_uninitialized_data ∷ uint 4 f.address_of_entry_point
+    ∷ uint 4 f.base_of_code ∷ uint 4 f.base_of_data ∷ []
+
+-- the standard fields for 64 bits in a record's 24 bytes
+unfoldable pub standard_64_record : Endian → List ℕ → StandardFields64
+standard_64_record endian bytes = record {
+  magic = number endian 2 bytes 0;
+  major_linker_version = number endian 1 bytes 2;
+  minor_linker_version = number endian 1 bytes 3;
+  size_of_code = number endian 4 bytes 4;
+  size_of_initialized_data = number endian 4 bytes 8;
+  size_of_uninitialized_data = number endian 4 bytes 12;
+  address_of_entry_point = number endian 4 bytes 16;
+  base_of_code = number endian 4 bytes 20;
+}
+
+-- their fields, in order
+unfoldable pub standard_64_written : StandardFields64 → List FieldValue
+standard_64_written f =
+    uint 2 f.magic ∷ uint 1 f.major_linker_version ∷ uint 1 f.minor_linker_version ∷ uint 4 f.size_of_code
+    ∷ uint 4 f.size_of_initialized_data ∷ uint 4 f.size_of_uninitialized_data ∷ uint 4 f.address_of_entry_point
+    ∷ uint 4 f.base_of_code ∷ []
+
+-- the Windows fields for 32 bits in a record's 68 bytes
+unfoldable pub windows_32_record : Endian → List ℕ → WindowsFields32
+windows_32_record endian bytes = record {
+  image_base = number endian 4 bytes 0;
+  section_alignment = number endian 4 bytes 4;
+  file_alignment = number endian 4 bytes 8;
+  major_operating_system_version = number endian 2 bytes 12;
+  minor_operating_system_version = number endian 2 bytes 14;
+  major_image_version = number endian 2 bytes 16;
+  minor_image_version = number endian 2 bytes 18;
+  major_subsystem_version = number endian 2 bytes 20;
+  minor_subsystem_version = number endian 2 bytes 22;
+  win32_version_value = number endian 4 bytes 24;
+  size_of_image = number endian 4 bytes 28;
+  size_of_headers = number endian 4 bytes 32;
+  check_sum = number endian 4 bytes 36;
+  subsystem = number endian 2 bytes 40;
+  dll_characteristics = number endian 2 bytes 42;
+  size_of_stack_reserve = number endian 4 bytes 44;
+  size_of_stack_commit = number endian 4 bytes 48;
+  size_of_heap_reserve = number endian 4 bytes 52;
+  size_of_heap_commit = number endian 4 bytes 56;
+  loader_flags = number endian 4 bytes 60;
+  number_of_rva_and_sizes = number endian 4 bytes 64;
+}
+
+-- their fields, in order
+unfoldable pub windows_32_written : WindowsFields32 → List FieldValue
+windows_32_written f =
+    uint 4 f.image_base ∷ uint 4 f.section_alignment ∷ uint 4 f.file_alignment ∷ uint 2 f.major_operating_system_version
+    ∷ uint 2 f.minor_operating_system_version ∷ uint 2 f.major_image_version ∷ uint 2 f.minor_image_version
+    ∷ uint 2 f.major_subsystem_version ∷ uint 2 f.minor_subsystem_version ∷ uint 4 f.win32_version_value
+    ∷ uint 4 f.size_of_image ∷ uint 4 f.size_of_headers ∷ uint 4 f.check_sum ∷ uint 2 f.subsystem
+    ∷ uint 2 f.dll_characteristics ∷ uint 4 f.size_of_stack_reserve ∷ uint 4 f.size_of_stack_commit
+    ∷ uint 4 f.size_of_heap_reserve ∷ uint 4 f.size_of_heap_commit ∷ uint 4 f.loader_flags
+    ∷ uint 4 f.number_of_rva_and_sizes ∷ []
+
+-- the Windows fields for 64 bits in a record's 88 bytes
+unfoldable pub windows_64_record : Endian → List ℕ → WindowsFields64
+windows_64_record endian bytes = record {
+  image_base = number endian 8 bytes 0;
+  section_alignment = number endian 4 bytes 8;
+  file_alignment = number endian 4 bytes 12;
+  major_operating_system_version = number endian 2 bytes 16;
+  minor_operating_system_version = number endian 2 bytes 18;
+  major_image_version = number endian 2 bytes 20;
+  minor_image_version = number endian 2 bytes 22;
+  major_subsystem_version = number endian 2 bytes 24;
+  minor_subsystem_version = number endian 2 bytes 26;
+  win32_version_value = number endian 4 bytes 28;
+  size_of_image = number endian 4 bytes 32;
+  size_of_headers = number endian 4 bytes 36;
+  check_sum = number endian 4 bytes 40;
+  subsystem = number endian 2 bytes 44;
+  dll_characteristics = number endian 2 bytes 46;
+  size_of_stack_reserve = number endian 8 bytes 48;
+  size_of_stack_commit = number endian 8 bytes 56;
+  size_of_heap_reserve = number endian 8 bytes 64;
+  size_of_heap_commit = number endian 8 bytes 72;
+  loader_flags = number endian 4 bytes 80;
+  number_of_rva_and_sizes = number endian 4 bytes 84;
+}
+
+-- their fields, in order
+unfoldable pub windows_64_written : WindowsFields64 → List FieldValue
+windows_64_written f =
+    uint 8 f.image_base ∷ uint 4 f.section_alignment ∷ uint 4 f.file_alignment ∷ uint 2 f.major_operating_system_version
+    ∷ uint 2 f.minor_operating_system_version ∷ uint 2 f.major_image_version ∷ uint 2 f.minor_image_version
+    ∷ uint 2 f.major_subsystem_version ∷ uint 2 f.minor_subsystem_version ∷ uint 4 f.win32_version_value
+    ∷ uint 4 f.size_of_image ∷ uint 4 f.size_of_headers ∷ uint 4 f.check_sum ∷ uint 2 f.subsystem
+    ∷ uint 2 f.dll_characteristics ∷ uint 8 f.size_of_stack_reserve ∷ uint 8 f.size_of_stack_commit
+    ∷ uint 8 f.size_of_heap_reserve ∷ uint 8 f.size_of_heap_commit ∷ uint 4 f.loader_flags
+    ∷ uint 4 f.number_of_rva_and_sizes ∷ []
+
+-- the standard fields of either width, from those for 32 bits
+unfoldable pub standard_from_32 : StandardFields32 → StandardFields
+standard_from_32 s = record {
+  magic = s.magic;
+  major_linker_version = s.major_linker_version;
+  minor_linker_version = s.minor_linker_version;
+  size_of_code = s.size_of_code;
+  size_of_initialized_data = s.size_of_initialized_data;
+  size_of_uninitialized_data = s.size_of_uninitialized_data;
+  address_of_entry_point = s.address_of_entry_point;
+  base_of_code = s.base_of_code;
+  base_of_data = s.base_of_data;
+}
+
+-- the same from those for 64 bits, which do not say where the data begins
+unfoldable pub standard_from_64 : StandardFields64 → StandardFields
+standard_from_64 s = record {
+  magic = s.magic;
+  major_linker_version = s.major_linker_version;
+  minor_linker_version = s.minor_linker_version;
+  size_of_code = s.size_of_code;
+  size_of_initialized_data = s.size_of_initialized_data;
+  size_of_uninitialized_data = s.size_of_uninitialized_data;
+  address_of_entry_point = s.address_of_entry_point;
+  base_of_code = s.base_of_code;
+  base_of_data = 0;
+}
+
+-- the standard fields for 32 bits, each modulo 2 ^ 32
+unfoldable pub standard_to_32 : StandardFields → StandardFields32
+standard_to_32 s = record {
+  magic = s.magic;
+  major_linker_version = s.major_linker_version;
+  minor_linker_version = s.minor_linker_version;
+  size_of_code = s.size_of_code % 2 ^ 32;
+  size_of_initialized_data = s.size_of_initialized_data % 2 ^ 32;
+  size_of_uninitialized_data = s.size_of_uninitialized_data % 2 ^ 32;
+  address_of_entry_point = s.address_of_entry_point;
+  base_of_code = s.base_of_code % 2 ^ 32;
+  base_of_data = s.base_of_data;
+}
+
+-- the standard fields for 64 bits, each modulo 2 ^ 32
+unfoldable pub standard_to_64 : StandardFields → StandardFields64
+standard_to_64 s = record {
+  magic = s.magic;
+  major_linker_version = s.major_linker_version;
+  minor_linker_version = s.minor_linker_version;
+  size_of_code = s.size_of_code % 2 ^ 32;
+  size_of_initialized_data = s.size_of_initialized_data % 2 ^ 32;
+  size_of_uninitialized_data = s.size_of_uninitialized_data % 2 ^ 32;
+  address_of_entry_point = s.address_of_entry_point;
+  base_of_code = s.base_of_code % 2 ^ 32;
+}
+
+-- the Windows fields of either width, from those for 32 bits
+unfoldable pub windows_from_32 : WindowsFields32 → WindowsFields64
+windows_from_32 s = record {
+  image_base = s.image_base;
+  section_alignment = s.section_alignment;
+  file_alignment = s.file_alignment;
+  major_operating_system_version = s.major_operating_system_version;
+  minor_operating_system_version = s.minor_operating_system_version;
+  major_image_version = s.major_image_version;
+  minor_image_version = s.minor_image_version;
+  major_subsystem_version = s.major_subsystem_version;
+  minor_subsystem_version = s.minor_subsystem_version;
+  win32_version_value = s.win32_version_value;
+  size_of_image = s.size_of_image;
+  size_of_headers = s.size_of_headers;
+  check_sum = s.check_sum;
+  subsystem = s.subsystem;
+  dll_characteristics = s.dll_characteristics;
+  size_of_stack_reserve = s.size_of_stack_reserve;
+  size_of_stack_commit = s.size_of_stack_commit;
+  size_of_heap_reserve = s.size_of_heap_reserve;
+  size_of_heap_commit = s.size_of_heap_commit;
+  loader_flags = s.loader_flags;
+  number_of_rva_and_sizes = s.number_of_rva_and_sizes;
+}
+
+-- a number that fits 32 bits
+abbrev pub narrowed : ℕ → Option ℕ
+narrowed n = if nat_lt n (2 ^ 32) then Some n else None
+
+-- the refusal is that a field does not fit 32 bits
+abbrev pub IsTooWide : ErrorOf → Type 0
+IsTooWide (Malformed FieldTooWide) = Unit {0}
+IsTooWide e = ⊥
+
+-- the Windows fields for 32 bits, where the five wide fields fit
+unfoldable pub windows_to_32 : WindowsFields64 → Option WindowsFields32
+windows_to_32 s = do
+  image_base ← narrowed s.image_base
+  size_of_stack_reserve ← narrowed s.size_of_stack_reserve
+  size_of_stack_commit ← narrowed s.size_of_stack_commit
+  size_of_heap_reserve ← narrowed s.size_of_heap_reserve
+  size_of_heap_commit ← narrowed s.size_of_heap_commit
+  Some (record {
+    image_base = image_base;
+    section_alignment = s.section_alignment;
+    file_alignment = s.file_alignment;
+    major_operating_system_version = s.major_operating_system_version;
+    minor_operating_system_version = s.minor_operating_system_version;
+    major_image_version = s.major_image_version;
+    minor_image_version = s.minor_image_version;
+    major_subsystem_version = s.major_subsystem_version;
+    minor_subsystem_version = s.minor_subsystem_version;
+    win32_version_value = s.win32_version_value;
+    size_of_image = s.size_of_image;
+    size_of_headers = s.size_of_headers;
+    check_sum = s.check_sum;
+    subsystem = s.subsystem;
+    dll_characteristics = s.dll_characteristics;
+    size_of_stack_reserve = size_of_stack_reserve;
+    size_of_stack_commit = size_of_stack_commit;
+    size_of_heap_reserve = size_of_heap_reserve;
+    size_of_heap_commit = size_of_heap_commit;
+    loader_flags = s.loader_flags;
+    number_of_rva_and_sizes = s.number_of_rva_and_sizes;
+  })
+
+-- what the conversion to 32 bits answers
+abbrev pub NarrowsWindows : WindowsFields64 → Result WindowsFields32 ErrorOf → Type 0
+NarrowsWindows s made = Answers (λ w. w) made (windows_to_32 s) IsTooWide
+
+-- the fields before the directories, in an optional header for 32 bits and in one for 64
+abbrev pub fields_32 : List ℕ → Option FixedFields
+fields_32 bytes = do
+  standard ← record_at 28 (standard_32_record Little) bytes 0
+  windows ← record_at 68 (windows_32_record Little) bytes 28
+  Some (record { standard_fields = standard_from_32 standard; windows_fields = windows_from_32 windows; size = 96 })
+
+abbrev pub fields_64 : List ℕ → Option FixedFields
+fields_64 bytes = do
+  standard ← record_at 24 (standard_64_record Little) bytes 0
+  windows ← record_at 88 (windows_64_record Little) bytes 24
+  Some (record { standard_fields = standard_from_64 standard; windows_fields = windows; size = 112 })
+
+-- the fields that the magic asks for; another magic has none
+unfoldable pub fixed_fields : ℕ → List ℕ → Option FixedFields
+fixed_fields magic bytes = if magic == MAGIC_32 then fields_32 bytes else if magic == MAGIC_64 then fields_64 bytes else None
+
+-- the optional header at the front of bytes, which is little-endian always, and how many bytes it takes
+unfoldable pub optional_header : List ℕ → Option (OptionalHeader × ℕ)
+optional_header bytes = do
+  magic ← number_at Little 2 bytes 0
+  fields ← fixed_fields magic bytes
+  directories ← directories_at fields.windows_fields.number_of_rva_and_sizes bytes fields.size
+  Some (
+    record { standard_fields = fields.standard_fields; windows_fields = fields.windows_fields; data_directories = record { data_directories = directories } },
+    fields.size + 8 * fields.windows_fields.number_of_rva_and_sizes,
+  )
+
+-- the refusal is that no optional header has this magic
+abbrev pub IsBadMagic : ℕ → ErrorOf → Type 0
+IsBadMagic magic (BadMagic m) = (m ≡ magic) × (magic ≢ MAGIC_32) × (magic ≢ MAGIC_64)
+IsBadMagic magic e = ⊥
+
+-- which cause is true of fields that are not all there, by their width
+abbrev pub IsFieldsFault_32 : List ℕ → ErrorOf → Type 0
+IsFieldsFault_32 bytes =
+    FirstFault (record_at 28 (standard_32_record Little) bytes 0) (IsSliceFault bytes 0 28) (λ standard.
+    FirstFault (record_at 68 (windows_32_record Little) bytes 28) (IsSliceFault bytes 28 68) (λ windows e. ⊥))
+
+abbrev pub IsFieldsFault_64 : List ℕ → ErrorOf → Type 0
+IsFieldsFault_64 bytes =
+    FirstFault (record_at 24 (standard_64_record Little) bytes 0) (IsSliceFault bytes 0 24) (λ standard.
+    FirstFault (record_at 88 (windows_64_record Little) bytes 24) (IsSliceFault bytes 24 88) (λ windows e. ⊥))
+
+-- which cause is true where the fields that the magic asks for are refused
+unfoldable pub IsFixedFault : ℕ → List ℕ → ErrorOf → Type 0
+IsFixedFault magic bytes e = IsBadMagic magic e ⊎ ((magic ≡ MAGIC_32) × IsFieldsFault_32 bytes e) ⊎ ((magic ≡ MAGIC_64) × IsFieldsFault_64 bytes e)
+
+-- which cause is true of bytes at whose front there is no optional header: that of the first part that is not there
+unfoldable pub IsOptionalFault : List ℕ → ErrorOf → Type 0
+IsOptionalFault bytes =
+    FirstFault (number_at Little 2 bytes 0) (IsSliceFault bytes 0 2) (λ magic.
+    FirstFault (fixed_fields magic bytes) (IsFixedFault magic bytes) (λ fields.
+    FirstFault (directories_at fields.windows_fields.number_of_rva_and_sizes bytes fields.size) (IsDirectoriesFault fields.windows_fields.number_of_rva_and_sizes bytes fields.size) (λ directories e. ⊥)))
+
+-- for how many bits the image is, by the magic
+abbrev pub container_of : ℕ → Option Container
+container_of magic = if magic == MAGIC_32 then Some container.Little else if magic == MAGIC_64 then Some container.Big else None

@@ -1,0 +1,62 @@
+-- The entries of a Rich header, and what is read and written of an entry.
+use Rattle.std.specs.Prelude.{◌≡◌, ◌⊎◌, ◌+◌, ◌*◌, ◌/◌, ◌%◌, ◌++◌, ℕ, map, flat_map, ◌==◌, if◌then◌else◌, List, [], ◌∷◌, length, Result, Ok, Err}
+use Rattle.std.specs.List.{range_with_len}
+use Rattle.std.specs.Int.Bits.{bit_xor}
+use Rattle.goblin_base.specs.declared.endian.Endian.{Endian}
+use Rattle.goblin_base.specs.declared.endian.Endian.TheVariants.{Little}
+use Rattle.goblin_base.specs.declared.error.ErrorOf.{ErrorOf}
+use Rattle.goblin_base.specs.declared.error.ErrorOf.TheVariants.{Read}
+use Rattle.goblin_base.specs.declared.error.ReadFault.TheVariants.{TooBig}
+use Rattle.goblin_base.specs.Bytes.{number, number_bytes}
+use Rattle.goblin_base.specs.Record.{FieldValue, uint}
+use Rattle.goblin_pe_head.specs.declared.header.rich.RichMetadata.{RichMetadata}
+use Rattle.goblin_pe_head.specs.declared.header.rich.RichMetadataIterator.{RichMetadataIterator}
+use Rattle.goblin_pe_head.specs.RichHeader.{word_at}
+
+-- the entry in a record's 8 bytes, under no key
+unfoldable pub metadata_record : Endian → List ℕ → RichMetadata
+metadata_record endian bytes = record {
+  build = number endian 2 bytes 0;
+  product = number endian 2 bytes 2;
+  use_count = number endian 4 bytes 4;
+}
+
+-- the fields of an entry, in order
+unfoldable pub metadata_fields : RichMetadata → List FieldValue
+metadata_fields m = uint 2 m.build ∷ uint 2 m.product ∷ uint 4 m.use_count ∷ []
+
+-- the word at p without the key
+abbrev pub word_under : ℕ → List ℕ → ℕ → ℕ
+word_under key bytes p = bit_xor (word_at bytes p) key
+
+-- the entry at p: of its first word the low half is the build and the high half the product, and its second word is the use count
+abbrev pub metadata_at : ℕ → List ℕ → ℕ → RichMetadata
+metadata_at key bytes p = record {
+  build = word_under key bytes p % 65536;
+  product = word_under key bytes p / 65536;
+  use_count = word_under key bytes (p + 4);
+}
+
+-- one refusal where n bytes are left, and nothing where none are
+abbrev pub rest_item : ℕ → List (Result RichMetadata ErrorOf)
+rest_item n = if n == 0 then [] else Err (Read TooBig) ∷ []
+
+-- the entries of these bytes, one after the other, and one refusal where a rest is left that is no whole entry
+unfoldable pub metadata_items : ℕ → List ℕ → List (Result RichMetadata ErrorOf)
+metadata_items key bytes = map (λ i. Ok (metadata_at key bytes (8 * i))) (range_with_len 0 (length bytes / 8)) ++ rest_item (length bytes % 8)
+
+-- what an iterator over the entries has left
+abbrev pub metadata_left : RichMetadataIterator → List (Result RichMetadata ErrorOf)
+metadata_left it = metadata_items it.key it.bytes.now
+
+-- the bytes of an entry as they are stored: its two words, each under the key
+abbrev pub stored_entry : ℕ → RichMetadata → List ℕ
+stored_entry key m = number_bytes Little 4 (bit_xor (m.product * 65536 + m.build) key) ++ number_bytes Little 4 (bit_xor m.use_count key)
+
+-- The items are entries that, joined as they are stored, are these bytes up to a rest of none or four, which comes as one refusal behind them.
+pub record AreEntriesOf (key : ℕ) (bytes : List ℕ) (items : List (Result RichMetadata ErrorOf)) : Type 0 where
+  pub entries : List RichMetadata
+  pub rest : List ℕ
+  pub are : items ≡ map Ok entries ++ rest_item (length rest)
+  pub joined : bytes ≡ flat_map (stored_entry key) entries ++ rest
+  pub short : (length rest ≡ 0) ⊎ (length rest ≡ 4)

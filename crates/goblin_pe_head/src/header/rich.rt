@@ -1,0 +1,325 @@
+//! The Rich header, in which a linker says which tools made a file.
+
+ghost use Rattle.std.specs.Prelude.{◌≡◌, ◌≤◌, ◌<◌, ◌+◌, ◌*◌, ◌^◌, List, ℕ, Some, length, drop, option_map, IfOk, IfSome};
+ghost use Rattle.std.specs.Iterator.{UpTo, YieldsFirst, at_most, item_count};
+ghost use Rattle.std.specs.Iterator.SizeHint.{IsWithinCount};
+ghost use Rattle.goblin_base.specs.Answers.{Answers, Writes};
+ghost use Rattle.goblin_base.specs.Bytes.{IsBytes, overwritten};
+ghost use Rattle.goblin_base.specs.Faults.{IsSliceFault};
+ghost use Rattle.goblin_base.specs.Record.{WritesBack, encoding, record_in};
+ghost use Rattle.goblin_base.specs.RecordLaws.{record_in-within, slice_fault-no_memory};
+ghost use Rattle.goblin_pe_head.specs.declared.header.rich.RichMetadata.{RichMetadata};
+ghost use Rattle.goblin_pe_head.specs.RichHeader.{marker_place, dans_place, other_place, leading_words, rich_in, rich_at, rich_header, IsRichAtFault, rich_value, IsStretchFault, IsRichFault};
+ghost use Rattle.goblin_pe_head.specs.RichMetadata.{AreEntriesOf, metadata_at, metadata_fields, metadata_items, metadata_left, metadata_record};
+
+use crate::header::{DOS_STUB_OFFSET, DosHeader};
+use goblin_base::{
+    Cause, Endian, Error, Field, ReadFault, Result, TryFromCtx, field_u16, field_u32, pread_slice,
+    pwrite_slice, record_bytes,
+};
+use goblin_pe_sect::options::ParseOptions;
+use std::iter::FusedIterator;
+
+/// The word with which a Rich header begins, `DanS`. It is stored under the key.
+pub const DANS_MARKER: u32 = 0x536E_6144;
+/// The size of [`DANS_MARKER`], in bytes.
+pub const DANS_MARKER_SIZE: usize = 4;
+/// The word behind the data of a Rich header, `Rich`. The key follows it.
+pub const RICH_MARKER: u32 = 0x6863_6952;
+/// The size of [`RICH_MARKER`], in bytes.
+pub const RICH_MARKER_SIZE: usize = 4;
+
+// The size of a word, in bytes.
+const WORD_SIZE: usize = 4;
+
+// The size of an entry, in bytes.
+const RICH_METADATA_SIZE: usize = 8;
+
+/// The Rich header: which tools made a file, and how often each was used.
+///
+/// Source: no document of Microsoft's; the layout is what linkers write. It lies in the DOS stub, as
+/// words of four bytes, little-endian: [`DANS_MARKER`], padding, the entries, [`RICH_MARKER`], and a
+/// key. Each word before the last marker is stored as its exclusive or with the key.
+#[derive(Debug, PartialEq, Copy, Clone, Default)]
+pub struct RichHeader<'a> {
+    /// The key, under which the words are stored.
+    pub key: u32,
+    /// What stands between the two markers, as it is stored: the padding and the entries.
+    pub bytes: &'a [u8],
+    /// The size of the padding in front of the entries, in bytes. Its words are zeros under the key.
+    pub padding_size: usize,
+    /// The file offset of the first marker.
+    pub start_offset: u32,
+    /// The file offset of the second marker.
+    pub end_offset: u32,
+}
+
+impl<'a> RichHeader<'a> {
+    /// Finds the Rich header of a file: between the DOS header and the PE signature, the first
+    /// [`RICH_MARKER`] with a key behind it, and the first word that is [`DANS_MARKER`] under that
+    /// key. A file without the marker has none.
+    ///
+    /// # Errors
+    /// As [`DosHeader::parse`] where the file has no DOS header; [`Error::Malformed`] with
+    /// [`Cause::NoDans`] where no word is [`DANS_MARKER`] under the key, with [`Cause::RichBounds`]
+    /// where the data would not end behind where they begin, both counted from 0x40; [`Error::Read`]
+    /// with [`ReadFault::TooBig`] where the data are no whole number of words.
+    pub fn parse(bytes: &'a [u8]) -> Result<Option<Self>>
+        ensures { Answers (option_map rich_value) result (rich_header bytes.now) (IsRichFault bytes.now) }
+    {
+        RichHeader::parse_with_opts(bytes, &ParseOptions::default())
+    }
+
+    /// Finds the Rich header of a file, as [`RichHeader::parse`]. No option changes the answer.
+    ///
+    /// # Errors
+    /// As [`RichHeader::parse`], in both modes.
+    #[tactic(auto, unfolding(crate::specs::RichHeader::rich_header, crate::specs::RichHeader::IsRichFault))]
+    pub fn parse_with_opts(bytes: &'a [u8], _opts: &ParseOptions) -> Result<Option<Self>>
+        ensures { Answers (option_map rich_value) result (rich_header bytes.now) (IsRichFault bytes.now) }
+    {
+        let dos = DosHeader::parse(bytes)?;
+        RichHeader::parse_at(bytes, dos.pe_pointer)
+    }
+
+    // Finds the Rich header in front of a PE signature.
+    pub(super) fn parse_at(bytes: &'a [u8], pe_pointer: u32) -> Result<Option<Self>>
+        requires { pe_pointer ≤ length bytes.now }
+        ensures { Answers (option_map rich_value) result (rich_at bytes.now pe_pointer) (IsRichAtFault bytes.now pe_pointer) }
+    {
+        let start = DOS_STUB_OFFSET as usize;
+        let end = pe_pointer as usize;
+        if end < start + DANS_MARKER_SIZE {
+            return Ok(None);
+        }
+        rich_in(&bytes[start..end])
+    }
+
+    /// The entries, which stand behind the padding.
+    #[tactic(auto, using(crate::proofs::RichLaw::entries_of))]
+    pub fn metadatas(&self) -> RichMetadataIterator<'a>
+        requires { self.now.padding_size ≤ length self.now.bytes.now }
+        ensures entries { metadata_left result ≡ metadata_items self.now.key (drop self.now.padding_size self.now.bytes.now) }
+
+        // The entries of a Rich header that was read are its data.
+        ensures law { (bytes : List ℕ) → IsBytes bytes → rich_header bytes ≡ Some (Some (rich_value self.now)) → AreEntriesOf self.now.key (drop self.now.padding_size self.now.bytes.now) (metadata_left result) }
+    {
+        RichMetadataIterator {
+            key: self.key,
+            bytes: &self.bytes[self.padding_size..],
+        }
+    }
+}
+
+/// An entry of a Rich header: a tool, and how often it was used.
+///
+/// Source: no document of Microsoft's; the layout is what linkers write. Numbers are as stored; the
+/// record has 8 bytes. In a file its two words are stored under the header's key.
+#[derive(Debug, PartialEq, Copy, Clone, Default)]
+pub struct RichMetadata {
+    /// The build of the tool.
+    pub build: u16,
+    /// Which tool it is.
+    pub product: u16,
+    /// How many files it made.
+    pub use_count: u32,
+}
+
+impl RichMetadata {
+    // The entry in a record's bytes.
+    #[tactic(auto, unfolding(crate::specs::RichMetadata::metadata_record))]
+    fn in_record(bytes: &[u8], endian: Endian) -> RichMetadata
+        requires { length bytes.now ≡ 8 }
+        ensures { result ≡ metadata_record endian bytes.now }
+    {
+        RichMetadata {
+            build: field_u16(bytes, 0, endian),
+            product: field_u16(bytes, 2, endian),
+            use_count: field_u32(bytes, 4, endian),
+        }
+    }
+
+    // The entry at the front of bytes that are stored under a key.
+    fn under_key(bytes: &[u8], key: u32) -> RichMetadata
+        requires { 8 ≤ length bytes.now }
+        ensures { result ≡ metadata_at key bytes.now 0 }
+    {
+        let tool = field_u32(bytes, 0, Endian::Little) ^ key;
+        let use_count = field_u32(bytes, WORD_SIZE, Endian::Little) ^ key;
+        RichMetadata {
+            build: (tool & 0xFFFF) as u16,
+            product: (tool >> 16) as u16,
+            use_count,
+        }
+    }
+
+    // The record's bytes.
+    #[tactic(auto, unfolding(crate::specs::RichMetadata::metadata_fields))]
+    fn to_bytes(self, endian: Endian) -> [u8; RICH_METADATA_SIZE]
+        ensures { result ≡ encoding endian (metadata_fields self) }
+    {
+        let fields = [
+            Field::U16(self.build),
+            Field::U16(self.product),
+            Field::U32(self.use_count),
+        ];
+        record_bytes(&fields, endian)
+    }
+
+    /// Writes the record to the front of `bytes`, and answers its size. An entry that was read by
+    /// [`TryFromCtx`] is written as it stood, by the same order of bytes.
+    ///
+    /// # Errors
+    /// [`Error::Read`] where there is no room for 8 bytes; `bytes` are then as they were.
+    #[tactic(auto, using(crate::proofs::RichEntries::metadata_back))]
+    pub fn try_into_ctx(self, bytes: &mut [u8], endian: Endian) -> Result<usize>
+        ensures size { IfOk result (λ n. n ≡ 8) }
+        ensures written { Writes result (overwritten bytes.old 0 (encoding endian (metadata_fields self))) bytes.old bytes.new (IsSliceFault bytes.old 0 8) }
+        ensures back { WritesBack 8 metadata_record metadata_fields }
+    {
+        let record = self.to_bytes(endian);
+        pwrite_slice(bytes, 0, &record)?;
+        Ok(RICH_METADATA_SIZE)
+    }
+
+    /// The size of the record, in bytes, in either order.
+    pub fn size_with(_endian: &Endian) -> usize
+        ensures { result ≡ 8 }
+    {
+        RICH_METADATA_SIZE
+    }
+}
+
+impl TryFromCtx<'_> for RichMetadata {
+    ghost Plain = { RichMetadata };
+
+    ghost plain = { λ m. m };
+
+    ghost value_of = { record_in 8 metadata_record };
+
+    ghost refusal = { λ _ bytes e. IsSliceFault bytes 0 8 e };
+
+    ghost within = { record_in-within 8 metadata_record };
+
+    ghost no_memory = { λ _ bytes e. slice_fault-no_memory bytes 0 8 e };
+
+    /// Reads the record at the front of `bytes`, which takes 8 bytes and is under no key.
+    ///
+    /// # Errors
+    /// [`Error::Read`] where there are no 8 bytes.
+    fn try_from_ctx(bytes: &[u8], endian: Endian) -> Result<(RichMetadata, usize)> {
+        let record = pread_slice(bytes, 0, RICH_METADATA_SIZE)?;
+        let metadata = RichMetadata::in_record(record, endian);
+        Ok((metadata, RICH_METADATA_SIZE))
+    }
+}
+
+/// The entries of a Rich header, in order. Where bytes are left that are no whole entry, one
+/// [`Error::Read`] with [`ReadFault::TooBig`] comes last.
+#[derive(Debug, Clone, Drop)]
+pub struct RichMetadataIterator<'a> {
+    key: u32,
+    bytes: &'a [u8],
+}
+
+impl Iterator for RichMetadataIterator<'_> {
+    type Item = Result<RichMetadata>;
+
+    ghost next_gives = { YieldsFirst metadata_left };
+
+    ghost remaining = { item_count metadata_left };
+
+    #[tactic(auto, using(crate::proofs::RichEntries::items_more, crate::proofs::RichEntries::items_rest, crate::proofs::RichEntries::items_none))]
+    fn next(&mut self) -> Option<Result<RichMetadata>> {
+        if self.bytes.is_empty() {
+            return None;
+        }
+        if self.bytes.len() < RICH_METADATA_SIZE {
+            self.bytes = &[];
+            return Some(Err(Error::Read(ReadFault::TooBig)));
+        }
+        let entry = RichMetadata::under_key(self.bytes, self.key);
+        self.bytes = &self.bytes[RICH_METADATA_SIZE..];
+        Some(Ok(entry))
+    }
+
+    #[tactic(auto, using(crate::proofs::RichEntries::length_items))]
+    fn size_hint(&self) -> (usize, Option<usize>)
+        ensures lower { IsWithinCount result.0 (at_most (length (metadata_left self.now))) }
+        ensures upper { IfSome result.1 (UpTo (at_most (length (metadata_left self.now)))) }
+        ensures value { result ≡ (length (metadata_left self.now), Some (length (metadata_left self.now))) }
+    {
+        let count = self.bytes.len().div_ceil(RICH_METADATA_SIZE);
+        (count, Some(count))
+    }
+}
+
+impl FusedIterator for RichMetadataIterator<'_> {}
+
+// The Rich header in the bytes between the DOS header and the PE signature.
+#[tactic(auto, unfolding(crate::specs::RichHeader::rich_in, crate::specs::RichHeader::IsStretchFault))]
+fn rich_in<'a>(stretch: &'a [u8]) -> Result<Option<RichHeader<'a>>>
+    requires { length stretch.now + 64 < 2 ^ 32 }
+    ensures { Answers (option_map rich_value) result (rich_in stretch.now) (IsStretchFault stretch.now) }
+{
+    let Some(end) = marker_place(stretch) else {
+        return Ok(None);
+    };
+    let key = field_u32(stretch, end + RICH_MARKER_SIZE, Endian::Little);
+    let Some(front) = dans_place(stretch, key) else {
+        return Err(Error::Malformed(Cause::NoDans));
+    };
+    let start = front + DANS_MARKER_SIZE;
+    if start >= end {
+        return Err(Error::Malformed(Cause::RichBounds(start, end)));
+    }
+    let bytes = &stretch[start..end];
+    if !bytes.len().is_multiple_of(WORD_SIZE) {
+        return Err(Error::Read(ReadFault::TooBig));
+    }
+    Ok(Some(RichHeader {
+        key,
+        bytes,
+        padding_size: WORD_SIZE * leading_words(bytes, key),
+        start_offset: DOS_STUB_OFFSET + front as u32,
+        end_offset: DOS_STUB_OFFSET + end as u32,
+    }))
+}
+
+// Where the marker first stands with a key behind it.
+#[tactic(auto, unfolding(crate::specs::RichHeader::marker_place))]
+fn marker_place(stretch: &[u8]) -> Option<usize>
+    ensures value { result ≡ marker_place stretch.now }
+    ensures room { IfSome result (λ i. i + 8 ≤ length stretch.now) }
+{
+    (0..stretch.len().saturating_sub(7)).find(|i| field_u32(stretch, *i, Endian::Little)
+        == RICH_MARKER)
+}
+
+// Where a word first is the other marker under the key.
+#[tactic(auto, unfolding(crate::specs::RichHeader::dans_place))]
+fn dans_place(stretch: &[u8], key: u32) -> Option<usize>
+    ensures value { result ≡ dans_place key stretch.now }
+    ensures room { IfSome result (λ j. j + 4 ≤ length stretch.now) }
+{
+    (0..stretch.len().saturating_sub(3)).find(|j| field_u32(stretch, *j, Endian::Little) ^ key
+        == DANS_MARKER)
+}
+
+// Which word is the first that is not the key.
+#[tactic(auto, unfolding(crate::specs::RichHeader::other_place))]
+fn other_place(bytes: &[u8], key: u32) -> Option<usize>
+    ensures value { result ≡ other_place key bytes.now }
+    ensures room { IfSome result (λ k. 4 * k ≤ length bytes.now) }
+{
+    (0..bytes.len() / WORD_SIZE).find(|k| field_u32(bytes, WORD_SIZE * *k, Endian::Little) != key)
+}
+
+// How many of the leading words are the key.
+#[tactic(auto, unfolding(crate::specs::RichHeader::leading_words))]
+fn leading_words(bytes: &[u8], key: u32) -> usize
+    ensures value { result ≡ leading_words key bytes.now }
+    ensures room { 4 * result ≤ length bytes.now }
+{
+    other_place(bytes, key).unwrap_or(bytes.len() / WORD_SIZE)
+}

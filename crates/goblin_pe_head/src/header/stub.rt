@@ -1,0 +1,59 @@
+//! The DOS stub: the program between the DOS header and the PE signature.
+
+ghost use Rattle.std.specs.Prelude.{◌≡◌};
+ghost use Rattle.goblin_base.specs.Answers.{Answers};
+ghost use Rattle.goblin_pe_head.specs.DosStub.{default_stub, stub_at, stub_bytes, IsStubFault};
+
+use goblin_base::{Cause, Error, Result};
+
+/// The file offset at which the DOS stub begins, just past the DOS header.
+pub const DOS_STUB_OFFSET: u32 = 0x40;
+
+// The program that most linkers put there: it prints its message and ends.
+const DEFAULT_STUB: &[u8; 64] =
+    b"\x0E\x1F\xBA\x0E\x00\xB4\x09\xCD\x21\xB8\x01\x4C\xCD\x21This program cannot be run in DOS mode.\x0D\x0D\x0A\x24\0\0\0\0\0\0\0";
+
+/// The program that runs where a PE file is started under DOS, with what a linker puts behind it.
+///
+/// Source: PE Format, "MS-DOS Stub (Image Only)".
+#[derive(Debug, PartialEq, Copy, Clone)]
+pub struct DosStub<'a> {
+    /// The file's bytes from 0x40 to the PE signature.
+    pub bytes: &'a [u8],
+}
+
+impl Default for DosStub<'_> {
+    ghost is_default = { λ stub. stub_bytes stub ≡ default_stub };
+
+    /// The 64 bytes that most linkers put there: a program that prints `This program cannot be run
+    /// in DOS mode.` and ends.
+    #[tactic(auto, unfolding(crate::specs::DosStub::default_stub))]
+    fn default() -> Self {
+        DosStub {
+            bytes: DEFAULT_STUB,
+        }
+    }
+}
+
+impl<'a> DosStub<'a> {
+    /// Borrows the stub of a file whose PE signature stands at `pe_pointer`. It has no bytes where
+    /// the signature follows the DOS header, at 0x40.
+    ///
+    /// # Errors
+    /// [`Error::Malformed`] with [`Cause::StubBeforeStart`] where `pe_pointer` is below 0x40, with
+    /// [`Cause::StubPastEnd`] where it is past the end of the file.
+    pub fn parse(bytes: &'a [u8], pe_pointer: u32) -> Result<Self>
+        ensures { Answers stub_bytes result (stub_at bytes.now pe_pointer) (IsStubFault bytes.now pe_pointer) }
+    {
+        if pe_pointer < DOS_STUB_OFFSET {
+            return Err(Error::Malformed(Cause::StubBeforeStart(pe_pointer)));
+        }
+        let end = pe_pointer as usize;
+        if bytes.len() < end {
+            return Err(Error::Malformed(Cause::StubPastEnd(bytes.len(), end)));
+        }
+        Ok(DosStub {
+            bytes: &bytes[DOS_STUB_OFFSET as usize..end],
+        })
+    }
+}

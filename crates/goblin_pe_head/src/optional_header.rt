@@ -1,0 +1,154 @@
+//! The optional header of an image: what a loader needs to know of it.
+//!
+//! Its standard fields and Windows fields have two widths, for images of 32 and of 64 bits; its magic
+//! says which. The data directories follow.
+
+ghost use Rattle.std.specs.Prelude.{◌≡◌, ◌≢◌};
+ghost use Rattle.goblin_base.specs.Answers.{Answers};
+ghost use Rattle.goblin_pe_head.specs.declared.optional_header.OptionalHeader.{OptionalHeader};
+ghost use Rattle.goblin_pe_head.specs.OptionalHeader.{container_of, fields_32, fields_64, fixed_fields, optional_header, IsBadMagic, IsFieldsFault_32, IsFieldsFault_64, IsFixedFault, IsOptionalFault};
+ghost use Rattle.goblin_pe_head.specs.OptionalHeaderLaws.{optional_header-within, optional_fault-no_memory};
+
+use goblin_base::{Container, Endian, Error, Result, TryFromCtx, pread_slice, pread_u16};
+use goblin_pe_sect::DataDirectories;
+
+mod standard_fields;
+mod windows_fields;
+
+pub use standard_fields::{
+    SIZEOF_STANDARD_FIELDS_32, SIZEOF_STANDARD_FIELDS_64, StandardFields, StandardFields32,
+    StandardFields64,
+};
+pub use windows_fields::{
+    OFFSET_WINDOWS_FIELDS_32_CHECKSUM, OFFSET_WINDOWS_FIELDS_64_CHECKSUM, SIZEOF_WINDOWS_FIELDS_32,
+    SIZEOF_WINDOWS_FIELDS_64, WindowsFields, WindowsFields32, WindowsFields64,
+};
+
+/// The magic of an optional header for 32 bits.
+pub const MAGIC_32: u16 = 0x10B;
+/// The magic of an optional header for 64 bits.
+pub const MAGIC_64: u16 = 0x20B;
+/// The magic of an optional header for 32 bits, by its name in the Windows headers.
+pub const IMAGE_NT_OPTIONAL_HDR32_MAGIC: u16 = 0x10B;
+/// The magic of an optional header for 64 bits, by its name in the Windows headers.
+pub const IMAGE_NT_OPTIONAL_HDR64_MAGIC: u16 = 0x20B;
+/// The magic of a ROM image, which is not read.
+pub const IMAGE_ROM_OPTIONAL_HDR_MAGIC: u16 = 0x107;
+
+/// The optional header of an image of either width.
+///
+/// Source: PE Format, "Optional Header (Image Only)".
+#[derive(Debug, PartialEq, Copy, Clone)]
+pub struct OptionalHeader {
+    /// The standard fields.
+    pub standard_fields: StandardFields,
+    /// The Windows fields.
+    pub windows_fields: WindowsFields,
+    /// Where the image's tables lie. The offsets of the entries count from the front of the optional
+    /// header.
+    pub data_directories: DataDirectories,
+}
+
+// The fields before the directories, and how many bytes they take.
+#[derive(Copy, Clone)]
+struct FixedFields {
+    standard_fields: StandardFields,
+    windows_fields: WindowsFields,
+    size: usize,
+}
+
+// The fields of an optional header for 32 bits.
+fn fields_32(bytes: &[u8]) -> Result<FixedFields>
+    ensures { Answers (λ f. f) result (fields_32 bytes.now) (IsFieldsFault_32 bytes.now) }
+{
+    let standard = pread_slice(bytes, 0, SIZEOF_STANDARD_FIELDS_32)?;
+    let windows = pread_slice(bytes, SIZEOF_STANDARD_FIELDS_32, SIZEOF_WINDOWS_FIELDS_32)?;
+    Ok(FixedFields {
+        standard_fields: StandardFields::from(StandardFields32::in_record(
+            standard,
+            Endian::Little,
+        )),
+        windows_fields: WindowsFields::from(WindowsFields32::in_record(windows, Endian::Little)),
+        size: SIZEOF_STANDARD_FIELDS_32 + SIZEOF_WINDOWS_FIELDS_32,
+    })
+}
+
+// The fields of an optional header for 64 bits.
+fn fields_64(bytes: &[u8]) -> Result<FixedFields>
+    ensures { Answers (λ f. f) result (fields_64 bytes.now) (IsFieldsFault_64 bytes.now) }
+{
+    let standard = pread_slice(bytes, 0, SIZEOF_STANDARD_FIELDS_64)?;
+    let windows = pread_slice(bytes, SIZEOF_STANDARD_FIELDS_64, SIZEOF_WINDOWS_FIELDS_64)?;
+    Ok(FixedFields {
+        standard_fields: StandardFields::from(StandardFields64::in_record(
+            standard,
+            Endian::Little,
+        )),
+        windows_fields: WindowsFields64::in_record(windows, Endian::Little),
+        size: SIZEOF_STANDARD_FIELDS_64 + SIZEOF_WINDOWS_FIELDS_64,
+    })
+}
+
+// The fields that the magic asks for.
+#[tactic(auto, unfolding(crate::specs::OptionalHeader::fixed_fields, crate::specs::OptionalHeader::IsFixedFault))]
+fn fixed_fields(magic: u16, bytes: &[u8]) -> Result<FixedFields>
+    ensures { Answers (λ f. f) result (fixed_fields magic bytes.now) (IsFixedFault magic bytes.now) }
+{
+    match magic {
+        MAGIC_32 => fields_32(bytes),
+        MAGIC_64 => fields_64(bytes),
+        _ => Err(Error::BadMagic(u64::from(magic))),
+    }
+}
+
+impl TryFromCtx<'_> for OptionalHeader {
+    ghost Plain = { OptionalHeader };
+
+    ghost plain = { λ header. header };
+
+    ghost value_of = { λ _ bytes. optional_header bytes };
+
+    ghost refusal = { λ _ bytes e. IsOptionalFault bytes e };
+
+    ghost within = { λ _ bytes. optional_header-within bytes };
+
+    ghost no_memory = { λ _ bytes e. optional_fault-no_memory bytes e };
+
+    /// Reads the optional header at the front of `bytes`, always little-endian, and answers how many
+    /// bytes it takes with its directories.
+    ///
+    /// # Errors
+    /// [`Error::Read`] where a part is not all there; [`Error::BadMagic`] of a magic other than
+    /// [`MAGIC_32`] and [`MAGIC_64`]; [`Error::Malformed`] with `DirectoryCount` of more than sixteen
+    /// directories.
+    #[tactic(auto, unfolding(crate::specs::OptionalHeader::optional_header, crate::specs::OptionalHeader::IsOptionalFault))]
+    fn try_from_ctx(bytes: &[u8], _endian: Endian) -> Result<(OptionalHeader, usize)> {
+        let magic = pread_u16(bytes, 0, Endian::Little)?;
+        let fields = fixed_fields(magic, bytes)?;
+        let count = fields.windows_fields.number_of_rva_and_sizes as usize;
+        let mut end = fields.size;
+        let data_directories = DataDirectories::parse(bytes, count, &mut end)?;
+        let header = OptionalHeader {
+            standard_fields: fields.standard_fields,
+            windows_fields: fields.windows_fields,
+            data_directories,
+        };
+        Ok((header, end))
+    }
+}
+
+impl OptionalHeader {
+    /// For how many bits the image is, by the magic.
+    ///
+    /// # Errors
+    /// [`Error::BadMagic`] of a magic other than [`MAGIC_32`] and [`MAGIC_64`].
+    pub fn container(&self) -> Result<Container>
+        ensures { Answers (λ c. c) result (container_of self.now.standard_fields.magic) (IsBadMagic self.now.standard_fields.magic) }
+    {
+        match self.standard_fields.magic {
+            MAGIC_32 => Ok(Container::Little),
+            MAGIC_64 => Ok(Container::Big),
+            magic => Err(Error::BadMagic(u64::from(magic))),
+        }
+    }
+}
