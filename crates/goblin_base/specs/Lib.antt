@@ -3,4 +3,3 @@ pub mod Bytes
 pub mod Faults
 pub mod Record
 pub mod Steps
-pub mod RecordLaws

@@ -1,5 +1,5 @@
 -- Records: a table of fields, each a number of the record's own bytes by its width and offset; and their encoding, the bytes of the fields in order.
-use Rattle.std.specs.Prelude.{◌≡◌, ℕ, ◌+◌, ◌*◌, ◌==◌, ◌||◌, nat_le, if◌then◌else◌, List, [], ◌∷◌, ◌++◌, map, length, slice_range, Option, Some, None, option_map}
+use Rattle.std.specs.Prelude.{◌≡◌, ℕ, ◌+◌, ◌*◌, List, [], ◌∷◌, ◌++◌, map, length, Option, Some, option_map}
 use Rattle.std.specs.Int.{w16, cast_unsigned}
 use Rattle.std.specs.List.{range_with_len}
 use Rattle.goblin_base.specs.declared.endian.Endian.{Endian}
@@ -14,11 +14,6 @@ numbers endian n count bytes p = map (λ i. number endian n bytes (p + n * i)) (
 -- the record of `size` bytes at p, where all of it is there
 abbrev pub record_at : {R : Type 0} → ℕ → (List ℕ → R) → List ℕ → ℕ → Option R
 record_at size value bytes p = option_map value (slice_at bytes p size)
-
--- `count` records of `size` bytes each, one after the other from p on, where all of them are there; none are there at any offset
-abbrev pub records_at : {R : Type 0} → ℕ → (List ℕ → R) → ℕ → List ℕ → ℕ → Option (List R)
-records_at size value count bytes p =
-    if count == 0 || nat_le (p + size * count) (length bytes) then Some (map (λ i. value (slice_range bytes (p + size * i) (p + size * i + size))) (range_with_len 0 count)) else None
 
 -- the record at the front of the bytes, and how many of them it takes
 abbrev pub record_in : {R : Type 0} → ℕ → (Endian → List ℕ → R) → Endian → List ℕ → Option (R × ℕ)

@@ -10,7 +10,6 @@ use Rattle.goblin_base.specs.Record.{numbers, record_at}
 use Rattle.goblin_base.specs.Steps.{◌>>=◌}
 use Rattle.goblin_pe_head.specs.declared.header.DosHeader.{DosHeader}
 use Rattle.goblin_pe_head.specs.declared.header.CoffHeader.{CoffHeader}
-use Rattle.goblin_pe_head.specs.declared.header.TheConstants.{DOS_MAGIC, PE_MAGIC}
 
 -- the DOS header in a record's 64 bytes
 unfoldable pub dos_record : List ℕ → DosHeader
@@ -42,15 +41,15 @@ dos_header bytes = do
   magic ← number_at Little 2 bytes 0
   header ← record_at 64 dos_record bytes 0
   signature ← number_at Little 4 bytes header.pe_pointer
-  if (magic == DOS_MAGIC) && (signature == PE_MAGIC) then Some header else None
+  if (magic == 0x5A4D) && (signature == 0x4550) then Some header else None
 
 -- which cause is true of a file that has no DOS header
 unfoldable pub IsDosFault : List ℕ → ErrorOf → Type 0
 IsDosFault bytes (Malformed NoDosSignature) = length bytes < 2
-IsDosFault bytes (Malformed (DosMagic magic)) = (number_at Little 2 bytes 0 ≡ Some magic) × (magic ≢ DOS_MAGIC)
+IsDosFault bytes (Malformed (DosMagic magic)) = (number_at Little 2 bytes 0 ≡ Some magic) × (magic ≢ 0x5A4D)
 IsDosFault bytes (Malformed NoPePointer) = length bytes < 64
 IsDosFault bytes (Malformed (NoPeSignature pointer)) = IsSomeAnd (record_at 64 dos_record bytes 0) (λ h. (h.pe_pointer ≡ pointer) × (length bytes < pointer + 4))
-IsDosFault bytes (Malformed (PeMagic magic)) = IsSomeAnd (record_at 64 dos_record bytes 0) (λ h. (number_at Little 4 bytes h.pe_pointer ≡ Some magic) × (magic ≢ PE_MAGIC))
+IsDosFault bytes (Malformed (PeMagic magic)) = IsSomeAnd (record_at 64 dos_record bytes 0) (λ h. (number_at Little 4 bytes h.pe_pointer ≡ Some magic) × (magic ≢ 0x4550))
 IsDosFault bytes e = ⊥
 
 -- the COFF header in a record's 20 bytes

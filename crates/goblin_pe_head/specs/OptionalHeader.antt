@@ -14,7 +14,6 @@ use Rattle.goblin_base.specs.Record.{FieldValue, record_at}
 use Rattle.goblin_base.specs.Record.FieldValue.{uint}
 use Rattle.goblin_base.specs.Steps.{◌>>=◌, FirstFault}
 use Rattle.goblin_pe_sect.specs.DataDirectories.{IsDirectoriesFault, directories_at}
-use Rattle.goblin_pe_head.specs.declared.optional_header.TheConstants.{MAGIC_32, MAGIC_64}
 use Rattle.goblin_pe_head.specs.declared.optional_header.standard_fields.StandardFields32.{StandardFields32}
 use Rattle.goblin_pe_head.specs.declared.optional_header.standard_fields.StandardFields64.{StandardFields64}
 use Rattle.goblin_pe_head.specs.declared.optional_header.standard_fields.StandardFields.{StandardFields}
@@ -279,7 +278,7 @@ fields_64 bytes = do
 
 -- the fields that the magic asks for; another magic has none
 unfoldable pub fixed_fields : ℕ → List ℕ → Option FixedFields
-fixed_fields magic bytes = if magic == MAGIC_32 then fields_32 bytes else if magic == MAGIC_64 then fields_64 bytes else None
+fixed_fields magic bytes = if magic == 0x10B then fields_32 bytes else if magic == 0x20B then fields_64 bytes else None
 
 -- the optional header at the front of bytes, which is little-endian always, and how many bytes it takes
 unfoldable pub optional_header : List ℕ → Option (OptionalHeader × ℕ)
@@ -294,7 +293,7 @@ optional_header bytes = do
 
 -- the refusal is that no optional header has this magic
 abbrev pub IsBadMagic : ℕ → ErrorOf → Type 0
-IsBadMagic magic (BadMagic m) = (m ≡ magic) × (magic ≢ MAGIC_32) × (magic ≢ MAGIC_64)
+IsBadMagic magic (BadMagic m) = (m ≡ magic) × (magic ≢ 0x10B) × (magic ≢ 0x20B)
 IsBadMagic magic e = ⊥
 
 -- which cause is true of fields that are not all there, by their width
@@ -310,7 +309,7 @@ IsFieldsFault_64 bytes =
 
 -- which cause is true where the fields that the magic asks for are refused
 unfoldable pub IsFixedFault : ℕ → List ℕ → ErrorOf → Type 0
-IsFixedFault magic bytes e = IsBadMagic magic e ⊎ ((magic ≡ MAGIC_32) × IsFieldsFault_32 bytes e) ⊎ ((magic ≡ MAGIC_64) × IsFieldsFault_64 bytes e)
+IsFixedFault magic bytes e = IsBadMagic magic e ⊎ ((magic ≡ 0x10B) × IsFieldsFault_32 bytes e) ⊎ ((magic ≡ 0x20B) × IsFieldsFault_64 bytes e)
 
 -- which cause is true of bytes at whose front there is no optional header: that of the first part that is not there
 unfoldable pub IsOptionalFault : List ℕ → ErrorOf → Type 0
@@ -321,4 +320,4 @@ IsOptionalFault bytes =
 
 -- for how many bits the image is, by the magic
 abbrev pub container_of : ℕ → Option Container
-container_of magic = if magic == MAGIC_32 then Some container.Little else if magic == MAGIC_64 then Some container.Big else None
+container_of magic = if magic == 0x10B then Some container.Little else if magic == 0x20B then Some container.Big else None

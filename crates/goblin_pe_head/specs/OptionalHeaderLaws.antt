@@ -1,5 +1,5 @@
 -- What a reader of an optional header keeps to: it takes no more bytes than there are, and is never refused for want of memory.
-use Rattle.std.proofs.Common.{◌≡◌, ℕ, ◌+◌, ◌*◌, ◌≤◌, ◌&&◌, ◌||◌, Bool, true, false, cond, nat_eq, nat_lt, nat_le, List, length, Option, Some, None, refl, arith, inl, inr}
+use Rattle.std.proofs.Common.{◌≡◌, ℕ, ◌+◌, ◌*◌, ◌≤◌, ◌&&◌, ◌||◌, Bool, true, false, cond, nat_eq, nat_lt, nat_le, List, length, Option, Some, None, refl, sym, subst, add-zero, inl, inr}
 use Rattle.std.specs.Prelude.{IfSome, option_map, slice_range}
 use Rattle.std.proofs.lemmas.Bool.{eqb-true, leb-true}
 use Rattle.std.specs.declared.alloc.AllocError.{AllocError}
@@ -51,7 +51,7 @@ directories-within count bytes p le =
   where
     by_test : {A : Type 0} → (few none room : Bool) (value : A) → (none ≡ true → count ≡ 0) → (room ≡ true → p + 8 * count ≤ length bytes)
         → IfSome {T = A} (cond (few && (none || room)) (Some value) None) (λ _. p + 8 * count ≤ length bytes)
-    by_test true true room value none_is room_is = let none = none_is refl in omega (arith, le, none)
+    by_test true true room value none_is room_is = subst (λ (k : ℕ). p + 8 * k ≤ length bytes) (sym (none_is refl)) (subst (λ (n : ℕ). n ≤ length bytes) (sym (add-zero p)) le)
     by_test true false true value none_is room_is = room_is refl
     by_test true false false value none_is room_is = tt
     by_test false none room value none_is room_is = tt

@@ -12,7 +12,6 @@ use Rattle.goblin_base.specs.Bytes.{number}
 use Rattle.goblin_base.specs.Steps.{◌>>=◌, FirstFault}
 use Rattle.goblin_pe_head.specs.Header.{dos_header, IsDosFault}
 use Rattle.goblin_pe_head.specs.declared.header.rich.RichHeader.{RichHeader}
-use Rattle.goblin_pe_head.specs.declared.header.rich.TheConstants.{DANS_MARKER, RICH_MARKER}
 
 -- a Rich header, with its data as a list
 pub record Rich : Type 0 where
@@ -36,11 +35,11 @@ word_at bytes p = number Little 4 bytes p
 
 -- the least place of the marker `Rich` with a key of four bytes behind it
 unfoldable pub marker_place : List ℕ → Option ℕ
-marker_place stretch = least_below (length stretch - 7) (λ i. word_at stretch i == RICH_MARKER)
+marker_place stretch = least_below (length stretch - 7) (λ i. word_at stretch i == 0x68636952)
 
 -- the least place of a word that is `DanS` under the key, wherever the other marker stands
 unfoldable pub dans_place : ℕ → List ℕ → Option ℕ
-dans_place key stretch = least_below (length stretch - 3) (λ j. bit_xor (word_at stretch j) key == DANS_MARKER)
+dans_place key stretch = least_below (length stretch - 3) (λ j. bit_xor (word_at stretch j) key == 0x536E6144)
 
 -- which word is the first that is not the key
 unfoldable pub other_place : ℕ → List ℕ → Option ℕ

@@ -3,7 +3,7 @@ use Rattle.std.proofs.Common.{◌≡◌, ℕ, zero, suc, ◌+◌, ◌-◌, ◌*�
 use Rattle.std.specs.Prelude.{◌==◌, ◌&&◌, ◌||◌, slice_range, flat_map}
 use Rattle.std.specs.List.{range_with_len}
 use Rattle.std.proofs.Math.Seq.{take-add}
-use Rattle.std.proofs.lemmas.Bool.{eqb-true, le-leb, leb-true, lt-ltb}
+use Rattle.std.proofs.lemmas.Bool.{and_parts, eqb-true, le-leb, leb-true, lt-ltb}
 use Rattle.std.proofs.lemmas.Option.{cond_some}
 use Rattle.std.proofs.lemmas.List.{drop-drop, map-append, replicate-append-replicate}
 use Rattle.std.proofs.lemmas.List.Concat.{flat_map-append}
@@ -107,10 +107,6 @@ none_read : (count n : ℕ) (bytes : List ℕ) (p : ℕ) → n ≡ 0 → bytes_o
 unfolding entries_fields
 none_read count n bytes p none = rw none refl
 
-both : (a b : Bool) → (a && b) ≡ true → (a ≡ true) × (b ≡ true)
-both true b h = (refl, h)
-both false b h = absurd cc
-
 either : (a b : Bool) → (a || b) ≡ true → (a ≡ true) ⊎ (b ≡ true)
 either true b h = inl refl
 either false b h = inr h
@@ -119,7 +115,7 @@ pub entries_back : EntriesWriteBack
 unfolding directories_at
 entries_back count bytes p entries h e =
     let found = cond_some (nat_le count 16 && (count == 0 || nat_le (p + 8 * count) (length bytes))) (map (entry_at count bytes p) (range_with_len 0 16)) entries e in
-    let tests = both (nat_le count 16) (count == 0 || nat_le (p + 8 * count) (length bytes)) found.0 in
+    let tests = and_parts (nat_le count 16) (count == 0 || nat_le (p + 8 * count) (length bytes)) found.0 in
     let most : count ≤ 16 = leb-true count 16 tests.0 in
     let all : 16 ≡ count + (16 - count) = omega (arith, most) in
     let start : p + 8 * 0 ≡ p = omega arith in

@@ -5,13 +5,13 @@ use Rattle.std.specs.Prelude.{Option, Some, None, replicate}
 use Rattle.std.specs.Option.{option_map}
 use Rattle.std.specs.List.{list_all}
 use Rattle.std.proofs.lemmas.List.{length-append, length-map}
-use Rattle.std.proofs.lemmas.Bool.{ltb-true, leb-true, eqb-true}
+use Rattle.std.proofs.lemmas.Bool.{and_parts, ltb-true, leb-true, eqb-true}
 use Rattle.goblin_base.specs.Bytes.{bounded_text_at}
 use Rattle.goblin_pe_sect.specs.declared.digits.Digits.{Digits}
 use Rattle.goblin_pe_sect.specs.declared.digits.Digits.TheVariants.{Decimal, Base64}
 use Rattle.goblin_pe_sect.specs.SectionName.{alphabet, last_digits, digit_byte, radix, numeral, name_value, text_value, decimal_number, decimal_width, indirect_name}
 use Rattle.goblin_pe_sect.proofs.ReadBack.{below, below-at, last_digits-below, numeral-written}
-use Rattle.goblin_pe_sect.proofs.NameBack.{is_plain, behind_one, behind_two, both, by_test}
+use Rattle.goblin_pe_sect.proofs.NameBack.{is_plain, behind_one, behind_two, by_test}
 
 length-last_digits : (r k n : ℕ) → length (last_digits r k n) ≡ k
 unfolding last_digits
@@ -28,7 +28,7 @@ plain Base64 d small = below-at (λ d. is_plain (digit_byte Base64 d)) 64 d refl
 all_plain : (s : Digits) (ds : List ℕ) → list_all (λ d. nat_lt d (radix s)) ds ≡ true → list_all is_plain (map (digit_byte s) ds) ≡ true
 all_plain s [] h = refl
 all_plain s (d ∷ ds) h =
-    let parts = both (nat_lt d (radix s)) (list_all (λ d. nat_lt d (radix s)) ds) h in
+    let parts = and_parts (nat_lt d (radix s)) (list_all (λ d. nat_lt d (radix s)) ds) h in
     let one = plain s d (ltb-true d (radix s) parts.0) in
     let rest = all_plain s ds parts.1 in
     ap (λ (b : Bool). b && list_all is_plain (map (digit_byte s) ds)) one ∙ rest
@@ -46,7 +46,7 @@ digit_apart : (d : ℕ) → d < 10 → (nat_eq (digit_byte Decimal d) 47 ≡ fal
 unfolding alphabet below
 digit_apart d small =
     let apart = below-at (λ (d : ℕ). not (nat_eq (digit_byte Decimal d) 47) && not (nat_eq (digit_byte Decimal d) 43)) 10 d refl small in
-    let parts = both (not (nat_eq (digit_byte Decimal d) 47)) (not (nat_eq (digit_byte Decimal d) 43)) apart in
+    let parts = and_parts (not (nat_eq (digit_byte Decimal d) 47)) (not (nat_eq (digit_byte Decimal d) 43)) apart in
     (not_true _ parts.0, not_true _ parts.1)
   where
     not_true : (b : Bool) → not b ≡ true → b ≡ false
@@ -60,7 +60,7 @@ unfolding alphabet name_value
 decimal_read strict [] k n digits some len value = absurd (omega (arith, some))
 decimal_read strict (d ∷ ds) k n digits some len value =
     let text = map (digit_byte Decimal) (d ∷ ds) in
-    let apart = digit_apart d (ltb-true d 10 (both (nat_lt d 10) (list_all (λ d. nat_lt d 10) ds) digits).0) in
+    let apart = digit_apart d (ltb-true d 10 (and_parts (nat_lt d 10) (list_all (λ d. nat_lt d 10) ds) digits).0) in
     let there = behind_one text k (all_plain Decimal (d ∷ ds) digits) (ap (λ (m : ℕ). m + k) (length-map (d ∷ ds) (digit_byte Decimal)) ∙ len) in
     let nonempty : nat_eq (length text) 0 ≡ false = by_test (nat_eq (length text) 0) (λ e. omega (arith, eqb-true (length text) 0 e)) in
     let read : decimal_number text ≡ Some n = rw (apart.1, nonempty) value in

@@ -3,7 +3,7 @@ use Rattle.std.proofs.Common.{rules, ◌≢◌, ◌≡◌, ◌<◌, ℕ, zero, s
 use Rattle.std.specs.Prelude.{Some}
 use Rattle.std.specs.List.{list_all}
 use Rattle.std.proofs.lemmas.List.Folds.{list_all-append}
-use Rattle.std.proofs.lemmas.Bool.{lt-ltb, ltb-true, eqb-true}
+use Rattle.std.proofs.lemmas.Bool.{and_parts, lt-ltb, ltb-true, eqb-true}
 use Rattle.std.proofs.lemmas.Nat.{div-add-mod'}
 use Rattle.std.proofs.Math.Nat.{pow-zero, pow-suc, mod-lt, div-lt_iff_lt-mul}
 use Rattle.goblin_pe_sect.specs.declared.digits.Digits.{Digits}
@@ -34,13 +34,9 @@ unfoldable pub below : (ℕ → Bool) → ℕ → Bool
 below test zero = true
 below test (suc n) = test n && below test n
 
-both : (a b : Bool) → (a && b) ≡ true → (a ≡ true) × (b ≡ true)
-both true b h = (refl, h)
-both false b h = absurd (cc)
-
 at_or_below : (test : ℕ → Bool) (n d : ℕ) → (test n && below test n) ≡ true → d < suc n → (below test n ≡ true → d < n → test d ≡ true) → (b : Bool) → nat_eq d n ≡ b → test d ≡ true
-at_or_below test n d h small lower true e = ap test (eqb-true d n e) ∙ (both (test n) (below test n) h).0
-at_or_below test n d h small lower false e = lower (both (test n) (below test n) h).1 (let apart : d ≢ n = search (rules, e) in omega (arith, small, apart))
+at_or_below test n d h small lower true e = ap test (eqb-true d n e) ∙ (and_parts (test n) (below test n) h).0
+at_or_below test n d h small lower false e = lower (and_parts (test n) (below test n) h).1 (let apart : d ≢ n = search (rules, e) in omega (arith, small, apart))
 
 pub below-at : (test : ℕ → Bool) (n d : ℕ) → below test n ≡ true → d < n → test d ≡ true
 unfolding below
@@ -57,7 +53,7 @@ digits_back : (s : Digits) (ds : List ℕ) → list_all (λ d. nat_lt d (radix s
     → (map (digit s) (map (digit_byte s) ds) ≡ ds) × (list_all (λ b. nat_lt (digit s b) (radix s)) (map (digit_byte s) ds) ≡ true)
 digits_back s [] h = (refl, refl)
 digits_back s (d ∷ ds) h =
-    let parts = both (nat_lt d (radix s)) (list_all (λ d. nat_lt d (radix s)) ds) h in
+    let parts = and_parts (nat_lt d (radix s)) (list_all (λ d. nat_lt d (radix s)) ds) h in
     let one = digit-digit_byte s d (ltb-true d (radix s) parts.0) in
     let rest = digits_back s ds parts.1 in
     (rw (one, rest.0) refl, rw (one, parts.0, rest.1) refl)

@@ -21,7 +21,7 @@ section_lies : (endian : Endian) (own : List ℕ) → IsBytes own → section_fi
 unfolding section_fields section_record
 section_lies endian own bytes = refl
 
-record_back : WritesBack 40 section_record section_fields
+pub record_back : WritesBack 40 section_record section_fields
 record_back = writes_back 40 section_record section_fields slots refl section_lies
 
 -- the real name is no field of the record

@@ -8,7 +8,7 @@ use Rattle.std.proofs.lemmas.Nat.{mod_below}
 use lib.Count.{ones}
 use Rattle.goblin_pe_sect.specs.declared.options.ParseOptions.{ParseOptions}
 use Rattle.goblin_pe_sect.specs.SectionTable.{Section}
-use Rattle.goblin_pe_sect.specs.Mapping.{read_size, is_in_window, offset_in, file_offset, InWindow, IsFirstWindow, MapsTo, MapsNowhere}
+use Rattle.goblin_pe_sect.specs.Mapping.{OffsetsApart, read_size, is_in_window, offset_in, file_offset, InWindow, IsFirstWindow, MapsTo, MapsNowhere}
 use Rattle.goblin_pe_sect.proofs.First.{found_at_first, found_passes, fails_before, none_passes, first_is_found}
 
 -- a multiple at or above a number is less than one step from it
@@ -104,3 +104,7 @@ file_offset_injective opts sections alignment first second index even x y e =
     apart_by opts.resolve_rva (is_power_of_two alignment) _ _ first second even' (λ same.
     let offsets : offset_in opts x.section first ≡ offset_in opts y.section second = cc (x_at, y_at, same) in
     omega (arith, offsets, pointer, address, x.holds, y.holds)) e
+
+-- different addresses that one section maps have different offsets
+pub offsets_apart : (opts : ParseOptions) (sections : List Section) (alignment : ℕ) → OffsetsApart opts sections alignment
+offsets_apart opts sections alignment first second index = file_offset_injective opts sections alignment first second index

@@ -1,5 +1,5 @@
 -- How an address in memory maps to an offset in the file, and what stands at an address.
-use Rattle.std.specs.Prelude.{ℕ, ◌+◌, ◌-◌, ◌*◌, ◌/◌, ◌==◌, ◌≡◌, ◌<◌, ◌≤◌, ◌⊎◌, min, Bool, ◌&&◌, nat_le, nat_lt, if◌then◌else◌, List, length, drop, Option, Some, None, find, slice_get, option_map}
+use Rattle.std.specs.Prelude.{IsTrue, ℕ, ◌+◌, ◌-◌, ◌*◌, ◌/◌, ◌==◌, ◌≡◌, ◌<◌, ◌≤◌, ◌⊎◌, min, Bool, ◌&&◌, nat_le, nat_lt, if◌then◌else◌, List, length, drop, Option, Some, None, find, slice_get, option_map}
 use Rattle.std.specs.Int.{next_multiple_of, is_power_of_two}
 use Rattle.goblin_base.specs.declared.endian.Endian.{Endian}
 use Rattle.goblin_base.specs.declared.endian.Endian.TheVariants.{Little}
@@ -59,6 +59,12 @@ pub record IsFirstWindow (sections : List Section) (alignment rva index : ℕ) :
   pub holds : InWindow alignment rva section
   pub least : (k : ℕ) (s : Section) → k < index → slice_get sections k ≡ Some s → ¬ InWindow alignment rva s
 
+-- Different addresses that one section maps have different offsets.
+abbrev pub OffsetsApart : ParseOptions → List Section → ℕ → Type 0
+OffsetsApart opts sections alignment =
+    (first second index : ℕ) → IsTrue (is_power_of_two alignment) → IsFirstWindow sections alignment first index → IsFirstWindow sections alignment second index
+    → file_offset opts sections alignment first ≡ file_offset opts sections alignment second → first ≡ second
+
 -- the offset is that of the section with the least index among those whose windows hold the address
 abbrev pub MapsTo : ParseOptions → List Section → ℕ → ℕ → ℕ → Type 0
 MapsTo opts sections alignment rva offset = (index : ℕ) × (first : IsFirstWindow sections alignment rva index) × (offset ≡ offset_in opts first.section rva)
@@ -104,8 +110,8 @@ IsNameRead p (Malformed (NameRead offset)) = offset ≡ p
 IsNameRead p e = ⊥
 
 -- which cause is true where no text stands at an address
-abbrev pub IsNameFault : (ℕ → Option ℕ) → List ℕ → ℕ → ErrorOf → Type 0
-IsNameFault offset_of bytes rva = FirstFault (offset_of rva) (IsUnmapped rva) (IsTextFault bytes)
+abbrev pub IsNameAtFault : (ℕ → Option ℕ) → List ℕ → ℕ → ErrorOf → Type 0
+IsNameAtFault offset_of bytes rva = FirstFault (offset_of rva) (IsUnmapped rva) (IsTextFault bytes)
 
 -- which cause is true where a strict reader of a name finds none
 abbrev pub IsSafeNameFault : (ℕ → Option ℕ) → ℕ → ErrorOf → Type 0

@@ -4,7 +4,7 @@ use Rattle.goblin_base.specs.declared.permissive.ParseMode.{ParseMode}
 use Rattle.goblin_base.specs.declared.permissive.ParseMode.TheVariants.{Strict, Permissive}
 use Rattle.goblin_pe_sect.specs.declared.options.ParseOptions.{ParseOptions}
 
--- the options of a file on disk: everything is read, strictly, by the sections
+-- the options of a file on disk: everything is read, strictly, and addresses are mapped by the sections
 abbrev pub default_options : ParseOptions
 default_options = record {
   resolve_rva = true;

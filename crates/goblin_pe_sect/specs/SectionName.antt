@@ -1,5 +1,5 @@
 -- What the eight bytes of a section's name say: the name itself, or where it stands in the string table.
-use Rattle.std.specs.Prelude.{zero, suc, IsTrue, ◌≢◌, ◌≡◌, ◌≤◌, ℕ, ◌+◌, ◌-◌, ◌*◌, ◌/◌, ◌%◌, ◌^◌, ◌++◌, ◌==◌, if◌then◌else◌, Bool, List, [], ◌∷◌, length, drop, map, slice_index, codes, replicate, Option, Some, None, option_map, option_and_then, nat_lt, nat_le}
+use Rattle.std.specs.Prelude.{zero, suc, IsTrue, IsSomeAnd, ◌≢◌, ◌≡◌, ◌≤◌, ℕ, ◌+◌, ◌-◌, ◌*◌, ◌/◌, ◌%◌, ◌^◌, ◌++◌, ◌==◌, if◌then◌else◌, Bool, List, [], ◌∷◌, length, drop, map, slice_index, codes, replicate, Option, Some, None, option_map, option_and_then, nat_lt, nat_le}
 use Rattle.std.specs.List.{list_all, position_or_len}
 use Rattle.goblin_base.specs.declared.error.ErrorOf.{ErrorOf}
 use Rattle.goblin_base.specs.declared.error.ErrorOf.TheVariants.{Malformed}
@@ -57,9 +57,9 @@ unfoldable pub IsNameFault : Bool → List ℕ → ErrorOf → Type 0
 IsNameFault strict name (Malformed NameText) =
     IsTrue strict × (slice_index name 0 ≡ 47) × ((if slice_index name 1 == 47 then bounded_text_at name 2 6 else bounded_text_at name 1 7) ≡ None)
 IsNameFault strict name (Malformed NameBase64) =
-    (slice_index name 0 ≡ 47) × (slice_index name 1 ≡ 47) × (option_and_then (numeral Base64) (bounded_text_at name 2 6) ≡ None)
+    (slice_index name 0 ≡ 47) × (slice_index name 1 ≡ 47) × IsSomeAnd (bounded_text_at name 2 6) (λ text. numeral Base64 text ≡ None)
 IsNameFault strict name (Malformed NameDecimal) =
-    (slice_index name 0 ≡ 47) × (slice_index name 1 ≢ 47) × (option_and_then decimal_number (bounded_text_at name 1 7) ≡ None)
+    (slice_index name 0 ≡ 47) × (slice_index name 1 ≢ 47) × IsSomeAnd (bounded_text_at name 1 7) (λ text. decimal_number text ≡ None)
 IsNameFault strict name e = ⊥
 
 -- the byte of a digit

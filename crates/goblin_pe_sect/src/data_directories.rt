@@ -7,7 +7,7 @@ ghost use Rattle.goblin_base.specs.Answers.{Answers, Writes};
 ghost use Rattle.goblin_base.specs.Bytes.{overwritten};
 ghost use Rattle.goblin_base.specs.Faults.{IsSliceFault};
 ghost use Rattle.goblin_base.specs.Record.{WritesBack, encoding, record_at, record_in};
-ghost use Rattle.goblin_base.specs.RecordLaws.{record_in-within, slice_fault-no_memory};
+ghost use Rattle.goblin_base.proofs.RecordLaws.{record_in-within, slice_fault-no_memory};
 ghost use Rattle.goblin_pe_sect.specs.declared.data_directories.DataDirectory.{DataDirectory};
 ghost use Rattle.goblin_pe_sect.specs.DataDirectories.{EntriesWriteBack, IsDirectoriesFault, IsNoKind, dirs_left, directories_at, directory_fields, directory_in, directory_or_zeros, directory_record, entries_fields, entry_ending, kinds, present_from};
 
@@ -250,8 +250,8 @@ impl DataDirectories {
         Ok(DataDirectories { data_directories })
     }
 
-    /// The bytes of all sixteen entries, those that are `None` as zeros. Entries that were read are
-    /// written as they stood.
+    /// The bytes of all sixteen entries, those that are `None` as zeros. In little-endian order,
+    /// entries that were read are written as they stood.
     #[tactic(auto, using(crate::proofs::EntriesBack::entries_back))]
     pub fn to_bytes(self, endian: Endian) -> [u8; 128]
         ensures bytes { result ≡ encoding endian (entries_fields self.data_directories) }

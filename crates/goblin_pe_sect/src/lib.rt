@@ -3,7 +3,6 @@
 
 pub mod data_directories;
 mod digits;
-pub mod laws;
 pub mod options;
 pub mod section_table;
 pub mod utils;

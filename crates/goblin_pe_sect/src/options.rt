@@ -26,7 +26,7 @@ pub struct ParseOptions {
 impl Default for ParseOptions {
     ghost is_default = { λ options. options ≡ default_options };
 
-    /// Everything is read, strictly, by the sections.
+    /// Everything is read, strictly, and addresses are mapped by the sections.
     fn default() -> ParseOptions {
         ParseOptions {
             resolve_rva: true,

@@ -9,7 +9,7 @@ ghost use Rattle.goblin_base.specs.declared.error.CauseOf.TheVariants.{NameText}
 ghost use Rattle.goblin_base.specs.Answers.{Answers, AnswersOrMemory, Writes};
 ghost use Rattle.goblin_base.specs.Bytes.{overwritten, replaced};
 ghost use Rattle.goblin_base.specs.Faults.{IsSliceFault};
-ghost use Rattle.goblin_base.specs.Record.{encoding};
+ghost use Rattle.goblin_base.specs.Record.{WritesBack, encoding};
 ghost use Rattle.goblin_pe_sect.specs.Options.{is_strict};
 ghost use Rattle.goblin_pe_sect.specs.SectionName.{name_value, IsNameFault, indirect_name, IsNameOffsetFault, real_name_at};
 ghost use Rattle.goblin_pe_sect.specs.SectionTable.{Section, section_eq, section_per, SectionWritesBack, section_record, section_fields, section_at, IsSectionFault, name_of, IsNoName, section_data, OverlapRawData};
@@ -370,7 +370,8 @@ impl SectionTable {
     /// Whether the raw data of the two sections overlaps in the file: neither ends at or before the
     /// place where the other begins.
     pub fn overlaps_with(&self, other: &SectionTable) -> bool
-        ensures { IsTrue result ↔ OverlapRawData self.now other.now }
+        ensures overlap { IsTrue result ↔ OverlapRawData self.now other.now }
+        ensures symmetric { IsTrue result ↔ OverlapRawData other.now self.now }
     {
         let end = u64::from(self.pointer_to_raw_data) + u64::from(self.size_of_raw_data);
         let other_end = u64::from(other.pointer_to_raw_data) + u64::from(other.size_of_raw_data);
@@ -381,25 +382,25 @@ impl SectionTable {
 
 impl SectionTable {
     /// The size of a section record in bytes, the same in either order of bytes: 40.
-    pub fn size_with(_ctx: &Endian) -> usize
+    pub fn size_with(_endian: &Endian) -> usize
         ensures { result ≡ 40 }
     {
         SIZEOF_SECTION_TABLE
     }
 
     /// Writes the record at the front of `bytes` and answers its size, 40. The real name is no part
-    /// of it. A section that was read is written, little-endian, as the 40 bytes that it was read
-    /// from.
+    /// of it. A record that was read is written as it stood, by the same order of bytes.
     ///
     /// # Errors
     /// [`Error::Read`] where there is no room; `bytes` then stays.
-    #[tactic(auto, using(crate::proofs::SectionBack::section_back))]
+    #[tactic(auto, using(crate::proofs::SectionBack::section_back, crate::proofs::SectionBack::record_back))]
     pub fn try_into_ctx(&self, bytes: &mut [u8], endian: Endian) -> Result<usize>
         ensures size { IfOk result (λ size. size ≡ 40) }
         ensures written { Writes result (overwritten bytes.old 0 (encoding endian (section_fields self.now))) bytes.old bytes.new (IsSliceFault bytes.old 0 40) }
-        ensures back { SectionWritesBack }
+        ensures back { WritesBack 40 section_record section_fields }
+        ensures parsed_back { SectionWritesBack }
     {
-        pwrite_slice(bytes, 0, &self.record(endian))?;
+        pwrite_slice(bytes, 0, &self.to_bytes(endian))?;
         Ok(SIZEOF_SECTION_TABLE)
     }
 
@@ -408,12 +409,12 @@ impl SectionTable {
         requires { 40 ≤ length bytes.old }
         ensures { bytes.new ≡ replaced bytes.old 0 (encoding endian (section_fields self.now)) }
     {
-        put_bytes(bytes, 0, &self.record(endian));
+        put_bytes(bytes, 0, &self.to_bytes(endian));
     }
 
     // The bytes of the record.
     #[tactic(auto, unfolding(crate::specs::SectionTable::section_fields))]
-    fn record(&self, endian: Endian) -> [u8; 40]
+    fn to_bytes(&self, endian: Endian) -> [u8; SIZEOF_SECTION_TABLE]
         ensures { result ≡ encoding endian (section_fields self.now) }
     {
         let fields = [

@@ -4,7 +4,7 @@ ghost use Rattle.std.specs.Prelude.{◌≡◌, ◌+◌, ◌-◌, ◌^◌, ◌<�
 ghost use Rattle.std.specs.Int.{is_power_of_two};
 ghost use Rattle.std.specs.Option.{option_copied, option_map};
 ghost use Rattle.goblin_base.specs.Answers.{Answers};
-ghost use Rattle.goblin_pe_sect.specs.Mapping.{read_size, is_in_window, file_offset, InWindow, MapsTo, MapsNowhere, name_at, name_or_none, data_at, IsMessage, IsNameFault, IsSafeNameFault, IsDataFault};
+ghost use Rattle.goblin_pe_sect.specs.Mapping.{read_size, is_in_window, file_offset, InWindow, MapsTo, MapsNowhere, OffsetsApart, name_at, name_or_none, data_at, IsMessage, IsNameAtFault, IsSafeNameFault, IsDataFault};
 ghost use Rattle.goblin_pe_sect.specs.Options.{is_strict, default_options};
 
 use crate::data_directories::DataDirectory;
@@ -51,7 +51,11 @@ fn is_in_window(rva: usize, section: &SectionTable, file_alignment: u32) -> bool
 
 // The first section whose window holds the address.
 #[tactic(auto, using(crate::proofs::Windows::found_in_window))]
-fn section_at(rva: usize, sections: &[SectionTable], file_alignment: u32) -> Option<&SectionTable>
+fn first_in_window(
+    rva: usize,
+    sections: &[SectionTable],
+    file_alignment: u32,
+) -> Option<&SectionTable>
     requires { 0 < file_alignment }
     ensures value { option_copied result ≡ find (is_in_window file_alignment rva) sections.now }
     ensures holds { IfSome result (λ s. InWindow file_alignment rva s.now) }
@@ -89,15 +93,18 @@ fn file_offset(
     if !file_alignment.is_power_of_two() {
         return None;
     }
-    let section = section_at(rva, sections, file_alignment)?;
+    let section = first_in_window(rva, sections, file_alignment)?;
     Some(offset_in(rva, section, file_alignment))
 }
 
 /// The file offset of the address `rva`: that of the first section whose window holds it.
 ///
-/// A window begins at its section's address and has the bytes that are read from the file. Where
-/// `opts` leaves addresses unmapped, the answer is the address itself. There is none where
-/// `file_alignment` is no power of two.
+/// A window begins at its section's address. It is empty where the raw size is 0; else it has the
+/// least of these: the raw data's end rounded up to `file_alignment`, less its begin rounded down to
+/// 512; the raw size rounded up to 4,096; and, where the virtual size is not 0, that rounded up to
+/// 4,096. The offset is the raw pointer, not rounded, plus the distance from the section's address;
+/// it may lie past the file. Where `opts` leaves addresses unmapped, the answer is the address
+/// itself. There is none where `file_alignment` is no power of two.
 #[tactic(auto, using(crate::proofs::Windows::file_offset_first))]
 pub fn find_offset(
     rva: usize,
@@ -107,6 +114,7 @@ pub fn find_offset(
 ) -> Option<usize>
     ensures value { result ≡ file_offset opts.now sections.now file_alignment rva }
     ensures first { IsTrue opts.now.resolve_rva → IsTrue (is_power_of_two file_alignment) → MatchOption result (MapsNowhere sections.now file_alignment rva) (MapsTo opts.now sections.now file_alignment rva) }
+    ensures apart { OffsetsApart opts.now sections.now file_alignment }
 {
     file_offset(rva, sections, file_alignment, opts)
 }
@@ -139,7 +147,7 @@ pub fn try_name<'a>(
     file_alignment: u32,
     opts: &ParseOptions,
 ) -> Result<&'a str>
-    ensures { Answers (λ s. s.now) result (name_at (file_offset opts.now sections.now file_alignment) bytes.now rva) (IsNameFault (file_offset opts.now sections.now file_alignment) bytes.now rva) }
+    ensures { Answers (λ s. s.now) result (name_at (file_offset opts.now sections.now file_alignment) bytes.now rva) (IsNameAtFault (file_offset opts.now sections.now file_alignment) bytes.now rva) }
 {
     match find_offset(rva, sections, file_alignment, opts) {
         Some(offset) => pread_str(bytes, offset),

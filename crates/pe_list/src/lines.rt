@@ -54,14 +54,14 @@ fn push_section(text: &mut String, section: &SectionTable) -> Result<(), AllocEr
     push_hex(text, " raw=", section.size_of_raw_data)?;
     push_hex(text, " ptr=", section.pointer_to_raw_data)?;
     text.push_str(" name=")?;
-    push_escaped(text, name_of(section))?;
+    push_escaped(text, shown_name(section))?;
     text.push_str("\n")?;
     Ok(())
 }
 
 // The bytes of a section's name that are printed.
 #[tactic(auto, unfolding(crate::specs::Lines::shown_name))]
-fn name_of(section: &SectionTable) -> &[u8]
+fn shown_name(section: &SectionTable) -> &[u8]
     ensures { result.now ≡ shown_name section.now }
 {
     match &section.real_name {

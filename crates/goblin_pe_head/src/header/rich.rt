@@ -7,7 +7,7 @@ ghost use Rattle.goblin_base.specs.Answers.{Answers, Writes};
 ghost use Rattle.goblin_base.specs.Bytes.{IsBytes, overwritten};
 ghost use Rattle.goblin_base.specs.Faults.{IsSliceFault};
 ghost use Rattle.goblin_base.specs.Record.{WritesBack, encoding, record_in};
-ghost use Rattle.goblin_base.specs.RecordLaws.{record_in-within, slice_fault-no_memory};
+ghost use Rattle.goblin_base.proofs.RecordLaws.{record_in-within, slice_fault-no_memory};
 ghost use Rattle.goblin_pe_head.specs.declared.header.rich.RichMetadata.{RichMetadata};
 ghost use Rattle.goblin_pe_head.specs.RichHeader.{marker_place, dans_place, other_place, leading_words, rich_in, rich_at, rich_header, IsRichAtFault, rich_value, IsStretchFault, IsRichFault};
 ghost use Rattle.goblin_pe_head.specs.RichMetadata.{AreEntriesOf, metadata_at, metadata_fields, metadata_items, metadata_left, metadata_record};

@@ -5,7 +5,7 @@ ghost use Rattle.goblin_base.specs.Answers.{Writes};
 ghost use Rattle.goblin_base.specs.Bytes.{overwritten};
 ghost use Rattle.goblin_base.specs.Faults.{IsSliceFault};
 ghost use Rattle.goblin_base.specs.Record.{WritesBack, encoding, record_in};
-ghost use Rattle.goblin_base.specs.RecordLaws.{record_in-within, slice_fault-no_memory};
+ghost use Rattle.goblin_base.proofs.RecordLaws.{record_in-within, slice_fault-no_memory};
 ghost use Rattle.goblin_pe_head.specs.declared.optional_header.standard_fields.StandardFields32.{StandardFields32};
 ghost use Rattle.goblin_pe_head.specs.declared.optional_header.standard_fields.StandardFields64.{StandardFields64};
 ghost use Rattle.goblin_pe_head.specs.OptionalHeader.{standard_32_record, standard_32_written, standard_64_record, standard_64_written, standard_from_32, standard_from_64, standard_to_32, standard_to_64};

@@ -5,7 +5,7 @@ ghost use Rattle.goblin_base.specs.Answers.{Answers, Writes};
 ghost use Rattle.goblin_base.specs.Bytes.{overwritten};
 ghost use Rattle.goblin_base.specs.Faults.{IsSliceFault};
 ghost use Rattle.goblin_base.specs.Record.{WritesBack, encoding, record_in};
-ghost use Rattle.goblin_base.specs.RecordLaws.{record_in-within, slice_fault-no_memory};
+ghost use Rattle.goblin_base.proofs.RecordLaws.{record_in-within, slice_fault-no_memory};
 ghost use Rattle.goblin_pe_head.specs.declared.optional_header.windows_fields.WindowsFields32.{WindowsFields32};
 ghost use Rattle.goblin_pe_head.specs.declared.optional_header.windows_fields.WindowsFields64.{WindowsFields64};
 ghost use Rattle.goblin_pe_head.specs.OptionalHeader.{windows_32_record, windows_32_written, windows_64_record, windows_64_written, windows_from_32, narrowed, IsTooWide, NarrowsWindows};
