@@ -2,7 +2,6 @@
 
 use super::sample::{put, sample, sample_section, section};
 use goblin_base::{Cause, Error, ParseMode, ReadFault};
-use goblin_pe_sect::laws::offsets_in_one_section;
 use goblin_pe_sect::utils::{
     find_offset, find_offset_or, get_data, get_data_with_opts, is_in_range, safe_try_name, try_name,
 };
@@ -72,14 +71,6 @@ fn an_address_without_offset_is_refused_with_the_message(rt: HostRuntime) {
         _ => "",
     };
     assert_eq!(rt; message, "no section");
-}
-
-#[test]
-fn two_addresses_of_one_section_have_two_offsets(rt: HostRuntime) {
-    let sections = [sample_section()];
-    let opts = ParseOptions::default();
-    let offsets = offsets_in_one_section(0x1000, 0x1010, &sections, 0x200, &opts);
-    assert_eq!(rt; offsets, (Some(0x200), Some(0x210)));
 }
 
 #[test]
