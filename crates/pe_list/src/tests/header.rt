@@ -8,7 +8,7 @@ use goblin_pe_head::{CoffHeader, DosHeader, DosStub, Header, OptionalHeader};
 use goblin_pe_sect::{DataDirectories, DataDirectory, ParseOptions};
 use std::test::Fail;
 
-/// The DOS header and the stub with which both programs of `samples/` begin: their bytes that are not
+/// The DOS header and the stub with which both programs of `samples/` begin: the bytes that are not
 /// zero, by their offsets.
 const PROGRAM_FRONT: &[(usize, &[u8])] = &[
     (0x00, b"MZx\x00\x01\x00\x00\x00\x04"),

@@ -21,6 +21,14 @@ const ENTRIES: [(usize, u32, u32, usize); 7] = [
     (12, 12624, 328, 216),
 ];
 
+/// Bytes that all differ, as many as the longest record has.
+const RAMP: [u8; 88] = [
+    1, 2, 3, 4, 5, 6, 7, 8, 9, 10, 11, 12, 13, 14, 15, 16, 17, 18, 19, 20, 21, 22, 23, 24, 25, 26,
+    27, 28, 29, 30, 31, 32, 33, 34, 35, 36, 37, 38, 39, 40, 41, 42, 43, 44, 45, 46, 47, 48, 49, 50,
+    51, 52, 53, 54, 55, 56, 57, 58, 59, 60, 61, 62, 63, 64, 65, 66, 67, 68, 69, 70, 71, 72, 73, 74,
+    75, 76, 77, 78, 79, 80, 81, 82, 83, 84, 85, 86, 87, 88,
+];
+
 #[test]
 fn directories_for_64_bits_end_where_the_header_counts(rt: HostRuntime) -> Result<(), Fail> {
     let mut bytes = [0; 241];
@@ -247,4 +255,109 @@ fn windows_fields_that_do_not_fit_are_refused(rt: HostRuntime) {
         let is_refused = matches!(narrowed, Err(Error::Malformed(Cause::FieldTooWide)));
         assert!(rt; is_refused, "{fields:?}");
     }
+}
+
+#[test]
+fn standard_fields_of_each_width_are_read_and_written(rt: HostRuntime) -> Result<(), Fail> {
+    let of_32 = StandardFields32 {
+        magic: 0x0102,
+        major_linker_version: 0x03,
+        minor_linker_version: 0x04,
+        size_of_code: 0x0506_0708,
+        size_of_initialized_data: 0x090A_0B0C,
+        size_of_uninitialized_data: 0x0D0E_0F10,
+        address_of_entry_point: 0x1112_1314,
+        base_of_code: 0x1516_1718,
+        base_of_data: 0x191A_1B1C,
+    };
+    assert!(rt; StandardFields32::try_from_ctx(&RAMP, Endian::Big)? == (of_32, 28));
+    assert!(rt; StandardFields32::size_with(&Endian::Big) == 28);
+    let of_64 = StandardFields64 {
+        magic: 0x0102,
+        major_linker_version: 0x03,
+        minor_linker_version: 0x04,
+        size_of_code: 0x0506_0708,
+        size_of_initialized_data: 0x090A_0B0C,
+        size_of_uninitialized_data: 0x0D0E_0F10,
+        address_of_entry_point: 0x1112_1314,
+        base_of_code: 0x1516_1718,
+    };
+    assert!(rt; StandardFields64::try_from_ctx(&RAMP, Endian::Big)? == (of_64, 24));
+    assert!(rt; StandardFields64::size_with(&Endian::Big) == 24);
+    for endian in [Endian::Little, Endian::Big] {
+        let mut room = [0; 28];
+        let (read, _) = StandardFields32::try_from_ctx(&RAMP, endian)?;
+        let size = read.try_into_ctx(&mut room, endian)?;
+        assert!(rt; size == 28 && &room[..] == &RAMP[..28], "{endian:?}");
+        let mut room = [0; 24];
+        let (read, _) = StandardFields64::try_from_ctx(&RAMP, endian)?;
+        let size = read.try_into_ctx(&mut room, endian)?;
+        assert!(rt; size == 24 && &room[..] == &RAMP[..24], "{endian:?}");
+    }
+    Ok(())
+}
+
+#[test]
+fn windows_fields_of_each_width_are_read_and_written(rt: HostRuntime) -> Result<(), Fail> {
+    let of_32 = WindowsFields32 {
+        image_base: 0x0102_0304,
+        section_alignment: 0x0506_0708,
+        file_alignment: 0x090A_0B0C,
+        major_operating_system_version: 0x0D0E,
+        minor_operating_system_version: 0x0F10,
+        major_image_version: 0x1112,
+        minor_image_version: 0x1314,
+        major_subsystem_version: 0x1516,
+        minor_subsystem_version: 0x1718,
+        win32_version_value: 0x191A_1B1C,
+        size_of_image: 0x1D1E_1F20,
+        size_of_headers: 0x2122_2324,
+        check_sum: 0x2526_2728,
+        subsystem: 0x292A,
+        dll_characteristics: 0x2B2C,
+        size_of_stack_reserve: 0x2D2E_2F30,
+        size_of_stack_commit: 0x3132_3334,
+        size_of_heap_reserve: 0x3536_3738,
+        size_of_heap_commit: 0x393A_3B3C,
+        loader_flags: 0x3D3E_3F40,
+        number_of_rva_and_sizes: 0x4142_4344,
+    };
+    assert!(rt; WindowsFields32::try_from_ctx(&RAMP, Endian::Big)? == (of_32, 68));
+    assert!(rt; WindowsFields32::size_with(&Endian::Big) == 68);
+    let of_64 = WindowsFields64 {
+        image_base: 0x0102_0304_0506_0708,
+        section_alignment: 0x090A_0B0C,
+        file_alignment: 0x0D0E_0F10,
+        major_operating_system_version: 0x1112,
+        minor_operating_system_version: 0x1314,
+        major_image_version: 0x1516,
+        minor_image_version: 0x1718,
+        major_subsystem_version: 0x191A,
+        minor_subsystem_version: 0x1B1C,
+        win32_version_value: 0x1D1E_1F20,
+        size_of_image: 0x2122_2324,
+        size_of_headers: 0x2526_2728,
+        check_sum: 0x292A_2B2C,
+        subsystem: 0x2D2E,
+        dll_characteristics: 0x2F30,
+        size_of_stack_reserve: 0x3132_3334_3536_3738,
+        size_of_stack_commit: 0x393A_3B3C_3D3E_3F40,
+        size_of_heap_reserve: 0x4142_4344_4546_4748,
+        size_of_heap_commit: 0x494A_4B4C_4D4E_4F50,
+        loader_flags: 0x5152_5354,
+        number_of_rva_and_sizes: 0x5556_5758,
+    };
+    assert!(rt; WindowsFields64::try_from_ctx(&RAMP, Endian::Big)? == (of_64, 88));
+    assert!(rt; WindowsFields64::size_with(&Endian::Big) == 88);
+    for endian in [Endian::Little, Endian::Big] {
+        let mut room = [0; 68];
+        let (read, _) = WindowsFields32::try_from_ctx(&RAMP, endian)?;
+        let size = read.try_into_ctx(&mut room, endian)?;
+        assert!(rt; size == 68 && &room[..] == &RAMP[..68], "{endian:?}");
+        let mut room = [0; 88];
+        let (read, _) = WindowsFields64::try_from_ctx(&RAMP, endian)?;
+        let size = read.try_into_ctx(&mut room, endian)?;
+        assert!(rt; size == 88 && &room[..] == &RAMP[..88], "{endian:?}");
+    }
+    Ok(())
 }
