@@ -17,7 +17,7 @@ const PROGRAM_FRONT: &[(usize, &[u8])] = &[
     (0x40, PROGRAM_STUB),
 ];
 
-/// That stub, which the zero bytes behind it end.
+/// That stub, up to the signature, with two zero bytes at its end.
 const PROGRAM_STUB: &[u8; 56] =
     b"\x0E\x1F\xBA\x0E\x00\xB4\x09\xCD\x21\xB8\x01\x4C\xCD\x21This program cannot be run in DOS mode.$\0\0";
 
