@@ -4,10 +4,13 @@
 mod addresses;
 mod bytes;
 mod directories;
+mod header;
 mod headers;
 mod memory;
 mod modes;
 mod names;
+mod optional_header;
+mod rich;
 mod runs;
 mod sample;
 mod sections;

@@ -10,66 +10,71 @@ use std::test::Fail;
 /// Bytes by which each order of a number shows.
 const BYTES: [u8; 8] = [1, 2, 3, 4, 5, 6, 7, 8];
 
-/// The number of the first bytes, as many as its width, in each order.
+/// The numbers of the first bytes, two, four and eight of them, in each order.
 const NUMBERS: [(Endian, u16, u32, u64); 2] = [
     (Endian::Little, 0x0201, 0x0403_0201, 0x0807_0605_0403_0201),
     (Endian::Big, 0x0102, 0x0102_0304, 0x0102_0304_0506_0708),
 ];
 
+/// Those bytes, written one after the other by each width.
+const WRITTEN: [u8; 14] = [1, 2, 1, 2, 3, 4, 1, 2, 3, 4, 5, 6, 7, 8];
+
 #[test]
 fn numbers_of_each_width_are_read_in_both_orders(rt: HostRuntime) -> Result<(), Fail> {
     assert_eq!(rt; pread_u8(&BYTES, 7)?, 8);
     for (endian, of_two, of_four, of_eight) in NUMBERS {
-        assert_eq!(rt; pread_u16(&BYTES, 0, endian)?, of_two, "{endian:?}");
-        assert_eq!(rt; pread_u32(&BYTES, 0, endian)?, of_four, "{endian:?}");
-        assert_eq!(rt; pread_u64(&BYTES, 0, endian)?, of_eight, "{endian:?}");
+        let two = pread_u16(&BYTES, 0, endian)?;
+        let four = pread_u32(&BYTES, 0, endian)?;
+        let eight = pread_u64(&BYTES, 0, endian)?;
+        assert!(rt;
+            two == of_two && four == of_four && eight == of_eight,
+            "{endian:?}"
+        );
     }
     Ok(())
 }
 
 #[test]
-fn the_offset_moves_past_a_number_that_was_read(rt: HostRuntime) -> Result<(), Fail> {
-    let mut offset = 7;
-    assert_eq!(rt; gread_u8(&BYTES, &mut offset)?, 8);
-    assert_eq!(rt; offset, 8);
+fn the_offset_moves_past_each_number_that_was_read(rt: HostRuntime) -> Result<(), Fail> {
     for (endian, of_two, of_four, of_eight) in NUMBERS {
         let mut offset = 0;
-        assert_eq!(rt; gread_u16(&BYTES, &mut offset, endian)?, of_two);
-        assert_eq!(rt; offset, 2);
-        let mut offset = 0;
-        assert_eq!(rt; gread_u32(&BYTES, &mut offset, endian)?, of_four);
-        assert_eq!(rt; offset, 4);
-        let mut offset = 0;
-        assert_eq!(rt; gread_u64(&BYTES, &mut offset, endian)?, of_eight);
-        assert_eq!(rt; offset, 8);
+        let two = gread_u16(&WRITTEN, &mut offset, endian)?;
+        let four = gread_u32(&WRITTEN, &mut offset, endian)?;
+        let eight = gread_u64(&WRITTEN, &mut offset, endian)?;
+        assert!(rt;
+            two == of_two && four == of_four && eight == of_eight,
+            "{endian:?}"
+        );
+        assert_eq!(rt; offset, WRITTEN.len());
     }
+    let mut offset = 1;
+    let byte = gread_u8(&WRITTEN, &mut offset)?;
+    assert!(rt; byte == 2 && offset == 2);
     Ok(())
 }
 
 #[test]
 fn numbers_of_each_width_are_written_in_both_orders(rt: HostRuntime) -> Result<(), Fail> {
     for (endian, of_two, of_four, of_eight) in NUMBERS {
-        let mut room = [0; 8];
+        let mut room = [0; 14];
         pwrite_u16(&mut room, 0, of_two, endian)?;
-        assert_eq!(rt; room, [1, 2, 0, 0, 0, 0, 0, 0], "{endian:?}");
-        pwrite_u32(&mut room, 0, of_four, endian)?;
-        assert_eq!(rt; room, [1, 2, 3, 4, 0, 0, 0, 0], "{endian:?}");
-        pwrite_u64(&mut room, 0, of_eight, endian)?;
-        assert_eq!(rt; room, BYTES, "{endian:?}");
+        pwrite_u32(&mut room, 2, of_four, endian)?;
+        pwrite_u64(&mut room, 6, of_eight, endian)?;
+        assert!(rt; room == WRITTEN, "{endian:?}");
     }
     Ok(())
 }
 
 #[test]
 fn bytes_are_read_and_written_as_they_are(rt: HostRuntime) -> Result<(), Fail> {
-    assert_eq!(rt; pread_slice(&BYTES, 5, 3)?, [6, 7, 8].as_slice());
     let mut offset = 5;
-    assert_eq!(rt; gread_slice(&BYTES, &mut offset, 2)?, [6, 7].as_slice());
-    assert_eq!(rt; offset, 7);
+    let moved = gread_slice(&BYTES, &mut offset, 2)?;
+    assert!(rt; moved == [6, 7].as_slice() && offset == 7);
+    assert!(rt; pread_slice(&BYTES, 5, 3)? == [6, 7, 8].as_slice());
     let mut room = [0; 4];
     pwrite_u8(&mut room, 3, 9)?;
     pwrite_slice(&mut room, 1, &[7, 8])?;
-    assert_eq!(rt; room, [0, 7, 8, 9]);
+    assert!(rt; room == [0, 7, 8, 9]);
     Ok(())
 }
 
@@ -113,13 +118,16 @@ fn a_write_past_the_end_is_refused_and_leaves_the_bytes(rt: HostRuntime) {
 #[test]
 fn a_text_ends_at_a_nul_or_with_the_bytes(rt: HostRuntime) -> Result<(), Fail> {
     let bytes = b"ab\0c";
-    assert_eq!(rt; before_nul(bytes), b"ab".as_slice());
     for (begin, want, end) in [(0, "ab", 3), (2, "", 3), (3, "c", 4)] {
-        assert_eq!(rt; pread_str(bytes, begin)?, want, "at {begin}");
+        let text = pread_str(bytes, begin)?;
         let mut offset = begin;
-        assert_eq!(rt; gread_str(bytes, &mut offset)?, want, "at {begin}");
-        assert_eq!(rt; offset, end, "at {begin}");
+        let moved = gread_str(bytes, &mut offset)?;
+        assert!(rt;
+            text == want && moved == want && offset == end,
+            "at {begin}"
+        );
     }
+    assert!(rt; before_nul(bytes) == b"ab".as_slice());
     Ok(())
 }
 
@@ -133,14 +141,13 @@ fn a_bounded_text_ends_at_a_nul_or_at_its_bound(rt: HostRuntime) -> Result<(), F
         (3, "ab", 3),
         (4, "ab", 3),
     ] {
-        assert_eq!(rt; pread_str_until(bytes, 0, len)?, want, "within {len}");
+        let text = pread_str_until(bytes, 0, len)?;
         let mut offset = 0;
-        assert_eq!(rt;
-            gread_str_until(bytes, &mut offset, len)?,
-            want,
+        let moved = gread_str_until(bytes, &mut offset, len)?;
+        assert!(rt;
+            text == want && moved == want && offset == end,
             "within {len}"
         );
-        assert_eq!(rt; offset, end, "within {len}");
     }
     Ok(())
 }

@@ -169,15 +169,12 @@ fn a_directory_is_read_and_written_in_both_orders(rt: HostRuntime) -> Result<(),
             virtual_address,
             size,
         };
-        assert_eq!(rt;
-            DataDirectory::try_from_ctx(&bytes, endian)?,
-            (want, 8),
-            "{endian:?}"
-        );
+        let (read, taken) = DataDirectory::try_from_ctx(&bytes, endian)?;
+        assert!(rt; read == want && taken == 8, "{endian:?}");
         let mut room = [0; 8];
-        assert_eq!(rt; want.try_into_ctx(&mut room, endian)?, 8, "{endian:?}");
-        assert_eq!(rt; room, bytes, "{endian:?}");
-        assert_eq!(rt; DataDirectory::size_with(&endian), 8, "{endian:?}");
+        let written = want.try_into_ctx(&mut room, endian)?;
+        assert!(rt; room == bytes && written == 8, "{endian:?}");
+        assert_eq!(rt; DataDirectory::size_with(&endian), 8);
     }
     Ok(())
 }
