@@ -25,6 +25,10 @@ pub record Rich : Type 0 where
 abbrev pub rich_value : RichHeader → Rich
 rich_value r = record { key = r.key; bytes = r.bytes.now; padding_size = r.padding_size; start_offset = r.start_offset; end_offset = r.end_offset }
 
+-- the padding is no longer than the data, as it has to be for the entries behind it
+abbrev pub PaddingFits : RichHeader → Type 0
+PaddingFits r = r.padding_size ≤ length r.bytes.now
+
 -- the least number below n that passes a test
 abbrev pub least_below : ℕ → (ℕ → Bool) → Option ℕ
 least_below n test = find test (range_with_len 0 n)

@@ -1,5 +1,5 @@
-//! The headers of a PE file: the DOS header and the stub behind it, the Rich header, the COFF header
-//! and the section table.
+//! The headers of a PE file: the whole header, and its parts, which are the DOS header and the stub
+//! behind it, the Rich header and the COFF header; and the section table.
 
 ghost use Rattle.std.specs.Prelude.{◌≡◌, ◌+◌, ◌*◌, ◌/◌, ◌<◌, ◌≤◌, length, true, IfOk, OnOk, OnErr, IsErrAnd};
 ghost use Rattle.goblin_base.specs.Answers.{Answers, AnswersOrMemory};

@@ -3,6 +3,7 @@
 
 mod addresses;
 mod bytes;
+mod constants;
 mod directories;
 mod header;
 mod headers;

@@ -1,12 +1,12 @@
 //! The whole header of a PE file.
 
-ghost use Rattle.std.specs.Prelude.{◌≡◌, ◌≤◌, drop, length, option_map, true};
+ghost use Rattle.std.specs.Prelude.{◌≡◌, ◌≤◌, IfOk, IfSome, drop, length, option_map, true};
 ghost use Rattle.goblin_base.specs.Answers.{Answers};
 ghost use Rattle.goblin_pe_sect.specs.Options.{is_strict};
 ghost use Rattle.goblin_pe_head.specs.DosStub.{stub_bytes, IsStubFault};
 ghost use Rattle.goblin_pe_head.specs.OptionalHeader.{IsOptionalFault};
 ghost use Rattle.goblin_pe_head.specs.PeHeader.{default_header, header_at, header_value, header_without_dos, optional_at, pe_header, stub_in, IsHeaderAtFault, IsHeaderFault};
-ghost use Rattle.goblin_pe_head.specs.RichHeader.{rich_value};
+ghost use Rattle.goblin_pe_head.specs.RichHeader.{PaddingFits, rich_value};
 
 use crate::header::{CoffHeader, DosHeader, DosStub, RichHeader, SIZEOF_PE_MAGIC};
 use crate::optional_header::OptionalHeader;
@@ -20,7 +20,7 @@ use goblin_pe_sect::ParseOptions;
 pub struct Header<'a> {
     /// The DOS header, at the front of the file.
     pub dos_header: DosHeader,
-    /// The DOS stub, from 0x40 to the PE signature.
+    /// The DOS stub, from 0x40 to the PE signature, or the default one in its place.
     pub dos_stub: DosStub<'a>,
     /// The Rich header in the stub, where there is one.
     pub rich_header: Option<RichHeader<'a>>,
@@ -77,7 +77,8 @@ impl<'a> Header<'a> {
     /// # Errors
     /// As [`Header::parse_with_opts`] in strict mode.
     pub fn parse(bytes: &'a [u8]) -> Result<Self>
-        ensures { Answers header_value result (pe_header true bytes.now) (IsHeaderFault true bytes.now) }
+        ensures value { Answers header_value result (pe_header true bytes.now) (IsHeaderFault true bytes.now) }
+        ensures padding { IfOk result (λ header. IfSome header.rich_header PaddingFits) }
     {
         Header::parse_with_opts(bytes, &ParseOptions::default())
     }
@@ -90,7 +91,8 @@ impl<'a> Header<'a> {
     /// [`Error::Read`] where the COFF header is not all there; as the reader of [`OptionalHeader`].
     #[tactic(auto, unfolding(crate::specs::PeHeader::pe_header, crate::specs::PeHeader::IsHeaderFault))]
     pub fn parse_with_opts(bytes: &'a [u8], opts: &ParseOptions) -> Result<Self>
-        ensures { Answers header_value result (pe_header (is_strict opts.now.parse_mode) bytes.now) (IsHeaderFault (is_strict opts.now.parse_mode) bytes.now) }
+        ensures value { Answers header_value result (pe_header (is_strict opts.now.parse_mode) bytes.now) (IsHeaderFault (is_strict opts.now.parse_mode) bytes.now) }
+        ensures padding { IfOk result (λ header. IfSome header.rich_header PaddingFits) }
     {
         let dos_header = DosHeader::parse(bytes)?;
         let dos_stub = stub_in(bytes, dos_header.pe_pointer, opts)?;
@@ -121,7 +123,8 @@ impl<'a> Header<'a> {
         dos_stub: DosStub<'a>,
         rich_header: Option<RichHeader<'a>>,
     ) -> Result<Self>
-        ensures { Answers header_value result (header_at dos_header (stub_bytes dos_stub.entry) (option_map rich_value rich_header.entry) bytes.now offset) (IsHeaderAtFault bytes.now offset) }
+        ensures value { Answers header_value result (header_at dos_header (stub_bytes dos_stub.entry) (option_map rich_value rich_header.entry) bytes.now offset) (IsHeaderAtFault bytes.now offset) }
+        ensures rich { IfOk result (λ header. header.rich_header ≡ rich_header.entry) }
     {
         let Ok(signature) = pread_u32(bytes, offset, Endian::Little) else {
             return Err(Error::Malformed(Cause::NoPeSignature(offset)));

@@ -9,7 +9,7 @@ ghost use Rattle.goblin_base.specs.Faults.{IsSliceFault};
 ghost use Rattle.goblin_base.specs.Record.{WritesBack, encoding, record_in};
 ghost use Rattle.goblin_base.proofs.RecordLaws.{record_in-within, slice_fault-no_memory};
 ghost use Rattle.goblin_pe_head.specs.declared.header.rich.RichMetadata.{RichMetadata};
-ghost use Rattle.goblin_pe_head.specs.RichHeader.{marker_place, dans_place, other_place, leading_words, rich_in, rich_at, rich_header, IsRichAtFault, rich_value, IsStretchFault, IsRichFault};
+ghost use Rattle.goblin_pe_head.specs.RichHeader.{PaddingFits, marker_place, dans_place, other_place, leading_words, rich_in, rich_at, rich_header, IsRichAtFault, rich_value, IsStretchFault, IsRichFault};
 ghost use Rattle.goblin_pe_head.specs.RichMetadata.{AreEntriesOf, metadata_at, metadata_fields, metadata_items, metadata_left, metadata_record};
 
 use crate::header::{DOS_STUB_OFFSET, DosHeader};
@@ -57,7 +57,7 @@ pub struct RichHeader<'a> {
 impl<'a> RichHeader<'a> {
     /// Finds the Rich header of a file: between the DOS header and the PE signature, the first
     /// [`RICH_MARKER`] with a key behind it, and the first word that is [`DANS_MARKER`] under that
-    /// key. A file without the marker has none.
+    /// key. A word may begin at any byte. A file without the marker has none.
     ///
     /// # Errors
     /// As [`DosHeader::parse`] where the file has no DOS header; [`Error::Malformed`] with
@@ -65,7 +65,8 @@ impl<'a> RichHeader<'a> {
     /// where the data would not end behind where they begin, both counted from 0x40; [`Error::Read`]
     /// with [`ReadFault::TooBig`] where the data are no whole number of words.
     pub fn parse(bytes: &'a [u8]) -> Result<Option<Self>>
-        ensures { Answers (option_map rich_value) result (rich_header bytes.now) (IsRichFault bytes.now) }
+        ensures value { Answers (option_map rich_value) result (rich_header bytes.now) (IsRichFault bytes.now) }
+        ensures padding { IfOk result (λ rich. IfSome rich PaddingFits) }
     {
         RichHeader::parse_with_opts(bytes, &ParseOptions::default())
     }
@@ -76,7 +77,8 @@ impl<'a> RichHeader<'a> {
     /// As [`RichHeader::parse`], in both modes.
     #[tactic(auto, unfolding(crate::specs::RichHeader::rich_header, crate::specs::RichHeader::IsRichFault))]
     pub fn parse_with_opts(bytes: &'a [u8], _opts: &ParseOptions) -> Result<Option<Self>>
-        ensures { Answers (option_map rich_value) result (rich_header bytes.now) (IsRichFault bytes.now) }
+        ensures value { Answers (option_map rich_value) result (rich_header bytes.now) (IsRichFault bytes.now) }
+        ensures padding { IfOk result (λ rich. IfSome rich PaddingFits) }
     {
         let dos = DosHeader::parse(bytes)?;
         RichHeader::parse_at(bytes, dos.pe_pointer)
@@ -85,7 +87,8 @@ impl<'a> RichHeader<'a> {
     // Finds the Rich header in front of a PE signature.
     pub(super) fn parse_at(bytes: &'a [u8], pe_pointer: u32) -> Result<Option<Self>>
         requires { pe_pointer ≤ length bytes.now }
-        ensures { Answers (option_map rich_value) result (rich_at bytes.now pe_pointer) (IsRichAtFault bytes.now pe_pointer) }
+        ensures value { Answers (option_map rich_value) result (rich_at bytes.now pe_pointer) (IsRichAtFault bytes.now pe_pointer) }
+        ensures padding { IfOk result (λ rich. IfSome rich PaddingFits) }
     {
         let start = DOS_STUB_OFFSET as usize;
         let end = pe_pointer as usize;
@@ -95,7 +98,8 @@ impl<'a> RichHeader<'a> {
         rich_in(&bytes[start..end])
     }
 
-    /// The entries, which stand behind the padding.
+    /// The entries, which stand behind the padding. The padding must be no longer than the data, as it is
+    /// in a header that was read.
     #[tactic(auto, using(crate::proofs::RichLaw::entries_of))]
     pub fn metadatas(&self) -> RichMetadataIterator<'a>
         requires { self.now.padding_size ≤ length self.now.bytes.now }
@@ -260,7 +264,8 @@ impl FusedIterator for RichMetadataIterator<'_> {}
 #[tactic(auto, unfolding(crate::specs::RichHeader::rich_in, crate::specs::RichHeader::IsStretchFault))]
 fn rich_in<'a>(stretch: &'a [u8]) -> Result<Option<RichHeader<'a>>>
     requires { length stretch.now + 64 < 2 ^ 32 }
-    ensures { Answers (option_map rich_value) result (rich_in stretch.now) (IsStretchFault stretch.now) }
+    ensures value { Answers (option_map rich_value) result (rich_in stretch.now) (IsStretchFault stretch.now) }
+    ensures padding { IfOk result (λ rich. IfSome rich PaddingFits) }
 {
     let Some(end) = marker_place(stretch) else {
         return Ok(None);

@@ -18,7 +18,7 @@ const DEFAULT_STUB: &[u8; 64] =
 /// Source: PE Format, "MS-DOS Stub (Image Only)".
 #[derive(Debug, PartialEq, Copy, Clone)]
 pub struct DosStub<'a> {
-    /// The file's bytes from 0x40 to the PE signature.
+    /// The file's bytes from 0x40 to the PE signature, or those of the default stub.
     pub bytes: &'a [u8],
 }
 

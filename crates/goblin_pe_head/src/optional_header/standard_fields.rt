@@ -26,7 +26,7 @@ pub const SIZEOF_STANDARD_FIELDS_64: usize = 24;
 /// record has 28 bytes.
 #[derive(Debug, PartialEq, Copy, Clone, Default)]
 pub struct StandardFields32 {
-    /// What the optional header is, [`MAGIC_32`] or [`MAGIC_64`].
+    /// What the optional header is: [`MAGIC_32`](super::MAGIC_32).
     pub magic: u16,
     /// The linker's major version.
     pub major_linker_version: u8,
@@ -90,7 +90,7 @@ impl StandardFields32 {
     /// written as they stood, by the same order of bytes.
     ///
     /// # Errors
-    /// [`Error::Read`] where there is no room for 28 bytes; `bytes` then stays.
+    /// [`Error::Read`] where there is no room for 28 bytes; `bytes` are then as they were.
     #[tactic(auto, using(crate::proofs::OptionalBack::standard_32_back))]
     pub fn try_into_ctx(self, bytes: &mut [u8], endian: Endian) -> Result<usize>
         ensures size { IfOk result (λ n. n ≡ 28) }
@@ -141,7 +141,7 @@ impl TryFromCtx<'_> for StandardFields32 {
 /// record has 24 bytes.
 #[derive(Debug, PartialEq, Copy, Clone, Default)]
 pub struct StandardFields64 {
-    /// What the optional header is, [`MAGIC_32`] or [`MAGIC_64`].
+    /// What the optional header is: [`MAGIC_64`](super::MAGIC_64).
     pub magic: u16,
     /// The linker's major version.
     pub major_linker_version: u8,
@@ -200,7 +200,7 @@ impl StandardFields64 {
     /// written as they stood, by the same order of bytes.
     ///
     /// # Errors
-    /// [`Error::Read`] where there is no room for 24 bytes; `bytes` then stays.
+    /// [`Error::Read`] where there is no room for 24 bytes; `bytes` are then as they were.
     #[tactic(auto, using(crate::proofs::OptionalBack::standard_64_back))]
     pub fn try_into_ctx(self, bytes: &mut [u8], endian: Endian) -> Result<usize>
         ensures size { IfOk result (λ n. n ≡ 24) }
@@ -250,7 +250,8 @@ impl TryFromCtx<'_> for StandardFields64 {
 /// Source: PE Format, "Optional Header Standard Fields (Image Only)".
 #[derive(Debug, PartialEq, Copy, Clone, Default)]
 pub struct StandardFields {
-    /// What the optional header is, [`MAGIC_32`] or [`MAGIC_64`].
+    /// What the optional header is, [`MAGIC_32`](super::MAGIC_32) or
+    /// [`MAGIC_64`](super::MAGIC_64).
     pub magic: u16,
     /// The linker's major version.
     pub major_linker_version: u8,

@@ -141,7 +141,7 @@ impl WindowsFields32 {
     /// written as they stood, by the same order of bytes.
     ///
     /// # Errors
-    /// [`Error::Read`] where there is no room for 68 bytes; `bytes` then stays.
+    /// [`Error::Read`] where there is no room for 68 bytes; `bytes` are then as they were.
     #[tactic(auto, using(crate::proofs::OptionalBack::windows_32_back))]
     pub fn try_into_ctx(self, bytes: &mut [u8], endian: Endian) -> Result<usize>
         ensures size { IfOk result (λ n. n ≡ 68) }
@@ -303,7 +303,7 @@ impl WindowsFields64 {
     /// written as they stood, by the same order of bytes.
     ///
     /// # Errors
-    /// [`Error::Read`] where there is no room for 88 bytes; `bytes` then stays.
+    /// [`Error::Read`] where there is no room for 88 bytes; `bytes` are then as they were.
     #[tactic(auto, using(crate::proofs::OptionalBack::windows_64_back))]
     pub fn try_into_ctx(self, bytes: &mut [u8], endian: Endian) -> Result<usize>
         ensures size { IfOk result (λ n. n ≡ 88) }

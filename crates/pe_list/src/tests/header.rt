@@ -142,9 +142,22 @@ fn a_refused_optional_header_refuses_the_header_in_both_modes(rt: HostRuntime) -
         let read = Header::parse_with_opts(&file, &opts);
         let is_refused = matches!(read, Err(Error::Malformed(Cause::DirectoryCount(17))));
         assert!(rt; is_refused, "{mode:?}");
+        put(&mut file, 0xB4, b"\x10");
         put(&mut file, 0x58, b"\x07\x01");
         let read = Header::parse_with_opts(&file, &opts);
         assert!(rt; matches!(read, Err(Error::BadMagic(0x107))), "{mode:?}");
+    }
+    Ok(())
+}
+
+#[test]
+fn the_size_of_an_optional_header_does_not_choose_its_width(rt: HostRuntime) -> Result<(), Fail> {
+    let mut file = sample(rt.alloc())?;
+    let want = Header::parse(&file)?.optional_header;
+    for size in [b"\x01", b"\xF0"] {
+        put(&mut file, 0x54, size);
+        let read = Header::parse(&file)?.optional_header;
+        assert!(rt; read.is_some() && read == want, "{size:?}");
     }
     Ok(())
 }

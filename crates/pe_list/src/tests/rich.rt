@@ -33,8 +33,12 @@ fn a_rich_header_of_one_entry_is_read(rt: HostRuntime) -> Result<(), Fail> {
         start_offset: 0x40,
         end_offset: 0x58,
     };
-    assert!(rt; RichHeader::parse(&file)? == Some(want));
-    let mut entries = want.metadatas();
+    let Some(rich) = RichHeader::parse(&file)? else {
+        assert!(rt; false, "there is no Rich header");
+        return Ok(());
+    };
+    assert!(rt; rich == want);
+    let mut entries = rich.metadatas();
     let entry = RichMetadata {
         build: 2,
         product: 3,
