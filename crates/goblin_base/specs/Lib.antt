@@ -3,3 +3,4 @@ pub mod Bytes
 pub mod Faults
 pub mod Record
 pub mod Steps
+pub mod Tables
