@@ -1,4 +1,6 @@
+pub mod HeaderBack
 pub mod OptionalBack
 pub mod RichEntries
 pub mod RichLaw
 pub mod Sections
+pub mod WrittenForm

@@ -1,5 +1,6 @@
 -- The optional header: standard fields and Windows fields by its magic, and then the directories.
-use Rattle.std.specs.Prelude.{◌≡◌, ◌≢◌, ◌⊎◌, ℕ, ◌+◌, ◌*◌, ◌%◌, ◌^◌, ◌==◌, if◌then◌else◌, List, [], ◌∷◌, nat_lt, Option, Some, None, Result}
+use Rattle.std.specs.List.{concat}
+use Rattle.std.specs.Prelude.{◌≡◌, ◌≢◌, ◌⊎◌, ℕ, ◌+◌, ◌*◌, ◌%◌, ◌^◌, ◌==◌, if◌then◌else◌, List, [], ◌∷◌, nat_lt, Option, Some, None, Result, option_map}
 use Rattle.goblin_base.specs.declared.endian.Endian.{Endian}
 use Rattle.goblin_base.specs.declared.endian.Endian.TheVariants.{Little}
 use Rattle.goblin_base.specs.declared.error.ErrorOf.{ErrorOf}
@@ -10,10 +11,10 @@ use Rattle.goblin_base.specs.declared.container.Container.TheVariants as contain
 use Rattle.goblin_base.specs.Answers.{Answers}
 use Rattle.goblin_base.specs.Bytes.{number, number_at}
 use Rattle.goblin_base.specs.Faults.{IsSliceFault}
-use Rattle.goblin_base.specs.Record.{FieldValue, record_at}
+use Rattle.goblin_base.specs.Record.{FieldValue, encoding, record_at}
 use Rattle.goblin_base.specs.Record.FieldValue.{uint}
 use Rattle.goblin_base.specs.Steps.{◌>>=◌, FirstFault}
-use Rattle.goblin_pe_sect.specs.DataDirectories.{IsDirectoriesFault, directories_at}
+use Rattle.goblin_pe_sect.specs.DataDirectories.{IsDirectoriesFault, directories_at, entries_fields}
 use Rattle.goblin_pe_head.specs.declared.optional_header.standard_fields.StandardFields32.{StandardFields32}
 use Rattle.goblin_pe_head.specs.declared.optional_header.standard_fields.StandardFields64.{StandardFields64}
 use Rattle.goblin_pe_head.specs.declared.optional_header.standard_fields.StandardFields.{StandardFields}
@@ -21,6 +22,8 @@ use Rattle.goblin_pe_head.specs.declared.optional_header.windows_fields.WindowsF
 use Rattle.goblin_pe_head.specs.declared.optional_header.windows_fields.WindowsFields64.{WindowsFields64}
 use Rattle.goblin_pe_head.specs.declared.optional_header.FixedFields.{FixedFields}
 use Rattle.goblin_pe_head.specs.declared.optional_header.OptionalHeader.{OptionalHeader}
+use Rattle.goblin_pe_head.specs.declared.optional_header.WrittenHeader.{WrittenHeader}
+use Rattle.goblin_pe_head.specs.declared.optional_header.WrittenHeader.TheVariants.{Absent, Narrow, Wide}
 
 -- the standard fields for 32 bits in a record's 28 bytes
 unfoldable pub standard_32_record : Endian → List ℕ → StandardFields32
@@ -37,8 +40,8 @@ standard_32_record endian bytes = record {
 }
 
 -- their fields, in order
-unfoldable pub standard_32_written : StandardFields32 → List FieldValue
-standard_32_written f =
+unfoldable pub standard_32_fields : StandardFields32 → List FieldValue
+standard_32_fields f =
     uint 2 f.magic ∷ uint 1 f.major_linker_version ∷ uint 1 f.minor_linker_version ∷ uint 4 f.size_of_code
     ∷ uint 4 f.size_of_initialized_data ∷ uint 4 f.size_of_uninitialized_data ∷ uint 4 f.address_of_entry_point
     ∷ uint 4 f.base_of_code ∷ uint 4 f.base_of_data ∷ []
@@ -57,8 +60,8 @@ standard_64_record endian bytes = record {
 }
 
 -- their fields, in order
-unfoldable pub standard_64_written : StandardFields64 → List FieldValue
-standard_64_written f =
+unfoldable pub standard_64_fields : StandardFields64 → List FieldValue
+standard_64_fields f =
     uint 2 f.magic ∷ uint 1 f.major_linker_version ∷ uint 1 f.minor_linker_version ∷ uint 4 f.size_of_code
     ∷ uint 4 f.size_of_initialized_data ∷ uint 4 f.size_of_uninitialized_data ∷ uint 4 f.address_of_entry_point
     ∷ uint 4 f.base_of_code ∷ []
@@ -90,8 +93,8 @@ windows_32_record endian bytes = record {
 }
 
 -- their fields, in order
-unfoldable pub windows_32_written : WindowsFields32 → List FieldValue
-windows_32_written f =
+unfoldable pub windows_32_fields : WindowsFields32 → List FieldValue
+windows_32_fields f =
     uint 4 f.image_base ∷ uint 4 f.section_alignment ∷ uint 4 f.file_alignment ∷ uint 2 f.major_operating_system_version
     ∷ uint 2 f.minor_operating_system_version ∷ uint 2 f.major_image_version ∷ uint 2 f.minor_image_version
     ∷ uint 2 f.major_subsystem_version ∷ uint 2 f.minor_subsystem_version ∷ uint 4 f.win32_version_value
@@ -127,8 +130,8 @@ windows_64_record endian bytes = record {
 }
 
 -- their fields, in order
-unfoldable pub windows_64_written : WindowsFields64 → List FieldValue
-windows_64_written f =
+unfoldable pub windows_64_fields : WindowsFields64 → List FieldValue
+windows_64_fields f =
     uint 8 f.image_base ∷ uint 4 f.section_alignment ∷ uint 4 f.file_alignment ∷ uint 2 f.major_operating_system_version
     ∷ uint 2 f.minor_operating_system_version ∷ uint 2 f.major_image_version ∷ uint 2 f.minor_image_version
     ∷ uint 2 f.major_subsystem_version ∷ uint 2 f.minor_subsystem_version ∷ uint 4 f.win32_version_value
@@ -321,3 +324,39 @@ IsOptionalFault bytes =
 -- for how many bits the image is, by the magic
 abbrev pub container_of : ℕ → Option Container
 container_of magic = if magic == 0x10B then Some container.Little else if magic == 0x20B then Some container.Big else None
+
+-- What is written of an optional header whose magic asks for 32 bits, where the five wide fields fit: standard fields, Windows fields and sixteen directories.
+abbrev pub bytes_32 : Endian → OptionalHeader → Option (List ℕ)
+bytes_32 endian h =
+    option_map (λ windows. concat (
+    encoding endian (standard_32_fields (standard_to_32 h.standard_fields))
+    ∷ encoding endian (windows_32_fields windows)
+    ∷ encoding endian (entries_fields h.data_directories.data_directories)
+    ∷ []
+    )) (windows_to_32 h.windows_fields)
+
+-- the same where it asks for 64 bits
+abbrev pub bytes_64 : Endian → OptionalHeader → List ℕ
+bytes_64 endian h = concat (
+    encoding endian (standard_64_fields (standard_to_64 h.standard_fields))
+    ∷ encoding endian (windows_64_fields h.windows_fields)
+    ∷ encoding endian (entries_fields h.data_directories.data_directories)
+    ∷ []
+    )
+
+-- the written form of an optional header, by its magic; another magic has none
+unfoldable pub optional_bytes : Endian → OptionalHeader → Option (List ℕ)
+optional_bytes endian h =
+    if h.standard_fields.magic == 0x10B then bytes_32 endian h
+    else if h.standard_fields.magic == 0x20B then Some (bytes_64 endian h)
+    else None
+
+-- which cause is true of an optional header that has no written form: its magic is unknown, or asks for 32 bits where a wide field does not fit
+unfoldable pub IsUnwritten : OptionalHeader → ErrorOf → Type 0
+IsUnwritten h e = IsBadMagic h.standard_fields.magic e ⊎ ((h.standard_fields.magic ≡ 0x10B) × (windows_to_32 h.windows_fields ≡ None) × IsTooWide e)
+
+-- the bytes that are written, of either width or of none
+abbrev pub written_bytes : WrittenHeader → List ℕ
+written_bytes Absent = []
+written_bytes (Narrow bytes) = bytes
+written_bytes (Wide bytes) = bytes

@@ -1,20 +1,22 @@
 -- The whole header of a file: its parts, each at its place.
-use Rattle.std.specs.Prelude.{◌≡◌, ◌<◌, ◌+◌, ℕ, Bool, ◌==◌, if◌then◌else◌, List, drop, length, replicate, Option, Some, None, option_map, unwrap_or}
+use Rattle.std.specs.List.{concat}
+use Rattle.std.specs.Prelude.{◌≡◌, ◌<◌, ◌+◌, ℕ, Bool, ◌==◌, if◌then◌else◌, List, [], ◌∷◌, drop, length, replicate, Option, Some, None, option_map, unwrap_or}
+use Rattle.goblin_base.specs.declared.endian.Endian.{Endian}
 use Rattle.goblin_base.specs.declared.endian.Endian.TheVariants.{Little}
 use Rattle.goblin_base.specs.declared.error.ErrorOf.{ErrorOf}
 use Rattle.goblin_base.specs.declared.error.ErrorOf.TheVariants.{Malformed}
 use Rattle.goblin_base.specs.declared.error.CauseOf.TheVariants.{NoPeSignature}
 use Rattle.goblin_base.specs.Bytes.{number_at}
 use Rattle.goblin_base.specs.Faults.{IsSliceFault}
-use Rattle.goblin_base.specs.Record.{record_at}
+use Rattle.goblin_base.specs.Record.{encoding, record_at, uint}
 use Rattle.goblin_base.specs.Steps.{◌>>=◌, FirstFault}
 use Rattle.goblin_pe_head.specs.declared.header.CoffHeader.{CoffHeader}
 use Rattle.goblin_pe_head.specs.declared.header.DosHeader.{DosHeader}
 use Rattle.goblin_pe_head.specs.declared.header.pe_header.Header.{Header}
 use Rattle.goblin_pe_head.specs.declared.optional_header.OptionalHeader.{OptionalHeader}
 use Rattle.goblin_pe_head.specs.DosStub.{default_stub, stub_at, stub_bytes, IsStubFault}
-use Rattle.goblin_pe_head.specs.Header.{coff_header, dos_header, IsDosFault}
-use Rattle.goblin_pe_head.specs.OptionalHeader.{optional_header, IsOptionalFault}
+use Rattle.goblin_pe_head.specs.Header.{coff_fields, coff_header, dos_fields, dos_header, IsDosFault}
+use Rattle.goblin_pe_head.specs.OptionalHeader.{optional_bytes, optional_header, IsOptionalFault, IsUnwritten}
 use Rattle.goblin_pe_head.specs.RichHeader.{Rich, rich_value, rich_at, IsRichAtFault}
 
 -- a header, with its slices as lists
@@ -127,3 +129,28 @@ IsHeaderFault strict bytes =
     FirstFault (stub_in strict bytes dos.pe_pointer) (IsStubFault bytes dos.pe_pointer) (λ stub.
     FirstFault (rich_at bytes dos.pe_pointer) (IsRichAtFault bytes dos.pe_pointer) (λ rich.
     IsHeaderAtFault bytes dos.pe_pointer)))
+
+-- the written form of the optional header, if any; where there is none, no bytes
+abbrev pub optional_part : Endian → Option OptionalHeader → Option (List ℕ)
+optional_part endian None = Some []
+optional_part endian (Some h) = optional_bytes endian h
+
+-- the parts of a header one after the other, the signature little-endian always, the optional header as these bytes
+unfoldable pub header_parts : Endian → PeHeader → List ℕ → List ℕ
+header_parts endian h optional = concat (
+    encoding endian (dos_fields h.dos_header)
+    ∷ h.dos_stub
+    ∷ encoding Little (uint 4 h.signature ∷ [])
+    ∷ encoding endian (coff_fields h.coff_header)
+    ∷ optional
+    ∷ []
+    )
+
+-- the written form of a header
+unfoldable pub header_bytes : Endian → PeHeader → Option (List ℕ)
+header_bytes endian h = option_map (header_parts endian h) (optional_part endian h.optional_header)
+
+-- which cause is true of a header that has no written form: that of its optional header
+abbrev pub IsUnwrittenPart : Option OptionalHeader → ErrorOf → Type 0
+IsUnwrittenPart None e = ⊥
+IsUnwrittenPart (Some h) e = IsUnwritten h e

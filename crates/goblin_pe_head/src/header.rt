@@ -2,16 +2,19 @@
 //! behind it, the Rich header and the COFF header; and the section table.
 
 ghost use Rattle.std.specs.Prelude.{◌≡◌, ◌+◌, ◌*◌, ◌/◌, ◌<◌, ◌≤◌, length, true, IfOk, OnOk, OnErr, IsErrAnd};
-ghost use Rattle.goblin_base.specs.Answers.{Answers, AnswersOrMemory};
+ghost use Rattle.goblin_base.specs.Answers.{Answers, AnswersOrMemory, Writes};
+ghost use Rattle.goblin_base.specs.Bytes.{overwritten};
 ghost use Rattle.goblin_base.specs.Faults.{IsSliceFault};
-ghost use Rattle.goblin_base.specs.Record.{record_at};
+ghost use Rattle.goblin_base.specs.Record.{WritesBack, encoding, record_at, record_in};
+ghost use Rattle.goblin_base.proofs.RecordLaws.{record_in-within, slice_fault-no_memory};
 ghost use Rattle.goblin_pe_sect.specs.Options.{is_strict};
-ghost use Rattle.goblin_pe_head.specs.Header.{dos_record, dos_header, IsDosFault, coff_header};
+ghost use Rattle.goblin_pe_head.specs.declared.header.CoffHeader.{CoffHeader};
+ghost use Rattle.goblin_pe_head.specs.Header.{dos_record, dos_fields, dos_header, IsDosFault, coff_fields, coff_header};
 ghost use Rattle.goblin_pe_head.specs.Sections.{string_table_offset, sections_at, IsSectionsFault, IsTooShort};
 
 use goblin_base::{
-    Cause, Endian, Error, Result, field_u16, field_u32, gread_slice, pread_slice, pread_u16,
-    pread_u32,
+    Cause, Endian, Error, Field, Result, TryFromCtx, field_u16, field_u32, gread_slice,
+    pread_slice, pread_u16, pread_u32, pwrite_slice, record_bytes,
 };
 use goblin_pe_sect::options::ParseOptions;
 use goblin_pe_sect::section_table::{SIZEOF_SECTION_TABLE, SectionTable};
@@ -102,7 +105,7 @@ pub const COFF_MACHINE_WCEMIPSV2: u16 = 0x169;
 const COFF_SYMBOL_SIZE: usize = 18;
 
 // The size of a DOS header, in bytes.
-const SIZEOF_DOS_HEADER: usize = 64;
+pub(crate) const SIZEOF_DOS_HEADER: usize = 64;
 
 /// The header of a DOS program, with which a PE file begins.
 ///
@@ -154,47 +157,88 @@ pub struct DosHeader {
 impl DosHeader {
     // The DOS header in a record's bytes.
     #[tactic(auto, unfolding(crate::specs::Header::dos_record))]
-    fn in_record(bytes: &[u8]) -> DosHeader
+    fn in_record(bytes: &[u8], endian: Endian) -> DosHeader
         requires { length bytes.now ≡ 64 }
-        ensures { result ≡ dos_record bytes.now }
+        ensures { result ≡ dos_record endian bytes.now }
     {
         DosHeader {
-            signature: field_u16(bytes, 0, Endian::Little),
-            bytes_on_last_page: field_u16(bytes, 2, Endian::Little),
-            pages_in_file: field_u16(bytes, 4, Endian::Little),
-            relocations: field_u16(bytes, 6, Endian::Little),
-            size_of_header_in_paragraphs: field_u16(bytes, 8, Endian::Little),
-            minimum_extra_paragraphs_needed: field_u16(bytes, 10, Endian::Little),
-            maximum_extra_paragraphs_needed: field_u16(bytes, 12, Endian::Little),
-            initial_relative_ss: field_u16(bytes, 14, Endian::Little),
-            initial_sp: field_u16(bytes, 16, Endian::Little),
-            checksum: field_u16(bytes, 18, Endian::Little),
-            initial_ip: field_u16(bytes, 20, Endian::Little),
-            initial_relative_cs: field_u16(bytes, 22, Endian::Little),
-            file_address_of_relocation_table: field_u16(bytes, 24, Endian::Little),
-            overlay_number: field_u16(bytes, 26, Endian::Little),
+            signature: field_u16(bytes, 0, endian),
+            bytes_on_last_page: field_u16(bytes, 2, endian),
+            pages_in_file: field_u16(bytes, 4, endian),
+            relocations: field_u16(bytes, 6, endian),
+            size_of_header_in_paragraphs: field_u16(bytes, 8, endian),
+            minimum_extra_paragraphs_needed: field_u16(bytes, 10, endian),
+            maximum_extra_paragraphs_needed: field_u16(bytes, 12, endian),
+            initial_relative_ss: field_u16(bytes, 14, endian),
+            initial_sp: field_u16(bytes, 16, endian),
+            checksum: field_u16(bytes, 18, endian),
+            initial_ip: field_u16(bytes, 20, endian),
+            initial_relative_cs: field_u16(bytes, 22, endian),
+            file_address_of_relocation_table: field_u16(bytes, 24, endian),
+            overlay_number: field_u16(bytes, 26, endian),
             reserved: [
-                field_u16(bytes, 28, Endian::Little),
-                field_u16(bytes, 30, Endian::Little),
-                field_u16(bytes, 32, Endian::Little),
-                field_u16(bytes, 34, Endian::Little),
+                field_u16(bytes, 28, endian),
+                field_u16(bytes, 30, endian),
+                field_u16(bytes, 32, endian),
+                field_u16(bytes, 34, endian),
             ],
-            oem_id: field_u16(bytes, 36, Endian::Little),
-            oem_info: field_u16(bytes, 38, Endian::Little),
+            oem_id: field_u16(bytes, 36, endian),
+            oem_info: field_u16(bytes, 38, endian),
             reserved2: [
-                field_u16(bytes, 40, Endian::Little),
-                field_u16(bytes, 42, Endian::Little),
-                field_u16(bytes, 44, Endian::Little),
-                field_u16(bytes, 46, Endian::Little),
-                field_u16(bytes, 48, Endian::Little),
-                field_u16(bytes, 50, Endian::Little),
-                field_u16(bytes, 52, Endian::Little),
-                field_u16(bytes, 54, Endian::Little),
-                field_u16(bytes, 56, Endian::Little),
-                field_u16(bytes, 58, Endian::Little),
+                field_u16(bytes, 40, endian),
+                field_u16(bytes, 42, endian),
+                field_u16(bytes, 44, endian),
+                field_u16(bytes, 46, endian),
+                field_u16(bytes, 48, endian),
+                field_u16(bytes, 50, endian),
+                field_u16(bytes, 52, endian),
+                field_u16(bytes, 54, endian),
+                field_u16(bytes, 56, endian),
+                field_u16(bytes, 58, endian),
             ],
-            pe_pointer: field_u32(bytes, 60, Endian::Little),
+            pe_pointer: field_u32(bytes, 60, endian),
         }
+    }
+
+    // The record's bytes.
+    #[tactic(auto, unfolding(crate::specs::Header::dos_fields))]
+    pub(crate) fn to_bytes(&self, endian: Endian) -> [u8; SIZEOF_DOS_HEADER]
+        ensures { result ≡ encoding endian (dos_fields self.now) }
+    {
+        let fields = [
+            Field::U16(self.signature),
+            Field::U16(self.bytes_on_last_page),
+            Field::U16(self.pages_in_file),
+            Field::U16(self.relocations),
+            Field::U16(self.size_of_header_in_paragraphs),
+            Field::U16(self.minimum_extra_paragraphs_needed),
+            Field::U16(self.maximum_extra_paragraphs_needed),
+            Field::U16(self.initial_relative_ss),
+            Field::U16(self.initial_sp),
+            Field::U16(self.checksum),
+            Field::U16(self.initial_ip),
+            Field::U16(self.initial_relative_cs),
+            Field::U16(self.file_address_of_relocation_table),
+            Field::U16(self.overlay_number),
+            Field::U16(self.reserved[0]),
+            Field::U16(self.reserved[1]),
+            Field::U16(self.reserved[2]),
+            Field::U16(self.reserved[3]),
+            Field::U16(self.oem_id),
+            Field::U16(self.oem_info),
+            Field::U16(self.reserved2[0]),
+            Field::U16(self.reserved2[1]),
+            Field::U16(self.reserved2[2]),
+            Field::U16(self.reserved2[3]),
+            Field::U16(self.reserved2[4]),
+            Field::U16(self.reserved2[5]),
+            Field::U16(self.reserved2[6]),
+            Field::U16(self.reserved2[7]),
+            Field::U16(self.reserved2[8]),
+            Field::U16(self.reserved2[9]),
+            Field::U32(self.pe_pointer),
+        ];
+        record_bytes(&fields, endian)
     }
 
     /// Reads the DOS header of a PE file, which begins with the DOS signature and points to the PE
@@ -219,7 +263,7 @@ impl DosHeader {
         let Ok(record) = pread_slice(bytes, 0, SIZEOF_DOS_HEADER) else {
             return Err(Error::Malformed(Cause::NoPePointer));
         };
-        let header = DosHeader::in_record(record);
+        let header = DosHeader::in_record(record, Endian::Little);
         let pointer = header.pe_pointer as usize;
         let Ok(signature) = pread_u32(bytes, pointer, Endian::Little) else {
             return Err(Error::Malformed(Cause::NoPeSignature(pointer)));
@@ -228,6 +272,28 @@ impl DosHeader {
             return Err(Error::Malformed(Cause::PeMagic(signature)));
         }
         Ok(header)
+    }
+
+    /// Writes the record at the front of `bytes` and answers its size, 64. A header that was read is
+    /// written as it stood, by the same order of bytes.
+    ///
+    /// # Errors
+    /// [`Error::Read`] where there is no room for 64 bytes; `bytes` are then as they were.
+    #[tactic(auto, using(crate::proofs::HeaderBack::dos_back))]
+    pub fn try_into_ctx(self, bytes: &mut [u8], endian: Endian) -> Result<usize>
+        ensures size { IfOk result (λ n. n ≡ 64) }
+        ensures written { Writes result (overwritten bytes.old 0 (encoding endian (dos_fields self))) bytes.old bytes.new (IsSliceFault bytes.old 0 64) }
+        ensures back { WritesBack 64 dos_record dos_fields }
+    {
+        pwrite_slice(bytes, 0, &self.to_bytes(endian))?;
+        Ok(SIZEOF_DOS_HEADER)
+    }
+
+    /// The size of the record in bytes, the same in either order: 64.
+    pub fn size_with(_endian: &Endian) -> usize
+        ensures { result ≡ 64 }
+    {
+        SIZEOF_DOS_HEADER
     }
 }
 
@@ -269,6 +335,45 @@ impl CoffHeader {
             size_of_optional_header: field_u16(bytes, 16, endian),
             characteristics: field_u16(bytes, 18, endian),
         }
+    }
+
+    // The record's bytes.
+    #[tactic(auto, unfolding(crate::specs::Header::coff_fields))]
+    pub(crate) fn to_bytes(&self, endian: Endian) -> [u8; SIZEOF_COFF_HEADER]
+        ensures { result ≡ encoding endian (coff_fields self.now) }
+    {
+        let fields = [
+            Field::U16(self.machine),
+            Field::U16(self.number_of_sections),
+            Field::U32(self.time_date_stamp),
+            Field::U32(self.pointer_to_symbol_table),
+            Field::U32(self.number_of_symbol_table),
+            Field::U16(self.size_of_optional_header),
+            Field::U16(self.characteristics),
+        ];
+        record_bytes(&fields, endian)
+    }
+
+    /// Writes the record at the front of `bytes` and answers its size, 20. A header that was read is
+    /// written as it stood, by the same order of bytes.
+    ///
+    /// # Errors
+    /// [`Error::Read`] where there is no room for 20 bytes; `bytes` are then as they were.
+    #[tactic(auto, using(crate::proofs::HeaderBack::coff_back))]
+    pub fn try_into_ctx(self, bytes: &mut [u8], endian: Endian) -> Result<usize>
+        ensures size { IfOk result (λ n. n ≡ 20) }
+        ensures written { Writes result (overwritten bytes.old 0 (encoding endian (coff_fields self))) bytes.old bytes.new (IsSliceFault bytes.old 0 20) }
+        ensures back { WritesBack 20 coff_header coff_fields }
+    {
+        pwrite_slice(bytes, 0, &self.to_bytes(endian))?;
+        Ok(SIZEOF_COFF_HEADER)
+    }
+
+    /// The size of the record in bytes, the same in either order: 20.
+    pub fn size_with(_endian: &Endian) -> usize
+        ensures { result ≡ 20 }
+    {
+        SIZEOF_COFF_HEADER
     }
 
     /// Reads the record at `offset` and moves `offset` past it.
@@ -343,5 +448,28 @@ impl CoffHeader {
     {
         let symbols = self.number_of_symbol_table as usize;
         self.pointer_to_symbol_table as usize + COFF_SYMBOL_SIZE * symbols
+    }
+}
+
+impl TryFromCtx<'_> for CoffHeader {
+    ghost Plain = { CoffHeader };
+
+    ghost plain = { λ header. header };
+
+    ghost value_of = { record_in 20 coff_header };
+
+    ghost refusal = { λ _ bytes e. IsSliceFault bytes 0 20 e };
+
+    ghost within = { record_in-within 20 coff_header };
+
+    ghost no_memory = { λ _ bytes e. slice_fault-no_memory bytes 0 20 e };
+
+    /// Reads the record at the front of `bytes`, which takes 20 bytes.
+    ///
+    /// # Errors
+    /// [`Error::Read`] where there are no 20 bytes.
+    fn try_from_ctx(bytes: &[u8], endian: Endian) -> Result<(CoffHeader, usize)> {
+        let record = pread_slice(bytes, 0, SIZEOF_COFF_HEADER)?;
+        Ok((CoffHeader::in_record(record, endian), SIZEOF_COFF_HEADER))
     }
 }

@@ -3,13 +3,19 @@
 //! Its standard fields and Windows fields have two widths, for images of 32 and of 64 bits; its magic
 //! says which. The data directories follow.
 
-ghost use Rattle.std.specs.Prelude.{◌≡◌, ◌≢◌};
-ghost use Rattle.goblin_base.specs.Answers.{Answers};
+ghost use Rattle.std.specs.Prelude.{◌≡◌, ◌≢◌, ◌≤◌, length, IfOk, IsSomeAnd, None, option_and_then};
+ghost use Rattle.goblin_base.specs.Answers.{Answers, Writes};
+ghost use Rattle.goblin_base.specs.Bytes.{overwritten};
+ghost use Rattle.goblin_base.specs.Faults.{IsSliceFault};
+ghost use Rattle.goblin_base.specs.Steps.{FirstFault};
 ghost use Rattle.goblin_pe_head.specs.declared.optional_header.OptionalHeader.{OptionalHeader};
-ghost use Rattle.goblin_pe_head.specs.OptionalHeader.{container_of, fields_32, fields_64, fixed_fields, optional_header, IsBadMagic, IsFieldsFault_32, IsFieldsFault_64, IsFixedFault, IsOptionalFault};
+ghost use Rattle.goblin_pe_head.specs.OptionalHeader.{bytes_32, bytes_64, container_of, fields_32, fields_64, fixed_fields, optional_bytes, optional_header, windows_to_32, written_bytes, IsBadMagic, IsFieldsFault_32, IsFieldsFault_64, IsFixedFault, IsOptionalFault, IsTooWide, IsUnwritten};
 ghost use Rattle.goblin_pe_head.specs.OptionalHeaderLaws.{optional_header-within, optional_fault-no_memory};
 
-use goblin_base::{Container, Endian, Error, Result, TryFromCtx, pread_slice, pread_u16};
+use goblin_base::{
+    Container, Endian, Error, Field, Result, TryFromCtx, pread_slice, pread_u16, pwrite_slice,
+    record_bytes,
+};
 use goblin_pe_sect::DataDirectories;
 
 mod standard_fields;
@@ -55,6 +61,31 @@ struct FixedFields {
     standard_fields: StandardFields,
     windows_fields: WindowsFields,
     size: usize,
+}
+
+/// What is written of an optional header, by its width.
+#[derive(Copy, Clone)]
+pub(crate) enum WrittenHeader {
+    /// Nothing, where there is no optional header.
+    Absent,
+    /// For 32 bits.
+    Narrow([u8; 224]),
+    /// For 64 bits.
+    Wide([u8; 240]),
+}
+
+impl WrittenHeader {
+    /// The bytes.
+    pub(crate) fn as_slice(&self) -> &[u8]
+        ensures value { result.now ≡ written_bytes self.now }
+        ensures most { length result.now ≤ 240 }
+    {
+        match self {
+            WrittenHeader::Absent => &[],
+            WrittenHeader::Narrow(bytes) => bytes,
+            WrittenHeader::Wide(bytes) => bytes,
+        }
+    }
 }
 
 // The fields of an optional header for 32 bits.
@@ -150,5 +181,69 @@ impl OptionalHeader {
             MAGIC_64 => Ok(Container::Big),
             magic => Err(Error::BadMagic(u64::from(magic))),
         }
+    }
+
+    // What is written where the magic asks for 32 bits.
+    fn bytes_32(&self, endian: Endian) -> Result<[u8; 224]>
+        ensures { Answers (λ bytes. bytes) result (bytes_32 endian self.now) (λ e. (windows_to_32 self.now.windows_fields ≡ None) × IsTooWide e) }
+    {
+        let windows = WindowsFields32::try_from(self.windows_fields)?.to_bytes(endian);
+        let standard = StandardFields32::from(self.standard_fields).to_bytes(endian);
+        let directories = self.data_directories.to_bytes(endian);
+        let parts = [
+            Field::Bytes(&standard),
+            Field::Bytes(&windows),
+            Field::Bytes(&directories),
+        ];
+        Ok(record_bytes(&parts, endian))
+    }
+
+    // What is written where the magic asks for 64 bits.
+    fn bytes_64(&self, endian: Endian) -> [u8; 240]
+        ensures { result ≡ bytes_64 endian self.now }
+    {
+        let standard = StandardFields64::from(self.standard_fields).to_bytes(endian);
+        let windows = self.windows_fields.to_bytes(endian);
+        let directories = self.data_directories.to_bytes(endian);
+        let parts = [
+            Field::Bytes(&standard),
+            Field::Bytes(&windows),
+            Field::Bytes(&directories),
+        ];
+        record_bytes(&parts, endian)
+    }
+
+    /// The bytes that are written of it.
+    ///
+    /// # Errors
+    /// [`Error::BadMagic`] of a magic other than [`MAGIC_32`] and [`MAGIC_64`]; [`Error::Malformed`]
+    /// with `FieldTooWide` where the magic is [`MAGIC_32`] and a Windows field does not fit 32 bits.
+    #[tactic(auto, unfolding(crate::specs::OptionalHeader::optional_bytes, crate::specs::OptionalHeader::IsUnwritten))]
+    pub(crate) fn to_bytes(&self, endian: Endian) -> Result<WrittenHeader>
+        ensures { Answers written_bytes result (optional_bytes endian self.now) (IsUnwritten self.now) }
+    {
+        match self.standard_fields.magic {
+            MAGIC_32 => Ok(WrittenHeader::Narrow(self.bytes_32(endian)?)),
+            MAGIC_64 => Ok(WrittenHeader::Wide(self.bytes_64(endian))),
+            magic => Err(Error::BadMagic(u64::from(magic))),
+        }
+    }
+
+    /// Writes the optional header to the front of `bytes` and answers how many bytes it takes, 224 or
+    /// 240: the fields that its magic asks for and always sixteen directories, those that are `None`
+    /// as zeros. Standard fields are written modulo 2^32.
+    ///
+    /// # Errors
+    /// In this order: [`Error::BadMagic`] of a magic other than [`MAGIC_32`] and [`MAGIC_64`];
+    /// [`Error::Malformed`] with `FieldTooWide` where the magic is [`MAGIC_32`] and a Windows field
+    /// does not fit 32 bits; [`Error::Read`] where there is no room. `bytes` are then as they were.
+    pub fn try_into_ctx(self, bytes: &mut [u8], endian: Endian) -> Result<usize>
+        ensures size { IfOk result (λ n. IsSomeAnd (optional_bytes endian self) (λ written. n ≡ length written)) }
+        ensures written { Writes result (option_and_then (overwritten bytes.old 0) (optional_bytes endian self)) bytes.old bytes.new (FirstFault (optional_bytes endian self) (IsUnwritten self) (λ written. IsSliceFault bytes.old 0 (length written))) }
+    {
+        let written = self.to_bytes(endian)?;
+        let written = written.as_slice();
+        pwrite_slice(bytes, 0, written)?;
+        Ok(written.len())
     }
 }

@@ -1,17 +1,30 @@
 //! The whole header of a PE file.
 
-ghost use Rattle.std.specs.Prelude.{◌≡◌, ◌≤◌, IfOk, IfSome, drop, length, option_map, true};
-ghost use Rattle.goblin_base.specs.Answers.{Answers};
+ghost use Rattle.std.specs.Prelude.{◌≡◌, ◌+◌, ◌≤◌, IfOk, IfSome, IsSomeAnd, drop, length, option_and_then, option_map, true};
+ghost use Rattle.goblin_base.specs.declared.endian.Endian.{Endian};
+ghost use Rattle.goblin_base.specs.Answers.{Answers, Writes};
+ghost use Rattle.goblin_base.specs.Bytes.{overwritten, replaced};
+ghost use Rattle.goblin_base.specs.Faults.{IsSliceFault};
+ghost use Rattle.goblin_base.specs.Steps.{FirstFault};
 ghost use Rattle.goblin_pe_sect.specs.Options.{is_strict};
 ghost use Rattle.goblin_pe_head.specs.DosStub.{stub_bytes, IsStubFault};
-ghost use Rattle.goblin_pe_head.specs.OptionalHeader.{IsOptionalFault};
-ghost use Rattle.goblin_pe_head.specs.PeHeader.{default_header, header_at, header_value, header_without_dos, optional_at, pe_header, stub_in, IsHeaderAtFault, IsHeaderFault};
+ghost use Rattle.goblin_pe_head.specs.OptionalHeader.{IsOptionalFault, written_bytes};
+ghost use Rattle.goblin_pe_head.specs.PeHeader.{default_header, header_at, header_bytes, header_parts, header_value, header_without_dos, optional_at, optional_part, pe_header, stub_in, IsHeaderAtFault, IsHeaderFault, IsUnwrittenPart};
 ghost use Rattle.goblin_pe_head.specs.RichHeader.{PaddingFits, rich_value};
 
-use crate::header::{CoffHeader, DosHeader, DosStub, RichHeader, SIZEOF_PE_MAGIC};
-use crate::optional_header::OptionalHeader;
-use goblin_base::{Cause, Endian, Error, Permissive, Result, TryFromCtx, pread_u32};
+use crate::header::{
+    CoffHeader, DosHeader, DosStub, RichHeader, SIZEOF_COFF_HEADER, SIZEOF_DOS_HEADER,
+    SIZEOF_PE_MAGIC,
+};
+use crate::optional_header::{OptionalHeader, WrittenHeader};
+use goblin_base::{
+    Cause, Endian, Error, Field, Permissive, ReadFault, Result, TryFromCtx, pread_u32, put_bytes,
+    record_bytes,
+};
 use goblin_pe_sect::ParseOptions;
+
+// The size of the parts of a header that always have the same, in bytes.
+const SIZEOF_HEADERS: usize = SIZEOF_DOS_HEADER + SIZEOF_PE_MAGIC + SIZEOF_COFF_HEADER;
 
 /// The header of a PE file: all that stands in front of its section table.
 ///
@@ -140,5 +153,68 @@ impl<'a> Header<'a> {
             coff_header,
             optional_header,
         })
+    }
+
+    /// Writes the header to the front of `bytes` and answers how many bytes it takes: the DOS header,
+    /// the stub, the signature, the COFF header, and the optional header where there is one, with
+    /// sixteen directories always. The signature is little-endian in either order. The Rich header is
+    /// part of the stub.
+    ///
+    /// # Errors
+    /// In this order: [`Error::BadMagic`] of an optional header of unknown magic;
+    /// [`Error::Malformed`] with [`Cause::FieldTooWide`] where a Windows field does not fit an optional
+    /// header for 32 bits; [`Error::Read`] where there is no room. `bytes` are then as they were.
+    #[tactic(auto, unfolding(crate::specs::PeHeader::header_bytes))]
+    pub fn try_into_ctx(self, bytes: &mut [u8], endian: Endian) -> Result<usize>
+        ensures size { IfOk result (λ n. IsSomeAnd (header_bytes endian (header_value self.entry)) (λ written. n ≡ length written)) }
+        ensures written { Writes result (option_and_then (overwritten bytes.old 0) (header_bytes endian (header_value self.entry))) bytes.old bytes.new (FirstFault (header_bytes endian (header_value self.entry)) (IsUnwrittenPart self.entry.optional_header) (λ written. IsSliceFault bytes.old 0 (length written))) }
+    {
+        let optional = optional_bytes(&self.optional_header, endian)?;
+        let optional = optional.as_slice();
+        let size = self.written_size(optional);
+        if bytes.len() < size {
+            return Err(Error::Read(ReadFault::TooBig));
+        }
+        self.put(bytes, optional, endian);
+        Ok(size)
+    }
+
+    // How many bytes the parts take, the optional header as these bytes.
+    #[tactic(auto, using(crate::proofs::WrittenForm::length_header_parts))]
+    fn written_size(&self, optional: &[u8]) -> usize
+        requires { length optional.now ≤ 240 }
+        ensures value { (endian : Endian) → result ≡ length (header_parts endian (header_value self.now) optional.now) }
+        ensures room { result ≡ 88 + length (stub_bytes self.now.dos_stub) + length optional.now }
+    {
+        SIZEOF_HEADERS + self.dos_stub.bytes.len() + optional.len()
+    }
+
+    // Writes the parts one after the other, the optional header as these bytes, where there is room.
+    #[tactic(auto, unfolding(crate::specs::PeHeader::header_parts))]
+    fn put(&self, bytes: &mut [u8], optional: &[u8], endian: Endian)
+        requires { 88 + length (stub_bytes self.now.dos_stub) + length optional.now ≤ length bytes.old }
+        ensures { bytes.new ≡ replaced bytes.old 0 (header_parts endian (header_value self.now) optional.now) }
+    {
+        let stub = self.dos_stub.bytes;
+        let signature: [u8; SIZEOF_PE_MAGIC] = record_bytes(
+            &[Field::U32(self.signature)],
+            Endian::Little,
+        );
+        let pe_header = SIZEOF_DOS_HEADER + stub.len();
+        put_bytes(bytes, 0, &self.dos_header.to_bytes(endian));
+        put_bytes(bytes, SIZEOF_DOS_HEADER, stub);
+        put_bytes(bytes, pe_header, &signature);
+        put_bytes(bytes, pe_header + 4, &self.coff_header.to_bytes(endian));
+        put_bytes(bytes, pe_header + 24, optional);
+    }
+}
+
+// What is written of the optional header, where there is one.
+fn optional_bytes(header: &Option<OptionalHeader>, endian: Endian) -> Result<WrittenHeader>
+    ensures { Answers written_bytes result (optional_part endian header.now) (IsUnwrittenPart header.now) }
+{
+    match header {
+        Some(header) => header.to_bytes(endian),
+        None => Ok(WrittenHeader::Absent),
     }
 }

@@ -1,10 +1,12 @@
 //! The DOS stub: the program between the DOS header and the PE signature.
 
-ghost use Rattle.std.specs.Prelude.{◌≡◌};
-ghost use Rattle.goblin_base.specs.Answers.{Answers};
+ghost use Rattle.std.specs.Prelude.{◌≡◌, length, IfOk};
+ghost use Rattle.goblin_base.specs.Answers.{Answers, Writes};
+ghost use Rattle.goblin_base.specs.Bytes.{overwritten};
+ghost use Rattle.goblin_base.specs.Faults.{IsSliceFault};
 ghost use Rattle.goblin_pe_head.specs.DosStub.{default_stub, stub_at, stub_bytes, IsStubFault};
 
-use goblin_base::{Cause, Error, Result};
+use goblin_base::{Cause, Endian, Error, Result, pwrite_slice};
 
 /// The file offset at which the DOS stub begins, just past the DOS header.
 pub const DOS_STUB_OFFSET: u32 = 0x40;
@@ -55,5 +57,18 @@ impl<'a> DosStub<'a> {
         Ok(DosStub {
             bytes: &bytes[DOS_STUB_OFFSET as usize..end],
         })
+    }
+
+    /// Writes the stub to the front of `bytes` and answers how many bytes it has.
+    ///
+    /// # Errors
+    /// [`Error::Read`] where there is no room for it, also of a stub without bytes where `bytes` are
+    /// none; they are then as they were.
+    pub fn try_into_ctx(self, bytes: &mut [u8], _endian: Endian) -> Result<usize>
+        ensures size { IfOk result (λ n. n ≡ length (stub_bytes self.entry)) }
+        ensures written { Writes result (overwritten bytes.old 0 (stub_bytes self.entry)) bytes.old bytes.new (IsSliceFault bytes.old 0 (length (stub_bytes self.entry))) }
+    {
+        pwrite_slice(bytes, 0, self.bytes)?;
+        Ok(self.bytes.len())
     }
 }

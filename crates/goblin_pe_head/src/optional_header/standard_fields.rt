@@ -8,7 +8,7 @@ ghost use Rattle.goblin_base.specs.Record.{WritesBack, encoding, record_in};
 ghost use Rattle.goblin_base.proofs.RecordLaws.{record_in-within, slice_fault-no_memory};
 ghost use Rattle.goblin_pe_head.specs.declared.optional_header.standard_fields.StandardFields32.{StandardFields32};
 ghost use Rattle.goblin_pe_head.specs.declared.optional_header.standard_fields.StandardFields64.{StandardFields64};
-ghost use Rattle.goblin_pe_head.specs.OptionalHeader.{standard_32_record, standard_32_written, standard_64_record, standard_64_written, standard_from_32, standard_from_64, standard_to_32, standard_to_64};
+ghost use Rattle.goblin_pe_head.specs.OptionalHeader.{standard_32_record, standard_32_fields, standard_64_record, standard_64_fields, standard_from_32, standard_from_64, standard_to_32, standard_to_64};
 
 use goblin_base::{
     Endian, Field, Result, TryFromCtx, field_u8, field_u16, field_u32, pread_slice, pwrite_slice,
@@ -68,9 +68,9 @@ impl StandardFields32 {
     }
 
     // The record's bytes.
-    #[tactic(auto, unfolding(crate::specs::OptionalHeader::standard_32_written))]
-    fn to_bytes(self, endian: Endian) -> [u8; SIZEOF_STANDARD_FIELDS_32]
-        ensures { result ≡ encoding endian (standard_32_written self) }
+    #[tactic(auto, unfolding(crate::specs::OptionalHeader::standard_32_fields))]
+    pub(super) fn to_bytes(self, endian: Endian) -> [u8; SIZEOF_STANDARD_FIELDS_32]
+        ensures { result ≡ encoding endian (standard_32_fields self) }
     {
         let fields = [
             Field::U16(self.magic),
@@ -94,8 +94,8 @@ impl StandardFields32 {
     #[tactic(auto, using(crate::proofs::OptionalBack::standard_32_back))]
     pub fn try_into_ctx(self, bytes: &mut [u8], endian: Endian) -> Result<usize>
         ensures size { IfOk result (λ n. n ≡ 28) }
-        ensures written { Writes result (overwritten bytes.old 0 (encoding endian (standard_32_written self))) bytes.old bytes.new (IsSliceFault bytes.old 0 28) }
-        ensures back { WritesBack 28 standard_32_record standard_32_written }
+        ensures written { Writes result (overwritten bytes.old 0 (encoding endian (standard_32_fields self))) bytes.old bytes.new (IsSliceFault bytes.old 0 28) }
+        ensures back { WritesBack 28 standard_32_record standard_32_fields }
     {
         pwrite_slice(bytes, 0, &self.to_bytes(endian))?;
         Ok(SIZEOF_STANDARD_FIELDS_32)
@@ -179,9 +179,9 @@ impl StandardFields64 {
     }
 
     // The record's bytes.
-    #[tactic(auto, unfolding(crate::specs::OptionalHeader::standard_64_written))]
-    fn to_bytes(self, endian: Endian) -> [u8; SIZEOF_STANDARD_FIELDS_64]
-        ensures { result ≡ encoding endian (standard_64_written self) }
+    #[tactic(auto, unfolding(crate::specs::OptionalHeader::standard_64_fields))]
+    pub(super) fn to_bytes(self, endian: Endian) -> [u8; SIZEOF_STANDARD_FIELDS_64]
+        ensures { result ≡ encoding endian (standard_64_fields self) }
     {
         let fields = [
             Field::U16(self.magic),
@@ -204,8 +204,8 @@ impl StandardFields64 {
     #[tactic(auto, using(crate::proofs::OptionalBack::standard_64_back))]
     pub fn try_into_ctx(self, bytes: &mut [u8], endian: Endian) -> Result<usize>
         ensures size { IfOk result (λ n. n ≡ 24) }
-        ensures written { Writes result (overwritten bytes.old 0 (encoding endian (standard_64_written self))) bytes.old bytes.new (IsSliceFault bytes.old 0 24) }
-        ensures back { WritesBack 24 standard_64_record standard_64_written }
+        ensures written { Writes result (overwritten bytes.old 0 (encoding endian (standard_64_fields self))) bytes.old bytes.new (IsSliceFault bytes.old 0 24) }
+        ensures back { WritesBack 24 standard_64_record standard_64_fields }
     {
         pwrite_slice(bytes, 0, &self.to_bytes(endian))?;
         Ok(SIZEOF_STANDARD_FIELDS_64)

@@ -8,7 +8,7 @@ ghost use Rattle.goblin_base.specs.Record.{WritesBack, encoding, record_in};
 ghost use Rattle.goblin_base.proofs.RecordLaws.{record_in-within, slice_fault-no_memory};
 ghost use Rattle.goblin_pe_head.specs.declared.optional_header.windows_fields.WindowsFields32.{WindowsFields32};
 ghost use Rattle.goblin_pe_head.specs.declared.optional_header.windows_fields.WindowsFields64.{WindowsFields64};
-ghost use Rattle.goblin_pe_head.specs.OptionalHeader.{windows_32_record, windows_32_written, windows_64_record, windows_64_written, windows_from_32, narrowed, IsTooWide, NarrowsWindows};
+ghost use Rattle.goblin_pe_head.specs.OptionalHeader.{windows_32_record, windows_32_fields, windows_64_record, windows_64_fields, windows_from_32, narrowed, IsTooWide, NarrowsWindows};
 
 use goblin_base::{
     Cause, Endian, Error, Field, Result, TryFromCtx, field_u16, field_u32, field_u64, pread_slice,
@@ -107,9 +107,9 @@ impl WindowsFields32 {
     }
 
     // The record's bytes.
-    #[tactic(auto, unfolding(crate::specs::OptionalHeader::windows_32_written))]
-    fn to_bytes(self, endian: Endian) -> [u8; SIZEOF_WINDOWS_FIELDS_32]
-        ensures { result ≡ encoding endian (windows_32_written self) }
+    #[tactic(auto, unfolding(crate::specs::OptionalHeader::windows_32_fields))]
+    pub(super) fn to_bytes(self, endian: Endian) -> [u8; SIZEOF_WINDOWS_FIELDS_32]
+        ensures { result ≡ encoding endian (windows_32_fields self) }
     {
         let fields = [
             Field::U32(self.image_base),
@@ -145,8 +145,8 @@ impl WindowsFields32 {
     #[tactic(auto, using(crate::proofs::OptionalBack::windows_32_back))]
     pub fn try_into_ctx(self, bytes: &mut [u8], endian: Endian) -> Result<usize>
         ensures size { IfOk result (λ n. n ≡ 68) }
-        ensures written { Writes result (overwritten bytes.old 0 (encoding endian (windows_32_written self))) bytes.old bytes.new (IsSliceFault bytes.old 0 68) }
-        ensures back { WritesBack 68 windows_32_record windows_32_written }
+        ensures written { Writes result (overwritten bytes.old 0 (encoding endian (windows_32_fields self))) bytes.old bytes.new (IsSliceFault bytes.old 0 68) }
+        ensures back { WritesBack 68 windows_32_record windows_32_fields }
     {
         pwrite_slice(bytes, 0, &self.to_bytes(endian))?;
         Ok(SIZEOF_WINDOWS_FIELDS_32)
@@ -269,9 +269,9 @@ impl WindowsFields64 {
     }
 
     // The record's bytes.
-    #[tactic(auto, unfolding(crate::specs::OptionalHeader::windows_64_written))]
-    fn to_bytes(self, endian: Endian) -> [u8; SIZEOF_WINDOWS_FIELDS_64]
-        ensures { result ≡ encoding endian (windows_64_written self) }
+    #[tactic(auto, unfolding(crate::specs::OptionalHeader::windows_64_fields))]
+    pub(super) fn to_bytes(self, endian: Endian) -> [u8; SIZEOF_WINDOWS_FIELDS_64]
+        ensures { result ≡ encoding endian (windows_64_fields self) }
     {
         let fields = [
             Field::U64(self.image_base),
@@ -307,8 +307,8 @@ impl WindowsFields64 {
     #[tactic(auto, using(crate::proofs::OptionalBack::windows_64_back))]
     pub fn try_into_ctx(self, bytes: &mut [u8], endian: Endian) -> Result<usize>
         ensures size { IfOk result (λ n. n ≡ 88) }
-        ensures written { Writes result (overwritten bytes.old 0 (encoding endian (windows_64_written self))) bytes.old bytes.new (IsSliceFault bytes.old 0 88) }
-        ensures back { WritesBack 88 windows_64_record windows_64_written }
+        ensures written { Writes result (overwritten bytes.old 0 (encoding endian (windows_64_fields self))) bytes.old bytes.new (IsSliceFault bytes.old 0 88) }
+        ensures back { WritesBack 88 windows_64_record windows_64_fields }
     {
         pwrite_slice(bytes, 0, &self.to_bytes(endian))?;
         Ok(SIZEOF_WINDOWS_FIELDS_64)
