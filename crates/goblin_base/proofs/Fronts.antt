@@ -2,7 +2,7 @@
 use Rattle.std.proofs.Common.{◌≡◌, ℕ, ◌+◌, ◌-◌, ◌<◌, ◌≤◌, true, List, ◌++◌, length, drop, take, sym, ap, ◌∙◌, refl, arith}
 use Rattle.std.specs.Prelude.{Some, slice_range, nat_le, nat_lt}
 use Rattle.std.proofs.lemmas.Bool.{le-leb, lt-ltb}
-use Rattle.std.proofs.lemmas.List.{drop-take, take-take, take-append-le, length-append, length-take-le}
+use Rattle.std.proofs.lemmas.List.{drop-take, take-take, take-append-le, length-append, length-drop, length-take-le}
 use Rattle.goblin_base.specs.declared.endian.Endian.{Endian}
 use Rattle.goblin_base.specs.Bytes.{number, number_at, slice_at}
 use Rattle.goblin_base.specs.Record.{record_at}
@@ -23,6 +23,17 @@ front_then n bytes rest le =
       in_a = le;
       in_b = omega (arith, long, length-append (take n bytes) rest);
       same = sym (take-append-le n (take n bytes) rest (omega (arith, long)) ∙ take-take n n bytes (omega arith));
+    }
+
+-- the same front, without its first p bytes
+pub front-drop : (n p : ℕ) (a b : List ℕ) → HaveFront n a b → p ≤ n → HaveFront (n - p) (drop p a) (drop p b)
+front-drop n p a b h le =
+    let split : p + (n - p) ≡ n = omega (arith, le) in
+    let cut : (xs : List ℕ) → take (n - p) (drop p xs) ≡ drop p (take n xs) = λ xs. sym (drop-take p (n - p) xs) ∙ ap (λ (k : ℕ). drop p (take k xs)) split in
+    record {
+      in_a = omega (arith, h.in_a, length-drop p a);
+      in_b = omega (arith, h.in_b, length-drop p b);
+      same = cut a ∙ ap (drop p) h.same ∙ sym (cut b);
     }
 
 within_front : (n p m : ℕ) (bytes : List ℕ) → p + m ≤ n → take m (drop p bytes) ≡ drop p (take (p + m) (take n bytes))

@@ -1,5 +1,8 @@
+pub mod HeaderAgain
 pub mod HeaderBack
+pub mod HeaderForm
 pub mod OptionalBack
+pub mod OptionalForm
 pub mod RichEntries
 pub mod RichLaw
 pub mod Sections

@@ -10,6 +10,7 @@ ghost use Rattle.goblin_base.specs.Faults.{IsSliceFault};
 ghost use Rattle.goblin_base.specs.Steps.{FirstFault};
 ghost use Rattle.goblin_pe_head.specs.declared.optional_header.OptionalHeader.{OptionalHeader};
 ghost use Rattle.goblin_pe_head.specs.OptionalHeader.{bytes_32, bytes_64, container_of, fields_32, fields_64, fixed_fields, optional_bytes, optional_header, windows_to_32, written_bytes, IsBadMagic, IsFieldsFault_32, IsFieldsFault_64, IsFixedFault, IsOptionalFault, IsTooWide, IsUnwritten};
+ghost use Rattle.goblin_pe_head.specs.HeaderLaws.{OptionalWritesBack};
 ghost use Rattle.goblin_pe_head.specs.OptionalHeaderLaws.{optional_header-within, optional_fault-no_memory};
 
 use goblin_base::{
@@ -231,15 +232,18 @@ impl OptionalHeader {
 
     /// Writes the optional header to the front of `bytes` and answers how many bytes it takes, 224 or
     /// 240: the fields that its magic asks for and always sixteen directories, those that are `None`
-    /// as zeros. Standard fields are written modulo 2^32.
+    /// as zeros. Standard fields are written modulo 2^32. In little-endian order, a header that was
+    /// read is written as it stood.
     ///
     /// # Errors
     /// In this order: [`Error::BadMagic`] of a magic other than [`MAGIC_32`] and [`MAGIC_64`];
     /// [`Error::Malformed`] with `FieldTooWide` where the magic is [`MAGIC_32`] and a Windows field
     /// does not fit 32 bits; [`Error::Read`] where there is no room. `bytes` are then as they were.
+    #[tactic(auto, using(crate::proofs::OptionalForm::optional_back))]
     pub fn try_into_ctx(self, bytes: &mut [u8], endian: Endian) -> Result<usize>
         ensures size { IfOk result (λ n. IsSomeAnd (optional_bytes endian self) (λ written. n ≡ length written)) }
         ensures written { Writes result (option_and_then (overwritten bytes.old 0) (optional_bytes endian self)) bytes.old bytes.new (FirstFault (optional_bytes endian self) (IsUnwritten self) (λ written. IsSliceFault bytes.old 0 (length written))) }
+        ensures back { OptionalWritesBack }
     {
         let written = self.to_bytes(endian)?;
         let written = written.as_slice();

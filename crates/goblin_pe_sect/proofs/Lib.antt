@@ -1,5 +1,6 @@
 pub mod Entries
 pub mod EntriesBack
+pub mod EntriesFront
 mod First
 pub mod NameBack
 pub mod NameLaw

@@ -7,6 +7,7 @@ ghost use Rattle.goblin_base.specs.Bytes.{overwritten, replaced};
 ghost use Rattle.goblin_base.specs.Faults.{IsSliceFault};
 ghost use Rattle.goblin_base.specs.Steps.{FirstFault};
 ghost use Rattle.goblin_pe_sect.specs.Options.{is_strict};
+ghost use Rattle.goblin_pe_head.specs.HeaderLaws.{HeaderReadsBack, HeaderWritesBack};
 ghost use Rattle.goblin_pe_head.specs.DosStub.{stub_bytes, IsStubFault};
 ghost use Rattle.goblin_pe_head.specs.OptionalHeader.{IsOptionalFault, written_bytes};
 ghost use Rattle.goblin_pe_head.specs.PeHeader.{default_header, header_at, header_bytes, header_parts, header_value, header_without_dos, optional_at, optional_part, pe_header, stub_in, IsHeaderAtFault, IsHeaderFault, IsUnwrittenPart};
@@ -160,14 +161,19 @@ impl<'a> Header<'a> {
     /// sixteen directories always. The signature is little-endian in either order. The Rich header is
     /// part of the stub.
     ///
+    /// In little-endian order, a header that [`Header::parse`] read is written as it stood, with zeros
+    /// behind it for the missing directories, and is read again from what was written.
+    ///
     /// # Errors
     /// In this order: [`Error::BadMagic`] of an optional header of unknown magic;
     /// [`Error::Malformed`] with [`Cause::FieldTooWide`] where a Windows field does not fit an optional
     /// header for 32 bits; [`Error::Read`] where there is no room. `bytes` are then as they were.
-    #[tactic(auto, unfolding(crate::specs::PeHeader::header_bytes))]
+    #[tactic(auto, unfolding(crate::specs::PeHeader::header_bytes), using(crate::proofs::HeaderForm::header_back, crate::proofs::HeaderAgain::header_again))]
     pub fn try_into_ctx(self, bytes: &mut [u8], endian: Endian) -> Result<usize>
         ensures size { IfOk result (λ n. IsSomeAnd (header_bytes endian (header_value self.entry)) (λ written. n ≡ length written)) }
         ensures written { Writes result (option_and_then (overwritten bytes.old 0) (header_bytes endian (header_value self.entry))) bytes.old bytes.new (FirstFault (header_bytes endian (header_value self.entry)) (IsUnwrittenPart self.entry.optional_header) (λ written. IsSliceFault bytes.old 0 (length written))) }
+        ensures back { HeaderWritesBack }
+        ensures again { HeaderReadsBack }
     {
         let optional = optional_bytes(&self.optional_header, endian)?;
         let optional = optional.as_slice();

@@ -1,0 +1,46 @@
+-- What is written of headers that were read, and what is read of it again.
+use Rattle.std.specs.Prelude.{◌≡◌, ◌≤◌, ℕ, ◌+◌, ◌-◌, ◌*◌, ◌==◌, if◌then◌else◌, List, ◌++◌, length, replicate, take, Option, Some, None, option_and_then, true}
+use Rattle.goblin_base.specs.declared.endian.Endian.TheVariants.{Little}
+use Rattle.goblin_base.specs.Bytes.{IsBytes, overwritten}
+use Rattle.goblin_pe_head.specs.declared.optional_header.OptionalHeader.{OptionalHeader}
+use Rattle.goblin_pe_head.specs.OptionalHeader.{optional_bytes, optional_header}
+use Rattle.goblin_pe_head.specs.PeHeader.{PeHeader, header_bytes, pe_header}
+
+-- how many bytes an optional header takes in its file: the fields that its magic asks for, and as many directories as they say
+abbrev pub optional_size : OptionalHeader → ℕ
+optional_size h = (if h.standard_fields.magic == 0x10B then 96 else 112) + 8 * h.windows_fields.number_of_rva_and_sizes
+
+-- the zeros that are written behind its directories, up to the sixteenth
+abbrev pub filling : OptionalHeader → List ℕ
+filling h = replicate (8 * (16 - h.windows_fields.number_of_rva_and_sizes)) 0
+
+-- An optional header that was read takes so many bytes, and is written as they stand with the missing directories behind them.
+unfoldable pub OptionalWritesBack : Type 0
+OptionalWritesBack =
+    (bytes : List ℕ) (h : OptionalHeader) (n : ℕ) → IsBytes bytes → optional_header bytes ≡ Some (h, n)
+    → (n ≡ optional_size h) × (n ≤ length bytes) × (optional_bytes Little h ≡ Some (take n bytes ++ filling h))
+
+-- where a header ends in its file: 24 bytes behind the place of the signature, or where the optional header ends
+abbrev pub end_behind : ℕ → Option OptionalHeader → ℕ
+end_behind p None = p + 24
+end_behind p (Some h) = p + 24 + optional_size h
+
+abbrev pub header_end : PeHeader → ℕ
+header_end h = end_behind h.dos_header.pe_pointer h.optional_header
+
+-- the zeros that are written behind a header
+abbrev pub filling_behind : Option OptionalHeader → List ℕ
+filling_behind None = replicate 0 0
+filling_behind (Some h) = filling h
+
+-- A header that was read in strict mode is written as the file's bytes up to its end, with the missing directories behind them.
+unfoldable pub HeaderWritesBack : Type 0
+HeaderWritesBack =
+    (file : List ℕ) (h : PeHeader) → IsBytes file → pe_header true file ≡ Some h
+    → (header_end h ≤ length file) × (header_bytes Little h ≡ Some (take (header_end h) file ++ filling_behind h.optional_header))
+
+-- It is read again from any bytes over which it was written.
+unfoldable pub HeaderReadsBack : Type 0
+HeaderReadsBack =
+    (file old new : List ℕ) (h : PeHeader) → IsBytes file → pe_header true file ≡ Some h
+    → option_and_then (overwritten old 0) (header_bytes Little h) ≡ Some new → pe_header true new ≡ Some h
