@@ -1,5 +1,6 @@
 //! The headers of a PE file: the whole header, and its parts, which are the DOS header and the stub
-//! behind it, the Rich header and the COFF header; and the section table.
+//! behind it, the Rich header and the COFF header; the section table; and the header of a Terse
+//! Executable.
 
 ghost use Rattle.std.specs.Prelude.{◌≡◌, ◌+◌, ◌*◌, ◌/◌, ◌<◌, ◌≤◌, length, true, IfOk, OnOk, OnErr, IsErrAnd};
 ghost use Rattle.goblin_base.specs.Answers.{Answers, AnswersOrMemory, Writes};
@@ -23,6 +24,7 @@ use std::alloc::Global;
 mod pe_header;
 mod rich;
 mod stub;
+mod te;
 
 pub use pe_header::Header;
 pub use rich::{
@@ -30,6 +32,7 @@ pub use rich::{
     RichMetadataIterator,
 };
 pub use stub::{DOS_STUB_OFFSET, DosStub};
+pub use te::{TE_MAGIC, TeHeader};
 
 /// The signature of a DOS header, `MZ`.
 pub const DOS_MAGIC: u16 = 0x5A4D;

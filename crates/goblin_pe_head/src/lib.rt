@@ -6,5 +6,6 @@ pub mod optional_header;
 
 pub use header::{
     CoffHeader, DosHeader, DosStub, Header, RichHeader, RichMetadata, RichMetadataIterator,
+    TeHeader,
 };
 pub use optional_header::OptionalHeader;

@@ -1,0 +1,254 @@
+//! The header of a Terse Executable, an image of firmware whose PE headers are stripped, and its
+//! sections.
+
+ghost use Rattle.std.specs.Prelude.{◌≡◌, ◌+◌, ◌*◌, ◌/◌, ◌<◌, length, IfOk, IsErrAnd, OnOk, OnErr};
+ghost use Rattle.goblin_base.specs.Answers.{Answers, AnswersOrMemory, Writes};
+ghost use Rattle.goblin_base.specs.Bytes.{overwritten};
+ghost use Rattle.goblin_base.specs.Faults.{IsSliceFault};
+ghost use Rattle.goblin_base.specs.Record.{WritesBack, encoding, record_in};
+ghost use Rattle.goblin_base.proofs.RecordLaws.{record_in-within, slice_fault-no_memory};
+ghost use Rattle.goblin_pe_head.specs.declared.header.te.TeHeader.{TeHeader};
+ghost use Rattle.goblin_pe_head.specs.Sections.{IsTooShort};
+ghost use Rattle.goblin_pe_head.specs.TeHeader.{displacement, lessened, pointer_lessened, section_adjusted, te_adjusted, te_fields, te_header, te_record, te_sections_at, IsStrippedFault, IsTeFault, IsTeSectionsFault};
+
+use goblin_base::{
+    Cause, Endian, Error, Field, Result, TryFromCtx, field_u8, field_u16, field_u32, field_u64,
+    gread_slice, pread_slice, pwrite_slice, record_bytes,
+};
+use goblin_pe_sect::data_directories::DataDirectory;
+use goblin_pe_sect::section_table::{SIZEOF_SECTION_TABLE, SectionTable};
+use std::alloc::Global;
+
+/// The signature of a Terse Executable, `VZ`.
+pub const TE_MAGIC: u16 = 0x5A56;
+
+// The size of the header, in bytes.
+const SIZEOF_TE_HEADER: usize = 40;
+
+/// The header of a Terse Executable.
+///
+/// Source: UEFI Platform Initialization Specification, volume 3, "TE Image". The record has 40 bytes.
+/// It stands in the place of the headers of a PE file, of which it keeps what a loader of firmware
+/// needs; what it says of places still counts the bytes that were stripped.
+#[derive(Debug, PartialEq, Copy, Clone, Default)]
+pub struct TeHeader {
+    /// [`TE_MAGIC`].
+    pub signature: u16,
+    /// The machine that the file is for, a `COFF_MACHINE_*`.
+    pub machine: u16,
+    /// How many section records follow.
+    pub number_of_sections: u8,
+    /// The subsystem that runs the image.
+    pub subsystem: u8,
+    /// How many bytes were stripped from the front of the PE file.
+    pub stripped_size: u16,
+    /// The address of the entry point.
+    pub entry_point: u32,
+    /// The address at which the code begins.
+    pub base_of_code: u32,
+    /// The address at which the image is best loaded.
+    pub image_base: u64,
+    /// Where the base relocations lie.
+    pub reloc_dir: DataDirectory,
+    /// Where the debug data lies.
+    pub debug_dir: DataDirectory,
+}
+
+impl TeHeader {
+    // The header in a record's bytes.
+    #[tactic(auto, unfolding(crate::specs::TeHeader::te_record))]
+    fn in_record(bytes: &[u8], endian: Endian) -> TeHeader
+        requires { length bytes.now ≡ 40 }
+        ensures { result ≡ te_record endian bytes.now }
+    {
+        TeHeader {
+            signature: field_u16(bytes, 0, endian),
+            machine: field_u16(bytes, 2, endian),
+            number_of_sections: field_u8(bytes, 4),
+            subsystem: field_u8(bytes, 5),
+            stripped_size: field_u16(bytes, 6, endian),
+            entry_point: field_u32(bytes, 8, endian),
+            base_of_code: field_u32(bytes, 12, endian),
+            image_base: field_u64(bytes, 16, endian),
+            reloc_dir: DataDirectory {
+                virtual_address: field_u32(bytes, 24, endian),
+                size: field_u32(bytes, 28, endian),
+            },
+            debug_dir: DataDirectory {
+                virtual_address: field_u32(bytes, 32, endian),
+                size: field_u32(bytes, 36, endian),
+            },
+        }
+    }
+
+    // The record's bytes.
+    #[tactic(auto, unfolding(crate::specs::TeHeader::te_fields))]
+    fn to_bytes(self, endian: Endian) -> [u8; SIZEOF_TE_HEADER]
+        ensures { result ≡ encoding endian (te_fields self) }
+    {
+        let fields = [
+            Field::U16(self.signature),
+            Field::U16(self.machine),
+            Field::U8(self.number_of_sections),
+            Field::U8(self.subsystem),
+            Field::U16(self.stripped_size),
+            Field::U32(self.entry_point),
+            Field::U32(self.base_of_code),
+            Field::U64(self.image_base),
+            Field::U32(self.reloc_dir.virtual_address),
+            Field::U32(self.reloc_dir.size),
+            Field::U32(self.debug_dir.virtual_address),
+            Field::U32(self.debug_dir.size),
+        ];
+        record_bytes(&fields, endian)
+    }
+
+    /// Writes the record at the front of `bytes` and answers its size, 40. What the plain reader read
+    /// is written as it stood, by the same order of bytes; what [`TeHeader::parse`] adjusted is
+    /// written adjusted.
+    ///
+    /// # Errors
+    /// [`Error::Read`] where there is no room for 40 bytes; `bytes` are then as they were.
+    #[tactic(auto, using(crate::proofs::HeaderBack::te_back))]
+    pub fn try_into_ctx(self, bytes: &mut [u8], endian: Endian) -> Result<usize>
+        ensures size { IfOk result (λ n. n ≡ 40) }
+        ensures written { Writes result (overwritten bytes.old 0 (encoding endian (te_fields self))) bytes.old bytes.new (IsSliceFault bytes.old 0 40) }
+        ensures back { WritesBack 40 te_record te_fields }
+    {
+        pwrite_slice(bytes, 0, &self.to_bytes(endian))?;
+        Ok(SIZEOF_TE_HEADER)
+    }
+
+    /// The size of the record in bytes, the same in either order: 40.
+    pub fn size_with(_endian: &Endian) -> usize
+        ensures { result ≡ 40 }
+    {
+        SIZEOF_TE_HEADER
+    }
+
+    // By how much everything moved to the front when the headers were stripped.
+    fn displacement(&self) -> Result<u32>
+        ensures { Answers (λ d. d) result (displacement self.now) (IsStrippedFault self.now) }
+    {
+        let stripped_size = u32::from(self.stripped_size);
+        match stripped_size.checked_sub(SIZEOF_TE_HEADER as u32) {
+            Some(displacement) => Ok(displacement),
+            None => Err(Error::Malformed(Cause::StrippedSize(stripped_size))),
+        }
+    }
+
+    /// Reads the record at `offset` and moves `offset` past it. Entry point, base of code and the
+    /// addresses of both directories are adjusted: they are lessened by the bytes that were stripped
+    /// beyond the header's own 40, modulo 2^32. The signature is not looked at.
+    ///
+    /// # Errors
+    /// [`Error::Read`] where the file has no 40 bytes there; [`Error::Malformed`] with
+    /// [`Cause::StrippedSize`] where less than 40 bytes were stripped. `offset` then stays.
+    #[tactic(auto, unfolding(crate::specs::TeHeader::te_header, crate::specs::TeHeader::te_adjusted, crate::specs::TeHeader::IsTeFault))]
+    pub fn parse(bytes: &[u8], offset: &mut usize) -> Result<TeHeader>
+        ensures value { Answers (λ h. h) result (te_header bytes.now offset.old) (IsTeFault bytes.now offset.old) }
+        ensures ok { OnOk result (offset.new ≡ offset.old + 40) }
+        ensures err { OnErr result (offset.new ≡ offset.old) }
+    {
+        let mut end = *offset;
+        let record = gread_slice(bytes, &mut end, SIZEOF_TE_HEADER)?;
+        let mut header = TeHeader::in_record(record, Endian::Little);
+        let displacement = header.displacement()?;
+        header.entry_point = lessened(header.entry_point, displacement);
+        header.base_of_code = lessened(header.base_of_code, displacement);
+        header.reloc_dir.virtual_address = lessened(header.reloc_dir.virtual_address, displacement);
+        header.debug_dir.virtual_address = lessened(header.debug_dir.virtual_address, displacement);
+        *offset = end;
+        Ok(header)
+    }
+
+    /// Reads the section table, whose records stand one after the other from `offset` on, and moves
+    /// `offset` past it. The address of each section, and each of its three pointers that is not 0, is
+    /// adjusted as in [`TeHeader::parse`]. An indirect name would stand in a string table at the front
+    /// of the file.
+    ///
+    /// # Errors
+    /// [`Error::BufferTooShort`] of the number of sections where the whole file has no room for so
+    /// many, tested first; [`Error::Malformed`] with [`Cause::StrippedSize`] where less than 40 bytes
+    /// were stripped; as [`SectionTable::parse`] where a record is not all there or its name is
+    /// refused; [`Error::Memory`] where memory is refused. `offset` then stays.
+    #[tactic(auto, unfolding(crate::specs::TeHeader::te_sections_at))]
+    pub fn sections(
+        &self,
+        alloc: Global,
+        bytes: &[u8],
+        offset: &mut usize,
+    ) -> Result<Vec<SectionTable>>
+        ensures value { AnswersOrMemory (λ v. v.items) result (te_sections_at self.now bytes.now offset.old) (IsTeSectionsFault self.now bytes.now offset.old) }
+        ensures first { length bytes.now / 40 < self.now.number_of_sections → IsErrAnd result (IsTooShort self.now.number_of_sections bytes.now) }
+        ensures ok { OnOk result (offset.new ≡ offset.old + 40 * self.now.number_of_sections) }
+        ensures err { OnErr result (offset.new ≡ offset.old) }
+    {
+        let count = self.number_of_sections as usize;
+        if bytes.len() / SIZEOF_SECTION_TABLE < count {
+            return Err(Error::BufferTooShort(count, "sections"));
+        }
+        let displacement = self.displacement()?;
+        let mut sections = Vec::with_capacity(alloc, count)?;
+        let mut end = *offset;
+        'records: for _ in 0..count {
+            let mut section = SectionTable::parse(alloc, bytes, &mut end, 0)?;
+            adjust(&mut section, displacement);
+            sections.push(section)?;
+        }
+        *offset = end;
+        Ok(sections)
+    }
+}
+
+impl TryFromCtx<'_> for TeHeader {
+    ghost Plain = { TeHeader };
+
+    ghost plain = { λ header. header };
+
+    ghost value_of = { record_in 40 te_record };
+
+    ghost refusal = { λ _ bytes e. IsSliceFault bytes 0 40 e };
+
+    ghost within = { record_in-within 40 te_record };
+
+    ghost no_memory = { λ _ bytes e. slice_fault-no_memory bytes 0 40 e };
+
+    /// Reads the record at the front of `bytes` as it is stored, which takes 40 bytes.
+    ///
+    /// # Errors
+    /// [`Error::Read`] where there are no 40 bytes.
+    fn try_from_ctx(bytes: &[u8], endian: Endian) -> Result<(TeHeader, usize)> {
+        let record = pread_slice(bytes, 0, SIZEOF_TE_HEADER)?;
+        Ok((TeHeader::in_record(record, endian), SIZEOF_TE_HEADER))
+    }
+}
+
+// A number less the displacement, modulo 2^32.
+fn lessened(number: u32, displacement: u32) -> u32
+    ensures { result ≡ lessened displacement number }
+{
+    number.wrapping_sub(displacement)
+}
+
+// A pointer less the displacement, where it points to something.
+fn pointer_lessened(pointer: u32, displacement: u32) -> u32
+    ensures { result ≡ pointer_lessened displacement pointer }
+{
+    if pointer == 0 {
+        0
+    } else {
+        lessened(pointer, displacement)
+    }
+}
+
+// Makes the address and the pointers of a section those in the stripped file.
+#[tactic(auto, unfolding(crate::specs::TeHeader::section_adjusted))]
+fn adjust(section: &mut SectionTable, displacement: u32)
+    ensures { section.new ≡ section_adjusted displacement section.old }
+{
+    section.virtual_address = lessened(section.virtual_address, displacement);
+    section.pointer_to_raw_data = pointer_lessened(section.pointer_to_raw_data, displacement);
+    section.pointer_to_relocations = pointer_lessened(section.pointer_to_relocations, displacement);
+    section.pointer_to_linenumbers = pointer_lessened(section.pointer_to_linenumbers, displacement);
+}
