@@ -16,3 +16,5 @@ mod runs;
 mod sample;
 mod sections;
 mod streams;
+mod te;
+mod written;

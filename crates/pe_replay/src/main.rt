@@ -1,0 +1,83 @@
+//! Shows what readers of the library make of a file on standard input, for the script that compares it
+//! with what stands beside the samples.
+#![tactic(auto)]
+
+use goblin_base::Endian;
+use goblin_pe_head::{Header, TeHeader};
+use std::io::{Read, Write};
+use std::process::ExitCode;
+use std::{env, io};
+
+fn main(rt: HostRuntime) -> ExitCode {
+    match replay(&rt) {
+        Ok(()) => ExitCode::SUCCESS,
+        Err(_) => ExitCode::from(1),
+    }
+}
+
+// Why nothing is shown.
+#[derive(Copy, Clone)]
+struct Refused;
+
+impl From<goblin_base::Error> for Refused {
+    fn from(_: goblin_base::Error) -> Refused {
+        Refused
+    }
+}
+
+impl From<io::Error> for Refused {
+    fn from(_: io::Error) -> Refused {
+        Refused
+    }
+}
+
+// Shows what the word asks for of the file on standard input.
+fn replay(rt: &HostRuntime) -> Result<(), Refused> {
+    let mut words = env::args(rt)?;
+    let _program = words.next();
+    let mut file = Vec::new(rt.alloc());
+    rt.stdin().read_to_end(&mut file)?;
+    match words.next() {
+        Some(word) if word.as_str() == "header" => show_header(rt, &file),
+        Some(word) if word.as_str() == "te" => show_te(rt, &file),
+        _ => Err(Refused),
+    }
+}
+
+// The header, written as it was read.
+fn show_header(rt: &HostRuntime, file: &[u8]) -> Result<(), Refused> {
+    let header = Header::parse(file)?;
+    let mut written = [0; 4096];
+    let size = header.try_into_ctx(&mut written, Endian::Little)?;
+    rt.stdout().write_all(&written[..size])?;
+    Ok(())
+}
+
+// The header of a Terse Executable and its sections, a line for each value and for each section.
+fn show_te(rt: &HostRuntime, file: &[u8]) -> Result<(), Refused> {
+    let mut offset = 0;
+    let header = TeHeader::parse(file, &mut offset)?;
+    println!(rt; "signature {:#x}", header.signature)?;
+    println!(rt; "machine {:#x}", header.machine)?;
+    println!(rt; "number_of_sections {:#x}", header.number_of_sections)?;
+    println!(rt; "subsystem {:#x}", header.subsystem)?;
+    println!(rt; "stripped_size {:#x}", header.stripped_size)?;
+    println!(rt; "entry_point {:#x}", header.entry_point)?;
+    println!(rt; "base_of_code {:#x}", header.base_of_code)?;
+    println!(rt; "image_base {:#x}", header.image_base)?;
+    println!(rt; "reloc_dir {:#x} {}", header.reloc_dir.virtual_address, header.reloc_dir.size)?;
+    println!(rt; "debug_dir {:#x} {}", header.debug_dir.virtual_address, header.debug_dir.size)?;
+    for section in &header.sections(rt.alloc(), file, &mut offset)? {
+        println!(
+            rt;
+            "section {} va={:#x} vsize={:#x} raw={:#x} ptr={:#x} characteristics={:#x}",
+            section.name()?,
+            section.virtual_address,
+            section.virtual_size,
+            section.size_of_raw_data,
+            section.pointer_to_raw_data,
+            section.characteristics
+        )?;
+    }
+    Ok(())
+}
