@@ -1,0 +1,2 @@
+mod FollowsGrammar
+mod Grammar

@@ -1,0 +1,2 @@
+pub mod ForwarderLaws
+pub mod Forwarders
