@@ -1,2 +1,3 @@
+mod ExportRecord
 mod FollowsGrammar
 mod Grammar

@@ -2,6 +2,7 @@
 #![tactic(auto)]
 
 pub mod export;
+pub mod table;
 
 pub use goblin_base::{Cause, Container, Endian, Error, Permissive, ReadFault, Result, TryFromCtx};
 pub use goblin_pe_head::{header, optional_header};
