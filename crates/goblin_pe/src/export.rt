@@ -3,20 +3,23 @@
 ghost use Rattle.std.specs.Prelude.{◌≡◌, List, ℕ, IfOk, length};
 ghost use Rattle.goblin_base.specs.Answers.{Answers, AnswersOrMemory, Writes};
 ghost use Rattle.goblin_base.specs.Bytes.{overwritten, text_at};
+ghost use Rattle.goblin_base.specs.CountedTables.{counted_table_if};
 ghost use Rattle.goblin_base.specs.Faults.{IsSliceFault};
 ghost use Rattle.goblin_base.specs.Record.{WritesBack, encoding, record_in};
 ghost use Rattle.goblin_base.proofs.RecordLaws.{record_in-within, slice_fault-no_memory};
 ghost use Rattle.goblin_pe.specs.declared.export.ExportDirectoryTable.{ExportDirectoryTable};
-ghost use Rattle.goblin_pe.specs.Exports.{IsNoExportTable, address_entry, export_directory_at, export_directory_fields, export_directory_record};
+ghost use Rattle.goblin_pe.specs.Exports.{GivesOrMemory, IsNoExportTable, address_entry, addresses, name_pointers, ordinals, export_directory_at, export_directory_fields, export_directory_record};
 ghost use Rattle.goblin_pe.specs.ForwarderLaws.{forwarder_in-within, forwarder_fault-no_memory};
 ghost use Rattle.goblin_pe.specs.Forwarders.{FollowsGrammar, Forwarder, IsForwarderAtFault, IsForwarderFault, forwarder_at, forwarder_in, forwarder_of, forwarder_value, ordinal_of};
 
+use crate::table::Table;
 use goblin_base::{
     Cause, Endian, Error, Field, Result, TryFromCtx, field_u16, field_u32, pread_slice, pread_str,
     pwrite_slice, record_bytes,
 };
 use goblin_pe_sect::DataDirectory;
 use goblin_pe_sect::utils::is_in_range;
+use std::alloc::Global;
 
 /// The size of an export directory's record, in bytes.
 pub const SIZEOF_EXPORT_DIRECTORY_TABLE: usize = 40;
@@ -160,13 +163,28 @@ impl TryFromCtx<'_> for ExportDirectoryTable {
 /// An entry of the export address table.
 ///
 /// Source: PE Format, "Export Address Table".
-#[derive(Debug)]
+#[derive(Debug, PartialEq, Copy, Clone)]
 pub enum ExportAddressTableEntry {
     /// The address of an export in this image.
     ExportRVA(u32),
     /// The address of a forwarder's text, which lies in the export directory.
     ForwarderRVA(u32),
 }
+
+/// What the exports' ordinals number: an address each.
+///
+/// Source: PE Format, "Export Address Table".
+pub type ExportAddressTable = Table<ExportAddressTableEntry>;
+
+/// The addresses of the exports' names.
+///
+/// Source: PE Format, "Export Name Pointer Table".
+pub type ExportNamePointerTable = Table<u32>;
+
+/// For each name pointer the index of its address in the address table.
+///
+/// Source: PE Format, "Export Ordinal Table".
+pub type ExportOrdinalTable = Table<u16>;
 
 impl ExportAddressTableEntry {
     // What an address stands for under an export directory.
@@ -184,11 +202,90 @@ impl ExportAddressTableEntry {
     }
 }
 
+// The table of `count` entries of `width` bytes, cut at the first that is not whole; without an offset
+// it has none.
+fn counted_table<V: Drop, F: Fn(&[u8]) -> V>(
+    alloc: Global,
+    bytes: &[u8],
+    offset: Option<usize>,
+    width: usize,
+    count: u32,
+    value_of: F,
+) -> Result<Table<V>>
+    requires { (entry : _) → length entry.now ≡ width → F.pre value_of entry }
+    ensures { (value : List ℕ → V) → ((entry : _) (v : V) → length entry.now ≡ width → F.post value_of entry v → v ≡ value entry.now) → GivesOrMemory (λ t. t) result (counted_table_if (record { width = width; value_of = value }) count bytes.now offset) }
+{
+    let mut entries = Vec::new(alloc);
+    let Some(begin) = offset else {
+        return Ok(Table::from(entries));
+    };
+    let mut place = begin;
+    'entries: for _ in 0..count {
+        let Ok(entry) = pread_slice(bytes, place, width) else {
+            return Ok(Table::from(entries));
+        };
+        entries.push(value_of(entry))?;
+        place += width;
+    }
+    Ok(Table::from(entries))
+}
+
+// The name pointers at an offset.
+fn name_pointers(
+    alloc: Global,
+    bytes: &[u8],
+    offset: Option<usize>,
+    count: u32,
+) -> Result<ExportNamePointerTable>
+    ensures { GivesOrMemory (λ t. t) result (counted_table_if name_pointers count bytes.now offset) }
+{
+    counted_table(alloc, bytes, offset, 4, count, |entry| {
+        field_u32(entry, 0, Endian::Little)
+    })
+}
+
+// The ordinals at an offset.
+fn ordinals(
+    alloc: Global,
+    bytes: &[u8],
+    offset: Option<usize>,
+    count: u32,
+) -> Result<ExportOrdinalTable>
+    ensures { GivesOrMemory (λ t. t) result (counted_table_if ordinals count bytes.now offset) }
+{
+    counted_table(alloc, bytes, offset, 2, count, |entry| {
+        field_u16(entry, 0, Endian::Little)
+    })
+}
+
+// The addresses at an offset, under an export directory.
+fn addresses(
+    alloc: Global,
+    bytes: &[u8],
+    offset: Option<usize>,
+    count: u32,
+    directory: DataDirectory,
+) -> Result<ExportAddressTable>
+    ensures { GivesOrMemory (λ t. t) result (counted_table_if (addresses directory) count bytes.now offset) }
+{
+    counted_table(
+        alloc,
+        bytes,
+        offset,
+        SIZEOF_EXPORT_ADDRESS_TABLE_ENTRY,
+        count,
+        |entry| {
+            let rva = field_u32(entry, 0, Endian::Little);
+            ExportAddressTableEntry::of_rva(directory, rva)
+        },
+    )
+}
+
 /// What an export that is a forwarder stands for: an export of another library.
 ///
 /// Source: PE Format, "Export Address Table". The text is the library's name, a dot, and the export's
 /// name or `#` and its ordinal, as in `MYDLL.expfunc` and `MYDLL.#27`.
-#[derive(Debug)]
+#[derive(Debug, PartialEq, Copy, Clone)]
 pub enum Reexport<'a> {
     /// An export by its name.
     DLLName {
