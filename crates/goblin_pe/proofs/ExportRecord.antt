@@ -1,5 +1,5 @@
 -- An export directory that was read is written as it stood.
-use Rattle.std.proofs.Common.{List, [], ◌∷◌, refl}
+use Rattle.std.proofs.Common.{[], ◌∷◌, refl}
 use Rattle.goblin_base.specs.Record.{WritesBack}
 use Rattle.goblin_base.proofs.Encoding.{uint_slot, writes_back}
 use Rattle.goblin_pe.specs.Exports.{export_directory_fields, export_directory_record}

@@ -1,5 +1,5 @@
 -- Forwarder texts: what the reader's calls say of them, and that the value is the grammar's.
-use Rattle.std.proofs.Common.{◌≡◌, ◌≢◌, ◌<◌, ◌+◌, ◌^◌, ◌&&◌, ℕ, Bool, true, false, ltb, eqb, Some, None, List, [], ◌∷◌, ◌++◌, length, get_or, take, drop, Result, Ok, Err, sym, ap, subst, ◌∙◌, refl, arith, inl, inr}
+use Rattle.std.proofs.Common.{◌≡◌, ◌≢◌, ◌↔◌, ◌<◌, ◌+◌, ◌^◌, ◌&&◌, ℕ, Bool, true, false, ltb, eqb, Some, None, List, [], ◌∷◌, ◌++◌, length, get_or, take, drop, Result, Ok, Err, sym, ap, subst, ◌∙◌, refl, arith, inl, inr}
 use Rattle.std.proofs.lemmas.Bool.{cases_Bool, cases_lt, eqb-true, ltb-true, lt-ltb, eq-eqb, ne_eqb, and_parts, and_from, false_from_ne_true, true≢false}
 use Rattle.std.proofs.lemmas.List.{drop_all, length-append, length-take, get_or-take}
 use Rattle.std.proofs.lemmas.List.Sums.{split_at_first, fails_before_first, passes_at_first, position_or_len_is}
@@ -144,3 +144,7 @@ grammar-of_value text f v =
           let none : forwarder_of text ≡ None = forwarder-missing text (drop_all (position_or_len is_dot text + 1) text (omega (arith, g))) in
           cc
     ]
+
+-- so the value and the grammar say the same of each text
+pub by_grammar : (text : List ℕ) (f : Forwarder) → (forwarder_of text ≡ Some f) ↔ IsForwarder text f
+by_grammar text f = (grammar-of_value text f, value-of_grammar text f)

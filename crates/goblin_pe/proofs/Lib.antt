@@ -1,3 +1,3 @@
 mod ExportRecord
-mod FollowsGrammar
+mod ExportRows
 mod Grammar

@@ -7,16 +7,16 @@ use Rattle.goblin_base.specs.declared.error.ErrorOf.TheVariants.{Malformed, Buff
 use Rattle.goblin_base.specs.declared.error.CauseOf.TheVariants.{ExportTable}
 use Rattle.goblin_base.specs.Answers.{IsMemory}
 use Rattle.goblin_base.specs.Below.{concat_below}
-use Rattle.goblin_base.specs.Bytes.{number, text_at}
+use Rattle.goblin_base.specs.Bytes.{number}
 use Rattle.goblin_base.specs.CountedTables.{counted_table_if}
 use Rattle.goblin_base.specs.Record.{FieldValue, uint, record_at}
 use Rattle.goblin_base.specs.Steps.{◌>>=◌, FirstFault}
 use Rattle.goblin_base.specs.Tables.{Format}
 use Rattle.goblin_pe_sect.specs.declared.data_directories.DataDirectory.{DataDirectory}
 use Rattle.goblin_pe_sect.specs.Mapping.{IsUnmapped, name_at}
-use Rattle.goblin_pe.specs.declared.export.ExportAddressTableEntry.{ExportAddressTableEntry}
-use Rattle.goblin_pe.specs.declared.export.ExportAddressTableEntry.TheVariants.{ExportRVA, ForwarderRVA}
-use Rattle.goblin_pe.specs.declared.export.ExportDirectoryTable.{ExportDirectoryTable}
+use Rattle.goblin_pe.specs.declared.export.tables.ExportAddressTableEntry.{ExportAddressTableEntry}
+use Rattle.goblin_pe.specs.declared.export.tables.ExportAddressTableEntry.TheVariants.{ExportRVA, ForwarderRVA}
+use Rattle.goblin_pe.specs.declared.export.tables.ExportDirectoryTable.{ExportDirectoryTable}
 use Rattle.goblin_pe.specs.Forwarders.{Forwarder, forwarder_at}
 
 -- ---- the record

@@ -1,5 +1,5 @@
 -- Forwarders: texts that name an export of another library.
-use Rattle.std.specs.Prelude.{◌≡◌, ◌≢◌, ℕ, ◌+◌, ◌<◌, ◌^◌, ◌==◌, ◌&&◌, nat_lt, if◌then◌else◌, Bool, List, [], ◌∷◌, ◌++◌, length, slice_index, min, Option, Some, None, option_map, Result, Ok, Err}
+use Rattle.std.specs.Prelude.{◌≡◌, ◌≢◌, ℕ, ◌+◌, ◌<◌, ◌^◌, ◌==◌, ◌&&◌, nat_lt, if◌then◌else◌, Bool, List, [], ◌∷◌, ◌++◌, length, slice_index, min, Option, Some, None, option_map}
 use Rattle.std.specs.List.{before_first, after_first}
 use Rattle.std.specs.Str.{all_ascii_digits}
 use Rattle.std.specs.Str.Parse.{IsNumeral, digits_value, without_leading_plus}
@@ -10,8 +10,8 @@ use Rattle.goblin_base.specs.declared.error.CauseOf.TheVariants.{Forwarder as No
 use Rattle.goblin_base.specs.Bytes.{text_at}
 use Rattle.goblin_base.specs.Faults.{IsTextFault}
 use Rattle.goblin_base.specs.Steps.{◌>>=◌, FirstFault}
-use Rattle.goblin_pe.specs.declared.export.Reexport.{Reexport}
-use Rattle.goblin_pe.specs.declared.export.Reexport.TheVariants.{DLLName, DLLOrdinal}
+use Rattle.goblin_pe.specs.declared.export.forwarder.Reexport.{Reexport}
+use Rattle.goblin_pe.specs.declared.export.forwarder.Reexport.TheVariants.{DLLName, DLLOrdinal}
 
 -- an export of another library, by its name or by its ordinal; texts as their bytes
 pub data Forwarder : Type 0 where
@@ -62,11 +62,6 @@ forwarder_in endian bytes = do
 abbrev pub forwarder_value : Reexport → Forwarder
 forwarder_value (DLLName export lib) = ByName export.now lib.now
 forwarder_value (DLLOrdinal ordinal lib) = ByOrdinal ordinal lib.now
-
--- A forwarder that was read is one by the grammar, and where the reader refuses, the text is none by the grammar.
-abbrev pub FollowsGrammar : Result Reexport ErrorOf → List ℕ → Type 0
-FollowsGrammar (Ok x) text = IsForwarder text (forwarder_value x)
-FollowsGrammar (Err e) text = (f : Forwarder) → IsForwarder text f → ⊥
 
 -- which cause is true of a text that is no forwarder: nothing stands behind its first dot, or no ordinal behind the '#' there
 abbrev pub IsForwarderFault : List ℕ → ErrorOf → Type 0

@@ -1,376 +1,269 @@
-//! The exports of an image, and the forwarders among them.
+//! The exports of an image: what its export directory leads to, and the forwarders among them.
 
-ghost use Rattle.std.specs.Prelude.{◌≡◌, List, ℕ, IfOk, length};
-ghost use Rattle.goblin_base.specs.Answers.{Answers, AnswersOrMemory, Writes};
-ghost use Rattle.goblin_base.specs.Bytes.{overwritten, text_at};
-ghost use Rattle.goblin_base.specs.CountedTables.{counted_table_if};
-ghost use Rattle.goblin_base.specs.Faults.{IsSliceFault};
-ghost use Rattle.goblin_base.specs.Record.{WritesBack, encoding, record_in};
-ghost use Rattle.goblin_base.proofs.RecordLaws.{record_in-within, slice_fault-no_memory};
-ghost use Rattle.goblin_pe.specs.declared.export.ExportDirectoryTable.{ExportDirectoryTable};
-ghost use Rattle.goblin_pe.specs.Exports.{GivesOrMemory, IsNoExportTable, address_entry, addresses, name_pointers, ordinals, export_directory_at, export_directory_fields, export_directory_record};
-ghost use Rattle.goblin_pe.specs.ForwarderLaws.{forwarder_in-within, forwarder_fault-no_memory};
-ghost use Rattle.goblin_pe.specs.Forwarders.{FollowsGrammar, Forwarder, IsForwarderAtFault, IsForwarderFault, forwarder_at, forwarder_in, forwarder_of, forwarder_value, ordinal_of};
+ghost use Rattle.std.specs.Prelude.{◌≡◌, IsOk, length, option_and_then, option_map};
+ghost use Rattle.goblin_base.specs.Answers.{AnswersOrMemory};
+ghost use Rattle.goblin_pe_sect.specs.Mapping.{file_offset};
+ghost use Rattle.goblin_pe_sect.specs.Options.{default_options};
+ghost use Rattle.goblin_pe.specs.Exports.{GivesOrMemory, IsExportDataFault, export_data, export_row, exports};
+ghost use Rattle.goblin_pe.specs.Forwarders.{forwarder_at, forwarder_value};
 
-use crate::table::Table;
-use goblin_base::{
-    Cause, Endian, Error, Field, Result, TryFromCtx, field_u16, field_u32, pread_slice, pread_str,
-    pwrite_slice, record_bytes,
-};
-use goblin_pe_sect::DataDirectory;
-use goblin_pe_sect::utils::is_in_range;
+use goblin_base::{Cause, Error, Result};
+use goblin_pe_sect::utils::{find_offset, try_name};
+use goblin_pe_sect::{DataDirectory, ParseOptions, SectionTable};
 use std::alloc::Global;
+use std::marker::Model;
 
-/// The size of an export directory's record, in bytes.
-pub const SIZEOF_EXPORT_DIRECTORY_TABLE: usize = 40;
+mod forwarder;
+mod tables;
 
-/// The size of an entry of the export address table, in bytes.
-pub const SIZEOF_EXPORT_ADDRESS_TABLE_ENTRY: usize = 4;
+pub use forwarder::Reexport;
+pub use tables::{
+    ExportAddressTable, ExportAddressTableEntry, ExportDirectoryTable, ExportNamePointerTable,
+    ExportOrdinalTable, SIZEOF_EXPORT_ADDRESS_TABLE_ENTRY, SIZEOF_EXPORT_DIRECTORY_TABLE,
+};
+use tables::{addresses, name_pointers, ordinals, test_counts};
 
-/// The record with which an image's exports begin.
+/// What an export directory leads to: the library's name and the three tables.
 ///
-/// Source: PE Format, "Export Directory Table". Numbers are as stored; the record has 40 bytes.
-#[derive(Debug, PartialEq, Copy, Clone, Default)]
-pub struct ExportDirectoryTable {
-    /// Reserved, 0.
-    pub export_flags: u32,
-    /// When the exports were made, in seconds since 1970.
-    pub time_date_stamp: u32,
-    /// The major version. It is the user's own.
-    pub major_version: u16,
-    /// The minor version.
-    pub minor_version: u16,
-    /// The address of the library's name.
-    pub name_rva: u32,
-    /// The ordinal of the first entry of the address table, mostly 1.
-    pub ordinal_base: u32,
-    /// How many entries the address table has.
-    pub address_table_entries: u32,
-    /// How many entries the name pointer table has, and as many has the ordinal table.
-    pub number_of_name_pointers: u32,
-    /// The address of the address table.
-    pub export_address_table_rva: u32,
-    /// The address of the name pointer table.
-    pub name_pointer_rva: u32,
-    /// The address of the ordinal table.
-    pub ordinal_table_rva: u32,
+/// Source: PE Format, "The .edata Section (Image Only)".
+#[derive(Debug, Drop)]
+pub struct ExportData<'a> {
+    /// The library's name, where it can be read.
+    pub name: Option<&'a str>,
+    /// The record itself.
+    pub export_directory_table: ExportDirectoryTable,
+    /// The addresses of the exports' names.
+    pub export_name_pointer_table: ExportNamePointerTable,
+    /// For each name pointer the index of its address.
+    pub export_ordinal_table: ExportOrdinalTable,
+    /// The exports' addresses.
+    pub export_address_table: ExportAddressTable,
 }
 
-impl ExportDirectoryTable {
-    // The directory in a record's bytes.
-    #[tactic(auto, unfolding(crate::specs::Exports::export_directory_record))]
-    fn in_record(bytes: &[u8], endian: Endian) -> ExportDirectoryTable
-        requires { length bytes.now ≡ 40 }
-        ensures { result ≡ export_directory_record endian bytes.now }
-    {
-        ExportDirectoryTable {
-            export_flags: field_u32(bytes, 0, endian),
-            time_date_stamp: field_u32(bytes, 4, endian),
-            major_version: field_u16(bytes, 8, endian),
-            minor_version: field_u16(bytes, 10, endian),
-            name_rva: field_u32(bytes, 12, endian),
-            ordinal_base: field_u32(bytes, 16, endian),
-            address_table_entries: field_u32(bytes, 20, endian),
-            number_of_name_pointers: field_u32(bytes, 24, endian),
-            export_address_table_rva: field_u32(bytes, 28, endian),
-            name_pointer_rva: field_u32(bytes, 32, endian),
-            ordinal_table_rva: field_u32(bytes, 36, endian),
-        }
-    }
+impl<'a> Model for ExportData<'a> {
+    ghost use Rattle.std.specs.Prelude.{option_map};
+    ghost use Rattle.goblin_pe.specs.Exports.{ExportTables};
 
-    /// Reads the record at `offset`.
+    ghost Value = { ExportTables };
+
+    ghost view = { λ x. record {
+      name = option_map (λ s. s.now) x.name;
+      export_directory_table = x.export_directory_table;
+      export_name_pointer_table = x.export_name_pointer_table;
+      export_ordinal_table = x.export_ordinal_table;
+      export_address_table = x.export_address_table;
+    } };
+}
+
+impl<'a> ExportData<'a> {
+    /// Reads the export data of an export directory, as [`ExportData::parse_with_opts`] reads it by
+    /// the default options.
     ///
     /// # Errors
-    /// [`Error::Malformed`] with [`Cause::ExportTable`] where the file has no 40 bytes there.
-    pub fn parse(bytes: &[u8], offset: usize) -> Result<ExportDirectoryTable>
-        ensures { Answers (λ t. t) result (export_directory_at bytes.now offset) (IsNoExportTable offset) }
+    /// As [`ExportData::parse_with_opts`].
+    pub fn parse(
+        alloc: Global,
+        bytes: &'a [u8],
+        directory: DataDirectory,
+        sections: &[SectionTable],
+        file_alignment: u32,
+    ) -> Result<ExportData<'a>>
+        ensures { AnswersOrMemory (λ x. x) result (export_data (file_offset default_options sections.now file_alignment) directory bytes.now) (IsExportDataFault (file_offset default_options sections.now file_alignment) directory bytes.now) }
     {
-        match pread_slice(bytes, offset, SIZEOF_EXPORT_DIRECTORY_TABLE) {
-            Ok(record) => Ok(ExportDirectoryTable::in_record(record, Endian::Little)),
-            Err(_) => Err(Error::Malformed(Cause::ExportTable(offset))),
-        }
+        let opts = ParseOptions::default();
+        ExportData::parse_with_opts(alloc, bytes, directory, sections, file_alignment, &opts)
     }
 
-    // The record's bytes.
-    #[tactic(auto, unfolding(crate::specs::Exports::export_directory_fields))]
-    fn to_bytes(self, endian: Endian) -> [u8; SIZEOF_EXPORT_DIRECTORY_TABLE]
-        ensures { result ≡ encoding endian (export_directory_fields self) }
-    {
-        let fields = [
-            Field::U32(self.export_flags),
-            Field::U32(self.time_date_stamp),
-            Field::U16(self.major_version),
-            Field::U16(self.minor_version),
-            Field::U32(self.name_rva),
-            Field::U32(self.ordinal_base),
-            Field::U32(self.address_table_entries),
-            Field::U32(self.number_of_name_pointers),
-            Field::U32(self.export_address_table_rva),
-            Field::U32(self.name_pointer_rva),
-            Field::U32(self.ordinal_table_rva),
-        ];
-        record_bytes(&fields, endian)
-    }
-
-    /// Writes the record to the front of `bytes`, and answers its size. A record that was read is
-    /// written as it stood, by the same order of bytes.
+    /// Reads the export data of an export directory: the record at its address, and what the record
+    /// leads to. A table is empty where its address has no file offset, and is cut at the first entry
+    /// that is not whole. An address is a forwarder's where it lies in the directory. The library's
+    /// name is `None` where it can't be read. Both modes give the same answer.
     ///
     /// # Errors
-    /// [`Error::Read`] where there is no room for 40 bytes; `bytes` are then as they were.
-    #[tactic(auto, using(crate::proofs::ExportRecord::export_directory_back))]
-    pub fn try_into_ctx(self, bytes: &mut [u8], endian: Endian) -> Result<usize>
-        ensures size { IfOk result (λ n. n ≡ 40) }
-        ensures written { Writes result (overwritten bytes.old 0 (encoding endian (export_directory_fields self))) bytes.old bytes.new (IsSliceFault bytes.old 0 40) }
-        ensures back { WritesBack 40 export_directory_record export_directory_fields }
+    /// [`Error::Malformed`]: [`Cause::Unmapped`] where the directory's address has no file offset,
+    /// [`Cause::ExportTable`] where no whole record stands there; [`Error::BufferTooShort`] where the
+    /// record counts more name pointers, or else more addresses, than the file has bytes;
+    /// [`Error::Memory`].
+    #[tactic(auto, unfolding(crate::specs::Exports::tables_if, crate::specs::Exports::tables_of))]
+    pub fn parse_with_opts(
+        alloc: Global,
+        bytes: &'a [u8],
+        directory: DataDirectory,
+        sections: &[SectionTable],
+        file_alignment: u32,
+        opts: &ParseOptions,
+    ) -> Result<ExportData<'a>>
+        ensures { AnswersOrMemory (λ x. x) result (export_data (file_offset opts.now sections.now file_alignment) directory bytes.now) (IsExportDataFault (file_offset opts.now sections.now file_alignment) directory bytes.now) }
     {
-        let record = self.to_bytes(endian);
-        pwrite_slice(bytes, 0, &record)?;
-        Ok(SIZEOF_EXPORT_DIRECTORY_TABLE)
-    }
-
-    /// The size of the record, in bytes, in either order.
-    pub fn size_with(_endian: &Endian) -> usize
-        ensures { result ≡ 40 }
-    {
-        SIZEOF_EXPORT_DIRECTORY_TABLE
-    }
-}
-
-impl TryFromCtx<'_> for ExportDirectoryTable {
-    ghost Plain = { ExportDirectoryTable };
-
-    ghost plain = { λ t. t };
-
-    ghost value_of = { record_in 40 export_directory_record };
-
-    ghost refusal = { λ _ bytes e. IsSliceFault bytes 0 40 e };
-
-    ghost within = { record_in-within 40 export_directory_record };
-
-    ghost no_memory = { λ _ bytes e. slice_fault-no_memory bytes 0 40 e };
-
-    /// Reads the record at the front of `bytes`, which takes 40 bytes.
-    ///
-    /// # Errors
-    /// [`Error::Read`] where there are no 40 bytes.
-    fn try_from_ctx(bytes: &[u8], endian: Endian) -> Result<(ExportDirectoryTable, usize)> {
-        let record = pread_slice(bytes, 0, SIZEOF_EXPORT_DIRECTORY_TABLE)?;
-        let table = ExportDirectoryTable::in_record(record, endian);
-        Ok((table, SIZEOF_EXPORT_DIRECTORY_TABLE))
-    }
-}
-
-/// An entry of the export address table.
-///
-/// Source: PE Format, "Export Address Table".
-#[derive(Debug, PartialEq, Copy, Clone)]
-pub enum ExportAddressTableEntry {
-    /// The address of an export in this image.
-    ExportRVA(u32),
-    /// The address of a forwarder's text, which lies in the export directory.
-    ForwarderRVA(u32),
-}
-
-/// What the exports' ordinals number: an address each.
-///
-/// Source: PE Format, "Export Address Table".
-pub type ExportAddressTable = Table<ExportAddressTableEntry>;
-
-/// The addresses of the exports' names.
-///
-/// Source: PE Format, "Export Name Pointer Table".
-pub type ExportNamePointerTable = Table<u32>;
-
-/// For each name pointer the index of its address in the address table.
-///
-/// Source: PE Format, "Export Ordinal Table".
-pub type ExportOrdinalTable = Table<u16>;
-
-impl ExportAddressTableEntry {
-    // What an address stands for under an export directory.
-    #[tactic(auto, unfolding(crate::specs::Exports::address_entry))]
-    fn of_rva(directory: DataDirectory, rva: u32) -> ExportAddressTableEntry
-        ensures { result ≡ address_entry directory rva }
-    {
-        let begin = directory.virtual_address as usize;
-        let end = begin + directory.size as usize;
-        if is_in_range(rva as usize, begin, end) {
-            ExportAddressTableEntry::ForwarderRVA(rva)
-        } else {
-            ExportAddressTableEntry::ExportRVA(rva)
-        }
-    }
-}
-
-// The table of `count` entries of `width` bytes, cut at the first that is not whole; without an offset
-// it has none.
-fn counted_table<V: Drop, F: Fn(&[u8]) -> V>(
-    alloc: Global,
-    bytes: &[u8],
-    offset: Option<usize>,
-    width: usize,
-    count: u32,
-    value_of: F,
-) -> Result<Table<V>>
-    requires { (entry : _) → length entry.now ≡ width → F.pre value_of entry }
-    ensures { (value : List ℕ → V) → ((entry : _) (v : V) → length entry.now ≡ width → F.post value_of entry v → v ≡ value entry.now) → GivesOrMemory (λ t. t) result (counted_table_if (record { width = width; value_of = value }) count bytes.now offset) }
-{
-    let mut entries = Vec::new(alloc);
-    let Some(begin) = offset else {
-        return Ok(Table::from(entries));
-    };
-    let mut place = begin;
-    'entries: for _ in 0..count {
-        let Ok(entry) = pread_slice(bytes, place, width) else {
-            return Ok(Table::from(entries));
+        let offset_of = |rva: u32| find_offset(rva as usize, sections, file_alignment, opts);
+        let Some(offset) = offset_of(directory.virtual_address) else {
+            let rva = directory.virtual_address as usize;
+            return Err(Error::Malformed(Cause::Unmapped(rva)));
         };
-        entries.push(value_of(entry))?;
-        place += width;
+        let table = ExportDirectoryTable::parse(bytes, offset)?;
+        test_counts(bytes, &table)?;
+        let name = try_name(
+            bytes,
+            table.name_rva as usize,
+            sections,
+            file_alignment,
+            opts,
+        )
+        .ok();
+        let pointers_at = offset_of(table.name_pointer_rva);
+        let export_name_pointer_table = name_pointers(
+            alloc,
+            bytes,
+            pointers_at,
+            table.number_of_name_pointers,
+        )?;
+        let ordinals_at = offset_of(table.ordinal_table_rva);
+        let export_ordinal_table = ordinals(
+            alloc,
+            bytes,
+            ordinals_at,
+            table.number_of_name_pointers,
+        )?;
+        let addresses_at = offset_of(table.export_address_table_rva);
+        let export_address_table = addresses(
+            alloc,
+            bytes,
+            addresses_at,
+            table.address_table_entries,
+            directory,
+        )?;
+        Ok(ExportData {
+            name,
+            export_directory_table: table,
+            export_name_pointer_table,
+            export_ordinal_table,
+            export_address_table,
+        })
     }
-    Ok(Table::from(entries))
 }
 
-// The name pointers at an offset.
-fn name_pointers(
-    alloc: Global,
-    bytes: &[u8],
-    offset: Option<usize>,
-    count: u32,
-) -> Result<ExportNamePointerTable>
-    ensures { GivesOrMemory (λ t. t) result (counted_table_if name_pointers count bytes.now offset) }
+/// An export of an image.
+#[derive(Debug, Default, Drop)]
+pub struct Export<'a> {
+    /// The export's name, where it can be read.
+    pub name: Option<&'a str>,
+    /// The file offset of `rva`, where it has one.
+    pub offset: Option<usize>,
+    /// The export's address, or that of its forwarder's text.
+    pub rva: usize,
+    /// How many bytes it has: the tables don't say it, so 0.
+    pub size: usize,
+    /// What it stands for in another library, where it is a forwarder.
+    pub reexport: Option<Reexport<'a>>,
+}
+
+impl<'a> Model for Export<'a> {
+    ghost use Rattle.std.specs.Prelude.{option_map};
+    ghost use Rattle.goblin_pe.specs.Exports.{ExportRow};
+    ghost use Rattle.goblin_pe.specs.Forwarders.{forwarder_value};
+
+    ghost Value = { ExportRow };
+
+    ghost view = { λ x. record {
+      name = option_map (λ s. s.now) x.name;
+      offset = x.offset;
+      rva = x.rva;
+      size = x.size;
+      reexport = option_map forwarder_value x.reexport;
+    } };
+}
+
+// The forwarder at an offset, where there are both.
+fn forwarder_at(bytes: &[u8], offset: Option<usize>) -> Option<Reexport<'_>>
+    ensures { option_map forwarder_value result ≡ option_and_then (forwarder_at bytes.now) offset }
 {
-    counted_table(alloc, bytes, offset, 4, count, |entry| {
-        field_u32(entry, 0, Endian::Little)
-    })
+    Reexport::parse(bytes, offset?).ok()
 }
 
-// The ordinals at an offset.
-fn ordinals(
-    alloc: Global,
-    bytes: &[u8],
-    offset: Option<usize>,
-    count: u32,
-) -> Result<ExportOrdinalTable>
-    ensures { GivesOrMemory (λ t. t) result (counted_table_if ordinals count bytes.now offset) }
-{
-    counted_table(alloc, bytes, offset, 2, count, |entry| {
-        field_u16(entry, 0, Endian::Little)
-    })
-}
-
-// The addresses at an offset, under an export directory.
-fn addresses(
-    alloc: Global,
-    bytes: &[u8],
-    offset: Option<usize>,
-    count: u32,
-    directory: DataDirectory,
-) -> Result<ExportAddressTable>
-    ensures { GivesOrMemory (λ t. t) result (counted_table_if (addresses directory) count bytes.now offset) }
-{
-    counted_table(
-        alloc,
-        bytes,
-        offset,
-        SIZEOF_EXPORT_ADDRESS_TABLE_ENTRY,
-        count,
-        |entry| {
-            let rva = field_u32(entry, 0, Endian::Little);
-            ExportAddressTableEntry::of_rva(directory, rva)
-        },
-    )
-}
-
-/// What an export that is a forwarder stands for: an export of another library.
-///
-/// Source: PE Format, "Export Address Table". The text is the library's name, a dot, and the export's
-/// name or `#` and its ordinal, as in `MYDLL.expfunc` and `MYDLL.#27`.
-#[derive(Debug, PartialEq, Copy, Clone)]
-pub enum Reexport<'a> {
-    /// An export by its name.
-    DLLName {
-        /// The export's name.
-        export: &'a str,
-        /// The library, without its ending. It may be empty.
-        lib: &'a str,
-    },
-    /// An export by its ordinal.
-    DLLOrdinal {
-        /// The export's ordinal, below 2^32.
-        ordinal: usize,
-        /// The library, without its ending. It may be empty.
-        lib: &'a str,
-    },
-}
-
-// The ordinal that a text writes: an optional `+` and decimal digits.
-fn ordinal_of(text: &str) -> Option<u32>
-    ensures { result ≡ ordinal_of text.now }
-{
-    text.parse::<u32>().ok()
-}
-
-impl<'a> Reexport<'a> {
-    // What a forwarder's text says.
-    fn of_text(text: &'a str) -> Result<Reexport<'a>>
-        ensures { Answers forwarder_value result (forwarder_of text.now) (IsForwarderFault text.now) }
+impl<'a> Export<'a> {
+    // The export of the name pointer at an index, where its ordinal, its address and, of a forwarder,
+    // the text are there.
+    #[tactic(auto, unfolding(crate::specs::Exports::export_row, crate::specs::Exports::reexport_of))]
+    fn of_pointer(
+        bytes: &'a [u8],
+        tables: &ExportData<'a>,
+        index: usize,
+        sections: &[SectionTable],
+        file_alignment: u32,
+        opts: &ParseOptions,
+    ) -> Option<Export<'a>>
+        ensures { result ≡ export_row (file_offset opts.now sections.now file_alignment) bytes.now tables.now index }
     {
-        let Some((lib, tail)) = text.split_once('.') else {
-            return Err(Error::Malformed(Cause::Forwarder));
+        let pointer = *tables.export_name_pointer_table.as_slice().get(index)?;
+        let ordinal = *tables.export_ordinal_table.as_slice().get(index)?;
+        let address = *tables
+            .export_address_table
+            .as_slice()
+            .get(usize::from(ordinal))?;
+        let (rva, reexport) = match address {
+            ExportAddressTableEntry::ExportRVA(rva) => (rva as usize, None),
+            ExportAddressTableEntry::ForwarderRVA(rva) => {
+                let offset = find_offset(rva as usize, sections, file_alignment, opts);
+                (rva as usize, Some(forwarder_at(bytes, offset)?))
+            }
         };
-        if let Some(digits) = tail.strip_prefix('#') {
-            return match ordinal_of(digits) {
-                Some(ordinal) => Ok(Reexport::DLLOrdinal {
-                    ordinal: ordinal as usize,
-                    lib,
-                }),
-                None => Err(Error::Malformed(Cause::ForwarderOrdinal)),
-            };
-        }
-        if tail.is_empty() {
-            return Err(Error::Malformed(Cause::Forwarder));
-        }
-        Ok(Reexport::DLLName { export: tail, lib })
+        Some(Export {
+            name: try_name(bytes, pointer as usize, sections, file_alignment, opts).ok(),
+            offset: find_offset(rva, sections, file_alignment, opts),
+            rva,
+            size: 0,
+            reexport,
+        })
     }
 
-    /// Reads the forwarder whose text stands at `offset`. The library ends at the first dot. What
-    /// stands behind the dot is the export's name, unless it begins with `#`: then an optional `+`
-    /// and decimal digits follow, which say the ordinal.
+    /// The exports that export data lists, as [`Export::parse_with_opts`] reads them by the default
+    /// options.
     ///
     /// # Errors
-    /// [`Error::Read`] where no text stands there; [`Error::Malformed`]: [`Cause::Forwarder`] where
-    /// it has no dot with something behind it, [`Cause::ForwarderOrdinal`] where no ordinal below
-    /// 2^32 follows the `#`.
-    pub fn parse(bytes: &'a [u8], offset: usize) -> Result<Reexport<'a>>
-        ensures value { Answers forwarder_value result (forwarder_at bytes.now offset) (IsForwarderAtFault bytes.now offset) }
-        ensures grammar { (text : List ℕ) → text_at bytes.now offset ≡ Some text → FollowsGrammar result text }
+    /// [`Error::Memory`] alone.
+    pub fn parse(
+        alloc: Global,
+        bytes: &'a [u8],
+        export_data: &ExportData<'a>,
+        sections: &[SectionTable],
+        file_alignment: u32,
+    ) -> Result<Vec<Export<'a>>>
+        ensures value { GivesOrMemory (λ v. v.items) result (exports (file_offset default_options sections.now file_alignment) bytes.now export_data.now) }
+        ensures empty { length bytes.now ≡ 0 → IsOk result }
     {
-        let text = pread_str(bytes, offset)?;
-        Reexport::of_text(text)
+        let opts = ParseOptions::default();
+        Export::parse_with_opts(alloc, bytes, export_data, sections, file_alignment, &opts)
     }
-}
 
-impl<'a> TryFromCtx<'a> for Reexport<'a> {
-    ghost Plain = { Forwarder };
-
-    ghost plain = { forwarder_value };
-
-    ghost value_of = { forwarder_in };
-
-    ghost refusal = { λ _ bytes e. IsForwarderAtFault bytes 0 e };
-
-    ghost within = { forwarder_in-within };
-
-    ghost no_memory = { λ _ bytes e. forwarder_fault-no_memory bytes e };
-
-    /// Reads the forwarder at the front of `bytes`. It takes its text and the NUL behind it, if there
-    /// is one. The order of bytes makes no difference.
+    /// The exports that export data lists, one for each name pointer, in their order. There is none
+    /// for a name pointer whose ordinal is missing, or whose ordinal numbers no address, or whose
+    /// address is a forwarder's that can't be read. An export whose name can't be read stays, without
+    /// it. An empty file has no exports. Both modes give the same answer.
     ///
     /// # Errors
-    /// As [`Reexport::parse`].
-    fn try_from_ctx(bytes: &'a [u8], _endian: Endian) -> Result<(Reexport<'a>, usize)> {
-        let text = pread_str(bytes, 0)?;
-        let reexport = Reexport::of_text(text)?;
-        Ok((reexport, (text.len() + 1).min(bytes.len())))
+    /// [`Error::Memory`] alone, and never on an empty file, for which no memory is taken.
+    #[tactic(auto, unfolding(crate::specs::Exports::exports))]
+    pub fn parse_with_opts(
+        alloc: Global,
+        bytes: &'a [u8],
+        export_data: &ExportData<'a>,
+        sections: &[SectionTable],
+        file_alignment: u32,
+        opts: &ParseOptions,
+    ) -> Result<Vec<Export<'a>>>
+        ensures value { GivesOrMemory (λ v. v.items) result (exports (file_offset opts.now sections.now file_alignment) bytes.now export_data.now) }
+        ensures empty { length bytes.now ≡ 0 → IsOk result }
+    {
+        let mut exports = Vec::new(alloc);
+        if bytes.is_empty() {
+            return Ok(exports);
+        }
+        'rows: for index in 0..export_data.export_name_pointer_table.as_slice().len() {
+            let row = Export::of_pointer(bytes, export_data, index, sections, file_alignment, opts);
+            if let Some(export) = row {
+                exports.push(export)?;
+            }
+        }
+        Ok(exports)
     }
 }

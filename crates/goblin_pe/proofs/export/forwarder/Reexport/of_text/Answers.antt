@@ -3,7 +3,7 @@ use Rattle.std.proofs.lemmas.Str.Pattern.{split_once_first, strip_prefix_char}
 use Rattle.std.specs.Option.{option_map}
 use Rattle.goblin_pe.specs.Forwarders.Forwarder.{ByOrdinal}
 use Rattle.goblin_pe.proofs.Grammar.{forwarder-parts, nothing-behind, forwarder-missing, export-numbered, export-named, no-hash, no-length, some-length}
-use Rattle.goblin_pe.proofs.export.Reexport.of_text.Goals as goal
+use Rattle.goblin_pe.proofs.export.forwarder.Reexport.of_text.Goals as goal
 
 pub returns-in_default : goal.returns-in_default
 returns-in_default c =

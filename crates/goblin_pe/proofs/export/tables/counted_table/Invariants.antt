@@ -1,6 +1,6 @@
 use Rattle.std.proofs.Common.{◌≡◌, List, ℕ, Bor, length}
 use Rattle.goblin_base.proofs.CountedTables.{AtEntry}
-use Rattle.goblin_pe.proofs.export.counted_table.Given as goal
+use Rattle.goblin_pe.proofs.export.tables.counted_table.Given as goal
 
 abbrev pub invariant-entries : goal.invariant-entries
 invariant-entries g l =

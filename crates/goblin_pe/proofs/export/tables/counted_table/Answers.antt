@@ -1,7 +1,7 @@
 use Rattle.std.proofs.Common.{arith, ap, sym, ◌∙◌, Some}
 use Rattle.std.specs.Prelude.{option_map}
 use Rattle.goblin_base.proofs.CountedTables.{at-count, at-cut, at-next, at-start, counted-none, counted-some}
-use Rattle.goblin_pe.proofs.export.counted_table.Goals as goal
+use Rattle.goblin_pe.proofs.export.tables.counted_table.Goals as goal
 
 pub returns-in_default : goal.returns-in_default
 returns-in_default g c = λ value says. counted-none _ _ _ _ c.in_default.is ∙ sym (c.from.ensures ∙ c.new-entries.ensures.items)
