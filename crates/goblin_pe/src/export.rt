@@ -2,13 +2,14 @@
 
 ghost use Rattle.std.specs.Prelude.{◌≡◌, IsOk, length, option_and_then, option_map};
 ghost use Rattle.goblin_base.specs.Answers.{AnswersOrMemory};
+ghost use Rattle.goblin_base.specs.Bytes.{text_at};
 ghost use Rattle.goblin_pe_sect.specs.Mapping.{file_offset};
 ghost use Rattle.goblin_pe_sect.specs.Options.{default_options};
 ghost use Rattle.goblin_pe.specs.Exports.{GivesOrMemory, IsExportDataFault, export_data, export_row, exports};
 ghost use Rattle.goblin_pe.specs.Forwarders.{forwarder_at, forwarder_value};
 
-use goblin_base::{Cause, Error, Result};
-use goblin_pe_sect::utils::{find_offset, try_name};
+use goblin_base::{Cause, Error, Result, pread_str};
+use goblin_pe_sect::utils::find_offset;
 use goblin_pe_sect::{DataDirectory, ParseOptions, SectionTable};
 use std::alloc::Global;
 use std::marker::Model;
@@ -22,6 +23,20 @@ pub use tables::{
     ExportOrdinalTable, SIZEOF_EXPORT_ADDRESS_TABLE_ENTRY, SIZEOF_EXPORT_DIRECTORY_TABLE,
 };
 use tables::{addresses, name_pointers, ordinals, test_counts};
+
+// The text at an offset, where there are both.
+fn text_at(bytes: &[u8], offset: Option<usize>) -> Option<&str>
+    ensures { option_map (λ s. s.now) result ≡ option_and_then (text_at bytes.now) offset }
+{
+    pread_str(bytes, offset?).ok()
+}
+
+// The forwarder at an offset, where there are both.
+fn forwarder_at(bytes: &[u8], offset: Option<usize>) -> Option<Reexport<'_>>
+    ensures { option_map forwarder_value result ≡ option_and_then (forwarder_at bytes.now) offset }
+{
+    Reexport::parse(bytes, offset?).ok()
+}
 
 /// What an export directory leads to: the library's name and the three tables.
 ///
@@ -102,42 +117,17 @@ impl<'a> ExportData<'a> {
         };
         let table = ExportDirectoryTable::parse(bytes, offset)?;
         test_counts(bytes, &table)?;
-        let name = try_name(
-            bytes,
-            table.name_rva as usize,
-            sections,
-            file_alignment,
-            opts,
-        )
-        .ok();
-        let pointers_at = offset_of(table.name_pointer_rva);
-        let export_name_pointer_table = name_pointers(
-            alloc,
-            bytes,
-            pointers_at,
-            table.number_of_name_pointers,
-        )?;
-        let ordinals_at = offset_of(table.ordinal_table_rva);
-        let export_ordinal_table = ordinals(
-            alloc,
-            bytes,
-            ordinals_at,
-            table.number_of_name_pointers,
-        )?;
-        let addresses_at = offset_of(table.export_address_table_rva);
-        let export_address_table = addresses(
-            alloc,
-            bytes,
-            addresses_at,
-            table.address_table_entries,
-            directory,
-        )?;
+        let names = table.number_of_name_pointers;
+        let pointers = name_pointers(alloc, bytes, offset_of(table.name_pointer_rva), names)?;
+        let ordinals = ordinals(alloc, bytes, offset_of(table.ordinal_table_rva), names)?;
+        let place = offset_of(table.export_address_table_rva);
+        let addresses = addresses(alloc, bytes, place, table.address_table_entries, directory)?;
         Ok(ExportData {
-            name,
+            name: text_at(bytes, offset_of(table.name_rva)),
             export_directory_table: table,
-            export_name_pointer_table,
-            export_ordinal_table,
-            export_address_table,
+            export_name_pointer_table: pointers,
+            export_ordinal_table: ordinals,
+            export_address_table: addresses,
         })
     }
 }
@@ -173,20 +163,13 @@ impl<'a> Model for Export<'a> {
     } };
 }
 
-// The forwarder at an offset, where there are both.
-fn forwarder_at(bytes: &[u8], offset: Option<usize>) -> Option<Reexport<'_>>
-    ensures { option_map forwarder_value result ≡ option_and_then (forwarder_at bytes.now) offset }
-{
-    Reexport::parse(bytes, offset?).ok()
-}
-
 impl<'a> Export<'a> {
     // The export of the name pointer at an index, where its ordinal, its address and, of a forwarder,
     // the text are there.
     #[tactic(auto, unfolding(crate::specs::Exports::export_row, crate::specs::Exports::reexport_of))]
     fn of_pointer(
         bytes: &'a [u8],
-        tables: &ExportData<'a>,
+        tables: &ExportData,
         index: usize,
         sections: &[SectionTable],
         file_alignment: u32,
@@ -200,17 +183,18 @@ impl<'a> Export<'a> {
             .export_address_table
             .as_slice()
             .get(usize::from(ordinal))?;
+        let offset_of = |rva: u32| find_offset(rva as usize, sections, file_alignment, opts);
         let (rva, reexport) = match address {
-            ExportAddressTableEntry::ExportRVA(rva) => (rva as usize, None),
-            ExportAddressTableEntry::ForwarderRVA(rva) => {
-                let offset = find_offset(rva as usize, sections, file_alignment, opts);
-                (rva as usize, Some(forwarder_at(bytes, offset)?))
-            }
+            ExportAddressTableEntry::ExportRVA(rva) => (rva, None),
+            ExportAddressTableEntry::ForwarderRVA(rva) => (
+                rva,
+                Some(forwarder_at(bytes, offset_of(rva))?),
+            ),
         };
         Some(Export {
-            name: try_name(bytes, pointer as usize, sections, file_alignment, opts).ok(),
-            offset: find_offset(rva, sections, file_alignment, opts),
-            rva,
+            name: text_at(bytes, offset_of(pointer)),
+            offset: offset_of(rva),
+            rva: rva as usize,
             size: 0,
             reexport,
         })
@@ -224,7 +208,7 @@ impl<'a> Export<'a> {
     pub fn parse(
         alloc: Global,
         bytes: &'a [u8],
-        export_data: &ExportData<'a>,
+        export_data: &ExportData,
         sections: &[SectionTable],
         file_alignment: u32,
     ) -> Result<Vec<Export<'a>>>
@@ -246,7 +230,7 @@ impl<'a> Export<'a> {
     pub fn parse_with_opts(
         alloc: Global,
         bytes: &'a [u8],
-        export_data: &ExportData<'a>,
+        export_data: &ExportData,
         sections: &[SectionTable],
         file_alignment: u32,
         opts: &ParseOptions,
