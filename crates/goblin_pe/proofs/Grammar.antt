@@ -33,12 +33,12 @@ is_ordinal-numeral digits t =
     ((ltb-true 0 (length digits) q.0, own.to digits q.1), ltb-true (digits_value 10 digits) (2 ^ 32) p.1)
 
 -- std's `parse` gives the ordinal
-pub parsed-ordinal : {E : Type 0} → (text : List ℕ) (r : Result ℕ E) → ParsesUnsigned 32 10 text r → result_ok r ≡ ordinal_of text
+pub parsed_ordinal : {E : Type 0} → (text : List ℕ) (r : Result ℕ E) → ParsesUnsigned 32 10 text r → result_ok r ≡ ordinal_of text
 unfolding ordinal_of
-parsed-ordinal text (Ok n) h =
+parsed_ordinal text (Ok n) h =
     let t : is_ordinal (without_leading_plus text) ≡ true = numeral-is_ordinal (without_leading_plus text) h.0.0 h.0.1 in
     rw t (ap Some h.1)
-parsed-ordinal text (Err e) h =
+parsed_ordinal text (Err e) h =
     let f : is_ordinal (without_leading_plus text) ≡ false = false_from_ne_true _ (λ t. h (is_ordinal-numeral (without_leading_plus text) t)) in
     rw f refl
 

@@ -1,7 +1,7 @@
 //! The exports of an image: what its export directory leads to, and the forwarders among them.
 
-ghost use Rattle.std.specs.Prelude.{◌≡◌, IsOk, length, option_and_then, option_map};
-ghost use Rattle.goblin_base.specs.Answers.{AnswersOrMemory};
+ghost use Rattle.std.specs.Prelude.{◌≡◌, ◌++◌, IfErr, IsOk, OnOk, length, option_and_then, option_map, option_to_list};
+ghost use Rattle.goblin_base.specs.Answers.{AnswersOrMemory, IsMemory};
 ghost use Rattle.goblin_base.specs.Bytes.{text_at};
 ghost use Rattle.goblin_pe_sect.specs.Mapping.{file_offset};
 ghost use Rattle.goblin_pe_sect.specs.Options.{default_options};
@@ -118,16 +118,16 @@ impl<'a> ExportData<'a> {
         let table = ExportDirectoryTable::parse(bytes, offset)?;
         test_counts(bytes, &table)?;
         let names = table.number_of_name_pointers;
-        let pointers = name_pointers(alloc, bytes, offset_of(table.name_pointer_rva), names)?;
-        let ordinals = ordinals(alloc, bytes, offset_of(table.ordinal_table_rva), names)?;
+        let pointer_table = name_pointers(alloc, bytes, offset_of(table.name_pointer_rva), names)?;
+        let ordinal_table = ordinals(alloc, bytes, offset_of(table.ordinal_table_rva), names)?;
         let place = offset_of(table.export_address_table_rva);
-        let addresses = addresses(alloc, bytes, place, table.address_table_entries, directory)?;
+        let address_table = addresses(alloc, bytes, place, table.address_table_entries, directory)?;
         Ok(ExportData {
             name: text_at(bytes, offset_of(table.name_rva)),
             export_directory_table: table,
-            export_name_pointer_table: pointers,
-            export_ordinal_table: ordinals,
-            export_address_table: addresses,
+            export_name_pointer_table: pointer_table,
+            export_ordinal_table: ordinal_table,
+            export_address_table: address_table,
         })
     }
 }
@@ -161,6 +161,17 @@ impl<'a> Model for Export<'a> {
       size = x.size;
       reexport = option_map forwarder_value x.reexport;
     } };
+}
+
+// Adds a row that is there.
+fn add_row<'a>(exports: &mut Vec<Export<'a>>, row: Option<Export<'a>>) -> Result<()>
+    ensures added { OnOk result (exports.new.items ≡ exports.old.items ++ option_to_list row.entry) }
+    ensures refused { IfErr result IsMemory }
+{
+    if let Some(export) = row {
+        exports.push(export)?;
+    }
+    Ok(())
 }
 
 impl<'a> Export<'a> {
@@ -244,9 +255,7 @@ impl<'a> Export<'a> {
         }
         'rows: for index in 0..export_data.export_name_pointer_table.as_slice().len() {
             let row = Export::of_pointer(bytes, export_data, index, sections, file_alignment, opts);
-            if let Some(export) = row {
-                exports.push(export)?;
-            }
+            add_row(&mut exports, row)?;
         }
         Ok(exports)
     }

@@ -30,6 +30,7 @@ pub enum Reexport<'a> {
 }
 
 // The ordinal that a text writes: an optional `+` and decimal digits.
+#[tactic(auto, using(crate::proofs::Grammar::parsed_ordinal))]
 fn ordinal_of(text: &str) -> Option<u32>
     ensures { result ≡ ordinal_of text.now }
 {

@@ -25,6 +25,11 @@ pub const SIZEOF_EXPORT_DIRECTORY_TABLE: usize = 40;
 /// The size of an entry of the export address table, in bytes.
 pub const SIZEOF_EXPORT_ADDRESS_TABLE_ENTRY: usize = 4;
 
+// The sizes of a name pointer and of an ordinal, in bytes.
+const SIZEOF_NAME_POINTER: usize = 4;
+
+const SIZEOF_ORDINAL: usize = 2;
+
 /// The record with which an image's exports begin.
 ///
 /// Source: PE Format, "Export Directory Table". Numbers are as stored; the record has 40 bytes.
@@ -237,7 +242,7 @@ pub(super) fn name_pointers(
 ) -> Result<ExportNamePointerTable>
     ensures { GivesOrMemory (λ t. t) result (counted_table_if name_pointers count bytes.now offset) }
 {
-    counted_table(alloc, bytes, offset, 4, count, |entry| {
+    counted_table(alloc, bytes, offset, SIZEOF_NAME_POINTER, count, |entry| {
         field_u32(entry, 0, Endian::Little)
     })
 }
@@ -251,7 +256,7 @@ pub(super) fn ordinals(
 ) -> Result<ExportOrdinalTable>
     ensures { GivesOrMemory (λ t. t) result (counted_table_if ordinals count bytes.now offset) }
 {
-    counted_table(alloc, bytes, offset, 2, count, |entry| {
+    counted_table(alloc, bytes, offset, SIZEOF_ORDINAL, count, |entry| {
         field_u16(entry, 0, Endian::Little)
     })
 }
