@@ -83,7 +83,8 @@ impl<'a> ExportData<'a> {
         sections: &[SectionTable],
         file_alignment: u32,
     ) -> Result<ExportData<'a>>
-        ensures { AnswersOrMemory (λ x. x) result (export_data (file_offset default_options sections.now file_alignment) directory bytes.now) (IsExportDataFault (file_offset default_options sections.now file_alignment) directory bytes.now) }
+        ensures { let offset_of = file_offset default_options sections.now file_alignment in
+            AnswersOrMemory (λ x. x) result (export_data offset_of directory bytes.now) (IsExportDataFault offset_of directory bytes.now) }
     {
         let opts = ParseOptions::default();
         ExportData::parse_with_opts(alloc, bytes, directory, sections, file_alignment, &opts)
@@ -108,7 +109,8 @@ impl<'a> ExportData<'a> {
         file_alignment: u32,
         opts: &ParseOptions,
     ) -> Result<ExportData<'a>>
-        ensures { AnswersOrMemory (λ x. x) result (export_data (file_offset opts.now sections.now file_alignment) directory bytes.now) (IsExportDataFault (file_offset opts.now sections.now file_alignment) directory bytes.now) }
+        ensures { let offset_of = file_offset opts.now sections.now file_alignment in
+            AnswersOrMemory (λ x. x) result (export_data offset_of directory bytes.now) (IsExportDataFault offset_of directory bytes.now) }
     {
         let offset_of = |rva: u32| find_offset(rva as usize, sections, file_alignment, opts);
         let Some(offset) = offset_of(directory.virtual_address) else {
