@@ -1,3 +1,5 @@
+pub mod Below
+pub mod CountedTables
 pub mod Encoding
 pub mod Fronts
 pub mod Numbers

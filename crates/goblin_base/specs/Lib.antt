@@ -1,5 +1,7 @@
 pub mod Answers
+pub mod Below
 pub mod Bytes
+pub mod CountedTables
 pub mod Faults
 pub mod Record
 pub mod Steps

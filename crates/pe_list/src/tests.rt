@@ -5,6 +5,7 @@ mod addresses;
 mod bytes;
 mod constants;
 mod directories;
+mod exports;
 mod header;
 mod headers;
 mod memory;

@@ -1,0 +1,3 @@
+mod ExportRecord
+mod ExportRows
+mod Grammar

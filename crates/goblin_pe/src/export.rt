@@ -1,0 +1,264 @@
+//! The exports of an image: what its export directory leads to, and the forwarders among them.
+
+ghost use Rattle.std.specs.Prelude.{◌≡◌, ◌++◌, IfErr, IsOk, OnOk, length, option_and_then, option_map, option_to_list};
+ghost use Rattle.goblin_base.specs.Answers.{AnswersOrMemory, IsMemory};
+ghost use Rattle.goblin_base.specs.Bytes.{text_at};
+ghost use Rattle.goblin_pe_sect.specs.Mapping.{file_offset};
+ghost use Rattle.goblin_pe_sect.specs.Options.{default_options};
+ghost use Rattle.goblin_pe.specs.Exports.{GivesOrMemory, IsExportDataFault, export_data, export_row, exports};
+ghost use Rattle.goblin_pe.specs.Forwarders.{forwarder_at, forwarder_value};
+
+use goblin_base::{Cause, Error, Result, pread_str};
+use goblin_pe_sect::utils::find_offset;
+use goblin_pe_sect::{DataDirectory, ParseOptions, SectionTable};
+use std::alloc::Global;
+use std::marker::Model;
+
+mod forwarder;
+mod tables;
+
+pub use forwarder::Reexport;
+pub use tables::{
+    ExportAddressTable, ExportAddressTableEntry, ExportDirectoryTable, ExportNamePointerTable,
+    ExportOrdinalTable, SIZEOF_EXPORT_ADDRESS_TABLE_ENTRY, SIZEOF_EXPORT_DIRECTORY_TABLE,
+};
+use tables::{addresses, name_pointers, ordinals, test_counts};
+
+// The text at an offset, where there are both.
+fn text_at(bytes: &[u8], offset: Option<usize>) -> Option<&str>
+    ensures { option_map (λ s. s.now) result ≡ option_and_then (text_at bytes.now) offset }
+{
+    pread_str(bytes, offset?).ok()
+}
+
+// The forwarder at an offset, where there are both.
+fn forwarder_at(bytes: &[u8], offset: Option<usize>) -> Option<Reexport<'_>>
+    ensures { option_map forwarder_value result ≡ option_and_then (forwarder_at bytes.now) offset }
+{
+    Reexport::parse(bytes, offset?).ok()
+}
+
+/// What an export directory leads to: the library's name and the three tables.
+///
+/// Source: PE Format, "The .edata Section (Image Only)".
+#[derive(Debug, Drop)]
+pub struct ExportData<'a> {
+    /// The library's name, where it can be read.
+    pub name: Option<&'a str>,
+    /// The record itself.
+    pub export_directory_table: ExportDirectoryTable,
+    /// The addresses of the exports' names.
+    pub export_name_pointer_table: ExportNamePointerTable,
+    /// For each name pointer the index of its address.
+    pub export_ordinal_table: ExportOrdinalTable,
+    /// The exports' addresses.
+    pub export_address_table: ExportAddressTable,
+}
+
+impl<'a> Model for ExportData<'a> {
+    ghost use Rattle.std.specs.Prelude.{option_map};
+    ghost use Rattle.goblin_pe.specs.Exports.{ExportTables};
+
+    ghost Value = { ExportTables };
+
+    ghost view = { λ x. record {
+      name = option_map (λ s. s.now) x.name;
+      export_directory_table = x.export_directory_table;
+      export_name_pointer_table = x.export_name_pointer_table;
+      export_ordinal_table = x.export_ordinal_table;
+      export_address_table = x.export_address_table;
+    } };
+}
+
+impl<'a> ExportData<'a> {
+    /// Reads the export data of an export directory, as [`ExportData::parse_with_opts`] reads it by
+    /// the default options.
+    ///
+    /// # Errors
+    /// As [`ExportData::parse_with_opts`].
+    pub fn parse(
+        alloc: Global,
+        bytes: &'a [u8],
+        directory: DataDirectory,
+        sections: &[SectionTable],
+        file_alignment: u32,
+    ) -> Result<ExportData<'a>>
+        ensures { let offset_of = file_offset default_options sections.now file_alignment in
+            AnswersOrMemory (λ x. x) result (export_data offset_of directory bytes.now) (IsExportDataFault offset_of directory bytes.now) }
+    {
+        let opts = ParseOptions::default();
+        ExportData::parse_with_opts(alloc, bytes, directory, sections, file_alignment, &opts)
+    }
+
+    /// Reads the export data of an export directory: the record at its address, and what the record
+    /// leads to. A table is empty where its address has no file offset, and is cut at the first entry
+    /// that is not whole. An address is a forwarder's where it lies in the directory. The library's
+    /// name is `None` where it can't be read. Both modes give the same answer.
+    ///
+    /// # Errors
+    /// [`Error::Malformed`]: [`Cause::Unmapped`] where the directory's address has no file offset,
+    /// [`Cause::ExportTable`] where no whole record stands there; [`Error::BufferTooShort`] where the
+    /// record counts more name pointers, or else more addresses, than the file has bytes;
+    /// [`Error::Memory`].
+    #[tactic(auto, unfolding(crate::specs::Exports::tables_if, crate::specs::Exports::tables_of))]
+    pub fn parse_with_opts(
+        alloc: Global,
+        bytes: &'a [u8],
+        directory: DataDirectory,
+        sections: &[SectionTable],
+        file_alignment: u32,
+        opts: &ParseOptions,
+    ) -> Result<ExportData<'a>>
+        ensures { let offset_of = file_offset opts.now sections.now file_alignment in
+            AnswersOrMemory (λ x. x) result (export_data offset_of directory bytes.now) (IsExportDataFault offset_of directory bytes.now) }
+    {
+        let offset_of = |rva: u32| find_offset(rva as usize, sections, file_alignment, opts);
+        let Some(offset) = offset_of(directory.virtual_address) else {
+            let rva = directory.virtual_address as usize;
+            return Err(Error::Malformed(Cause::Unmapped(rva)));
+        };
+        let table = ExportDirectoryTable::parse(bytes, offset)?;
+        test_counts(bytes, &table)?;
+        let names = table.number_of_name_pointers;
+        let pointer_table = name_pointers(alloc, bytes, offset_of(table.name_pointer_rva), names)?;
+        let ordinal_table = ordinals(alloc, bytes, offset_of(table.ordinal_table_rva), names)?;
+        let place = offset_of(table.export_address_table_rva);
+        let address_table = addresses(alloc, bytes, place, table.address_table_entries, directory)?;
+        Ok(ExportData {
+            name: text_at(bytes, offset_of(table.name_rva)),
+            export_directory_table: table,
+            export_name_pointer_table: pointer_table,
+            export_ordinal_table: ordinal_table,
+            export_address_table: address_table,
+        })
+    }
+}
+
+/// An export of an image.
+#[derive(Debug, Default, Drop)]
+pub struct Export<'a> {
+    /// The export's name, where it can be read.
+    pub name: Option<&'a str>,
+    /// The file offset of `rva`, where it has one.
+    pub offset: Option<usize>,
+    /// The export's address, or that of its forwarder's text.
+    pub rva: usize,
+    /// How many bytes it has: the tables don't say it, so 0.
+    pub size: usize,
+    /// What it stands for in another library, where it is a forwarder.
+    pub reexport: Option<Reexport<'a>>,
+}
+
+impl<'a> Model for Export<'a> {
+    ghost use Rattle.std.specs.Prelude.{option_map};
+    ghost use Rattle.goblin_pe.specs.Exports.{ExportRow};
+    ghost use Rattle.goblin_pe.specs.Forwarders.{forwarder_value};
+
+    ghost Value = { ExportRow };
+
+    ghost view = { λ x. record {
+      name = option_map (λ s. s.now) x.name;
+      offset = x.offset;
+      rva = x.rva;
+      size = x.size;
+      reexport = option_map forwarder_value x.reexport;
+    } };
+}
+
+// Adds a row that is there.
+fn add_row<'a>(exports: &mut Vec<Export<'a>>, row: Option<Export<'a>>) -> Result<()>
+    ensures added { OnOk result (exports.new.items ≡ exports.old.items ++ option_to_list row.entry) }
+    ensures refused { IfErr result IsMemory }
+{
+    if let Some(export) = row {
+        exports.push(export)?;
+    }
+    Ok(())
+}
+
+impl<'a> Export<'a> {
+    // The export of the name pointer at an index, where its ordinal, its address and, of a forwarder,
+    // the text are there.
+    #[tactic(auto, unfolding(crate::specs::Exports::export_row, crate::specs::Exports::reexport_of))]
+    fn of_pointer(
+        bytes: &'a [u8],
+        tables: &ExportData,
+        index: usize,
+        sections: &[SectionTable],
+        file_alignment: u32,
+        opts: &ParseOptions,
+    ) -> Option<Export<'a>>
+        ensures { result ≡ export_row (file_offset opts.now sections.now file_alignment) bytes.now tables.now index }
+    {
+        let pointer = *tables.export_name_pointer_table.as_slice().get(index)?;
+        let ordinal = *tables.export_ordinal_table.as_slice().get(index)?;
+        let address = *tables
+            .export_address_table
+            .as_slice()
+            .get(usize::from(ordinal))?;
+        let offset_of = |rva: u32| find_offset(rva as usize, sections, file_alignment, opts);
+        let (rva, reexport) = match address {
+            ExportAddressTableEntry::ExportRVA(rva) => (rva, None),
+            ExportAddressTableEntry::ForwarderRVA(rva) => (
+                rva,
+                Some(forwarder_at(bytes, offset_of(rva))?),
+            ),
+        };
+        Some(Export {
+            name: text_at(bytes, offset_of(pointer)),
+            offset: offset_of(rva),
+            rva: rva as usize,
+            size: 0,
+            reexport,
+        })
+    }
+
+    /// The exports that export data lists, as [`Export::parse_with_opts`] reads them by the default
+    /// options.
+    ///
+    /// # Errors
+    /// [`Error::Memory`] alone.
+    pub fn parse(
+        alloc: Global,
+        bytes: &'a [u8],
+        export_data: &ExportData,
+        sections: &[SectionTable],
+        file_alignment: u32,
+    ) -> Result<Vec<Export<'a>>>
+        ensures value { GivesOrMemory (λ v. v.items) result (exports (file_offset default_options sections.now file_alignment) bytes.now export_data.now) }
+        ensures empty { length bytes.now ≡ 0 → IsOk result }
+    {
+        let opts = ParseOptions::default();
+        Export::parse_with_opts(alloc, bytes, export_data, sections, file_alignment, &opts)
+    }
+
+    /// The exports that export data lists, one for each name pointer, in their order. There is none
+    /// for a name pointer whose ordinal is missing, or whose ordinal numbers no address, or whose
+    /// address is a forwarder's that can't be read. An export whose name can't be read stays, without
+    /// it. An empty file has no exports. Both modes give the same answer.
+    ///
+    /// # Errors
+    /// [`Error::Memory`] alone, and never on an empty file, for which no memory is taken.
+    #[tactic(auto, unfolding(crate::specs::Exports::exports))]
+    pub fn parse_with_opts(
+        alloc: Global,
+        bytes: &'a [u8],
+        export_data: &ExportData,
+        sections: &[SectionTable],
+        file_alignment: u32,
+        opts: &ParseOptions,
+    ) -> Result<Vec<Export<'a>>>
+        ensures value { GivesOrMemory (λ v. v.items) result (exports (file_offset opts.now sections.now file_alignment) bytes.now export_data.now) }
+        ensures empty { length bytes.now ≡ 0 → IsOk result }
+    {
+        let mut exports = Vec::new(alloc);
+        if bytes.is_empty() {
+            return Ok(exports);
+        }
+        'rows: for index in 0..export_data.export_name_pointer_table.as_slice().len() {
+            let row = Export::of_pointer(bytes, export_data, index, sections, file_alignment, opts);
+            add_row(&mut exports, row)?;
+        }
+        Ok(exports)
+    }
+}

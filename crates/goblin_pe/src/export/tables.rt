@@ -1,0 +1,302 @@
+//! The export directory's record, and the three tables that it leads to.
+
+ghost use Rattle.std.specs.Prelude.{◌≡◌, true, false, List, ℕ, IfErr, IfOk, OnErr, OnOk, length};
+ghost use Rattle.goblin_base.specs.Answers.{Answers, Writes};
+ghost use Rattle.goblin_base.specs.Bytes.{overwritten};
+ghost use Rattle.goblin_base.specs.CountedTables.{counted_table_if};
+ghost use Rattle.goblin_base.specs.Faults.{IsSliceFault};
+ghost use Rattle.goblin_base.specs.Record.{WritesBack, encoding, record_in};
+ghost use Rattle.goblin_base.proofs.RecordLaws.{record_in-within, slice_fault-no_memory};
+ghost use Rattle.goblin_pe.specs.declared.export.tables.ExportDirectoryTable.{ExportDirectoryTable};
+ghost use Rattle.goblin_pe.specs.Exports.{GivesOrMemory, IsCountFault, IsNoExportTable, address_entry, addresses, counts_fit, export_directory_at, export_directory_fields, export_directory_record, name_pointers, ordinals};
+
+use crate::table::Table;
+use goblin_base::{
+    Cause, Endian, Error, Field, Result, TryFromCtx, field_u16, field_u32, pread_slice,
+    pwrite_slice, record_bytes,
+};
+use goblin_pe_sect::DataDirectory;
+use goblin_pe_sect::utils::is_in_range;
+use std::alloc::Global;
+
+/// The size of an export directory's record, in bytes.
+pub const SIZEOF_EXPORT_DIRECTORY_TABLE: usize = 40;
+
+/// The size of an entry of the export address table, in bytes.
+pub const SIZEOF_EXPORT_ADDRESS_TABLE_ENTRY: usize = 4;
+
+// The sizes of a name pointer and of an ordinal, in bytes.
+const SIZEOF_NAME_POINTER: usize = 4;
+
+const SIZEOF_ORDINAL: usize = 2;
+
+/// The record with which an image's exports begin.
+///
+/// Source: PE Format, "Export Directory Table". Numbers are as stored; the record has 40 bytes.
+#[derive(Debug, PartialEq, Copy, Clone, Default)]
+pub struct ExportDirectoryTable {
+    /// Reserved, 0.
+    pub export_flags: u32,
+    /// When the exports were made, in seconds since 1970.
+    pub time_date_stamp: u32,
+    /// The major version. It is the user's own.
+    pub major_version: u16,
+    /// The minor version.
+    pub minor_version: u16,
+    /// The address of the library's name.
+    pub name_rva: u32,
+    /// The ordinal of the first entry of the address table, mostly 1.
+    pub ordinal_base: u32,
+    /// How many entries the address table has.
+    pub address_table_entries: u32,
+    /// How many entries the name pointer table has, and as many has the ordinal table.
+    pub number_of_name_pointers: u32,
+    /// The address of the address table.
+    pub export_address_table_rva: u32,
+    /// The address of the name pointer table.
+    pub name_pointer_rva: u32,
+    /// The address of the ordinal table.
+    pub ordinal_table_rva: u32,
+}
+
+impl ExportDirectoryTable {
+    // The directory in a record's bytes.
+    #[tactic(auto, unfolding(crate::specs::Exports::export_directory_record))]
+    fn in_record(bytes: &[u8], endian: Endian) -> ExportDirectoryTable
+        requires { length bytes.now ≡ 40 }
+        ensures { result ≡ export_directory_record endian bytes.now }
+    {
+        ExportDirectoryTable {
+            export_flags: field_u32(bytes, 0, endian),
+            time_date_stamp: field_u32(bytes, 4, endian),
+            major_version: field_u16(bytes, 8, endian),
+            minor_version: field_u16(bytes, 10, endian),
+            name_rva: field_u32(bytes, 12, endian),
+            ordinal_base: field_u32(bytes, 16, endian),
+            address_table_entries: field_u32(bytes, 20, endian),
+            number_of_name_pointers: field_u32(bytes, 24, endian),
+            export_address_table_rva: field_u32(bytes, 28, endian),
+            name_pointer_rva: field_u32(bytes, 32, endian),
+            ordinal_table_rva: field_u32(bytes, 36, endian),
+        }
+    }
+
+    /// Reads the record at `offset`.
+    ///
+    /// # Errors
+    /// [`Error::Malformed`] with [`Cause::ExportTable`] where the file has no 40 bytes there.
+    pub fn parse(bytes: &[u8], offset: usize) -> Result<ExportDirectoryTable>
+        ensures { Answers (λ t. t) result (export_directory_at bytes.now offset) (IsNoExportTable offset) }
+    {
+        match pread_slice(bytes, offset, SIZEOF_EXPORT_DIRECTORY_TABLE) {
+            Ok(record) => Ok(ExportDirectoryTable::in_record(record, Endian::Little)),
+            Err(_) => Err(Error::Malformed(Cause::ExportTable(offset))),
+        }
+    }
+
+    // The record's bytes.
+    #[tactic(auto, unfolding(crate::specs::Exports::export_directory_fields))]
+    fn to_bytes(self, endian: Endian) -> [u8; SIZEOF_EXPORT_DIRECTORY_TABLE]
+        ensures { result ≡ encoding endian (export_directory_fields self) }
+    {
+        let fields = [
+            Field::U32(self.export_flags),
+            Field::U32(self.time_date_stamp),
+            Field::U16(self.major_version),
+            Field::U16(self.minor_version),
+            Field::U32(self.name_rva),
+            Field::U32(self.ordinal_base),
+            Field::U32(self.address_table_entries),
+            Field::U32(self.number_of_name_pointers),
+            Field::U32(self.export_address_table_rva),
+            Field::U32(self.name_pointer_rva),
+            Field::U32(self.ordinal_table_rva),
+        ];
+        record_bytes(&fields, endian)
+    }
+
+    /// Writes the record to the front of `bytes`, and answers its size. A record that was read is
+    /// written as it stood, by the same order of bytes.
+    ///
+    /// # Errors
+    /// [`Error::Read`] where there is no room for 40 bytes; `bytes` are then as they were.
+    #[tactic(auto, using(crate::proofs::ExportRecord::export_directory_back))]
+    pub fn try_into_ctx(self, bytes: &mut [u8], endian: Endian) -> Result<usize>
+        ensures size { IfOk result (λ n. n ≡ 40) }
+        ensures written { Writes result (overwritten bytes.old 0 (encoding endian (export_directory_fields self))) bytes.old bytes.new (IsSliceFault bytes.old 0 40) }
+        ensures back { WritesBack 40 export_directory_record export_directory_fields }
+    {
+        let record = self.to_bytes(endian);
+        pwrite_slice(bytes, 0, &record)?;
+        Ok(SIZEOF_EXPORT_DIRECTORY_TABLE)
+    }
+
+    /// The size of the record, in bytes, in either order.
+    pub fn size_with(_endian: &Endian) -> usize
+        ensures { result ≡ 40 }
+    {
+        SIZEOF_EXPORT_DIRECTORY_TABLE
+    }
+}
+
+impl TryFromCtx<'_> for ExportDirectoryTable {
+    ghost Plain = { ExportDirectoryTable };
+
+    ghost plain = { λ t. t };
+
+    ghost value_of = { record_in 40 export_directory_record };
+
+    ghost refusal = { λ _ bytes e. IsSliceFault bytes 0 40 e };
+
+    ghost within = { record_in-within 40 export_directory_record };
+
+    ghost no_memory = { λ _ bytes e. slice_fault-no_memory bytes 0 40 e };
+
+    /// Reads the record at the front of `bytes`, which takes 40 bytes.
+    ///
+    /// # Errors
+    /// [`Error::Read`] where there are no 40 bytes.
+    fn try_from_ctx(bytes: &[u8], endian: Endian) -> Result<(ExportDirectoryTable, usize)> {
+        let record = pread_slice(bytes, 0, SIZEOF_EXPORT_DIRECTORY_TABLE)?;
+        let table = ExportDirectoryTable::in_record(record, endian);
+        Ok((table, SIZEOF_EXPORT_DIRECTORY_TABLE))
+    }
+}
+
+/// An entry of the export address table.
+///
+/// Source: PE Format, "Export Address Table".
+#[derive(Debug, PartialEq, Copy, Clone)]
+pub enum ExportAddressTableEntry {
+    /// The address of an export in this image.
+    ExportRVA(u32),
+    /// The address of a forwarder's text, which lies in the export directory.
+    ForwarderRVA(u32),
+}
+
+/// What the exports' ordinals number: an address each.
+///
+/// Source: PE Format, "Export Address Table".
+pub type ExportAddressTable = Table<ExportAddressTableEntry>;
+
+/// The addresses of the exports' names.
+///
+/// Source: PE Format, "Export Name Pointer Table".
+pub type ExportNamePointerTable = Table<u32>;
+
+/// For each name pointer the index of its address in the address table.
+///
+/// Source: PE Format, "Export Ordinal Table".
+pub type ExportOrdinalTable = Table<u16>;
+
+impl ExportAddressTableEntry {
+    // What an address stands for under an export directory.
+    #[tactic(auto, unfolding(crate::specs::Exports::address_entry))]
+    fn of_rva(directory: DataDirectory, rva: u32) -> ExportAddressTableEntry
+        ensures { result ≡ address_entry directory rva }
+    {
+        let begin = directory.virtual_address as usize;
+        let end = begin + directory.size as usize;
+        if is_in_range(rva as usize, begin, end) {
+            ExportAddressTableEntry::ForwarderRVA(rva)
+        } else {
+            ExportAddressTableEntry::ExportRVA(rva)
+        }
+    }
+}
+
+// The table of `count` entries of `width` bytes, cut at the first that is not whole; without an offset
+// it has none.
+fn counted_table<V: Drop, F: Fn(&[u8]) -> V>(
+    alloc: Global,
+    bytes: &[u8],
+    offset: Option<usize>,
+    width: usize,
+    count: u32,
+    value_of: F,
+) -> Result<Table<V>>
+    requires { (entry : _) → length entry.now ≡ width → F.pre value_of entry }
+    ensures { (value : List ℕ → V) → ((entry : _) (v : V) → length entry.now ≡ width → F.post value_of entry v → v ≡ value entry.now) → GivesOrMemory (λ t. t) result (counted_table_if (record { width = width; value_of = value }) count bytes.now offset) }
+{
+    let mut entries = Vec::new(alloc);
+    let Some(begin) = offset else {
+        return Ok(Table::from(entries));
+    };
+    let mut place = begin;
+    'entries: for _ in 0..count {
+        let Ok(entry) = pread_slice(bytes, place, width) else {
+            return Ok(Table::from(entries));
+        };
+        entries.push(value_of(entry))?;
+        place += width;
+    }
+    Ok(Table::from(entries))
+}
+
+// The name pointers at an offset.
+pub(super) fn name_pointers(
+    alloc: Global,
+    bytes: &[u8],
+    offset: Option<usize>,
+    count: u32,
+) -> Result<ExportNamePointerTable>
+    ensures { GivesOrMemory (λ t. t) result (counted_table_if name_pointers count bytes.now offset) }
+{
+    counted_table(alloc, bytes, offset, SIZEOF_NAME_POINTER, count, |entry| {
+        field_u32(entry, 0, Endian::Little)
+    })
+}
+
+// The ordinals at an offset.
+pub(super) fn ordinals(
+    alloc: Global,
+    bytes: &[u8],
+    offset: Option<usize>,
+    count: u32,
+) -> Result<ExportOrdinalTable>
+    ensures { GivesOrMemory (λ t. t) result (counted_table_if ordinals count bytes.now offset) }
+{
+    counted_table(alloc, bytes, offset, SIZEOF_ORDINAL, count, |entry| {
+        field_u16(entry, 0, Endian::Little)
+    })
+}
+
+// The addresses at an offset, under an export directory.
+pub(super) fn addresses(
+    alloc: Global,
+    bytes: &[u8],
+    offset: Option<usize>,
+    count: u32,
+    directory: DataDirectory,
+) -> Result<ExportAddressTable>
+    ensures { GivesOrMemory (λ t. t) result (counted_table_if (addresses directory) count bytes.now offset) }
+{
+    counted_table(
+        alloc,
+        bytes,
+        offset,
+        SIZEOF_EXPORT_ADDRESS_TABLE_ENTRY,
+        count,
+        |entry| {
+            let rva = field_u32(entry, 0, Endian::Little);
+            ExportAddressTableEntry::of_rva(directory, rva)
+        },
+    )
+}
+
+// Refuses a record that counts more entries than the file has bytes.
+pub(super) fn test_counts(bytes: &[u8], table: &ExportDirectoryTable) -> Result<()>
+    ensures fits { OnOk result (counts_fit bytes.now table.now ≡ true) }
+    ensures too_many { OnErr result (counts_fit bytes.now table.now ≡ false) }
+    ensures cause { IfErr result (IsCountFault bytes.now table.now) }
+{
+    let name_pointers = table.number_of_name_pointers as usize;
+    if name_pointers > bytes.len() {
+        return Err(Error::BufferTooShort(name_pointers, "name pointers"));
+    }
+    let addresses = table.address_table_entries as usize;
+    if addresses > bytes.len() {
+        return Err(Error::BufferTooShort(addresses, "address table entries"));
+    }
+    Ok(())
+}
