@@ -1,3 +1,4 @@
+pub mod Below
 pub mod Encoding
 pub mod Fronts
 pub mod Numbers

@@ -1,4 +1,5 @@
 pub mod Answers
+pub mod Below
 pub mod Bytes
 pub mod Faults
 pub mod Record
