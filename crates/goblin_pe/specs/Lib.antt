@@ -1,0 +1,2 @@
+pub mod ImportLookup
+pub mod ImportViews
