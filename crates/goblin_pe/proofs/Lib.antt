@@ -1,1 +1,2 @@
+pub mod ImportBack
 pub mod Modes

@@ -1,2 +1,3 @@
+pub mod ImportDirectory
 pub mod ImportLookup
 pub mod ImportViews

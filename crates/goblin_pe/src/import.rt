@@ -1,23 +1,29 @@
 //! The imports of an image: what it takes from which libraries.
 
-ghost use Rattle.std.specs.Prelude.{◌≡◌, ◌==◌, ◌≤◌, ◌^◌, true, length, map};
+ghost use Rattle.std.specs.Prelude.{◌≡◌, ◌==◌, ◌≤◌, ◌^◌, ◌&&◌, ◌↔◌, IfErr, IfOk, IsTrue, true, false, length, map, not, option_to_list};
 ghost use Rattle.std.proofs.Common.{lit≤};
-ghost use Rattle.goblin_base.specs.Answers.{Answers, AnswersOrMemory};
-ghost use Rattle.goblin_base.specs.Bytes.{number};
+ghost use Rattle.goblin_base.specs.Answers.{Answers, AnswersOrMemory, IsMemory, Writes};
+ghost use Rattle.goblin_base.specs.Bytes.{number, overwritten};
 ghost use Rattle.goblin_base.specs.Faults.{IsSliceFault};
-ghost use Rattle.goblin_base.specs.Record.{record_at};
+ghost use Rattle.goblin_base.specs.Record.{WritesBack, encoding, record_at, record_in};
+ghost use Rattle.goblin_base.specs.SlotTables.{or_left_out};
 ghost use Rattle.goblin_base.specs.Tables.{Format};
 ghost use Rattle.goblin_base.specs.declared.endian.Endian.TheVariants.{Little};
 ghost use Rattle.goblin_pe_sect.specs.Mapping.{file_offset};
 ghost use Rattle.goblin_pe_sect.specs.Options.{default_options, is_strict};
-ghost use Rattle.goblin_pe.specs.ImportLookup.{EntryValue, IsHintNameFault, IsKeptEntryFault, IsLookupTableFault, entry_value, hint_name, kept_entry, lookup_table};
+ghost use Rattle.goblin_base.proofs.RecordLaws.{record_in-within, slice_fault-no_memory};
+ghost use Rattle.goblin_pe.specs.declared.import.ImportDirectoryEntry.{ImportDirectoryEntry};
+ghost use Rattle.goblin_pe.specs.ImportDirectory.{IsImportDataFault, IsLibrariesFault, IsLibraryFault, IsLookupIfFault, address_table_rva, import_data, import_fields, import_record, is_last_record, libraries_at, library_of, lookup_offset, lookup_table_if};
+ghost use Rattle.goblin_pe.specs.ImportLookup.{EntryValue, IsAddressTableFault, IsHintNameFault, IsKeptEntryFault, IsLookupTableFault, address_table, entry_value, hint_name, kept_entry, lookup_table};
 ghost use Rattle.goblin_pe.specs.ImportViews.{entry_view, hint_name_view, kept_view};
 
+use crate::data_directories::DataDirectory;
 use crate::options::ParseOptions;
 use crate::section_table::SectionTable;
-use crate::utils::find_offset;
+use crate::utils::{find_offset, safe_try_name};
 use goblin_base::{
-    Cause, Endian, Error, Result, ResultOf, field_u32, field_u64, pread_slice, pread_str, pread_u16,
+    Cause, Endian, Error, ErrorOf, Field, Result, ResultOf, TryFromCtx, field_u32, field_u64,
+    pread_slice, pread_str, pread_u16, pwrite_slice, record_bytes,
 };
 use std::alloc::Global;
 use std::marker::Model;
@@ -30,6 +36,9 @@ pub const IMPORT_RVA_MASK_32: u32 = 0x7FFF_FFFF;
 pub const IMPORT_BY_ORDINAL_64: u64 = 0x8000_0000_0000_0000;
 /// The bits of an entry of 64 bits that are the address of a hint and a name.
 pub const IMPORT_RVA_MASK_64: u64 = 0x0000_0000_7FFF_FFFF;
+
+/// The size of an import directory record, in bytes.
+pub const SIZEOF_IMPORT_DIRECTORY_ENTRY: usize = 20;
 
 /// The type of the entries of lookup and address tables: `u32` in an image for 32 bits, `u64` in one
 /// for 64 bits.
@@ -401,5 +410,458 @@ impl<'a> SyntheticImportLookupTableEntry<'a> {
             place += size;
         }
         Ok(ImportLookupTable { entries })
+    }
+}
+
+/// A record of an import directory: where the imports from a library stand.
+///
+/// Source: PE Format, "Import Directory Table". Numbers are as stored; the record has 20 bytes.
+#[derive(Debug, PartialEq, Copy, Clone, Default)]
+pub struct ImportDirectoryEntry {
+    /// The address of the lookup table.
+    pub import_lookup_table_rva: u32,
+    /// When the imports were bound, 0 where they are not.
+    pub time_date_stamp: u32,
+    /// The index of the first forwarder.
+    pub forwarder_chain: u32,
+    /// The address of the library's name.
+    pub name_rva: u32,
+    /// The address of the address table, which is a copy of the lookup table until the imports are
+    /// bound.
+    pub import_address_table_rva: u32,
+}
+
+impl ImportDirectoryEntry {
+    // The entry in a record's bytes.
+    #[tactic(auto, unfolding(crate::specs::ImportDirectory::import_record))]
+    fn in_record(bytes: &[u8], endian: Endian) -> ImportDirectoryEntry
+        requires { length bytes.now ≡ 20 }
+        ensures { result ≡ import_record endian bytes.now }
+    {
+        ImportDirectoryEntry {
+            import_lookup_table_rva: field_u32(bytes, 0, endian),
+            time_date_stamp: field_u32(bytes, 4, endian),
+            forwarder_chain: field_u32(bytes, 8, endian),
+            name_rva: field_u32(bytes, 12, endian),
+            import_address_table_rva: field_u32(bytes, 16, endian),
+        }
+    }
+
+    // The record at an offset.
+    fn read(bytes: &[u8], offset: usize) -> Result<ImportDirectoryEntry>
+        ensures { Answers (λ r. r) result (record_at 20 (import_record Endian.Little) bytes.now offset) (IsSliceFault bytes.now offset 20) }
+    {
+        let record = pread_slice(bytes, offset, SIZEOF_IMPORT_DIRECTORY_ENTRY)?;
+        Ok(ImportDirectoryEntry::in_record(record, Endian::Little))
+    }
+
+    // The record's bytes.
+    #[tactic(auto, unfolding(crate::specs::ImportDirectory::import_fields))]
+    fn to_bytes(self, endian: Endian) -> [u8; SIZEOF_IMPORT_DIRECTORY_ENTRY]
+        ensures { result ≡ encoding endian (import_fields self) }
+    {
+        let fields = [
+            Field::U32(self.import_lookup_table_rva),
+            Field::U32(self.time_date_stamp),
+            Field::U32(self.forwarder_chain),
+            Field::U32(self.name_rva),
+            Field::U32(self.import_address_table_rva),
+        ];
+        record_bytes(&fields, endian)
+    }
+
+    /// Writes the record to the front of `bytes`, and answers its size. A record that was read is
+    /// written as it stood, by the same order of bytes.
+    ///
+    /// # Errors
+    /// [`Error::Read`] where there is no room for 20 bytes; `bytes` are then as they were.
+    #[tactic(auto, using(crate::proofs::ImportBack::record_back))]
+    pub fn try_into_ctx(self, bytes: &mut [u8], endian: Endian) -> Result<usize>
+        ensures size { IfOk result (λ n. n ≡ 20) }
+        ensures written { Writes result (overwritten bytes.old 0 (encoding endian (import_fields self))) bytes.old bytes.new (IsSliceFault bytes.old 0 20) }
+        ensures back { WritesBack 20 import_record import_fields }
+    {
+        let record = self.to_bytes(endian);
+        pwrite_slice(bytes, 0, &record)?;
+        Ok(SIZEOF_IMPORT_DIRECTORY_ENTRY)
+    }
+
+    /// The size of the record, in bytes, in either order.
+    pub fn size_with(_endian: &Endian) -> usize
+        ensures { result ≡ 20 }
+    {
+        SIZEOF_IMPORT_DIRECTORY_ENTRY
+    }
+
+    /// Whether all five fields are 0.
+    pub fn is_null(&self) -> bool
+        ensures { let r = self.now in
+            result ≡ (r.import_lookup_table_rva == 0 && r.time_date_stamp == 0 && r.forwarder_chain == 0 && r.name_rva == 0 && r.import_address_table_rva == 0) }
+    {
+        self.import_lookup_table_rva == 0
+            && self.time_date_stamp == 0
+            && self.forwarder_chain == 0
+            && self.name_rva == 0
+            && self.import_address_table_rva == 0
+    }
+
+    /// Whether it has a name and an address table. A directory ends at the first record that lacks
+    /// one of these.
+    pub fn is_possibly_valid(&self) -> bool
+        ensures { result ≡ not (is_last_record self.now) }
+    {
+        self.name_rva != 0 && self.import_address_table_rva != 0
+    }
+}
+
+impl TryFromCtx<'_> for ImportDirectoryEntry {
+    ghost Plain = { ImportDirectoryEntry };
+
+    ghost plain = { λ r. r };
+
+    ghost value_of = { record_in 20 import_record };
+
+    ghost refusal = { λ _ bytes e. IsSliceFault bytes 0 20 e };
+
+    ghost within = { record_in-within 20 import_record };
+
+    ghost no_memory = { λ _ bytes e. slice_fault-no_memory bytes 0 20 e };
+
+    /// Reads the record at the front of `bytes`, which takes 20 bytes.
+    ///
+    /// # Errors
+    /// [`Error::Read`] where there are no 20 bytes.
+    fn try_from_ctx(bytes: &[u8], endian: Endian) -> Result<(ImportDirectoryEntry, usize)> {
+        let record = pread_slice(bytes, 0, SIZEOF_IMPORT_DIRECTORY_ENTRY)?;
+        let entry = ImportDirectoryEntry::in_record(record, endian);
+        Ok((entry, SIZEOF_IMPORT_DIRECTORY_ENTRY))
+    }
+}
+
+// The lookup table at an offset, and nothing where there is no offset.
+fn lookup_table_if<'a, 'e, T: Bitfield<'a>>(
+    alloc: Global,
+    bytes: &'a [u8],
+    offset: Option<usize>,
+    sections: &[SectionTable],
+    file_alignment: u32,
+    opts: &ParseOptions,
+) -> ResultOf<'e, Option<ImportLookupTable<'a>>>
+    ensures { let m = file_offset opts.now sections.now file_alignment in
+        let strict = is_strict opts.now.parse_mode in
+        AnswersOrMemory (λ t. t) result (lookup_table_if strict T.format m bytes.now offset) (IsLookupIfFault strict T.format m bytes.now offset) }
+{
+    let Some(offset) = offset else {
+        return Ok(None);
+    };
+    let table = SyntheticImportLookupTableEntry::parse_with_opts::<T>(
+        alloc,
+        bytes,
+        offset,
+        sections,
+        file_alignment,
+        opts,
+    )?;
+    Ok(Some(table))
+}
+
+// The numbers of the address table at an offset, up to its zero.
+fn address_table<'a, 'e, T: Bitfield<'a>>(
+    alloc: Global,
+    bytes: &'a [u8],
+    offset: usize,
+) -> ResultOf<'e, ImportAddressTable>
+    ensures { AnswersOrMemory (λ t. t) result (address_table T.format bytes.now offset) (IsAddressTableFault T.format bytes.now offset) }
+{
+    let size = T::size_of();
+    let mut addresses = Vec::new(alloc);
+    let mut place = offset;
+    'slots: loop {
+        let entry = read_entry::<T>(bytes, place)?;
+        if entry.is_zero() {
+            return Ok(ImportAddressTable { addresses });
+        }
+        addresses.push(entry.number())?;
+        place += size;
+    }
+}
+
+/// What a record of an import directory leads to.
+#[derive(Debug, Drop)]
+pub struct SyntheticImportDirectoryEntry<'a> {
+    /// The record.
+    pub import_directory_entry: ImportDirectoryEntry,
+    /// The name of the library. In permissive mode it is empty where none can be read.
+    pub name: &'a str,
+    /// What the lookup table keeps, where there is one.
+    pub import_lookup_table: Option<ImportLookupTable<'a>>,
+    /// The numbers of the address table.
+    pub import_address_table: ImportAddressTable,
+}
+
+impl<'a> Model for SyntheticImportDirectoryEntry<'a> {
+    ghost use Rattle.goblin_pe.specs.ImportDirectory.{ImportedLibrary};
+
+    ghost Value = { ImportedLibrary };
+
+    ghost view = { λ entry. record {
+      import_directory_entry = entry.import_directory_entry;
+      name = entry.name.now;
+      import_lookup_table = entry.import_lookup_table;
+      import_address_table = entry.import_address_table;
+    } };
+}
+
+// Where a record's lookup table stands: at its own address, or at that of the address table.
+fn lookup_offset(
+    entry: &ImportDirectoryEntry,
+    sections: &[SectionTable],
+    file_alignment: u32,
+    opts: &ParseOptions,
+) -> Option<usize>
+    ensures { result ≡ lookup_offset (file_offset opts.now sections.now file_alignment) entry.now }
+{
+    let lookup_rva = entry.import_lookup_table_rva as usize;
+    let address_rva = entry.import_address_table_rva as usize;
+    find_offset(lookup_rva, sections, file_alignment, opts).or_else(|| find_offset(
+        address_rva,
+        sections,
+        file_alignment,
+        opts,
+    ))
+}
+
+// The address of a record's address table.
+fn address_table_rva(entry: &ImportDirectoryEntry) -> u32
+    ensures { result ≡ address_table_rva entry.now }
+{
+    match entry.import_address_table_rva {
+        0 => entry.import_lookup_table_rva,
+        rva => rva,
+    }
+}
+
+impl<'a> SyntheticImportDirectoryEntry<'a> {
+    /// What a record leads to, as [`SyntheticImportDirectoryEntry::parse_with_opts`] with the default
+    /// options.
+    ///
+    /// # Errors
+    /// As [`SyntheticImportDirectoryEntry::parse_with_opts`] in strict mode.
+    pub fn parse<'e, T: Bitfield<'a>>(
+        alloc: Global,
+        bytes: &'a [u8],
+        import_directory_entry: ImportDirectoryEntry,
+        sections: &[SectionTable],
+        file_alignment: u32,
+    ) -> ResultOf<'e, SyntheticImportDirectoryEntry<'a>>
+        ensures { let m = file_offset default_options sections.now file_alignment in
+            AnswersOrMemory (λ x. x) result (library_of true T.format m bytes.now import_directory_entry) (IsLibraryFault true T.format m bytes.now import_directory_entry) }
+    {
+        let opts = ParseOptions::default();
+        SyntheticImportDirectoryEntry::parse_with_opts::<T>(
+            alloc,
+            bytes,
+            import_directory_entry,
+            sections,
+            file_alignment,
+            &opts,
+        )
+    }
+
+    /// What a record leads to: the library's name, its lookup table and its address table, of entries
+    /// of type `T`.
+    ///
+    /// The lookup table is read at its address, and where no section maps that, at the address of the
+    /// address table; where that has no file offset either, there is none. The address table is read
+    /// at its address, and where that is 0, at the address of the lookup table; it keeps the numbers
+    /// up to one that is 0.
+    ///
+    /// # Errors
+    /// In strict mode as [`safe_try_name`] where no name can be read; in permissive mode the name is
+    /// then empty. As [`SyntheticImportLookupTableEntry::parse_with_opts`] where the lookup table is
+    /// refused. In both modes [`Error::Malformed`] with [`Cause::Unmapped`] where the address of the
+    /// address table has no file offset, and [`Error::Read`] where that table meets the end of the
+    /// file. [`Error::Memory`] where memory is refused.
+    #[tactic(auto, unfolding(crate::specs::ImportDirectory::library_of))]
+    pub fn parse_with_opts<'e, T: Bitfield<'a>>(
+        alloc: Global,
+        bytes: &'a [u8],
+        import_directory_entry: ImportDirectoryEntry,
+        sections: &[SectionTable],
+        file_alignment: u32,
+        opts: &ParseOptions,
+    ) -> ResultOf<'e, SyntheticImportDirectoryEntry<'a>>
+        ensures { let m = file_offset opts.now sections.now file_alignment in
+            let strict = is_strict opts.now.parse_mode in
+            AnswersOrMemory (λ x. x) result (library_of strict T.format m bytes.now import_directory_entry) (IsLibraryFault strict T.format m bytes.now import_directory_entry) }
+    {
+        let record = &import_directory_entry;
+        let name_rva = record.name_rva as usize;
+        let name = safe_try_name(bytes, name_rva, sections, file_alignment, opts)?.unwrap_or("");
+        let lookup_offset = lookup_offset(record, sections, file_alignment, opts);
+        let import_lookup_table = lookup_table_if::<T>(
+            alloc,
+            bytes,
+            lookup_offset,
+            sections,
+            file_alignment,
+            opts,
+        )?;
+        let address_rva = address_table_rva(record) as usize;
+        let Some(offset) = find_offset(address_rva, sections, file_alignment, opts) else {
+            return Err(Error::Malformed(Cause::Unmapped(address_rva)));
+        };
+        let import_address_table = address_table::<T>(alloc, bytes, offset)?;
+        Ok(SyntheticImportDirectoryEntry {
+            import_directory_entry,
+            name,
+            import_lookup_table,
+            import_address_table,
+        })
+    }
+}
+
+// Whether a refusal is passed over: in permissive mode each that is not for want of memory.
+fn is_passed_over(error: &ErrorOf, opts: &ParseOptions) -> bool
+    ensures { IsTrue result ↔ ((is_strict opts.now.parse_mode ≡ false) × ¬ (IsMemory error.now)) }
+{
+    opts.parse_mode.is_permissive() && !matches!(error, ErrorOf::Memory(_))
+}
+
+// The library of a record; in permissive mode `None` where there is none.
+fn kept_library<'a, 'e, T: Bitfield<'a>>(
+    alloc: Global,
+    bytes: &'a [u8],
+    entry: ImportDirectoryEntry,
+    sections: &[SectionTable],
+    file_alignment: u32,
+    opts: &ParseOptions,
+) -> ResultOf<'e, Option<SyntheticImportDirectoryEntry<'a>>>
+    ensures { let m = file_offset opts.now sections.now file_alignment in
+        let strict = is_strict opts.now.parse_mode in
+        AnswersOrMemory option_to_list result (or_left_out strict (library_of strict T.format m bytes.now entry)) (IsLibraryFault strict T.format m bytes.now entry) }
+{
+    match SyntheticImportDirectoryEntry::parse_with_opts::<T>(
+        alloc,
+        bytes,
+        entry,
+        sections,
+        file_alignment,
+        opts,
+    ) {
+        Ok(library) => Ok(Some(library)),
+        Err(error) if is_passed_over(&error, opts) => Ok(None),
+        Err(error) => Err(error),
+    }
+}
+
+/// The imports of an image.
+///
+/// Source: PE Format, "The .idata Section".
+#[derive(Debug, Drop)]
+pub struct ImportData<'a> {
+    /// The libraries, in order.
+    pub import_data: Vec<SyntheticImportDirectoryEntry<'a>>,
+}
+
+impl<'a> Model for ImportData<'a> {
+    ghost use Rattle.std.specs.Prelude.{List};
+    ghost use Rattle.goblin_pe.specs.ImportDirectory.{ImportedLibrary};
+
+    ghost Value = { List ImportedLibrary };
+
+    ghost view = { λ imports. imports.import_data.items };
+}
+
+// The libraries of the directory at an offset.
+fn libraries<'a, 'e, T: Bitfield<'a>>(
+    alloc: Global,
+    bytes: &'a [u8],
+    offset: usize,
+    sections: &[SectionTable],
+    file_alignment: u32,
+    opts: &ParseOptions,
+) -> ResultOf<'e, ImportData<'a>>
+    ensures { let m = file_offset opts.now sections.now file_alignment in
+        let strict = is_strict opts.now.parse_mode in
+        AnswersOrMemory (λ x. x) result (libraries_at strict T.format m bytes.now offset) (IsLibrariesFault strict T.format m bytes.now offset) }
+{
+    let mut import_data = Vec::new(alloc);
+    let mut place = offset;
+    'records: loop {
+        let Ok(record) = ImportDirectoryEntry::read(bytes, place) else {
+            if opts.parse_mode.is_permissive() {
+                break 'records;
+            }
+            return Err(Error::Malformed(Cause::ImportRecordEnd(place)));
+        };
+        if !record.is_possibly_valid() {
+            break 'records;
+        }
+        let kept = kept_library::<T>(alloc, bytes, record, sections, file_alignment, opts)?;
+        if let Some(library) = kept {
+            import_data.push(library)?;
+        }
+        place += SIZEOF_IMPORT_DIRECTORY_ENTRY;
+    }
+    Ok(ImportData { import_data })
+}
+
+impl<'a> ImportData<'a> {
+    /// The imports of the directory at the address of `directory`, as
+    /// [`ImportData::parse_with_opts`] with the default options.
+    ///
+    /// # Errors
+    /// As [`ImportData::parse_with_opts`] in strict mode.
+    pub fn parse<'e, T: Bitfield<'a>>(
+        alloc: Global,
+        bytes: &'a [u8],
+        directory: DataDirectory,
+        sections: &[SectionTable],
+        file_alignment: u32,
+    ) -> ResultOf<'e, ImportData<'a>>
+        ensures { let m = file_offset default_options sections.now file_alignment in
+            AnswersOrMemory (λ x. x) result (import_data true T.format m bytes.now directory.virtual_address) (IsImportDataFault true T.format m bytes.now directory.virtual_address) }
+    {
+        let opts = ParseOptions::default();
+        ImportData::parse_with_opts::<T>(alloc, bytes, directory, sections, file_alignment, &opts)
+    }
+
+    /// The imports of the directory at the address of `directory`, whose tables have entries of type
+    /// `T`: the libraries of its records, up to the first record that has no name or no address table,
+    /// whatever the directory's size.
+    ///
+    /// In permissive mode a record is left out where its library is refused for another cause than
+    /// memory, the directory ends where it meets the end of the file, and it is empty where its
+    /// address has no file offset, or the offset 0.
+    ///
+    /// # Errors
+    /// In strict mode [`Error::Malformed`] with [`Cause::Unmapped`] where the directory's address has
+    /// no file offset, and with [`Cause::ImportRecordEnd`] where it meets the end of the file; and as
+    /// [`SyntheticImportDirectoryEntry::parse_with_opts`] of a record. In both modes
+    /// [`Error::Memory`] where memory is refused.
+    pub fn parse_with_opts<'e, T: Bitfield<'a>>(
+        alloc: Global,
+        bytes: &'a [u8],
+        directory: DataDirectory,
+        sections: &[SectionTable],
+        file_alignment: u32,
+        opts: &ParseOptions,
+    ) -> ResultOf<'e, ImportData<'a>>
+        ensures value { let m = file_offset opts.now sections.now file_alignment in
+            let strict = is_strict opts.now.parse_mode in
+            AnswersOrMemory (λ x. x) result (import_data strict T.format m bytes.now directory.virtual_address) (IsImportDataFault strict T.format m bytes.now directory.virtual_address) }
+        ensures permissive { is_strict opts.now.parse_mode ≡ false → IfErr result IsMemory }
+    {
+        let rva = directory.virtual_address as usize;
+        let is_permissive = opts.parse_mode.is_permissive();
+        match find_offset(rva, sections, file_alignment, opts) {
+            Some(0) | None if is_permissive => {
+                let import_data = Vec::new(alloc);
+                Ok(ImportData { import_data })
+            }
+            Some(offset) => libraries::<T>(alloc, bytes, offset, sections, file_alignment, opts),
+            None => Err(Error::Malformed(Cause::Unmapped(rva))),
+        }
     }
 }
