@@ -1,2 +1,3 @@
 pub mod ImportBack
+pub mod Imports
 pub mod Modes

@@ -1,3 +1,4 @@
 pub mod ImportDirectory
 pub mod ImportLookup
 pub mod ImportViews
+pub mod Imports

@@ -1,6 +1,6 @@
 //! The imports of an image: what it takes from which libraries.
 
-ghost use Rattle.std.specs.Prelude.{◌≡◌, ◌==◌, ◌≤◌, ◌^◌, ◌&&◌, ◌↔◌, IfErr, IfOk, IsTrue, true, false, length, map, not, option_to_list};
+ghost use Rattle.std.specs.Prelude.{◌≡◌, ◌==◌, ◌≤◌, ◌^◌, ◌&&◌, ◌↔◌, ◌++◌, IfErr, IfOk, IsTrue, Some, true, false, length, map, not, option_map, option_to_list, string_bytes};
 ghost use Rattle.std.proofs.Common.{lit≤};
 ghost use Rattle.goblin_base.specs.Answers.{Answers, AnswersOrMemory, IsMemory, Writes};
 ghost use Rattle.goblin_base.specs.Bytes.{number, overwritten};
@@ -15,6 +15,7 @@ ghost use Rattle.goblin_base.proofs.RecordLaws.{record_in-within, slice_fault-no
 ghost use Rattle.goblin_pe.specs.declared.import.ImportDirectoryEntry.{ImportDirectoryEntry};
 ghost use Rattle.goblin_pe.specs.ImportDirectory.{IsImportDataFault, IsLibrariesFault, IsLibraryFault, IsLookupIfFault, address_table_rva, import_data, import_fields, import_record, is_last_record, libraries_at, library_of, lookup_offset, lookup_table_if};
 ghost use Rattle.goblin_pe.specs.ImportLookup.{EntryValue, IsAddressTableFault, IsHintNameFault, IsKeptEntryFault, IsLookupTableFault, address_table, entry_value, hint_name, kept_entry, lookup_table};
+ghost use Rattle.goblin_pe.specs.Imports.{IsOverflow, import_of, import_offset, imports_by, imports_of, kept_entries, library_imports, ordinal_name};
 ghost use Rattle.goblin_pe.specs.ImportViews.{entry_view, hint_name_view, kept_view};
 
 use crate::data_directories::DataDirectory;
@@ -26,6 +27,7 @@ use goblin_base::{
     pread_slice, pread_str, pread_u16, pwrite_slice, record_bytes,
 };
 use std::alloc::Global;
+use std::borrow::CowStr;
 use std::marker::Model;
 
 /// The bit of an entry of 32 bits that says that it imports by ordinal.
@@ -39,6 +41,9 @@ pub const IMPORT_RVA_MASK_64: u64 = 0x0000_0000_7FFF_FFFF;
 
 /// The size of an import directory record, in bytes.
 pub const SIZEOF_IMPORT_DIRECTORY_ENTRY: usize = 20;
+
+// The length of the longest name of an import by ordinal, in bytes.
+const ORDINAL_NAME_MAX: usize = 13;
 
 /// The type of the entries of lookup and address tables: `u32` in an image for 32 bits, `u64` in one
 /// for 64 bits.
@@ -864,4 +869,180 @@ impl<'a> ImportData<'a> {
             None => Err(Error::Malformed(Cause::Unmapped(rva))),
         }
     }
+}
+
+/// An import.
+#[derive(Debug, Drop)]
+pub struct Import<'a> {
+    /// The name that is imported, or `ORDINAL ` and the ordinal in decimal digits.
+    pub name: CowStr<'a>,
+    /// The name of the library.
+    pub dll: &'a str,
+    /// The ordinal; of an import by name, the hint.
+    pub ordinal: u16,
+    /// The address of the address table, plus as many sizes as kept entries stand before this one.
+    pub offset: usize,
+    /// The address of the hint and the name, 0 of an import by ordinal.
+    pub rva: usize,
+    /// The size of an entry of the address table, in bytes.
+    pub size: usize,
+}
+
+impl<'a> Model for Import<'a> {
+    ghost use Rattle.std.specs.Cow.{cow_str_bytes};
+    ghost use Rattle.goblin_pe.specs.Imports.{ImportValue};
+
+    ghost Value = { ImportValue };
+
+    ghost view = { λ import. record {
+      name = cow_str_bytes import.name;
+      dll = import.dll.now;
+      ordinal = import.ordinal;
+      offset = import.offset;
+      rva = import.rva;
+      size = import.size;
+    } };
+}
+
+// The name of an import by ordinal.
+fn ordinal_name(alloc: Global, ordinal: u16) -> Result<String>
+    ensures { AnswersOrMemory string_bytes result (Some (ordinal_name ordinal)) (λ e. ⊥) }
+{
+    let mut name = String::with_capacity(alloc, ORDINAL_NAME_MAX)?;
+    write!(name, "ORDINAL {ordinal}")?;
+    Ok(name)
+}
+
+// The offset of an entry of an address table, where it does not pass 64 bits.
+fn import_offset(rva: u32, size: usize, position: usize) -> Option<usize>
+    ensures { result ≡ import_offset rva size position }
+{
+    let distance = size.checked_mul(position)?;
+    distance.checked_add(rva as usize)
+}
+
+impl<'a> Import<'a> {
+    // The import of an entry.
+    #[tactic(auto, unfolding(crate::specs::Imports::import_of))]
+    fn of_entry(
+        alloc: Global,
+        entry: &SyntheticImportLookupTableEntry<'a>,
+        dll: &'a str,
+        offset: usize,
+        size: usize,
+    ) -> Result<Import<'a>>
+        ensures { AnswersOrMemory (λ x. x) result (Some (import_of dll.now offset size (entry_view entry.now))) (λ e. ⊥) }
+    {
+        let (name, ordinal, rva) = match entry {
+            SyntheticImportLookupTableEntry::OrdinalNumber(ordinal) => {
+                (CowStr::Owned(ordinal_name(alloc, *ordinal)?), *ordinal, 0)
+            }
+            SyntheticImportLookupTableEntry::HintNameTableRVA((rva, named)) => {
+                (CowStr::Borrowed(named.name), named.hint, *rva as usize)
+            }
+        };
+        Ok(Import {
+            name,
+            dll,
+            ordinal,
+            offset,
+            rva,
+            size,
+        })
+    }
+
+    /// The imports of `import_data`, whose address tables have entries of type `T`: one for each entry
+    /// that a lookup table keeps, in the order of the libraries and of the entries.
+    ///
+    /// # Errors
+    /// [`Error::Malformed`] with [`Cause::Overflow`] where an import's offset passes 64 bits;
+    /// [`Error::Memory`] where memory is refused.
+    pub fn parse<'e, T: Bitfield<'a>>(
+        alloc: Global,
+        _bytes: &'a [u8],
+        import_data: &ImportData<'a>,
+        _sections: &[SectionTable],
+    ) -> ResultOf<'e, Vec<Import<'a>>>
+        ensures { AnswersOrMemory (λ v. v.items) result (imports_of T.format.width import_data.now) IsOverflow }
+    {
+        Ok(imports_of(alloc, &import_data.import_data, T::size_of())?)
+    }
+}
+
+// The entries that a library's lookup table keeps.
+fn kept_entries<'b, 'a>(
+    library: &'b SyntheticImportDirectoryEntry<'a>,
+) -> &'b [SyntheticImportLookupTableEntry<'a>]
+    ensures { map entry_view result.now ≡ kept_entries library.now }
+{
+    match &library.import_lookup_table {
+        Some(table) => table.as_slice(),
+        None => &[],
+    }
+}
+
+// How many entries the lookup tables of libraries keep, or more than there is memory for.
+fn count_of(libraries: &[SyntheticImportDirectoryEntry]) -> usize {
+    let mut count = 0usize;
+    for library in libraries {
+        count = count.saturating_add(kept_entries(library).len());
+    }
+    count
+}
+
+// Appends the imports of a table's entries, which have `size` bytes in the address table at `rva`.
+fn push_entries<'a>(
+    alloc: Global,
+    imports: &mut Vec<Import<'a>>,
+    entries: &[SyntheticImportLookupTableEntry<'a>],
+    dll: &'a str,
+    rva: u32,
+    size: usize,
+) -> Result<()>
+    ensures { AnswersOrMemory (λ _. imports.new.items) result (option_map (λ made. imports.old.items ++ made) (imports_by size dll.now rva (map entry_view entries.now))) IsOverflow }
+{
+    'entries: for (position, entry) in entries.iter().enumerate() {
+        let Some(offset) = import_offset(rva, size, position) else {
+            return Err(Error::Malformed(Cause::Overflow));
+        };
+        let import = Import::of_entry(alloc, entry, dll, offset, size)?;
+        imports.push(import)?;
+    }
+    Ok(())
+}
+
+// Appends the imports from a library, whose address table has entries of `size` bytes.
+fn push_imports<'a>(
+    alloc: Global,
+    imports: &mut Vec<Import<'a>>,
+    library: &SyntheticImportDirectoryEntry<'a>,
+    size: usize,
+) -> Result<()>
+    ensures { AnswersOrMemory (λ _. imports.new.items) result (option_map (λ made. imports.old.items ++ made) (library_imports size library.now)) IsOverflow }
+{
+    let rva = library.import_directory_entry.import_address_table_rva;
+    push_entries(
+        alloc,
+        imports,
+        kept_entries(library),
+        library.name,
+        rva,
+        size,
+    )
+}
+
+// The imports from all libraries, whose address tables have entries of `size` bytes.
+#[tactic(auto, unfolding(crate::specs::Imports::imports_of))]
+fn imports_of<'a>(
+    alloc: Global,
+    libraries: &[SyntheticImportDirectoryEntry<'a>],
+    size: usize,
+) -> Result<Vec<Import<'a>>>
+    ensures { AnswersOrMemory (λ v. v.items) result (imports_of size libraries.now) IsOverflow }
+{
+    let mut imports = Vec::with_capacity(alloc, count_of(libraries))?;
+    'libraries: for library in libraries {
+        push_imports(alloc, &mut imports, library, size)?;
+    }
+    Ok(imports)
 }
