@@ -13,7 +13,7 @@ use Rattle.goblin_base.specs.SlotTables.{SlotFormat, slot_table, or_left_out, Is
 use Rattle.goblin_base.specs.Tables.{Format}
 use Rattle.goblin_pe_sect.specs.Mapping.{name_at, name_or_none, IsSafeNameFault, IsUnmapped}
 use Rattle.goblin_pe.specs.ImportLookup.{EntryValue, LookupEntry, lookup_table, address_table, IsLookupTableFault, IsAddressTableFault}
-use Rattle.goblin_pe.specs.declared.import.ImportDirectoryEntry.{ImportDirectoryEntry}
+use Rattle.goblin_pe.specs.declared.import.directory_entry.ImportDirectoryEntry.{ImportDirectoryEntry}
 
 -- the record in its 20 bytes
 unfoldable pub import_record : Endian → List ℕ → ImportDirectoryEntry

@@ -2,9 +2,9 @@
 use Rattle.std.specs.Prelude.{List, map, Option, option_to_list}
 use Rattle.goblin_pe.specs.ImportLookup.{HintName, LookupEntry}
 use Rattle.goblin_pe.specs.ImportLookup.LookupEntry.{by_ordinal, by_name}
-use Rattle.goblin_pe.specs.declared.import.HintNameTableEntry.{HintNameTableEntry}
-use Rattle.goblin_pe.specs.declared.import.SyntheticImportLookupTableEntry.{SyntheticImportLookupTableEntry}
-use Rattle.goblin_pe.specs.declared.import.SyntheticImportLookupTableEntry.TheVariants.{OrdinalNumber, HintNameTableRVA}
+use Rattle.goblin_pe.specs.declared.import.lookup_table.HintNameTableEntry.{HintNameTableEntry}
+use Rattle.goblin_pe.specs.declared.import.lookup_table.SyntheticImportLookupTableEntry.{SyntheticImportLookupTableEntry}
+use Rattle.goblin_pe.specs.declared.import.lookup_table.SyntheticImportLookupTableEntry.TheVariants.{OrdinalNumber, HintNameTableRVA}
 
 -- a hint and a name
 abbrev pub hint_name_view : HintNameTableEntry → HintName

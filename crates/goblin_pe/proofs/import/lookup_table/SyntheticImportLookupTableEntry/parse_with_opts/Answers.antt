@@ -8,8 +8,8 @@ use Rattle.goblin_base.proofs.SlotTables.{at-start, at-next, at-last, at-end, at
 use Rattle.goblin_pe.specs.ImportLookup.{IsKeptEntryFault, IsLookupEnd}
 use Rattle.goblin_pe.specs.ImportViews.{entry_view, kept_view}
 use Rattle.goblin_pe.proofs.Modes.{strict, permissive}
-use Rattle.goblin_pe.proofs.import.SyntheticImportLookupTableEntry.parse_with_opts.Goals as goal
-use Rattle.goblin_pe.proofs.import.SyntheticImportLookupTableEntry.parse_with_opts.Goals.{in_default+then-is_permissive, in-Ok+then-is_zero, in-Some+in_ok-push, in_default-kept}
+use Rattle.goblin_pe.proofs.import.lookup_table.SyntheticImportLookupTableEntry.parse_with_opts.Goals as goal
+use Rattle.goblin_pe.proofs.import.lookup_table.SyntheticImportLookupTableEntry.parse_with_opts.Goals.{in_default+then-is_permissive, in-Ok+then-is_zero, in-Some+in_ok-push, in_default-kept}
 
 pub slots-init : goal.slots-init
 slots-init g c = rw c.new-entries.ensures.items (at-start _ _ _ _)

@@ -3,7 +3,7 @@ use Rattle.std.proofs.lemmas.List.{length-map}
 use Rattle.std.proofs.lemmas.Result.{err_from_is_err_and}
 use Rattle.goblin_pe.specs.ImportViews.{entry_view}
 use Rattle.goblin_pe.proofs.Imports.{entry-start, entry-next, entry-read, entry-refused, entry-end}
-use Rattle.goblin_pe.proofs.import.push_entries.Goals as goal
+use Rattle.goblin_pe.proofs.import.listed.push_entries.Goals as goal
 
 pub entries-init : goal.entries-init
 entries-init c = entry-start _ _ _ _ _

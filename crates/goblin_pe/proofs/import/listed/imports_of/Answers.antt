@@ -3,7 +3,7 @@ use Rattle.std.proofs.lemmas.Option.{slice_get-get_or}
 use Rattle.std.proofs.lemmas.Result.{err_from_is_err_and}
 use Rattle.goblin_base.specs.Below.{each_below}
 use Rattle.goblin_pe.proofs.Imports.{library-next, library-refused}
-use Rattle.goblin_pe.proofs.import.imports_of.Goals as goal
+use Rattle.goblin_pe.proofs.import.listed.imports_of.Goals as goal
 
 pub libraries-init : goal.libraries-init
 unfolding each_below

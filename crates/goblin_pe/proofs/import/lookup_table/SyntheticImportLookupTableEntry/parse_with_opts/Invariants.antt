@@ -4,7 +4,7 @@ use Rattle.goblin_pe_sect.specs.Mapping.{file_offset}
 use Rattle.goblin_pe_sect.specs.Options.{is_strict}
 use Rattle.goblin_pe.specs.ImportLookup.{entry_slots, kept_entry}
 use Rattle.goblin_pe.specs.ImportViews.{entry_view}
-use Rattle.goblin_pe.proofs.import.SyntheticImportLookupTableEntry.parse_with_opts.Given as goal
+use Rattle.goblin_pe.proofs.import.lookup_table.SyntheticImportLookupTableEntry.parse_with_opts.Given as goal
 
 abbrev pub invariant-slots : goal.invariant-slots
 invariant-slots g l =
