@@ -5,6 +5,7 @@ pub mod Fronts
 pub mod Numbers
 pub mod RecordLaws
 pub mod Records
+pub mod SlotTables
 pub mod Steps
 pub mod Texts
 pub mod Writing

@@ -4,5 +4,6 @@ pub mod Bytes
 pub mod CountedTables
 pub mod Faults
 pub mod Record
+pub mod SlotTables
 pub mod Steps
 pub mod Tables

@@ -1,3 +1,6 @@
 mod ExportRecord
 mod ExportRows
 mod Grammar
+pub mod ImportBack
+pub mod Imports
+pub mod Modes

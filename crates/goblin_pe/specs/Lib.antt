@@ -1,3 +1,7 @@
 pub mod Exports
 pub mod ForwarderLaws
 pub mod Forwarders
+pub mod ImportDirectory
+pub mod ImportLookup
+pub mod ImportViews
+pub mod Imports

@@ -3,6 +3,7 @@
 
 pub mod export;
 pub mod table;
+pub mod import;
 
 pub use goblin_base::{Cause, Container, Endian, Error, Permissive, ReadFault, Result, TryFromCtx};
 pub use goblin_pe_head::{header, optional_header};

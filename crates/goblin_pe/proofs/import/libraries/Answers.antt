@@ -1,0 +1,63 @@
+use Rattle.std.proofs.Common.{◌≡◌, ◌++◌, Bool, true, false, not, sym, ap, ◌∙◌, lit≤, inl, inr, refl}
+use Rattle.std.specs.Prelude.{option_to_list}
+use Rattle.std.proofs.lemmas.List.{append-nil}
+use Rattle.std.proofs.lemmas.Result.{err_from_is_err_and}
+use Rattle.goblin_base.specs.declared.error.ErrorOf.TheVariants.{Malformed}
+use Rattle.goblin_base.specs.declared.error.CauseOf.TheVariants.{ImportRecordEnd}
+use Rattle.goblin_base.proofs.SlotTables.{at-start, at-next, at-last, at-end, at-missing, at-missing_cause, at-refused, at-refused_cause}
+use Rattle.goblin_pe_sect.specs.Mapping.{file_offset}
+use Rattle.goblin_pe_sect.specs.Options.{is_strict}
+use Rattle.goblin_pe.specs.ImportDirectory.{IsImportRecordEnd, IsLibraryFault}
+use Rattle.goblin_pe.proofs.Modes.{strict, permissive}
+use Rattle.goblin_pe.proofs.import.libraries.Goals as goal
+use Rattle.goblin_pe.proofs.import.libraries.Goals.{in_default+then-is_permissive, in-Ok+then-not-is_possibly_valid, in-Some+in_ok-push, in_default-kept}
+
+-- what a test says of that whose opposite it is
+opposite : (last valid v : Bool) → valid ≡ not last → valid ≡ not v → last ≡ v
+opposite true valid true is test = refl
+opposite true valid false is test = let both = sym is ∙ test in cc
+opposite false valid true is test = let both = sym is ∙ test in cc
+opposite false valid false is test = refl
+
+pub records-init : goal.records-init
+records-init g c = rw c.new-import_data.ensures.items (at-start _ _ _ _)
+
+pub returns-in_default : goal.returns-in_default
+returns-in_default g c = λ _.
+    let mode = strict _ _ c.is_permissive.ensures c.if-is_permissive.false in (
+      at-missing _ _ _ _ _ _ _ (lit≤ tt) c.records.invariant c.in_default.ensures.0 mode,
+      inl (at-missing_cause _ _ _ IsImportRecordEnd _ _ c.records.place _ (Malformed (ImportRecordEnd c.records.place)) (lit≤ tt) c.records.invariant c.in_default.ensures.0 mode refl),
+    )
+
+pub returns-in_err-kept : goal.returns-in_err-kept
+returns-in_err-kept g c =
+    let e = err_from_is_err_and c.from_residual.result c.from_residual.ensures.1 in
+    let going = opposite _ _ false c.is_possibly_valid.ensures c.if-not-is_possibly_valid.false in
+    let IsCause = IsLibraryFault (is_strict c.args.opts.now.parse_mode) g.T.Bitfield.format (file_offset c.args.opts.now c.args.sections.now c.args.file_alignment) c.args.bytes.now in
+    rw (e.1, e.2) (λ memory.
+    let refused = c.in_err-kept.ensures memory in (
+      at-refused _ _ _ _ _ _ _ _ (lit≤ tt) c.records.invariant c.in-Ok.ensures going refused.0,
+      inr (at-refused_cause _ _ IsCause _ _ _ _ _ _ (lit≤ tt) c.records.invariant c.in-Ok.ensures going refused.0 refused.1),
+    ))
+
+pub records-preserved : goal.records-preserved
+records-preserved g c =
+    let grown : c.match-kept.import_data.items ≡ c.records.import_data.items ++ option_to_list c.in_ok-kept.kept =
+    elim c.match-kept.branch [
+      | in-Some+in_ok-push w ↦
+          ap (λ v. v.items) w.import_data-is ∙ w.in_ok-push.ensures.items ∙ ap (λ k. c.records.import_data.items ++ option_to_list k) (sym w.in-Some.is)
+      | in_default-kept w ↦
+          ap (λ v. v.items) w.import_data-is ∙ sym (append-nil c.records.import_data.items) ∙ ap (λ k. c.records.import_data.items ++ option_to_list k) (sym w.in_default-kept.is)
+    ] in
+    let going = opposite _ _ false c.is_possibly_valid.ensures c.if-not-is_possibly_valid.false in
+    let next = at-next _ _ _ _ _ _ _ _ c.records.invariant c.in-Ok.ensures going c.in_ok-kept.ensures in
+    rw grown next
+
+pub returns : goal.returns
+returns g c =
+    elim c.match-read.branch [
+      | in_default+then-is_permissive w ↦
+          at-end _ _ _ _ _ _ _ (lit≤ tt) c.records.invariant w.in_default.ensures.0 (permissive _ _ w.is_permissive.ensures w.if-is_permissive.true)
+      | in-Ok+then-not-is_possibly_valid w ↦
+          at-last _ _ _ _ _ _ _ _ (lit≤ tt) c.records.invariant w.in-Ok.ensures (opposite _ _ true w.is_possibly_valid.ensures w.if-not-is_possibly_valid.true)
+    ]

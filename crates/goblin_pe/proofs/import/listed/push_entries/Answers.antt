@@ -1,0 +1,27 @@
+use Rattle.std.proofs.Common.{sym, arith}
+use Rattle.std.proofs.lemmas.List.{length-map}
+use Rattle.std.proofs.lemmas.Result.{err_from_is_err_and}
+use Rattle.goblin_pe.specs.ImportViews.{entry_view}
+use Rattle.goblin_pe.proofs.Imports.{entry-start, entry-next, entry-read, entry-refused, entry-end}
+use Rattle.goblin_pe.proofs.import.listed.push_entries.Goals as goal
+
+pub entries-init : goal.entries-init
+entries-init c = entry-start _ _ _ _ _
+
+pub returns-in_default : goal.returns-in_default
+returns-in_default c = λ _.
+    (entry-refused _ _ _ _ c.entries.position _ (omega (arith, length-map c.args.entries.now entry_view, c.entries-test.true)) (sym c.in_default.ensures), tt)
+
+pub returns-in_err-import : goal.returns-in_err-import
+returns-in_err-import c =
+    let e = err_from_is_err_and c.from_residual.result c.from_residual.ensures.1 in
+    rw (e.1, e.2) (λ memory. absurd (c.in_err-import.ensures memory).1)
+
+pub entries-preserved : goal.entries-preserved
+entries-preserved c =
+    let next = entry-next _ _ _ _ _ _ _ _ _ _ c.entries.invariant (entry-read entry_view _ _ _ c.entries-test.true) c.in-Some.ensures c.in_ok-import.ensures in
+    rw c.in_ok-push.ensures.items next
+
+pub returns : goal.returns
+returns c =
+    entry-end _ _ _ _ _ _ _ c.entries.invariant (omega (arith, length-map c.args.entries.now entry_view, c.entries-test.false, c.entries.auto.position-end))

@@ -1,0 +1,55 @@
+use Rattle.std.proofs.Common.{◌≡◌, ◌≤◌, ◌++◌, sym, ap, ◌∙◌, arith, map, inl, inr, refl}
+use Rattle.std.proofs.lemmas.List.{map-append, append-nil}
+use Rattle.std.proofs.lemmas.Result.{err_from_is_err_and}
+use Rattle.goblin_pe_sect.specs.Mapping.{file_offset}
+use Rattle.goblin_base.specs.declared.error.ErrorOf.TheVariants.{Malformed}
+use Rattle.goblin_base.specs.declared.error.CauseOf.TheVariants.{LookupEnd}
+use Rattle.goblin_base.proofs.SlotTables.{at-start, at-next, at-last, at-end, at-missing, at-missing_cause, at-refused, at-refused_cause}
+use Rattle.goblin_pe.specs.ImportLookup.{IsKeptEntryFault, IsLookupEnd}
+use Rattle.goblin_pe.specs.ImportViews.{entry_view, kept_view}
+use Rattle.goblin_pe.proofs.Modes.{strict, permissive}
+use Rattle.goblin_pe.proofs.import.lookup_table.SyntheticImportLookupTableEntry.parse_with_opts.Goals as goal
+use Rattle.goblin_pe.proofs.import.lookup_table.SyntheticImportLookupTableEntry.parse_with_opts.Goals.{in_default+then-is_permissive, in-Ok+then-is_zero, in-Some+in_ok-push, in_default-kept}
+
+pub slots-init : goal.slots-init
+slots-init g c = rw c.new-entries.ensures.items (at-start _ _ _ _)
+
+pub returns-in_default : goal.returns-in_default
+returns-in_default g c = λ _.
+    let mode = strict _ _ c.is_permissive.ensures c.if-is_permissive.false in
+    let width : 1 ≤ g.T.Bitfield.format.width = omega (arith, c.size_of-size.ensures.width, c.size_of-size.ensures.positive) in
+    (at-missing _ _ _ _ _ _ _ width c.slots.invariant c.in_default.ensures.0 mode, inl (at-missing_cause _ _ _ IsLookupEnd _ _ c.slots.place _ (Malformed (LookupEnd c.slots.place)) width c.slots.invariant c.in_default.ensures.0 mode refl))
+
+pub returns-in_err-kept : goal.returns-in_err-kept
+returns-in_err-kept g c =
+    let e = err_from_is_err_and c.from_residual.result c.from_residual.ensures.1 in
+    let width : 1 ≤ g.T.Bitfield.format.width = omega (arith, c.size_of-size.ensures.width, c.size_of-size.ensures.positive) in
+    let going = sym c.is_zero.ensures ∙ c.if-is_zero.false in
+    rw (e.1, e.2) (λ _. (
+      at-refused _ _ _ _ _ _ _ _ width c.slots.invariant c.in-Ok.ensures going c.in_err-kept.ensures.0,
+      inr (at-refused_cause _ _ (IsKeptEntryFault (file_offset c.args.opts.now c.args.sections.now c.args.file_alignment) c.args.bytes.now) _ _ _ _ _ _ width c.slots.invariant c.in-Ok.ensures going c.in_err-kept.ensures.0 c.in_err-kept.ensures.1),
+    ))
+
+pub slots-preserved : goal.slots-preserved
+slots-preserved g c =
+    let grown : map entry_view c.match-kept.entries.items ≡ map entry_view c.slots.entries.items ++ kept_view c.in_ok-kept.kept =
+    elim c.match-kept.branch [
+      | in-Some+in_ok-push w ↦
+          ap (λ v. map entry_view v.items) w.entries-is ∙ ap (map entry_view) w.in_ok-push.ensures.items ∙ map-append entry_view c.slots.entries.items _
+          ∙ ap (λ k. map entry_view c.slots.entries.items ++ kept_view k) (sym w.in-Some.is)
+      | in_default-kept w ↦
+          ap (λ v. map entry_view v.items) w.entries-is ∙ sym (append-nil (map entry_view c.slots.entries.items))
+          ∙ ap (λ k. map entry_view c.slots.entries.items ++ kept_view k) (sym w.in_default-kept.is)
+    ] in
+    let next = at-next _ _ _ _ _ _ _ _ c.slots.invariant c.in-Ok.ensures (sym c.is_zero.ensures ∙ c.if-is_zero.false) c.in_ok-kept.ensures in
+    rw (grown, c.size_of-size.ensures.width) next
+
+pub returns : goal.returns
+returns g c =
+    let width : 1 ≤ g.T.Bitfield.format.width = omega (arith, c.size_of-size.ensures.width, c.size_of-size.ensures.positive) in
+    elim c.match-read_entry.branch [
+      | in_default+then-is_permissive w ↦
+          at-end _ _ _ _ _ _ _ width c.slots.invariant w.in_default.ensures.0 (permissive _ _ w.is_permissive.ensures w.if-is_permissive.true)
+      | in-Ok+then-is_zero w ↦
+          at-last _ _ _ _ _ _ _ _ width c.slots.invariant w.in-Ok.ensures (sym w.is_zero.ensures ∙ w.if-is_zero.true)
+    ]

@@ -1,0 +1,20 @@
+-- The values of imports as contracts see them: texts as their bytes.
+use Rattle.std.specs.Prelude.{List, map, Option, option_to_list}
+use Rattle.goblin_pe.specs.ImportLookup.{HintName, LookupEntry}
+use Rattle.goblin_pe.specs.ImportLookup.LookupEntry.{by_ordinal, by_name}
+use Rattle.goblin_pe.specs.declared.import.lookup_table.HintNameTableEntry.{HintNameTableEntry}
+use Rattle.goblin_pe.specs.declared.import.lookup_table.SyntheticImportLookupTableEntry.{SyntheticImportLookupTableEntry}
+use Rattle.goblin_pe.specs.declared.import.lookup_table.SyntheticImportLookupTableEntry.TheVariants.{OrdinalNumber, HintNameTableRVA}
+
+-- a hint and a name
+abbrev pub hint_name_view : HintNameTableEntry → HintName
+hint_name_view entry = record { hint = entry.hint; name = entry.name.now }
+
+-- an entry that a lookup table keeps
+abbrev pub entry_view : SyntheticImportLookupTableEntry → LookupEntry
+entry_view (OrdinalNumber ordinal) = by_ordinal ordinal
+entry_view (HintNameTableRVA pair) = by_name pair.0 (hint_name_view pair.1)
+
+-- what is kept of an entry: one entry, or nothing
+abbrev pub kept_view : Option SyntheticImportLookupTableEntry → List LookupEntry
+kept_view kept = map entry_view (option_to_list kept)

@@ -1,0 +1,177 @@
+//! The imports of an image: what it takes from which libraries.
+
+ghost use Rattle.std.specs.Prelude.{◌≡◌, ◌↔◌, IfErr, IsTrue, false, option_to_list, true};
+ghost use Rattle.goblin_base.specs.Answers.{AnswersOrMemory, IsMemory};
+ghost use Rattle.goblin_base.specs.SlotTables.{or_left_out};
+ghost use Rattle.goblin_pe_sect.specs.Mapping.{file_offset};
+ghost use Rattle.goblin_pe_sect.specs.Options.{default_options, is_strict};
+ghost use Rattle.goblin_pe.specs.ImportDirectory.{IsImportDataFault, IsLibrariesFault, IsLibraryFault, import_data, libraries_at, library_of};
+
+use crate::data_directories::DataDirectory;
+use crate::options::ParseOptions;
+use crate::section_table::SectionTable;
+use crate::utils::find_offset;
+use goblin_base::{Cause, Error, ErrorOf, ResultOf};
+use std::alloc::Global;
+use std::marker::Model;
+
+mod address_table;
+mod bitfield;
+mod directory_entry;
+mod library;
+mod listed;
+mod lookup_table;
+
+pub use address_table::ImportAddressTable;
+pub use bitfield::{
+    Bitfield, IMPORT_BY_ORDINAL_32, IMPORT_BY_ORDINAL_64, IMPORT_RVA_MASK_32, IMPORT_RVA_MASK_64,
+};
+pub use directory_entry::{ImportDirectoryEntry, SIZEOF_IMPORT_DIRECTORY_ENTRY};
+pub use library::SyntheticImportDirectoryEntry;
+pub use listed::Import;
+pub use lookup_table::{HintNameTableEntry, ImportLookupTable, SyntheticImportLookupTableEntry};
+
+/// The imports of an image.
+///
+/// Source: PE Format, "The .idata Section".
+#[derive(Debug, Drop)]
+pub struct ImportData<'a> {
+    /// The libraries, in order.
+    pub import_data: Vec<SyntheticImportDirectoryEntry<'a>>,
+}
+
+impl<'a> Model for ImportData<'a> {
+    ghost use Rattle.std.specs.Prelude.{List};
+    ghost use Rattle.goblin_pe.specs.ImportDirectory.{ImportedLibrary};
+
+    ghost Value = { List ImportedLibrary };
+
+    ghost view = { λ imports. imports.import_data.items };
+}
+
+// Whether a refusal is passed over: in permissive mode each that is not for want of memory.
+fn is_passed_over(error: &ErrorOf, opts: &ParseOptions) -> bool
+    ensures { IsTrue result ↔ ((is_strict opts.now.parse_mode ≡ false) × ¬ (IsMemory error.now)) }
+{
+    opts.parse_mode.is_permissive() && !matches!(error, ErrorOf::Memory(_))
+}
+
+// The library of a record; in permissive mode `None` where there is none.
+fn kept_library<'a, 'e, T: Bitfield<'a>>(
+    alloc: Global,
+    bytes: &'a [u8],
+    entry: ImportDirectoryEntry,
+    sections: &[SectionTable],
+    file_alignment: u32,
+    opts: &ParseOptions,
+) -> ResultOf<'e, Option<SyntheticImportDirectoryEntry<'a>>>
+    ensures { let m = file_offset opts.now sections.now file_alignment in
+        let strict = is_strict opts.now.parse_mode in
+        AnswersOrMemory option_to_list result (or_left_out strict (library_of strict T.format m bytes.now entry)) (IsLibraryFault strict T.format m bytes.now entry) }
+{
+    match SyntheticImportDirectoryEntry::parse_with_opts::<T>(
+        alloc,
+        bytes,
+        entry,
+        sections,
+        file_alignment,
+        opts,
+    ) {
+        Ok(library) => Ok(Some(library)),
+        Err(error) if is_passed_over(&error, opts) => Ok(None),
+        Err(error) => Err(error),
+    }
+}
+
+// The libraries of the directory at an offset.
+fn libraries<'a, 'e, T: Bitfield<'a>>(
+    alloc: Global,
+    bytes: &'a [u8],
+    offset: usize,
+    sections: &[SectionTable],
+    file_alignment: u32,
+    opts: &ParseOptions,
+) -> ResultOf<'e, ImportData<'a>>
+    ensures { let m = file_offset opts.now sections.now file_alignment in
+        let strict = is_strict opts.now.parse_mode in
+        AnswersOrMemory (λ x. x) result (libraries_at strict T.format m bytes.now offset) (IsLibrariesFault strict T.format m bytes.now offset) }
+{
+    let mut import_data = Vec::new(alloc);
+    let mut place = offset;
+    'records: loop {
+        let Ok(record) = ImportDirectoryEntry::read(bytes, place) else {
+            if opts.parse_mode.is_permissive() {
+                break 'records;
+            }
+            return Err(Error::Malformed(Cause::ImportRecordEnd(place)));
+        };
+        if !record.is_possibly_valid() {
+            break 'records;
+        }
+        let kept = kept_library::<T>(alloc, bytes, record, sections, file_alignment, opts)?;
+        if let Some(library) = kept {
+            import_data.push(library)?;
+        }
+        place += SIZEOF_IMPORT_DIRECTORY_ENTRY;
+    }
+    Ok(ImportData { import_data })
+}
+
+impl<'a> ImportData<'a> {
+    /// The imports of the directory at the address of `directory`, as
+    /// [`ImportData::parse_with_opts`] with the default options.
+    ///
+    /// # Errors
+    /// As [`ImportData::parse_with_opts`] in strict mode.
+    pub fn parse<'e, T: Bitfield<'a>>(
+        alloc: Global,
+        bytes: &'a [u8],
+        directory: DataDirectory,
+        sections: &[SectionTable],
+        file_alignment: u32,
+    ) -> ResultOf<'e, ImportData<'a>>
+        ensures { let m = file_offset default_options sections.now file_alignment in
+            AnswersOrMemory (λ x. x) result (import_data true T.format m bytes.now directory.virtual_address) (IsImportDataFault true T.format m bytes.now directory.virtual_address) }
+    {
+        let opts = ParseOptions::default();
+        ImportData::parse_with_opts::<T>(alloc, bytes, directory, sections, file_alignment, &opts)
+    }
+
+    /// The imports of the directory at the address of `directory`, whose tables have entries of type
+    /// `T`: the libraries of its records, up to the first record that has no name or no address table,
+    /// whatever the directory's size.
+    ///
+    /// In permissive mode a record is left out where its library is refused for another cause than
+    /// memory, the directory ends where it meets the end of the file, and it is empty where its
+    /// address has no file offset, or the offset 0.
+    ///
+    /// # Errors
+    /// In strict mode [`Error::Malformed`] with [`Cause::Unmapped`] where the directory's address has
+    /// no file offset, and with [`Cause::ImportRecordEnd`] where it meets the end of the file; and as
+    /// [`SyntheticImportDirectoryEntry::parse_with_opts`] of a record. In both modes
+    /// [`Error::Memory`] where memory is refused.
+    pub fn parse_with_opts<'e, T: Bitfield<'a>>(
+        alloc: Global,
+        bytes: &'a [u8],
+        directory: DataDirectory,
+        sections: &[SectionTable],
+        file_alignment: u32,
+        opts: &ParseOptions,
+    ) -> ResultOf<'e, ImportData<'a>>
+        ensures value { let m = file_offset opts.now sections.now file_alignment in
+            let strict = is_strict opts.now.parse_mode in
+            AnswersOrMemory (λ x. x) result (import_data strict T.format m bytes.now directory.virtual_address) (IsImportDataFault strict T.format m bytes.now directory.virtual_address) }
+        ensures permissive { is_strict opts.now.parse_mode ≡ false → IfErr result IsMemory }
+    {
+        let rva = directory.virtual_address as usize;
+        let is_permissive = opts.parse_mode.is_permissive();
+        match find_offset(rva, sections, file_alignment, opts) {
+            Some(0) | None if is_permissive => {
+                let import_data = Vec::new(alloc);
+                Ok(ImportData { import_data })
+            }
+            Some(offset) => libraries::<T>(alloc, bytes, offset, sections, file_alignment, opts),
+            None => Err(Error::Malformed(Cause::Unmapped(rva))),
+        }
+    }
+}

@@ -1,0 +1,195 @@
+//! The list of imports.
+
+ghost use Rattle.std.specs.Prelude.{◌≡◌, ◌++◌, Some, map, option_map, string_bytes};
+ghost use Rattle.goblin_base.specs.Answers.{AnswersOrMemory};
+ghost use Rattle.goblin_pe.specs.ImportViews.{entry_view};
+ghost use Rattle.goblin_pe.specs.Imports.{IsOverflow, import_of, import_offset, imports_by, imports_of, kept_entries, library_imports, ordinal_name};
+
+use crate::import::ImportData;
+use crate::import::bitfield::Bitfield;
+use crate::import::library::SyntheticImportDirectoryEntry;
+use crate::import::lookup_table::SyntheticImportLookupTableEntry;
+use crate::section_table::SectionTable;
+use goblin_base::{Cause, Error, Result, ResultOf};
+use std::alloc::Global;
+use std::borrow::CowStr;
+use std::marker::Model;
+
+// The length of the longest name of an import by ordinal, in bytes.
+const ORDINAL_NAME_MAX: usize = 13;
+
+/// An import.
+#[derive(Debug, Drop)]
+pub struct Import<'a> {
+    /// The name that is imported, or `ORDINAL ` and the ordinal in decimal digits.
+    pub name: CowStr<'a>,
+    /// The name of the library.
+    pub dll: &'a str,
+    /// The ordinal; of an import by name, the hint.
+    pub ordinal: u16,
+    /// The address of the address table, plus as many sizes as kept entries stand before this one.
+    pub offset: usize,
+    /// The address of the hint and the name, 0 of an import by ordinal.
+    pub rva: usize,
+    /// The size of an entry of the address table, in bytes.
+    pub size: usize,
+}
+
+impl<'a> Model for Import<'a> {
+    ghost use Rattle.std.specs.Cow.{cow_str_bytes};
+    ghost use Rattle.goblin_pe.specs.Imports.{ImportValue};
+
+    ghost Value = { ImportValue };
+
+    ghost view = { λ import. record {
+      name = cow_str_bytes import.name;
+      dll = import.dll.now;
+      ordinal = import.ordinal;
+      offset = import.offset;
+      rva = import.rva;
+      size = import.size;
+    } };
+}
+
+// The name of an import by ordinal.
+fn ordinal_name(alloc: Global, ordinal: u16) -> Result<String>
+    ensures { AnswersOrMemory string_bytes result (Some (ordinal_name ordinal)) (λ e. ⊥) }
+{
+    let mut name = String::with_capacity(alloc, ORDINAL_NAME_MAX)?;
+    write!(name, "ORDINAL {ordinal}")?;
+    Ok(name)
+}
+
+// The offset of an entry of an address table, where it does not pass 64 bits.
+fn import_offset(rva: u32, size: usize, position: usize) -> Option<usize>
+    ensures { result ≡ import_offset rva size position }
+{
+    let distance = size.checked_mul(position)?;
+    distance.checked_add(rva as usize)
+}
+
+impl<'a> Import<'a> {
+    // The import of an entry.
+    #[tactic(auto, unfolding(crate::specs::Imports::import_of))]
+    fn of_entry(
+        alloc: Global,
+        entry: &SyntheticImportLookupTableEntry<'a>,
+        dll: &'a str,
+        offset: usize,
+        size: usize,
+    ) -> Result<Import<'a>>
+        ensures { AnswersOrMemory (λ x. x) result (Some (import_of dll.now offset size (entry_view entry.now))) (λ e. ⊥) }
+    {
+        let (name, ordinal, rva) = match entry {
+            SyntheticImportLookupTableEntry::OrdinalNumber(ordinal) => {
+                (CowStr::Owned(ordinal_name(alloc, *ordinal)?), *ordinal, 0)
+            }
+            SyntheticImportLookupTableEntry::HintNameTableRVA((rva, named)) => {
+                (CowStr::Borrowed(named.name), named.hint, *rva as usize)
+            }
+        };
+        Ok(Import {
+            name,
+            dll,
+            ordinal,
+            offset,
+            rva,
+            size,
+        })
+    }
+
+    /// The imports of `import_data`, whose address tables have entries of type `T`: one for each entry
+    /// that a lookup table keeps, in the order of the libraries and of the entries.
+    ///
+    /// # Errors
+    /// [`Error::Malformed`] with [`Cause::Overflow`] where an import's offset passes 64 bits;
+    /// [`Error::Memory`] where memory is refused.
+    pub fn parse<'e, T: Bitfield<'a>>(
+        alloc: Global,
+        _bytes: &'a [u8],
+        import_data: &ImportData<'a>,
+        _sections: &[SectionTable],
+    ) -> ResultOf<'e, Vec<Import<'a>>>
+        ensures { AnswersOrMemory (λ v. v.items) result (imports_of T.format.width import_data.now) IsOverflow }
+    {
+        Ok(imports_of(alloc, &import_data.import_data, T::size_of())?)
+    }
+}
+
+// The entries that a library's lookup table keeps.
+fn kept_entries<'b, 'a>(
+    library: &'b SyntheticImportDirectoryEntry<'a>,
+) -> &'b [SyntheticImportLookupTableEntry<'a>]
+    ensures { map entry_view result.now ≡ kept_entries library.now }
+{
+    match &library.import_lookup_table {
+        Some(table) => table.as_slice(),
+        None => &[],
+    }
+}
+
+// How many entries the lookup tables of libraries keep, or more than there is memory for.
+fn count_of(libraries: &[SyntheticImportDirectoryEntry]) -> usize {
+    let mut count = 0usize;
+    for library in libraries {
+        count = count.saturating_add(kept_entries(library).len());
+    }
+    count
+}
+
+// Appends the imports of a table's entries, which have `size` bytes in the address table at `rva`.
+fn push_entries<'a>(
+    alloc: Global,
+    imports: &mut Vec<Import<'a>>,
+    entries: &[SyntheticImportLookupTableEntry<'a>],
+    dll: &'a str,
+    rva: u32,
+    size: usize,
+) -> Result<()>
+    ensures { AnswersOrMemory (λ _. imports.new.items) result (option_map (λ made. imports.old.items ++ made) (imports_by size dll.now rva (map entry_view entries.now))) IsOverflow }
+{
+    'entries: for (position, entry) in entries.iter().enumerate() {
+        let Some(offset) = import_offset(rva, size, position) else {
+            return Err(Error::Malformed(Cause::Overflow));
+        };
+        let import = Import::of_entry(alloc, entry, dll, offset, size)?;
+        imports.push(import)?;
+    }
+    Ok(())
+}
+
+// Appends the imports from a library, whose address table has entries of `size` bytes.
+fn push_imports<'a>(
+    alloc: Global,
+    imports: &mut Vec<Import<'a>>,
+    library: &SyntheticImportDirectoryEntry<'a>,
+    size: usize,
+) -> Result<()>
+    ensures { AnswersOrMemory (λ _. imports.new.items) result (option_map (λ made. imports.old.items ++ made) (library_imports size library.now)) IsOverflow }
+{
+    let rva = library.import_directory_entry.import_address_table_rva;
+    push_entries(
+        alloc,
+        imports,
+        kept_entries(library),
+        library.name,
+        rva,
+        size,
+    )
+}
+
+// The imports from all libraries, whose address tables have entries of `size` bytes.
+#[tactic(auto, unfolding(crate::specs::Imports::imports_of))]
+fn imports_of<'a>(
+    alloc: Global,
+    libraries: &[SyntheticImportDirectoryEntry<'a>],
+    size: usize,
+) -> Result<Vec<Import<'a>>>
+    ensures { AnswersOrMemory (λ v. v.items) result (imports_of size libraries.now) IsOverflow }
+{
+    let mut imports = Vec::with_capacity(alloc, count_of(libraries))?;
+    'libraries: for library in libraries {
+        push_imports(alloc, &mut imports, library, size)?;
+    }
+    Ok(imports)
+}

@@ -1,0 +1,224 @@
+//! Import lookup tables: what is imported from a library, by name or by ordinal.
+
+ghost use Rattle.std.specs.Prelude.{◌≡◌, map, true};
+ghost use Rattle.goblin_base.specs.Answers.{Answers, AnswersOrMemory};
+ghost use Rattle.goblin_pe_sect.specs.Mapping.{file_offset};
+ghost use Rattle.goblin_pe_sect.specs.Options.{default_options, is_strict};
+ghost use Rattle.goblin_pe.specs.ImportLookup.{IsHintNameFault, IsKeptEntryFault, IsLookupTableFault, hint_name, kept_entry, lookup_table};
+ghost use Rattle.goblin_pe.specs.ImportViews.{entry_view, hint_name_view, kept_view};
+
+use crate::import::bitfield::{Bitfield, read_entry};
+use crate::options::ParseOptions;
+use crate::section_table::SectionTable;
+use crate::utils::find_offset;
+use goblin_base::{Cause, Endian, Error, Result, ResultOf, pread_str, pread_u16};
+use std::alloc::Global;
+use std::marker::Model;
+
+/// A hint, and the name behind it, by which a library exports what is imported.
+///
+/// Source: PE Format, "Hint/Name Table".
+#[derive(Debug, Clone, Drop)]
+pub struct HintNameTableEntry<'a> {
+    /// The index in the library's export name pointer table at which the name is looked for first.
+    pub hint: u16,
+    /// The name.
+    pub name: &'a str,
+}
+
+impl<'a> HintNameTableEntry<'a> {
+    /// The hint and the name at `offset`, as [`HintNameTableEntry::parse_with_opts`] with the default
+    /// options.
+    ///
+    /// # Errors
+    /// As [`HintNameTableEntry::parse_with_opts`] in strict mode.
+    pub fn parse(bytes: &'a [u8], offset: usize) -> Result<HintNameTableEntry<'a>>
+        ensures { Answers hint_name_view result (hint_name true bytes.now offset) (IsHintNameFault bytes.now offset) }
+    {
+        HintNameTableEntry::parse_with_opts(bytes, offset, &ParseOptions::default())
+    }
+
+    /// The hint and the name at `offset`. The name begins 2 bytes behind it, and ends before its first
+    /// NUL or at the end of the file.
+    ///
+    /// # Errors
+    /// [`Error::Malformed`] with [`Cause::HintEntry`] where the hint is not whole. [`Error::Read`]
+    /// where no text stands behind it, in strict mode; in permissive mode the name is then empty.
+    #[tactic(auto, unfolding(crate::specs::ImportLookup::hint_name))]
+    pub fn parse_with_opts(
+        bytes: &'a [u8],
+        offset: usize,
+        opts: &ParseOptions,
+    ) -> Result<HintNameTableEntry<'a>>
+        ensures { Answers hint_name_view result (hint_name (is_strict opts.now.parse_mode) bytes.now offset) (IsHintNameFault bytes.now offset) }
+    {
+        let Ok(hint) = pread_u16(bytes, offset, Endian::Little) else {
+            return Err(Error::Malformed(Cause::HintEntry(offset)));
+        };
+        let name = match pread_str(bytes, offset + 2) {
+            Ok(name) => name,
+            Err(_) if opts.parse_mode.is_permissive() => "",
+            Err(error) => return Err(error),
+        };
+        Ok(HintNameTableEntry { hint, name })
+    }
+}
+
+/// An entry that a lookup table keeps.
+///
+/// Source: PE Format, "Import Lookup Table".
+#[derive(Debug, Clone, Drop)]
+pub enum SyntheticImportLookupTableEntry<'a> {
+    /// The ordinal by which it imports.
+    OrdinalNumber(u16),
+    /// The address of the hint and the name by which it imports, and these.
+    HintNameTableRVA((u32, HintNameTableEntry<'a>)),
+}
+
+impl<'a> SyntheticImportLookupTableEntry<'a> {
+    // What a table keeps of an entry: `None` where it leads nowhere, or in permissive mode to no hint.
+    #[tactic(auto, unfolding(crate::specs::ImportLookup::kept_entry))]
+    fn kept<'e, T: Bitfield<'a>>(
+        entry: &T,
+        bytes: &'a [u8],
+        sections: &[SectionTable],
+        file_alignment: u32,
+        opts: &ParseOptions,
+    ) -> ResultOf<'e, Option<SyntheticImportLookupTableEntry<'a>>>
+        ensures { let m = file_offset opts.now sections.now file_alignment in
+            Answers kept_view result (kept_entry (is_strict opts.now.parse_mode) m bytes.now (T.value entry.now)) (IsKeptEntryFault m bytes.now (T.value entry.now)) }
+    {
+        if entry.is_ordinal() {
+            let ordinal = entry.to_ordinal();
+            return Ok(Some(SyntheticImportLookupTableEntry::OrdinalNumber(ordinal)));
+        }
+        let rva = entry.to_rva();
+        let Some(offset) = find_offset(rva as usize, sections, file_alignment, opts) else {
+            return Ok(None);
+        };
+        match HintNameTableEntry::parse_with_opts(bytes, offset, opts) {
+            Ok(named) => Ok(Some(SyntheticImportLookupTableEntry::HintNameTableRVA((rva, named)))),
+            Err(_) if opts.parse_mode.is_permissive() => Ok(None),
+            Err(error) => Err(error),
+        }
+    }
+}
+
+/// What a lookup table keeps, in order.
+#[derive(Debug, Drop)]
+pub struct ImportLookupTable<'a> {
+    entries: Vec<SyntheticImportLookupTableEntry<'a>>,
+}
+
+impl<'a> Model for ImportLookupTable<'a> {
+    ghost use Rattle.std.specs.Prelude.{List, map};
+    ghost use Rattle.goblin_pe.specs.ImportLookup.{LookupEntry};
+    ghost use Rattle.goblin_pe.specs.ImportViews.{entry_view};
+
+    ghost Value = { List LookupEntry };
+
+    ghost view = { λ table. map entry_view table.entries.items };
+}
+
+impl<'a> From<Vec<SyntheticImportLookupTableEntry<'a>>> for ImportLookupTable<'a> {
+    ghost from_gives = { λ entries table. table ≡ map entry_view entries.items };
+
+    /// The table of these entries. It takes no memory.
+    fn from(entries: Vec<SyntheticImportLookupTableEntry<'a>>) -> ImportLookupTable<'a> {
+        ImportLookupTable { entries }
+    }
+}
+
+impl<'a> ImportLookupTable<'a> {
+    /// The entries.
+    pub fn as_slice(&self) -> &[SyntheticImportLookupTableEntry<'a>]
+        ensures { map entry_view result.now ≡ self.now }
+    {
+        &self.entries
+    }
+
+    /// The entries, in the memory that they have.
+    pub fn into_vec(self) -> Vec<SyntheticImportLookupTableEntry<'a>>
+        ensures { map entry_view result.items ≡ self.entry }
+    {
+        self.entries
+    }
+}
+
+impl<'a> SyntheticImportLookupTableEntry<'a> {
+    /// The lookup table at `offset`, as [`SyntheticImportLookupTableEntry::parse_with_opts`] with the
+    /// default options.
+    ///
+    /// # Errors
+    /// As [`SyntheticImportLookupTableEntry::parse_with_opts`] in strict mode.
+    pub fn parse<'e, T: Bitfield<'a>>(
+        alloc: Global,
+        bytes: &'a [u8],
+        offset: usize,
+        sections: &[SectionTable],
+        file_alignment: u32,
+    ) -> ResultOf<'e, ImportLookupTable<'a>>
+        ensures { let m = file_offset default_options sections.now file_alignment in
+            AnswersOrMemory (λ t. t) result (lookup_table true T.format m bytes.now offset) (IsLookupTableFault true T.format m bytes.now offset) }
+    {
+        let opts = ParseOptions::default();
+        SyntheticImportLookupTableEntry::parse_with_opts::<T>(
+            alloc,
+            bytes,
+            offset,
+            sections,
+            file_alignment,
+            &opts,
+        )
+    }
+
+    /// The lookup table at `offset`: what is kept of the entries of type `T` there, up to one whose
+    /// number is 0.
+    ///
+    /// An entry by ordinal is kept. One whose address no section maps is left out, in both modes; and
+    /// in permissive mode also one whose hint is not whole.
+    ///
+    /// # Errors
+    /// In strict mode [`Error::Malformed`] with [`Cause::LookupEnd`] where the table meets the end of
+    /// the file, and as [`HintNameTableEntry::parse_with_opts`] where an entry leads to no hint and
+    /// name; in permissive mode the table ends there. [`Error::Memory`] where memory is refused.
+    pub fn parse_with_opts<'e, T: Bitfield<'a>>(
+        alloc: Global,
+        bytes: &'a [u8],
+        offset: usize,
+        sections: &[SectionTable],
+        file_alignment: u32,
+        opts: &ParseOptions,
+    ) -> ResultOf<'e, ImportLookupTable<'a>>
+        ensures { let m = file_offset opts.now sections.now file_alignment in
+            let strict = is_strict opts.now.parse_mode in
+            AnswersOrMemory (λ t. t) result (lookup_table strict T.format m bytes.now offset) (IsLookupTableFault strict T.format m bytes.now offset) }
+    {
+        let size = T::size_of();
+        let mut entries = Vec::new(alloc);
+        let mut place = offset;
+        'slots: loop {
+            let Ok(entry) = read_entry::<T>(bytes, place) else {
+                if opts.parse_mode.is_permissive() {
+                    break 'slots;
+                }
+                return Err(Error::Malformed(Cause::LookupEnd(place)));
+            };
+            if entry.is_zero() {
+                break 'slots;
+            }
+            let kept = SyntheticImportLookupTableEntry::kept(
+                &entry,
+                bytes,
+                sections,
+                file_alignment,
+                opts,
+            )?;
+            if let Some(kept) = kept {
+                entries.push(kept)?;
+            }
+            place += size;
+        }
+        Ok(ImportLookupTable { entries })
+    }
+}
