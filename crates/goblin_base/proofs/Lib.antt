@@ -1,6 +1,7 @@
 pub mod Encoding
 pub mod Fronts
 pub mod Numbers
+pub mod Pieces
 pub mod RecordLaws
 pub mod Records
 pub mod Steps
