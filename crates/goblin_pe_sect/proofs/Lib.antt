@@ -1,3 +1,4 @@
+pub mod AuxiliaryBack
 pub mod Entries
 pub mod EntriesBack
 mod First
@@ -6,4 +7,6 @@ pub mod NameLaw
 pub mod Numerals
 pub mod ReadBack
 pub mod SectionBack
+pub mod SymbolHeads
+pub mod SymbolRecords
 pub mod Windows
