@@ -1,4 +1,6 @@
 pub mod AuxiliaryBack
+pub mod BlockItems
+pub mod BlocksOf
 pub mod Entries
 pub mod EntriesBack
 mod First
@@ -6,7 +8,9 @@ pub mod NameBack
 pub mod NameLaw
 pub mod Numerals
 pub mod ReadBack
+pub mod RelocationRecords
 pub mod SectionBack
 pub mod SymbolHeads
 pub mod SymbolRecords
 pub mod Windows
+pub mod WordItems

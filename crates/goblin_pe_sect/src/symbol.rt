@@ -370,25 +370,22 @@ impl TryFromCtx<'_> for Symbol {
 }
 
 // The name that stands in a record.
-fn inline_name(record: &[u8]) -> Option<&str>
-    requires { length record.now ≡ 18 }
-    ensures { option_map (λ s. s.now) result ≡ inline_name record.now }
+fn inline_name(bytes: &[u8]) -> Option<&str>
+    requires { length bytes.now ≡ 18 }
+    ensures { option_map (λ s. s.now) result ≡ inline_name bytes.now }
 {
-    if record[0] == 0 {
+    if bytes[0] == 0 {
         return None;
     }
-    pread_str_until(record, 0, 8).ok()
+    pread_str_until(bytes, 0, 8).ok()
 }
 
 // The symbol of a record, and the name that stands in it.
-fn named(record: &[u8]) -> (Option<&str>, Symbol)
-    requires { length record.now ≡ 18 }
-    ensures { named_value result ≡ named_symbol record.now }
+fn named(bytes: &[u8]) -> (Option<&str>, Symbol)
+    requires { length bytes.now ≡ 18 }
+    ensures { named_value result ≡ named_symbol bytes.now }
 {
-    (
-        inline_name(record),
-        Symbol::in_record(record, Endian::Little),
-    )
+    (inline_name(bytes), Symbol::in_record(bytes, Endian::Little))
 }
 
 /// The symbol table of a file: records of 18 bytes, one behind the other. Behind each symbol stand its
@@ -426,7 +423,7 @@ impl<'a> SymbolTable<'a> {
     }
 
     // The bytes of the record at an index.
-    fn record(&self, index: usize) -> Option<&'a [u8]>
+    fn record_at(&self, index: usize) -> Option<&'a [u8]>
         ensures len { IfSome result (λ r. length r.now ≡ 18) }
         ensures value { option_map (λ r. r.now) result ≡ slice_at (table_bytes self.now) (18 * index) 18 }
     {
@@ -439,14 +436,14 @@ impl<'a> SymbolTable<'a> {
     pub fn get(&self, index: usize) -> Option<(Option<&'a str>, Symbol)>
         ensures { option_map named_value result ≡ record_at 18 named_symbol (table_bytes self.now) (18 * index) }
     {
-        Some(named(self.record(index)?))
+        Some(named(self.record_at(index)?))
     }
 
     /// The record at `index` as a function definition; `None` where the table has no such record.
     pub fn aux_function_definition(&self, index: usize) -> Option<AuxFunctionDefinition>
         ensures { result ≡ record_at 18 (function_definition_record Endian.Little) (table_bytes self.now) (18 * index) }
     {
-        let record = self.record(index)?;
+        let record = self.record_at(index)?;
         Some(AuxFunctionDefinition::in_record(record, Endian::Little))
     }
 
@@ -455,7 +452,7 @@ impl<'a> SymbolTable<'a> {
     pub fn aux_begin_and_end_function(&self, index: usize) -> Option<AuxBeginAndEndFunction>
         ensures { result ≡ record_at 18 (begin_and_end_function_record Endian.Little) (table_bytes self.now) (18 * index) }
     {
-        let record = self.record(index)?;
+        let record = self.record_at(index)?;
         Some(AuxBeginAndEndFunction::in_record(record, Endian::Little))
     }
 
@@ -463,7 +460,7 @@ impl<'a> SymbolTable<'a> {
     pub fn aux_weak_external(&self, index: usize) -> Option<AuxWeakExternal>
         ensures { result ≡ record_at 18 (weak_external_record Endian.Little) (table_bytes self.now) (18 * index) }
     {
-        let record = self.record(index)?;
+        let record = self.record_at(index)?;
         Some(AuxWeakExternal::in_record(record, Endian::Little))
     }
 
@@ -471,7 +468,7 @@ impl<'a> SymbolTable<'a> {
     pub fn aux_section_definition(&self, index: usize) -> Option<AuxSectionDefinition>
         ensures { result ≡ record_at 18 (section_definition_record Endian.Little) (table_bytes self.now) (18 * index) }
     {
-        let record = self.record(index)?;
+        let record = self.record_at(index)?;
         Some(AuxSectionDefinition::in_record(record, Endian::Little))
     }
 
