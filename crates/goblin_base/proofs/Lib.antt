@@ -3,6 +3,7 @@ pub mod CountedTables
 pub mod Encoding
 pub mod Fronts
 pub mod Numbers
+pub mod Pieces
 pub mod RecordLaws
 pub mod Records
 pub mod SlotTables

@@ -6,4 +6,5 @@ pub mod Faults
 pub mod Record
 pub mod SlotTables
 pub mod Steps
+pub mod Strtab
 pub mod Tables

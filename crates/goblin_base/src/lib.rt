@@ -8,6 +8,7 @@ pub mod error;
 pub mod permissive;
 pub mod read;
 pub mod record;
+pub mod strtab;
 pub mod write;
 
 pub use container::Container;
@@ -22,4 +23,5 @@ pub use record::{
     Field, TryFromCtx, field_array, field_i16, field_u8, field_u16, field_u32, field_u64,
     record_bytes,
 };
+pub use strtab::Strtab;
 pub use write::{put_bytes, pwrite_slice, pwrite_u8, pwrite_u16, pwrite_u32, pwrite_u64};

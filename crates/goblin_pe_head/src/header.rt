@@ -2,23 +2,26 @@
 //! behind it, the Rich header and the COFF header; the section table; and the header of a Terse
 //! Executable.
 
-ghost use Rattle.std.specs.Prelude.{◌≡◌, ◌+◌, ◌*◌, ◌/◌, ◌<◌, ◌≤◌, length, true, IfOk, OnOk, OnErr, IsErrAnd};
+ghost use Rattle.std.specs.Prelude.{◌≡◌, ◌+◌, ◌*◌, ◌/◌, ◌<◌, ◌≤◌, length, option_map, true, IfOk, OnOk, OnErr, IsErrAnd};
 ghost use Rattle.goblin_base.specs.Answers.{Answers, AnswersOrMemory, Writes};
 ghost use Rattle.goblin_base.specs.Bytes.{overwritten};
 ghost use Rattle.goblin_base.specs.Faults.{IsSliceFault};
 ghost use Rattle.goblin_base.specs.Record.{WritesBack, encoding, record_at, record_in};
 ghost use Rattle.goblin_base.proofs.RecordLaws.{record_in-within, slice_fault-no_memory};
 ghost use Rattle.goblin_pe_sect.specs.Options.{is_strict};
+ghost use Rattle.goblin_pe_sect.specs.Symbols.{table_bytes};
 ghost use Rattle.goblin_pe_head.specs.declared.header.CoffHeader.{CoffHeader};
+ghost use Rattle.goblin_pe_head.specs.CoffTables.{IsNoStrings, IsNoSymbols, strings_of, symbols_of};
 ghost use Rattle.goblin_pe_head.specs.Header.{dos_record, dos_fields, dos_header, IsDosFault, coff_fields, coff_header};
 ghost use Rattle.goblin_pe_head.specs.Sections.{string_table_offset, sections_at, IsSectionsFault, IsTooShort};
 
 use goblin_base::{
-    Cause, Endian, Error, Field, Result, TryFromCtx, field_u16, field_u32, gread_slice,
+    Cause, Endian, Error, Field, Result, Strtab, TryFromCtx, field_u16, field_u32, gread_slice,
     pread_slice, pread_u16, pread_u32, pwrite_slice, record_bytes,
 };
 use goblin_pe_sect::options::ParseOptions;
 use goblin_pe_sect::section_table::{SIZEOF_SECTION_TABLE, SectionTable};
+use goblin_pe_sect::symbol::{COFF_SYMBOL_SIZE, SymbolTable};
 use std::alloc::Global;
 
 mod pe_header;
@@ -104,8 +107,8 @@ pub const COFF_MACHINE_THUMB: u16 = 0x1C2;
 /// The machine: MIPS WCE v2, little-endian.
 pub const COFF_MACHINE_WCEMIPSV2: u16 = 0x169;
 
-// The size of a record of the symbol table, in bytes.
-const COFF_SYMBOL_SIZE: usize = 18;
+// The size of the length in front of a string table, in bytes.
+const LENGTH_FIELD_SIZE: usize = 4;
 
 // The size of a DOS header, in bytes.
 pub(crate) const SIZEOF_DOS_HEADER: usize = 64;
@@ -443,6 +446,45 @@ impl CoffHeader {
         }
         *offset = end;
         Ok(sections)
+    }
+
+    /// The symbol table, `None` where its pointer is 0.
+    ///
+    /// # Errors
+    /// [`Error::Read`] where its records are not all there, or begin at the end, also where there are
+    /// none.
+    pub fn symbols<'a>(&self, bytes: &'a [u8]) -> Result<Option<SymbolTable<'a>>>
+        ensures { Answers (option_map table_bytes) result (symbols_of self.now bytes.now) (IsNoSymbols self.now bytes.now) }
+    {
+        if self.pointer_to_symbol_table == 0 {
+            return Ok(None);
+        }
+        let offset = self.pointer_to_symbol_table as usize;
+        let symbols = SymbolTable::parse(bytes, offset, self.number_of_symbol_table as usize)?;
+        Ok(Some(symbols))
+    }
+
+    /// The string table, which stands behind the symbol table; `None` where the pointer to that is 0.
+    /// Its first four bytes say its length with themselves. They are no part of what is answered, so
+    /// offsets count from behind them. It stays where it stands in the file, so no memory is taken.
+    ///
+    /// # Errors
+    /// [`Error::Read`] where the four bytes are not all there; [`Error::Malformed`] with
+    /// [`Cause::CoffLength`] where the length is below 4; and as [`Strtab::parse`].
+    pub fn strings<'a>(&self, alloc: Global, bytes: &'a [u8]) -> Result<Option<Strtab<'a>>>
+        ensures { Answers (λ t. t) result (strings_of self.now bytes.now) (IsNoStrings self.now bytes.now) }
+    {
+        if self.pointer_to_symbol_table == 0 {
+            return Ok(None);
+        }
+        let offset = self.string_table_offset();
+        let length = pread_u32(bytes, offset, Endian::Little)? as usize;
+        if length < LENGTH_FIELD_SIZE {
+            return Err(Error::Malformed(Cause::CoffLength));
+        }
+        let begin = offset + LENGTH_FIELD_SIZE;
+        let strings = Strtab::parse(alloc, bytes, begin, length - LENGTH_FIELD_SIZE, 0)?;
+        Ok(Some(strings))
     }
 
     // The file offset of the string table, which stands behind the symbol table.

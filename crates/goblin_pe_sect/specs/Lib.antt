@@ -1,5 +1,9 @@
+pub mod AuxiliarySymbols
+pub mod BaseRelocations
 pub mod DataDirectories
 pub mod Mapping
 pub mod Options
+pub mod Relocations
 pub mod SectionName
 pub mod SectionTable
+pub mod Symbols

@@ -4,7 +4,9 @@
 pub mod data_directories;
 mod digits;
 pub mod options;
+pub mod relocation;
 pub mod section_table;
+pub mod symbol;
 pub mod utils;
 
 pub use data_directories::{DataDirectories, DataDirectory, DataDirectoryType, Dirs};

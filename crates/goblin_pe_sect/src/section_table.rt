@@ -1,6 +1,6 @@
 //! The section records of a PE file.
 
-ghost use Rattle.std.specs.Prelude.{◌≡◌, ◌↔◌, ◌+◌, ◌<◌, ◌≤◌, Bool, Err, IfErr, IfOk, IfSome, IsTrue, None, Ok, OnErr, OnOk, Some, if◌then◌else◌, length, nat_eq, string_bytes, true};
+ghost use Rattle.std.specs.Prelude.{◌≡◌, ◌↔◌, ◌+◌, ◌*◌, ◌<◌, ◌≤◌, Bool, Err, IfErr, IfOk, IfSome, IsTrue, None, Ok, OnErr, OnOk, Some, if◌then◌else◌, length, nat_eq, string_bytes, true};
 ghost use Rattle.std.specs.Cow.{cow_slice_items, IsBorrowedSlice};
 ghost use Rattle.std.specs.Option.{option_eq, option_map};
 ghost use Rattle.std.specs.Cmp.Lexicographic.{pointwise};
@@ -11,11 +11,13 @@ ghost use Rattle.goblin_base.specs.Bytes.{overwritten, replaced};
 ghost use Rattle.goblin_base.specs.Faults.{IsSliceFault};
 ghost use Rattle.goblin_base.specs.Record.{WritesBack, encoding};
 ghost use Rattle.goblin_pe_sect.specs.Options.{is_strict};
+ghost use Rattle.goblin_pe_sect.specs.Relocations.{relocations_at, relocations_left};
 ghost use Rattle.goblin_pe_sect.specs.SectionName.{name_value, IsNameFault, indirect_name, IsNameOffsetFault, real_name_at};
 ghost use Rattle.goblin_pe_sect.specs.SectionTable.{Section, section_eq, section_per, SectionWritesBack, section_record, section_fields, section_at, IsSectionFault, name_of, IsNoName, section_data, OverlapRawData};
 
 use crate::digits::{Digits, decimal_number, indirect_name};
 use crate::options::{ParseMode, ParseOptions};
+use crate::relocation::Relocations;
 use goblin_base::{
     Cause, Endian, Error, Field, Result, field_array, field_u16, field_u32, gread_slice, pread_str,
     pread_str_until, put_bytes, pwrite_slice, record_bytes,
@@ -365,6 +367,18 @@ impl SectionTable {
             Some(name) => Ok(name.as_str()),
             None => pread_str_until(&self.name, 0, 8),
         }
+    }
+
+    /// The section's relocations in the file `bytes`, at the place and of the number that its record
+    /// says.
+    ///
+    /// # Errors
+    /// [`Error::Read`] where they are not all there, or begin at the end, also where there are none.
+    pub fn relocations<'b>(&self, bytes: &'b [u8]) -> Result<Relocations<'b>>
+        ensures { Answers relocations_left result (relocations_at bytes.now self.now.pointer_to_relocations self.now.number_of_relocations) (IsSliceFault bytes.now self.now.pointer_to_relocations (10 * self.now.number_of_relocations)) }
+    {
+        let offset = self.pointer_to_relocations as usize;
+        Relocations::parse(bytes, offset, self.number_of_relocations as usize)
     }
 
     /// Whether the raw data of the two sections overlaps in the file: neither ends at or before the

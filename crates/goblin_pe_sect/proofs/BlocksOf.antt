@@ -1,0 +1,212 @@
+-- The items of a base relocation directory are the one longest list of blocks at its front.
+use Rattle.std.proofs.Common.{◌≡◌, ℕ, zero, suc, ◌+◌, ◌-◌, ◌<◌, ◌≤◌, Bool, true, false, cond, List, [], ◌∷◌, ◌++◌, length, map, min, take, drop, nat_le, nat_lt, Option, Some, None, Result, Ok, Err, refl, ap, sym, subst, ◌∙◌, inl, inr, arith, tests, rules}
+use Rattle.std.specs.Prelude.{flat_map, slice_range}
+use Rattle.std.proofs.Math.Seq.{take-add}
+use Rattle.std.proofs.lemmas.Bool.{cases_lt, le-leb, lt-ltb}
+use Rattle.std.proofs.lemmas.List.{drop-drop, drop-take, take-take}
+use Rattle.goblin_base.specs.declared.endian.Endian.TheVariants.{Little}
+use Rattle.goblin_base.specs.declared.error.ErrorOf.{ErrorOf}
+use Rattle.goblin_base.specs.Bytes.{IsBytes, number, slice_at}
+use Rattle.goblin_base.specs.Record.{encoding}
+use Rattle.goblin_base.proofs.Encoding.{Slot, encoding-fields_from, fields_from, slots_width}
+use Rattle.goblin_base.proofs.Encoding.Slot.{octets_slot, uint_slot}
+use Rattle.goblin_base.proofs.Numbers.{number-slice, read_number, slice_at-some}
+use Rattle.goblin_pe_sect.specs.BaseRelocations.{AreBlocks, AreBlocksOf, Block, IsBlockAt, block_at, block_fields, first_items, then_items, with_head, with_words}
+use Rattle.goblin_pe_sect.proofs.BlockItems.{inside, past}
+
+-- a number within a slice
+number_within : (n m k : ℕ) (bytes : List ℕ) (p : ℕ) → k + n ≤ m → number Little n (slice_range bytes p (p + m)) k ≡ number Little n bytes (p + k)
+number_within n m k bytes p le =
+    let e1 : k + n - k ≡ n = omega arith in
+    let e2 : p + m - p ≡ m = omega arith in
+    let e3 : p + k + n - (p + k) ≡ n = omega arith in
+    let split : m ≡ k + (m - k) = omega (arith, le) in
+    let inner : drop k (take m (drop p bytes)) ≡ take (m - k) (drop (p + k) bytes) = ap (λ (j : ℕ). drop k (take j (drop p bytes))) split ∙ drop-take k (m - k) (drop p bytes) ∙ ap (take (m - k)) (drop-drop k p bytes) in
+    let own : take n (take (m - k) (drop (p + k) bytes)) ≡ take n (drop (p + k) bytes) = take-take n (m - k) (drop (p + k) bytes) (omega (arith, le)) in
+    let same : slice_range (slice_range bytes p (p + m)) k (k + n) ≡ slice_range bytes (p + k) (p + k + n) = rw (e1, e2, e3, inner) own in
+    number-slice Little n (slice_range bytes p (p + m)) k ∙ ap (read_number Little n) same ∙ sym (number-slice Little n bytes (p + k))
+
+-- ---- from what was read
+
+words_by : (head : List ℕ) (q : ℕ) (words : Option (List ℕ)) (b : Block) → with_words head q words ≡ Ok b → (own : List ℕ) × (words ≡ Some own) × (b ≡ record { rva = number Little 4 head 0; size = number Little 4 head 4; words = own })
+words_by head q None b e = absurd cc
+words_by head q (Some own) b e = (own, refl, cc)
+
+head_by : (t : Bool) (size : ℕ) (e : ErrorOf) (r : Result Block ErrorOf) (b : Block) → nat_lt size 8 ≡ t → cond t (Err e) r ≡ Ok b → (8 ≤ size) × (r ≡ Ok b)
+head_by true size e r b is h = absurd cc
+head_by false size e r b is h = (search (rules, tests), h)
+
+at_by : (directory : List ℕ) (p : ℕ) (head : Option (List ℕ)) (b : Block) → slice_at directory p 8 ≡ head → with_head directory (p + 8) head ≡ Ok b → IsBlockAt directory p b
+at_by directory p None b first e = absurd cc
+at_by directory p (Some head) b first e =
+    let n = number Little 4 head 4 in
+    let h = slice_at-some directory p 8 head first in
+    let t = head_by (nat_lt n 8) n _ _ b refl e in
+    let w = words_by head (p + 8) (slice_at directory (p + 8) (n - 8)) b t.1 in
+    let s = slice_at-some directory (p + 8) (n - 8) w.0 w.1 in
+    let size_is : b.size ≡ n = ap (λ (x : Block). x.size) w.2 in
+    let here : p + 0 ≡ p = omega arith in
+    let to : p + 8 + (n - 8) ≡ p + b.size = omega (arith, t.0, size_is) in
+    let rva_at : number Little 4 head 0 ≡ number Little 4 directory p = ap (λ (xs : List ℕ). number Little 4 xs 0) h.value ∙ number_within 4 8 0 directory p (omega arith) ∙ ap (number Little 4 directory) here in
+    let size_at : n ≡ number Little 4 directory (p + 4) = ap (λ (xs : List ℕ). number Little 4 xs 4) h.value ∙ number_within 4 8 4 directory p (omega arith) in
+    record {
+      large = omega (arith, t.0, size_is);
+      within = omega (arith, s.end, t.0, size_is);
+      behind = λ _. s.start;
+      rva = sym (ap (λ (x : Block). x.rva) w.2 ∙ rva_at);
+      size = sym (size_is ∙ size_at);
+      words = sym (ap (λ (x : Block). x.words) w.2 ∙ s.value ∙ ap (slice_range directory (p + 8)) to);
+    }
+
+at_from_read : (directory : List ℕ) (p : ℕ) (b : Block) → block_at directory p ≡ Ok b → IsBlockAt directory p b
+unfolding block_at
+at_from_read directory p b e = at_by directory p (slice_at directory p 8) b refl e
+
+-- ---- to what is read
+
+slice_is : (bytes : List ℕ) (p n : ℕ) → p < length bytes → p + n ≤ length bytes → slice_at bytes p n ≡ Some (slice_range bytes p (p + n))
+slice_is bytes p n start end =
+    let first : nat_lt p (length bytes) ≡ true = lt-ltb _ _ start in
+    let second : nat_le (p + n) (length bytes) ≡ true = le-leb _ _ end in
+    rw (first, second) refl
+
+made : (directory head : List ℕ) (q n rva : ℕ) (words : List ℕ) → number Little 4 head 4 ≡ n → number Little 4 head 0 ≡ rva → 8 ≤ n → slice_at directory q (n - 8) ≡ Some words → with_head directory q (Some head) ≡ Ok (record { rva = rva; size = n; words = words })
+made directory head q n rva words size_is rva_is large second =
+    let test : nat_lt n 8 ≡ false = search (rules, tests) in
+    rw (size_is, test, second, rva_is, size_is) refl
+
+read_from_at : (directory : List ℕ) (p : ℕ) (b : Block) → IsBlockAt directory p b → block_at directory p ≡ Ok b
+unfolding block_at
+read_from_at directory p b h =
+    let room : p + 8 < length directory = elim (cases_lt 8 b.size) [ inl more ↦ omega (arith, more, h.within) | inr most ↦ h.behind (omega (arith, most, h.large)) ] in
+    let head = slice_range directory p (p + 8) in
+    let here : p + 0 ≡ p = omega arith in
+    let to : p + 8 + (b.size - 8) ≡ p + b.size = omega (arith, h.large) in
+    let first : slice_at directory p 8 ≡ Some head = slice_is directory p 8 (omega (arith, room)) (omega (arith, room)) in
+    let rva : number Little 4 head 0 ≡ b.rva = number_within 4 8 0 directory p (omega arith) ∙ ap (number Little 4 directory) here ∙ h.rva in
+    let size : number Little 4 head 4 ≡ b.size = number_within 4 8 4 directory p (omega arith) ∙ h.size in
+    let own : slice_range directory (p + 8) (p + 8 + (b.size - 8)) ≡ b.words = ap (slice_range directory (p + 8)) to ∙ h.words in
+    let words : slice_at directory (p + 8) (b.size - 8) ≡ Some b.words = slice_is directory (p + 8) (b.size - 8) room (omega (arith, h.within, h.large)) ∙ ap (λ (xs : List ℕ). Some xs) own in
+    ap (with_head directory (p + 8)) first ∙ made directory head (p + 8) b.size b.rva b.words size rva h.large words
+
+-- ---- the longest list
+
+abbrev IsFirstOf : List ℕ → ℕ → List Block → Type 0
+IsFirstOf directory p blocks = (others : List Block) (to : ℕ) → AreBlocks directory p others to → (more : List Block) × (blocks ≡ others ++ more)
+
+none_first : (directory : List ℕ) (p : ℕ) → ((b : Block) → IsBlockAt directory p b → ⊥) → IsFirstOf directory p []
+none_first directory p never [] to stand = ([], refl)
+none_first directory p never (b ∷ others) to stand = absurd (never b stand.0)
+
+more_first : (directory : List ℕ) (p : ℕ) (b : Block) (blocks : List Block) → block_at directory p ≡ Ok b → IsFirstOf directory (p + b.size) blocks → IsFirstOf directory p (b ∷ blocks)
+more_first directory p b blocks is later [] to stand = (b ∷ blocks, refl)
+more_first directory p b blocks is later (c ∷ others) to stand =
+    let read = read_from_at directory p c stand.0 in
+    let same : c ≡ b = cc (read, is) in
+    let rest = later others to (subst (λ (d : Block). AreBlocks directory (p + d.size) others to) same stand.1) in
+    (rest.0, ap (λ (xs : List Block). b ∷ xs) rest.1 ∙ ap (λ (d : Block). d ∷ (others ++ rest.0)) (sym same))
+
+-- ---- all items
+
+record Stand (directory : List ℕ) (p : ℕ) (items : List (Result Block ErrorOf)) : Type 0 where
+  blocks : List Block
+  end : ℕ
+  errors : List ErrorOf
+  are : items ≡ map (λ b. Ok b) blocks ++ map (λ e. Err e) errors
+  one : length errors ≡ min 1 (length directory - end)
+  stand : AreBlocks directory p blocks end
+  longest : IsFirstOf directory p blocks
+
+nothing_left : (n : ℕ) (directory : List ℕ) (p : ℕ) → length directory ≤ p → Stand directory p (first_items n directory p)
+nothing_left n directory p done = record {
+  blocks = [];
+  end = p;
+  errors = [];
+  are = past directory n p done;
+  one = omega (arith, done);
+  stand = refl;
+  longest = none_first directory p (λ b h. omega (arith, done, h.within, h.large));
+}
+
+one_more : (n : ℕ) (directory : List ℕ) (p : ℕ) → p < length directory → ((next : ℕ) → p + 8 ≤ next → Stand directory next (first_items n directory next)) → (r : Result Block ErrorOf) → block_at directory p ≡ r → Stand directory p (then_items (first_items n directory) p r)
+one_more n directory p lt later (Ok b) is =
+    let h = at_from_read directory p b is in
+    let others = later (p + b.size) (omega (arith, h.large)) in
+    record {
+      blocks = b ∷ others.blocks;
+      end = others.end;
+      errors = others.errors;
+      are = ap (λ (items : List (Result Block ErrorOf)). Ok b ∷ items) others.are;
+      one = others.one;
+      stand = (h, others.stand);
+      longest = more_first directory p b others.blocks is others.longest;
+    }
+one_more n directory p lt later (Err e) is = record {
+  blocks = [];
+  end = p;
+  errors = e ∷ [];
+  are = refl;
+  one = omega (arith, lt);
+  stand = refl;
+  longest = none_first directory p (λ b h. let read = read_from_at directory p b h in cc);
+}
+
+all_stand : (n : ℕ) (directory : List ℕ) (p : ℕ) → length directory - p ≤ n → Stand directory p (first_items n directory p)
+all_stand zero directory p few = nothing_left zero directory p (omega (arith, few))
+all_stand (suc n) directory p few =
+    elim (cases_lt p (length directory)) [
+      | inl lt ↦
+          let Is : List (Result Block ErrorOf) → Type 0 = Stand directory p in
+          subst Is (sym (inside directory n p lt)) (one_more n directory p lt (λ next further. all_stand n directory next (omega (arith, few, further))) (block_at directory p) refl)
+      | inr done ↦ nothing_left (suc n) directory p done
+    ]
+
+-- ---- encodings
+
+abbrev slots : Block → List Slot
+slots b = uint_slot 4 ∷ uint_slot 4 ∷ octets_slot (b.size - 8) ∷ []
+
+encoding-block : (directory : List ℕ) (p : ℕ) (b : Block) → IsBytes directory → IsBlockAt directory p b → encoding Little (block_fields b) ≡ slice_range directory p (p + b.size)
+encoding-block directory p b bytes h =
+    let from : p + 4 + 4 ≡ p + 8 = omega arith in
+    let to : p + 8 + (b.size - 8) ≡ p + b.size = omega (arith, h.large) in
+    let own : slice_range directory (p + 4 + 4) (p + 4 + 4 + (b.size - 8)) ≡ b.words = ap (λ (q : ℕ). slice_range directory q (q + (b.size - 8))) from ∙ ap (slice_range directory (p + 8)) to ∙ h.words in
+    let fields : fields_from Little (slots b) directory p ≡ block_fields b = rw (own, h.rva, h.size) refl in
+    let width : slots_width (slots b) ≡ b.size = omega (arith, h.large) in
+    ap (encoding Little) (sym fields) ∙ encoding-fields_from Little (slots b) directory p bytes (omega (arith, width, h.within)) ∙ ap (λ (n : ℕ). slice_range directory p (p + n)) width
+
+slice_then : (bytes : List ℕ) (p a b : ℕ) → slice_range bytes p (p + a) ++ slice_range bytes (p + a) (p + a + b) ≡ slice_range bytes p (p + a + b)
+slice_then bytes p a b =
+    let e1 : p + a - p ≡ a = omega arith in
+    let e2 : p + a + b - (p + a) ≡ b = omega arith in
+    let e3 : p + a + b - p ≡ a + b = omega arith in
+    rw (e1, e2, e3, take-add a b (drop p bytes), drop-drop a p bytes) refl
+
+ends_past : (directory : List ℕ) (p : ℕ) (blocks : List Block) (end : ℕ) → AreBlocks directory p blocks end → p ≤ end
+ends_past directory p [] end stand = omega (arith, stand)
+ends_past directory p (b ∷ blocks) end stand = omega (arith, ends_past directory (p + b.size) blocks end stand.1)
+
+encoding-blocks : (directory : List ℕ) (p : ℕ) (blocks : List Block) (end : ℕ) → IsBytes directory → AreBlocks directory p blocks end → flat_map (λ b. encoding Little (block_fields b)) blocks ≡ slice_range directory p end
+encoding-blocks directory p [] end bytes stand =
+    let none : end - p ≡ 0 = omega (arith, stand) in
+    rw none refl
+encoding-blocks directory p (b ∷ blocks) end bytes stand =
+    let first = encoding-block directory p b bytes stand.0 in
+    let rest = encoding-blocks directory (p + b.size) blocks end bytes stand.1 in
+    let to : p + b.size + (end - (p + b.size)) ≡ end = omega (arith, ends_past directory (p + b.size) blocks end stand.1) in
+    let joined : slice_range directory p (p + b.size) ++ slice_range directory (p + b.size) end ≡ slice_range directory p end = ap (λ (q : ℕ). slice_range directory p (p + b.size) ++ slice_range directory (p + b.size) q) (sym to) ∙ slice_then directory p b.size (end - (p + b.size)) ∙ ap (slice_range directory p) to in
+    rw (first, rest) joined
+
+pub blocks_of : (directory : List ℕ) → AreBlocksOf directory (first_items (length directory - 0) directory 0)
+blocks_of directory =
+    let all = all_stand (length directory - 0) directory 0 (omega arith) in
+    record {
+      blocks = all.blocks;
+      end = all.end;
+      errors = all.errors;
+      are = all.are;
+      one = all.one;
+      stand = all.stand;
+      longest = all.longest;
+      encoded = λ bytes. encoding-blocks directory 0 all.blocks all.end bytes all.stand;
+    }

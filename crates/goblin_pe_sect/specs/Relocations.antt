@@ -1,0 +1,48 @@
+-- The relocations of a section of an object.
+use Rattle.std.specs.Prelude.{◌≤◌, ℕ, ◌+◌, ◌*◌, ◌/◌, ◌^◌, List, [], ◌∷◌, length, map, slice_range, Option, option_map}
+use Rattle.std.specs.List.{range_with_len}
+use Rattle.goblin_base.specs.declared.endian.Endian.{Endian}
+use Rattle.goblin_base.specs.declared.endian.Endian.TheVariants.{Little}
+use Rattle.goblin_base.specs.declared.error.CauseOf.TheVariants.{Overflow}
+use Rattle.goblin_base.specs.declared.error.ErrorOf.{ErrorOf}
+use Rattle.goblin_base.specs.declared.error.ErrorOf.TheVariants.{Malformed, Read}
+use Rattle.goblin_base.specs.Bytes.{number, slice_at}
+use Rattle.goblin_base.specs.Faults.{IsSliceFault}
+use Rattle.goblin_base.specs.Record.{FieldValue}
+use Rattle.goblin_base.specs.Record.FieldValue.{uint}
+use Rattle.goblin_pe_sect.specs.declared.relocation.Relocation.{Relocation}
+use Rattle.goblin_pe_sect.specs.declared.relocation.Relocations.{Relocations}
+
+-- the relocation in a record's 10 bytes
+unfoldable pub relocation_record : Endian → List ℕ → Relocation
+relocation_record endian bytes = record {
+  virtual_address = number endian 4 bytes 0;
+  symbol_table_index = number endian 4 bytes 4;
+  typ = number endian 2 bytes 8;
+}
+
+-- the fields of a relocation, in order
+unfoldable pub relocation_fields : Relocation → List FieldValue
+relocation_fields r = uint 4 r.virtual_address ∷ uint 4 r.symbol_table_index ∷ uint 2 r.typ ∷ []
+
+-- the records of these bytes, each of `width` of them, one behind the other; a rest that is no whole record is left out
+unfoldable pub records_in : {V : Type 0} → ℕ → (List ℕ → V) → List ℕ → List V
+records_in width value bytes = map (λ i. value (slice_range bytes (width * i) (width * i + width))) (range_with_len 0 (length bytes / width))
+
+-- the relocations of these bytes
+abbrev pub relocations_in : List ℕ → List Relocation
+relocations_in bytes = records_in 10 (relocation_record Little) bytes
+
+-- the n relocations at p, where they are all there
+abbrev pub relocations_at : List ℕ → ℕ → ℕ → Option (List Relocation)
+relocations_at bytes p n = option_map relocations_in (slice_at bytes p (10 * n))
+
+-- which cause is true of bytes without n relocations at p: they are not all there, or their size passes 64 bits
+abbrev pub IsRelocationsFault : List ℕ → ℕ → ℕ → ErrorOf → Type 0
+IsRelocationsFault bytes p n (Malformed Overflow) = 2 ^ 64 ≤ 10 * n
+IsRelocationsFault bytes p n (Read fault) = IsSliceFault bytes p (10 * n) (Read fault)
+IsRelocationsFault bytes p n e = ⊥
+
+-- what an iterator over relocations has left
+abbrev pub relocations_left : Relocations → List Relocation
+relocations_left it = relocations_in it.relocations.now

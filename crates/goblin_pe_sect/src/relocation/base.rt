@@ -1,0 +1,323 @@
+//! The base relocations of an image: blocks of words.
+
+ghost use Rattle.std.specs.Prelude.{◌≡◌, ◌+◌, ◌/◌, ◌%◌, ◌<◌, ◌≤◌, Some, length, IfOk, IfSome, IsSomeAnd};
+ghost use Rattle.std.specs.Iterator.{UpTo, YieldsFirst, YieldsFirstBy, at_most, item_count};
+ghost use Rattle.std.specs.Iterator.SizeHint.{IsWithinCount};
+ghost use Rattle.goblin_base.specs.Answers.{Answers, Writes};
+ghost use Rattle.goblin_base.specs.Bytes.{overwritten};
+ghost use Rattle.goblin_base.specs.Faults.{IsSliceFault};
+ghost use Rattle.goblin_base.specs.Record.{WritesBack, encoding, record_in};
+ghost use Rattle.goblin_base.proofs.RecordLaws.{record_in-within, slice_fault-no_memory};
+ghost use Rattle.goblin_pe_sect.specs.declared.relocation.base.RelocationWord.{RelocationWord};
+ghost use Rattle.goblin_pe_sect.specs.BaseRelocations.{AreBlocksOf, IsRelocationDataFault, block_at, block_item, block_items, blocks_left, relocation_data, relocation_bytes, word_fields, word_items, word_record, words_left};
+ghost use Rattle.goblin_pe_sect.specs.Mapping.{file_offset};
+ghost use Rattle.goblin_pe_sect.specs.Options.{default_options};
+
+use crate::data_directories::DataDirectory;
+use crate::options::ParseOptions;
+use crate::section_table::SectionTable;
+use crate::utils::find_offset;
+use goblin_base::{
+    Cause, Endian, Error, Field, ReadFault, Result, TryFromCtx, field_u16, field_u32, pread_slice,
+    pwrite_slice, record_bytes,
+};
+use std::iter::FusedIterator;
+
+/// The size of the head of a base relocation block, in bytes.
+pub const RELOCATION_BLOCK_SIZE: usize = 8;
+
+// The size of a word, in bytes.
+const RELOCATION_WORD_SIZE: usize = 2;
+
+/// The base relocations of an image, which a loader applies where it does not load the image at the
+/// base that it was linked for: the bytes of their directory.
+///
+/// Source: PE Format, "The .reloc Section (Image Only)".
+#[derive(Debug, PartialEq, Clone, Default, Drop)]
+pub struct RelocationData<'a> {
+    bytes: &'a [u8],
+}
+
+impl<'a> RelocationData<'a> {
+    /// The base relocations of the directory `dd`, as [`RelocationData::parse_with_opts`] with the
+    /// default options.
+    ///
+    /// # Errors
+    /// As [`RelocationData::parse_with_opts`].
+    pub fn parse(
+        bytes: &'a [u8],
+        dd: DataDirectory,
+        sections: &[SectionTable],
+        file_alignment: u32,
+    ) -> Result<Self>
+        ensures { Answers relocation_bytes result (relocation_data (file_offset default_options sections.now file_alignment) bytes.now dd) (IsRelocationDataFault (file_offset default_options sections.now file_alignment) bytes.now dd) }
+    {
+        let opts = ParseOptions::default();
+        RelocationData::parse_with_opts(bytes, dd, sections, file_alignment, &opts)
+    }
+
+    /// The base relocations of the directory `dd`: the bytes at its address.
+    ///
+    /// # Errors
+    /// [`Error::Malformed`], in both modes: [`Cause::Unmapped`] where the address has no file offset,
+    /// [`Cause::RelocRange`] where the bytes there are not all there, or begin at or past the end.
+    pub fn parse_with_opts(
+        bytes: &'a [u8],
+        dd: DataDirectory,
+        sections: &[SectionTable],
+        file_alignment: u32,
+        opts: &ParseOptions,
+    ) -> Result<Self>
+        ensures { Answers relocation_bytes result (relocation_data (file_offset opts.now sections.now file_alignment) bytes.now dd) (IsRelocationDataFault (file_offset opts.now sections.now file_alignment) bytes.now dd) }
+    {
+        let rva = dd.virtual_address as usize;
+        let Some(offset) = find_offset(rva, sections, file_alignment, opts) else {
+            return Err(Error::Malformed(Cause::Unmapped(rva)));
+        };
+        match pread_slice(bytes, offset, dd.size as usize) {
+            Ok(bytes) => Ok(RelocationData { bytes }),
+            Err(_) => Err(Error::Malformed(Cause::RelocRange(offset, dd.size))),
+        }
+    }
+
+    /// The blocks, in order. Where a rest is left with which no block begins, one error comes last.
+    pub fn blocks(&self) -> RelocationBlockIterator<'a>
+        ensures items { blocks_left result ≡ block_items (relocation_bytes self.now) 0 }
+        ensures blocks { AreBlocksOf (relocation_bytes self.now) (blocks_left result) }
+    {
+        RelocationBlockIterator {
+            bytes: self.bytes,
+            offset: 0,
+        }
+    }
+}
+
+/// A block of base relocations, for one page of the image in memory.
+///
+/// Source: PE Format, "Base Relocation Block".
+#[derive(Debug, PartialEq, Copy, Clone, Default)]
+pub struct RelocationBlock<'a> {
+    /// The page's address, relative to the image's base.
+    pub rva: u32,
+    /// The size of the block with its head, in bytes.
+    pub size: u32,
+    /// The bytes behind the head, which are the words.
+    pub bytes: &'a [u8],
+}
+
+impl<'a> RelocationBlock<'a> {
+    // Reads the block at `offset` of a directory, which lies before its end.
+    #[tactic(auto, unfolding(crate::specs::BaseRelocations::block_at))]
+    fn in_directory(directory: &'a [u8], offset: usize) -> Result<RelocationBlock<'a>>
+        requires { offset < length directory.now }
+        ensures { block_item result ≡ block_at directory.now offset }
+    {
+        let Ok(head) = pread_slice(directory, offset, RELOCATION_BLOCK_SIZE) else {
+            return Err(Error::Read(ReadFault::TooBig));
+        };
+        let size = field_u32(head, 4, Endian::Little);
+        if (size as usize) < RELOCATION_BLOCK_SIZE {
+            return Err(Error::Malformed(Cause::BlockSize(size)));
+        }
+        let begin = offset + RELOCATION_BLOCK_SIZE;
+        let len = size as usize - RELOCATION_BLOCK_SIZE;
+        match pread_slice(directory, begin, len) {
+            Ok(bytes) => Ok(RelocationBlock {
+                rva: field_u32(head, 0, Endian::Little),
+                size,
+                bytes,
+            }),
+            Err(_) => Err(Error::Malformed(Cause::BlockRange(begin, len))),
+        }
+    }
+
+    /// The words, in order. Where one byte is left behind them, one error comes last.
+    pub fn words(&self) -> RelocationWordIterator<'a>
+        ensures { words_left result ≡ word_items self.now.bytes.now }
+    {
+        RelocationWordIterator { bytes: self.bytes }
+    }
+}
+
+/// The blocks of a base relocation directory, in order. Where a rest is left with which no block
+/// begins, one error comes last: [`Error::Read`] with `TooBig` where there is no whole head,
+/// [`Error::Malformed`] with [`Cause::BlockSize`] where its size is below that of a head, and with
+/// [`Cause::BlockRange`] where the bytes behind the head are not all there, or begin at the end.
+#[derive(Debug, Copy, Clone)]
+pub struct RelocationBlockIterator<'a> {
+    bytes: &'a [u8],
+    offset: usize,
+}
+
+impl<'a> Iterator for RelocationBlockIterator<'a> {
+    type Item = Result<RelocationBlock<'a>>;
+
+    ghost next_gives = { YieldsFirstBy block_item blocks_left };
+
+    ghost remaining = { item_count blocks_left };
+
+    fn next(&mut self) -> Option<Result<RelocationBlock<'a>>> {
+        if self.offset >= self.bytes.len() {
+            return None;
+        }
+        match RelocationBlock::in_directory(self.bytes, self.offset) {
+            Ok(block) => {
+                self.offset += block.size as usize;
+                Some(Ok(block))
+            }
+            Err(error) => {
+                self.offset = self.bytes.len();
+                Some(Err(error))
+            }
+        }
+    }
+
+    /// No more come than heads fit, with one for a rest.
+    #[tactic(auto, using(crate::proofs::BlockItems::items_most))]
+    fn size_hint(&self) -> (usize, Option<usize>)
+        ensures lower { IsWithinCount result.0 (at_most (length (blocks_left self.now))) }
+        ensures upper { IfSome result.1 (UpTo (at_most (length (blocks_left self.now)))) }
+        ensures bounded { IsSomeAnd result.1 (λ n. n ≤ (length self.now.bytes.now + 7) / 8) }
+    {
+        let rest = self.bytes.len().saturating_sub(self.offset);
+        (0, Some(rest.div_ceil(RELOCATION_BLOCK_SIZE)))
+    }
+}
+
+impl FusedIterator for RelocationBlockIterator<'_> {}
+
+/// A word of a base relocation block: a place in the block's page, and how a loader changes it.
+///
+/// Source: PE Format, "Base Relocation Types". The number is as stored; the record has 2 bytes.
+#[derive(Debug, PartialEq, Copy, Clone, Default)]
+pub struct RelocationWord {
+    /// The type in the high four bits, the offset from the block's address in the low twelve.
+    pub value: u16,
+}
+
+impl RelocationWord {
+    // The word in a record's bytes.
+    #[tactic(auto, unfolding(crate::specs::BaseRelocations::word_record))]
+    fn in_record(bytes: &[u8], endian: Endian) -> RelocationWord
+        requires { length bytes.now ≡ 2 }
+        ensures { result ≡ word_record endian bytes.now }
+    {
+        RelocationWord {
+            value: field_u16(bytes, 0, endian),
+        }
+    }
+
+    /// How the place is changed, an `IMAGE_REL_BASED_*`: the high four bits.
+    pub fn reloc_type(&self) -> u8
+        ensures { result ≡ self.now.value / 4096 }
+    {
+        (self.value >> 12) as u8
+    }
+
+    /// The place, in bytes from the block's address: the low twelve bits.
+    pub fn offset(&self) -> u16
+        ensures { result ≡ self.now.value % 4096 }
+    {
+        self.value & 0xFFF
+    }
+
+    // The record's bytes.
+    #[tactic(auto, unfolding(crate::specs::BaseRelocations::word_fields))]
+    fn to_bytes(self, endian: Endian) -> [u8; RELOCATION_WORD_SIZE]
+        ensures { result ≡ encoding endian (word_fields self) }
+    {
+        let fields = [Field::U16(self.value)];
+        record_bytes(&fields, endian)
+    }
+
+    /// Writes the record to the front of `bytes`, and answers its size. One that was read is written
+    /// as it stood, by the same order of bytes.
+    ///
+    /// # Errors
+    /// [`Error::Read`] where there is no room for 2 bytes; `bytes` are
+    /// then as they were.
+    #[tactic(auto, using(crate::proofs::RelocationRecords::word_back))]
+    pub fn try_into_ctx(self, bytes: &mut [u8], endian: Endian) -> Result<usize>
+        ensures size { IfOk result (λ n. n ≡ 2) }
+        ensures written { Writes result (overwritten bytes.old 0 (encoding endian (word_fields self))) bytes.old bytes.new (IsSliceFault bytes.old 0 2) }
+        ensures back { WritesBack 2 word_record word_fields }
+    {
+        let record = self.to_bytes(endian);
+        pwrite_slice(bytes, 0, &record)?;
+        Ok(RELOCATION_WORD_SIZE)
+    }
+
+    /// The size of the record, in bytes, in either order.
+    pub fn size_with(_endian: &Endian) -> usize
+        ensures { result ≡ 2 }
+    {
+        RELOCATION_WORD_SIZE
+    }
+}
+
+impl TryFromCtx<'_> for RelocationWord {
+    ghost Plain = { RelocationWord };
+
+    ghost plain = { λ r. r };
+
+    ghost value_of = { record_in 2 word_record };
+
+    ghost refusal = { λ _ bytes e. IsSliceFault bytes 0 2 e };
+
+    ghost within = { record_in-within 2 word_record };
+
+    ghost no_memory = { λ _ bytes e. slice_fault-no_memory bytes 0 2 e };
+
+    /// Reads the record at the front of `bytes`, which takes 2 bytes.
+    ///
+    /// # Errors
+    /// [`Error::Read`] where there are no 2 bytes.
+    fn try_from_ctx(bytes: &[u8], endian: Endian) -> Result<(RelocationWord, usize)> {
+        let record = pread_slice(bytes, 0, RELOCATION_WORD_SIZE)?;
+        Ok((
+            RelocationWord::in_record(record, endian),
+            RELOCATION_WORD_SIZE,
+        ))
+    }
+}
+
+/// The words of a block, in order. Where one byte is left behind them, one [`Error::Read`] with
+/// `TooBig` comes last.
+#[derive(Debug, Copy, Clone)]
+pub struct RelocationWordIterator<'a> {
+    bytes: &'a [u8],
+}
+
+impl Iterator for RelocationWordIterator<'_> {
+    type Item = Result<RelocationWord>;
+
+    ghost next_gives = { YieldsFirst words_left };
+
+    ghost remaining = { item_count words_left };
+
+    #[tactic(auto, using(crate::proofs::WordItems::words_more, crate::proofs::WordItems::words_rest, crate::proofs::WordItems::words_none))]
+    fn next(&mut self) -> Option<Result<RelocationWord>> {
+        if self.bytes.is_empty() {
+            return None;
+        }
+        if self.bytes.len() < RELOCATION_WORD_SIZE {
+            self.bytes = &[];
+            return Some(Err(Error::Read(ReadFault::TooBig)));
+        }
+        let (record, rest) = self.bytes.split_at(RELOCATION_WORD_SIZE);
+        self.bytes = rest;
+        Some(Ok(RelocationWord::in_record(record, Endian::Little)))
+    }
+
+    #[tactic(auto, using(crate::proofs::WordItems::length_words))]
+    fn size_hint(&self) -> (usize, Option<usize>)
+        ensures lower { IsWithinCount result.0 (at_most (length (words_left self.now))) }
+        ensures upper { IfSome result.1 (UpTo (at_most (length (words_left self.now)))) }
+        ensures value { result ≡ (length (words_left self.now), Some (length (words_left self.now))) }
+    {
+        let count = self.bytes.len().div_ceil(RELOCATION_WORD_SIZE);
+        (count, Some(count))
+    }
+}
+
+impl FusedIterator for RelocationWordIterator<'_> {}

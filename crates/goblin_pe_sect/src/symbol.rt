@@ -1,0 +1,546 @@
+//! The symbols of a COFF file: their records and names, and the table of them.
+
+ghost use Rattle.std.specs.Prelude.{◌≡◌, ◌↔◌, ◌+◌, ◌*◌, ◌/◌, ◌%◌, ◌^◌, ◌<◌, ◌≤◌, ◌<ℤ◌, pos, IfOk, IfSome, IsSomeAnd, IsTrue, length, option_map};
+ghost use Rattle.std.specs.Iterator.{UpTo, YieldsFirstBy, at_most, item_count};
+ghost use Rattle.std.specs.Iterator.SizeHint.{IsWithinCount};
+ghost use Rattle.goblin_base.specs.Answers.{Answers, Writes};
+ghost use Rattle.goblin_base.specs.Bytes.{overwritten, slice_at};
+ghost use Rattle.goblin_base.specs.Faults.{IsSliceFault};
+ghost use Rattle.goblin_base.specs.Record.{WritesBack, encoding, record_at, record_in};
+ghost use Rattle.goblin_base.proofs.RecordLaws.{record_in-within, slice_fault-no_memory};
+ghost use Rattle.goblin_pe_sect.specs.declared.symbol.Symbol.{Symbol};
+ghost use Rattle.goblin_pe_sect.specs.AuxiliarySymbols.{begin_and_end_function_record, function_definition_record, section_definition_record, weak_external_record};
+ghost use Rattle.goblin_pe_sect.specs.Symbols.{AreSymbolsOf, IsNoSymbolName, IsSymbolsFault, file_name_at, inline_name, name_offset_of, named_symbol, named_value, offset_name, stored_number, stored_offset, symbol_fields, symbol_item, symbol_name, symbol_record, symbols_in, symbols_left, table_bytes};
+
+use goblin_base::{
+    Cause, Endian, Error, Field, Result, Strtab, TryFromCtx, field_array, field_i16, field_u8,
+    field_u16, field_u32, pread_slice, pread_str_until, pwrite_slice, record_bytes,
+};
+
+mod auxiliary;
+
+pub use auxiliary::{
+    AuxBeginAndEndFunction, AuxFunctionDefinition, AuxSectionDefinition, AuxWeakExternal,
+};
+
+/// The size of a record of the symbol table, in bytes.
+pub const COFF_SYMBOL_SIZE: usize = 18;
+
+/// A symbol's section: none; the symbol is defined elsewhere, or is common where its value is not 0.
+pub const IMAGE_SYM_UNDEFINED: i16 = 0;
+/// A symbol's section: none; the value is no address.
+pub const IMAGE_SYM_ABSOLUTE: i16 = -1;
+/// A symbol's section: none; the symbol is for debuggers.
+pub const IMAGE_SYM_DEBUG: i16 = -2;
+
+/// A symbol's base type: none, or not known.
+pub const IMAGE_SYM_TYPE_NULL: u16 = 0;
+/// A symbol's base type: no valid type, as of a function that answers nothing.
+pub const IMAGE_SYM_TYPE_VOID: u16 = 1;
+/// A symbol's base type: a character, a signed byte.
+pub const IMAGE_SYM_TYPE_CHAR: u16 = 2;
+/// A symbol's base type: a signed number of 2 bytes.
+pub const IMAGE_SYM_TYPE_SHORT: u16 = 3;
+/// A symbol's base type: a number of the machine's natural size.
+pub const IMAGE_SYM_TYPE_INT: u16 = 4;
+/// A symbol's base type: a signed number of 4 bytes.
+pub const IMAGE_SYM_TYPE_LONG: u16 = 5;
+/// A symbol's base type: a floating-point number of 4 bytes.
+pub const IMAGE_SYM_TYPE_FLOAT: u16 = 6;
+/// A symbol's base type: a floating-point number of 8 bytes.
+pub const IMAGE_SYM_TYPE_DOUBLE: u16 = 7;
+/// A symbol's base type: a structure.
+pub const IMAGE_SYM_TYPE_STRUCT: u16 = 8;
+/// A symbol's base type: a union.
+pub const IMAGE_SYM_TYPE_UNION: u16 = 9;
+/// A symbol's base type: an enumeration.
+pub const IMAGE_SYM_TYPE_ENUM: u16 = 10;
+/// A symbol's base type: a member of an enumeration.
+pub const IMAGE_SYM_TYPE_MOE: u16 = 11;
+/// A symbol's base type: an unsigned byte.
+pub const IMAGE_SYM_TYPE_BYTE: u16 = 12;
+/// A symbol's base type: an unsigned number of 2 bytes.
+pub const IMAGE_SYM_TYPE_WORD: u16 = 13;
+/// A symbol's base type: an unsigned number of the machine's natural size.
+pub const IMAGE_SYM_TYPE_UINT: u16 = 14;
+/// A symbol's base type: an unsigned number of 4 bytes.
+pub const IMAGE_SYM_TYPE_DWORD: u16 = 15;
+
+/// The bits of a symbol's type that are its base type.
+pub const IMAGE_SYM_TYPE_MASK: u16 = 15;
+/// How many bits below a symbol's derived type stand in its type.
+pub const IMAGE_SYM_DTYPE_SHIFT: usize = 4;
+
+/// A symbol's derived type: none.
+pub const IMAGE_SYM_DTYPE_NULL: u16 = 0;
+/// A symbol's derived type: a pointer to the base type.
+pub const IMAGE_SYM_DTYPE_POINTER: u16 = 1;
+/// A symbol's derived type: a function that answers the base type.
+pub const IMAGE_SYM_DTYPE_FUNCTION: u16 = 2;
+/// A symbol's derived type: an array of the base type.
+pub const IMAGE_SYM_DTYPE_ARRAY: u16 = 3;
+
+/// A symbol's class: none.
+pub const IMAGE_SYM_CLASS_NULL: u8 = 0;
+/// A symbol's class: a variable on the stack.
+pub const IMAGE_SYM_CLASS_AUTOMATIC: u8 = 1;
+/// A symbol's class: seen by other files.
+pub const IMAGE_SYM_CLASS_EXTERNAL: u8 = 2;
+/// A symbol's class: seen by its file alone; of value 0 it may stand for a section.
+pub const IMAGE_SYM_CLASS_STATIC: u8 = 3;
+/// A symbol's class: a variable in a register.
+pub const IMAGE_SYM_CLASS_REGISTER: u8 = 4;
+/// A symbol's class: defined elsewhere.
+pub const IMAGE_SYM_CLASS_EXTERNAL_DEF: u8 = 5;
+/// A symbol's class: a label.
+pub const IMAGE_SYM_CLASS_LABEL: u8 = 6;
+/// A symbol's class: a label that is not defined.
+pub const IMAGE_SYM_CLASS_UNDEFINED_LABEL: u8 = 7;
+/// A symbol's class: a member of a structure.
+pub const IMAGE_SYM_CLASS_MEMBER_OF_STRUCT: u8 = 8;
+/// A symbol's class: a function's argument.
+pub const IMAGE_SYM_CLASS_ARGUMENT: u8 = 9;
+/// A symbol's class: a structure's name.
+pub const IMAGE_SYM_CLASS_STRUCT_TAG: u8 = 10;
+/// A symbol's class: a member of a union.
+pub const IMAGE_SYM_CLASS_MEMBER_OF_UNION: u8 = 11;
+/// A symbol's class: a union's name.
+pub const IMAGE_SYM_CLASS_UNION_TAG: u8 = 12;
+/// A symbol's class: a type's name.
+pub const IMAGE_SYM_CLASS_TYPE_DEFINITION: u8 = 13;
+/// A symbol's class: static data that is not defined.
+pub const IMAGE_SYM_CLASS_UNDEFINED_STATIC: u8 = 14;
+/// A symbol's class: an enumeration's name.
+pub const IMAGE_SYM_CLASS_ENUM_TAG: u8 = 15;
+/// A symbol's class: a member of an enumeration.
+pub const IMAGE_SYM_CLASS_MEMBER_OF_ENUM: u8 = 16;
+/// A symbol's class: an argument in a register.
+pub const IMAGE_SYM_CLASS_REGISTER_PARAM: u8 = 17;
+/// A symbol's class: a field of bits.
+pub const IMAGE_SYM_CLASS_BIT_FIELD: u8 = 18;
+/// A symbol's class: the begin or the end of a block.
+pub const IMAGE_SYM_CLASS_BLOCK: u8 = 100;
+/// A symbol's class: the begin or the end of a function, or its lines.
+pub const IMAGE_SYM_CLASS_FUNCTION: u8 = 101;
+/// A symbol's class: the end of a structure.
+pub const IMAGE_SYM_CLASS_END_OF_STRUCT: u8 = 102;
+/// A symbol's class: a source file, whose name stands in the records behind it.
+pub const IMAGE_SYM_CLASS_FILE: u8 = 103;
+/// A symbol's class: a section.
+pub const IMAGE_SYM_CLASS_SECTION: u8 = 104;
+/// A symbol's class: defined elsewhere, or else by another symbol.
+pub const IMAGE_SYM_CLASS_WEAK_EXTERNAL: u8 = 105;
+/// A symbol's class: a token of the common language runtime.
+pub const IMAGE_SYM_CLASS_CLR_TOKEN: u8 = 107;
+/// A symbol's class: the end of a function.
+pub const IMAGE_SYM_CLASS_END_OF_FUNCTION: u8 = 255;
+
+/// Where a weak symbol is looked for: not in libraries.
+pub const IMAGE_WEAK_EXTERN_SEARCH_NOLIBRARY: u32 = 1;
+/// Where a weak symbol is looked for: in libraries too.
+pub const IMAGE_WEAK_EXTERN_SEARCH_LIBRARY: u32 = 2;
+/// Where a weak symbol is looked for: nowhere; it is another name of the other symbol.
+pub const IMAGE_WEAK_EXTERN_SEARCH_ALIAS: u32 = 3;
+
+/// Which of several COMDAT sections is taken: there may be one alone.
+pub const IMAGE_COMDAT_SELECT_NODUPLICATES: u8 = 1;
+/// Which of several COMDAT sections is taken: any.
+pub const IMAGE_COMDAT_SELECT_ANY: u8 = 2;
+/// Which of several COMDAT sections is taken: any, and all must have one size.
+pub const IMAGE_COMDAT_SELECT_SAME_SIZE: u8 = 3;
+/// Which of several COMDAT sections is taken: any, and all must be equal.
+pub const IMAGE_COMDAT_SELECT_EXACT_MATCH: u8 = 4;
+/// Which of several COMDAT sections is taken: this one where another section is taken.
+pub const IMAGE_COMDAT_SELECT_ASSOCIATIVE: u8 = 5;
+/// Which of several COMDAT sections is taken: the largest.
+pub const IMAGE_COMDAT_SELECT_LARGEST: u8 = 6;
+
+// How many bytes in front of a string table say its length. The offsets that symbols store count
+// them.
+const LENGTH_FIELD_SIZE: u32 = 4;
+
+/// A symbol, as its record describes it.
+///
+/// Source: PE Format, "Symbol Name Representation" and "COFF Symbol Table". Numbers are as stored; a
+/// record has 18 bytes.
+#[derive(Debug, PartialEq, Copy, Clone, Default)]
+pub struct Symbol {
+    /// The eight bytes of the name, padded with NULs. Where the first is 0, the name stands in the
+    /// string table, at the number in the last four.
+    pub name: [u8; 8],
+    /// What the symbol stands for, by its section and class: mostly an offset in its section.
+    pub value: u32,
+    /// The number of its section, counted from 1, or one of [`IMAGE_SYM_UNDEFINED`],
+    /// [`IMAGE_SYM_ABSOLUTE`] and [`IMAGE_SYM_DEBUG`].
+    pub section_number: i16,
+    /// Its type: an `IMAGE_SYM_TYPE_*` in the low four bits, an `IMAGE_SYM_DTYPE_*` above them.
+    pub typ: u16,
+    /// Its class, an `IMAGE_SYM_CLASS_*`.
+    pub storage_class: u8,
+    /// How many auxiliary records stand behind it.
+    pub number_of_aux_symbols: u8,
+}
+
+impl Symbol {
+    // The symbol in a record's bytes.
+    #[tactic(auto, unfolding(crate::specs::Symbols::symbol_record))]
+    fn in_record(bytes: &[u8], endian: Endian) -> Symbol
+        requires { length bytes.now ≡ 18 }
+        ensures { result ≡ symbol_record endian bytes.now }
+    {
+        Symbol {
+            name: field_array(bytes, 0),
+            value: field_u32(bytes, 8, endian),
+            section_number: field_i16(bytes, 12, endian),
+            typ: field_u16(bytes, 14, endian),
+            storage_class: field_u8(bytes, 16),
+            number_of_aux_symbols: field_u8(bytes, 17),
+        }
+    }
+
+    /// The symbol of the record at `offset`, and the name that stands in it: the text of its first
+    /// eight bytes, `None` where the first byte is 0 or they are not UTF-8 up to a NUL.
+    ///
+    /// # Errors
+    /// [`Error::Read`] where the file has no 18 bytes there.
+    pub fn parse<'a>(bytes: &'a [u8], offset: usize) -> Result<(Option<&'a str>, Symbol)>
+        ensures { Answers named_value result (record_at 18 named_symbol bytes.now offset) (IsSliceFault bytes.now offset 18) }
+    {
+        let record = pread_slice(bytes, offset, COFF_SYMBOL_SIZE)?;
+        Ok(named(record))
+    }
+
+    // The number that stands in the place of a name.
+    fn stored_number(&self) -> Option<u32>
+        ensures { result ≡ stored_number self.now.name }
+    {
+        if self.name[0] == 0 {
+            Some(field_u32(&self.name, 4, Endian::Little))
+        } else {
+            None
+        }
+    }
+
+    /// The symbol's name: where its first byte is 0, the text that `strtab` has at
+    /// [`Symbol::name_offset`], and else the text of the eight bytes.
+    ///
+    /// # Errors
+    /// [`Error::Malformed`] with [`Cause::SymbolName`] of the offset where `strtab` has no text there,
+    /// and of the stored number where that is below 4; [`Error::Read`] with `BadInput` where the eight
+    /// bytes are the name and are not UTF-8 up to a NUL.
+    pub fn name<'a>(&'a self, strtab: &'a Strtab) -> Result<&'a str>
+        ensures { Answers (λ s. s.now) result (symbol_name strtab.now self.now.name) (IsNoSymbolName strtab.now self.now.name) }
+    {
+        let Some(stored) = self.stored_number() else {
+            return pread_str_until(&self.name, 0, 8);
+        };
+        let Some(offset) = stored.checked_sub(LENGTH_FIELD_SIZE) else {
+            return Err(Error::Malformed(Cause::SymbolName(stored)));
+        };
+        match strtab.get_at(offset as usize) {
+            Some(name) => Ok(name),
+            None => Err(Error::Malformed(Cause::SymbolName(offset))),
+        }
+    }
+
+    /// Where the symbol's name stands in the string table, in bytes behind the four that say the
+    /// table's length; `None` where the name's first byte is not 0, or the stored number, which counts
+    /// those four, is below 4.
+    pub fn name_offset(&self) -> Option<u32>
+        ensures { result ≡ name_offset_of self.now.name }
+    {
+        self.stored_number()?.checked_sub(LENGTH_FIELD_SIZE)
+    }
+
+    /// Stores `offset` in the place of the name. It counts the four bytes of the string table's length,
+    /// so [`Symbol::name_offset`] is then four less, and `None` where it is below 4.
+    #[tactic(auto, using(crate::proofs::SymbolRecords::offset_name_bytes, crate::proofs::SymbolRecords::offset_name_says))]
+    pub fn set_name_offset(&mut self, offset: u32)
+        ensures name { self.new ≡ record self.old { name = offset_name offset } }
+        ensures says { name_offset_of self.new.name ≡ stored_offset offset }
+    {
+        self.name = record_bytes(&[Field::U32(0), Field::U32(offset)], Endian::Little);
+    }
+
+    /// The symbol's base type, an `IMAGE_SYM_TYPE_*`: the low four bits of its type.
+    pub fn base_type(&self) -> u16
+        ensures { result ≡ self.now.typ % 16 }
+    {
+        self.typ & IMAGE_SYM_TYPE_MASK
+    }
+
+    /// The symbol's derived type, an `IMAGE_SYM_DTYPE_*`: its type without the low four bits.
+    pub fn derived_type(&self) -> u16
+        ensures { result ≡ self.now.typ / 16 }
+    {
+        self.typ >> IMAGE_SYM_DTYPE_SHIFT
+    }
+
+    /// Whether the symbol defines a function: it is external, is a function, and has a section.
+    pub fn is_function_definition(&self) -> bool
+        ensures { IsTrue result ↔ ((self.now.storage_class ≡ 2) × (self.now.typ / 16 ≡ 2) × (pos 0 <ℤ self.now.section_number)) }
+    {
+        self.storage_class == IMAGE_SYM_CLASS_EXTERNAL
+            && self.derived_type() == IMAGE_SYM_DTYPE_FUNCTION
+            && self.section_number > 0
+    }
+
+    /// Whether the symbol is a weak external one.
+    pub fn is_weak_external(&self) -> bool
+        ensures { IsTrue result ↔ (self.now.storage_class ≡ 105) }
+    {
+        self.storage_class == IMAGE_SYM_CLASS_WEAK_EXTERNAL
+    }
+
+    /// Whether the symbol stands for a source file.
+    pub fn is_file(&self) -> bool
+        ensures { IsTrue result ↔ (self.now.storage_class ≡ 103) }
+    {
+        self.storage_class == IMAGE_SYM_CLASS_FILE
+    }
+
+    /// Whether the symbol defines a section: it is static, and auxiliary records stand behind it.
+    pub fn is_section_definition(&self) -> bool
+        ensures { IsTrue result ↔ ((self.now.storage_class ≡ 3) × (0 < self.now.number_of_aux_symbols)) }
+    {
+        self.storage_class == IMAGE_SYM_CLASS_STATIC && self.number_of_aux_symbols > 0
+    }
+
+    // The record's bytes.
+    #[tactic(auto, unfolding(crate::specs::Symbols::symbol_fields))]
+    fn to_bytes(self, endian: Endian) -> [u8; COFF_SYMBOL_SIZE]
+        ensures { result ≡ encoding endian (symbol_fields self) }
+    {
+        let fields = [
+            Field::Bytes(&self.name),
+            Field::U32(self.value),
+            Field::I16(self.section_number),
+            Field::U16(self.typ),
+            Field::U8(self.storage_class),
+            Field::U8(self.number_of_aux_symbols),
+        ];
+        record_bytes(&fields, endian)
+    }
+
+    /// Writes the record to the front of `bytes`, and answers its size. One that was read is written
+    /// as it stood, by the same order of bytes.
+    ///
+    /// # Errors
+    /// [`Error::Read`] where there is no room for 18 bytes; `bytes` are then as they were.
+    #[tactic(auto, using(crate::proofs::SymbolRecords::symbol_back))]
+    pub fn try_into_ctx(self, bytes: &mut [u8], endian: Endian) -> Result<usize>
+        ensures size { IfOk result (λ n. n ≡ 18) }
+        ensures written { Writes result (overwritten bytes.old 0 (encoding endian (symbol_fields self))) bytes.old bytes.new (IsSliceFault bytes.old 0 18) }
+        ensures back { WritesBack 18 symbol_record symbol_fields }
+    {
+        let record = self.to_bytes(endian);
+        pwrite_slice(bytes, 0, &record)?;
+        Ok(COFF_SYMBOL_SIZE)
+    }
+
+    /// The size of the record, in bytes, in either order.
+    pub fn size_with(_endian: &Endian) -> usize
+        ensures { result ≡ 18 }
+    {
+        COFF_SYMBOL_SIZE
+    }
+}
+
+impl TryFromCtx<'_> for Symbol {
+    ghost Plain = { Symbol };
+
+    ghost plain = { λ r. r };
+
+    ghost value_of = { record_in 18 symbol_record };
+
+    ghost refusal = { λ _ bytes e. IsSliceFault bytes 0 18 e };
+
+    ghost within = { record_in-within 18 symbol_record };
+
+    ghost no_memory = { λ _ bytes e. slice_fault-no_memory bytes 0 18 e };
+
+    /// Reads the record at the front of `bytes`, which takes 18 bytes.
+    ///
+    /// # Errors
+    /// [`Error::Read`] where there are no 18 bytes.
+    fn try_from_ctx(bytes: &[u8], endian: Endian) -> Result<(Symbol, usize)> {
+        let record = pread_slice(bytes, 0, COFF_SYMBOL_SIZE)?;
+        Ok((Symbol::in_record(record, endian), COFF_SYMBOL_SIZE))
+    }
+}
+
+// The name that stands in a record.
+fn inline_name(bytes: &[u8]) -> Option<&str>
+    requires { length bytes.now ≡ 18 }
+    ensures { option_map (λ s. s.now) result ≡ inline_name bytes.now }
+{
+    if bytes[0] == 0 {
+        return None;
+    }
+    pread_str_until(bytes, 0, 8).ok()
+}
+
+// The symbol of a record, and the name that stands in it.
+fn named(bytes: &[u8]) -> (Option<&str>, Symbol)
+    requires { length bytes.now ≡ 18 }
+    ensures { named_value result ≡ named_symbol bytes.now }
+{
+    (inline_name(bytes), Symbol::in_record(bytes, Endian::Little))
+}
+
+/// The symbol table of a file: records of 18 bytes, one behind the other. Behind each symbol stand its
+/// auxiliary records.
+///
+/// Source: PE Format, "COFF Symbol Table" and "Auxiliary Symbol Records". Indexes count records, also
+/// the auxiliary ones.
+#[derive(Drop)]
+pub struct SymbolTable<'a> {
+    symbols: &'a [u8],
+}
+
+impl<'a> SymbolTable<'a> {
+    /// The table of the `number` records at `offset`.
+    ///
+    /// # Errors
+    /// [`Error::Read`] where they are not all there, or begin at the end, also where there are none;
+    /// [`Error::Malformed`] with [`Cause::Overflow`] where their size passes 64 bits.
+    pub fn parse(bytes: &'a [u8], offset: usize, number: usize) -> Result<SymbolTable<'a>>
+        ensures { Answers table_bytes result (slice_at bytes.now offset (18 * number)) (IsSymbolsFault bytes.now offset number) }
+    {
+        let Some(size) = number.checked_mul(COFF_SYMBOL_SIZE) else {
+            return Err(Error::Malformed(Cause::Overflow));
+        };
+        let symbols = pread_slice(bytes, offset, size)?;
+        Ok(SymbolTable { symbols })
+    }
+
+    /// The size of `number` records, in bytes.
+    pub fn size(number: usize) -> usize
+        requires { 18 * number < 2 ^ 64 }
+        ensures { result ≡ 18 * number }
+    {
+        COFF_SYMBOL_SIZE * number
+    }
+
+    // The bytes of the record at an index.
+    fn record_at(&self, index: usize) -> Option<&'a [u8]>
+        ensures len { IfSome result (λ r. length r.now ≡ 18) }
+        ensures value { option_map (λ r. r.now) result ≡ slice_at (table_bytes self.now) (18 * index) 18 }
+    {
+        let offset = index.checked_mul(COFF_SYMBOL_SIZE)?;
+        pread_slice(self.symbols, offset, COFF_SYMBOL_SIZE).ok()
+    }
+
+    /// The record at `index`, whatever it is, read as a symbol, and the name that stands in it, as
+    /// [`Symbol::parse`] gives them. `None` where the table has no such record.
+    pub fn get(&self, index: usize) -> Option<(Option<&'a str>, Symbol)>
+        ensures { option_map named_value result ≡ record_at 18 named_symbol (table_bytes self.now) (18 * index) }
+    {
+        Some(named(self.record_at(index)?))
+    }
+
+    /// The record at `index` as a function definition; `None` where the table has no such record.
+    pub fn aux_function_definition(&self, index: usize) -> Option<AuxFunctionDefinition>
+        ensures { result ≡ record_at 18 (function_definition_record Endian.Little) (table_bytes self.now) (18 * index) }
+    {
+        let record = self.record_at(index)?;
+        Some(AuxFunctionDefinition::in_record(record, Endian::Little))
+    }
+
+    /// The record at `index` as the begin or end of a function; `None` where the table has no such
+    /// record.
+    pub fn aux_begin_and_end_function(&self, index: usize) -> Option<AuxBeginAndEndFunction>
+        ensures { result ≡ record_at 18 (begin_and_end_function_record Endian.Little) (table_bytes self.now) (18 * index) }
+    {
+        let record = self.record_at(index)?;
+        Some(AuxBeginAndEndFunction::in_record(record, Endian::Little))
+    }
+
+    /// The record at `index` as a weak external; `None` where the table has no such record.
+    pub fn aux_weak_external(&self, index: usize) -> Option<AuxWeakExternal>
+        ensures { result ≡ record_at 18 (weak_external_record Endian.Little) (table_bytes self.now) (18 * index) }
+    {
+        let record = self.record_at(index)?;
+        Some(AuxWeakExternal::in_record(record, Endian::Little))
+    }
+
+    /// The record at `index` as a section definition; `None` where the table has no such record.
+    pub fn aux_section_definition(&self, index: usize) -> Option<AuxSectionDefinition>
+        ensures { result ≡ record_at 18 (section_definition_record Endian.Little) (table_bytes self.now) (18 * index) }
+    {
+        let record = self.record_at(index)?;
+        Some(AuxSectionDefinition::in_record(record, Endian::Little))
+    }
+
+    /// The name of a source file, which stands in the `number` records from `index` on: their text up
+    /// to a NUL. `None` where they are not all there, begin at the end, or are not UTF-8.
+    pub fn aux_file(&self, index: usize, number: usize) -> Option<&'a str>
+        ensures { option_map (λ s. s.now) result ≡ file_name_at (table_bytes self.now) index number }
+    {
+        let offset = index.checked_mul(COFF_SYMBOL_SIZE)?;
+        let size = number.checked_mul(COFF_SYMBOL_SIZE)?;
+        pread_str_until(self.symbols, offset, size).ok()
+    }
+
+    /// The symbols, each with its index and the name that stands in it, without the auxiliary records
+    /// behind them.
+    pub fn iter(&self) -> SymbolIterator<'a>
+        ensures items { symbols_left result ≡ symbols_in (table_bytes self.now) }
+        ensures heads { AreSymbolsOf (table_bytes self.now) (symbols_left result) }
+    {
+        SymbolIterator {
+            symbols: self.symbols,
+            index: 0,
+        }
+    }
+
+    /// Writes the records to the front of `bytes` as they stand, whatever the order of bytes, and
+    /// answers their size.
+    ///
+    /// # Errors
+    /// [`Error::Read`] where there is no room, and where `bytes` are empty; they are then as they were.
+    pub fn try_into_ctx(self, bytes: &mut [u8], _endian: Endian) -> Result<usize>
+        ensures size { IfOk result (λ n. n ≡ length (table_bytes self.entry)) }
+        ensures written { Writes result (overwritten bytes.old 0 (table_bytes self.entry)) bytes.old bytes.new (IsSliceFault bytes.old 0 (length (table_bytes self.entry))) }
+    {
+        pwrite_slice(bytes, 0, self.symbols)?;
+        Ok(self.symbols.len())
+    }
+}
+
+/// The symbols of a table: each with its index and the name that stands in it, in order.
+#[derive(Default, Drop)]
+pub struct SymbolIterator<'a> {
+    symbols: &'a [u8],
+    index: usize,
+}
+
+impl<'a> Iterator for SymbolIterator<'a> {
+    type Item = (usize, Option<&'a str>, Symbol);
+
+    ghost next_gives = { YieldsFirstBy symbol_item symbols_left };
+
+    ghost remaining = { item_count symbols_left };
+
+    fn next(&mut self) -> Option<(usize, Option<&'a str>, Symbol)> {
+        let index = self.index;
+        if self.symbols.len() / COFF_SYMBOL_SIZE <= index {
+            return None;
+        }
+        let offset = COFF_SYMBOL_SIZE * index;
+        let (name, symbol) = named(&self.symbols[offset..offset + COFF_SYMBOL_SIZE]);
+        self.index = index + 1 + symbol.number_of_aux_symbols as usize;
+        Some((index, name, symbol))
+    }
+
+    /// No more come than there are records left.
+    #[tactic(auto, using(crate::proofs::SymbolHeads::symbols_most))]
+    fn size_hint(&self) -> (usize, Option<usize>)
+        ensures lower { IsWithinCount result.0 (at_most (length (symbols_left self.now))) }
+        ensures upper { IfSome result.1 (UpTo (at_most (length (symbols_left self.now)))) }
+        ensures bounded { IsSomeAnd result.1 (λ n. n ≤ length self.now.symbols.now / 18) }
+    {
+        let records = self.symbols.len() / COFF_SYMBOL_SIZE;
+        (0, Some(records.saturating_sub(self.index)))
+    }
+}
