@@ -4,3 +4,4 @@ mod Grammar
 pub mod ImportBack
 pub mod Imports
 pub mod Modes
+pub mod Parts

@@ -5,3 +5,4 @@ pub mod ImportDirectory
 pub mod ImportLookup
 pub mod ImportViews
 pub mod Imports
+pub mod Whole

@@ -1,0 +1,182 @@
+-- A whole file: its header, its sections, and the tables to which its directories lead.
+use Rattle.std.specs.Prelude.{◌≡◌, ℕ, ◌+◌, ◌^◌, ◌==◌, Bool, true, false, if◌then◌else◌, List, Option, Some, None, Result, Ok, Err, Vec}
+use Rattle.std.specs.Global.{Global}
+use Rattle.goblin_base.specs.declared.error.ErrorOf.{ErrorOf}
+use Rattle.goblin_base.specs.declared.error.ErrorOf.TheVariants.{Memory}
+use Rattle.goblin_base.specs.Steps.{◌>>=◌, FirstFault}
+use Rattle.goblin_base.specs.Tables.{Format}
+use Rattle.goblin_base.specs.Bytes.{number}
+use Rattle.goblin_base.specs.declared.endian.Endian.TheVariants.{Little}
+use Rattle.goblin_pe_sect.specs.declared.data_directories.DataDirectory.{DataDirectory}
+use Rattle.goblin_pe_sect.specs.declared.options.ParseOptions.{ParseOptions}
+use Rattle.goblin_pe_sect.specs.BaseRelocations.{IsRelocationDataFault, relocation_data}
+use Rattle.goblin_pe_sect.specs.DataDirectories.{directory_in}
+use Rattle.goblin_pe_sect.specs.Mapping.{file_offset}
+use Rattle.goblin_pe_sect.specs.Options.{is_strict}
+use Rattle.goblin_pe_sect.specs.SectionTable.{Section}
+use Rattle.goblin_pe_head.specs.declared.optional_header.OptionalHeader.{OptionalHeader}
+use Rattle.goblin_pe_head.specs.PeHeader.{PeHeader, pe_header, IsHeaderFault}
+use Rattle.goblin_pe_head.specs.Sections.{IsSectionsFault, sections_at, string_table_offset}
+use Rattle.goblin_pe.specs.declared.whole.Part.{Part}
+use Rattle.goblin_pe.specs.declared.whole.Part.TheVariants.{Absent, Refused}
+use Rattle.goblin_pe.specs.declared.whole.Part.TheVariants as part
+use Rattle.goblin_pe.specs.declared.whole.Tables.{Tables}
+use Rattle.goblin_pe.specs.Exports.{ExportRow, ExportTables, IsExportDataFault, export_data, exports}
+use Rattle.goblin_pe.specs.ImportDirectory.{ImportedLibrary, IsImportDataFault, import_data}
+use Rattle.goblin_pe.specs.ImportLookup.{EntryValue, entry_value}
+use Rattle.goblin_pe.specs.Imports.{ImportValue, IsOverflow, imports_of}
+
+-- ---- parts
+
+-- a table as a part of a file; strict mode has no part for one that is refused
+unfoldable pub part_of : {A : Type 0} → Bool → Option A → Option (Part A)
+part_of strict (Some table) = Some (part.Read table)
+part_of true None = None
+part_of false None = Some Refused
+
+-- the table of a directory, if there is one
+unfoldable pub part_at : {A : Type 0} → Bool → (DataDirectory → Option A) → Option DataDirectory → Option (Part A)
+part_at strict table None = Some Absent
+part_at strict table (Some directory) = part_of strict (table directory)
+
+-- a table that is made from another part
+unfoldable pub part_then : {A B : Type 0} → Bool → (A → Option B) → Part A → Option (Part B)
+part_then strict table Absent = Some Absent
+part_then strict table (part.Read from) = part_of strict (table from)
+part_then strict table Refused = Some Refused
+
+-- the same where there always is a table
+unfoldable pub part_map : {A B : Type 0} → (A → B) → Part A → Part B
+part_map table Absent = Absent
+part_map table (part.Read from) = part.Read (table from)
+part_map table Refused = Refused
+
+-- What becomes of a table that was asked for: it is read; strict mode refuses all where it is refused, permissive mode keeps that it is, and want of memory refuses all in both.
+abbrev pub BecomesPart : {A : Type 0} → Bool → Result A ErrorOf → Result (Part A) ErrorOf → Type 0
+BecomesPart strict (Ok table) result = result ≡ Ok (part.Read table)
+BecomesPart strict (Err (Memory m)) result = result ≡ Err (Memory m)
+BecomesPart true (Err e) result = result ≡ Err e
+BecomesPart false (Err e) result = result ≡ Ok Refused
+
+-- which cause is true of the table of a directory that refuses all
+abbrev pub IsPartAtFault : Bool → (DataDirectory → ErrorOf → Type 0) → Option DataDirectory → ErrorOf → Type 0
+IsPartAtFault strict IsFault None e = ⊥
+IsPartAtFault strict IsFault (Some directory) e = (strict ≡ true) × IsFault directory e
+
+-- which cause is true of a table made from another part that refuses all
+abbrev pub IsPartThenFault : {A : Type 0} → Bool → (ErrorOf → Type 0) → Part A → ErrorOf → Type 0
+IsPartThenFault strict IsFault Absent e = ⊥
+IsPartThenFault strict IsFault (part.Read from) e = (strict ≡ true) × IsFault e
+IsPartThenFault strict IsFault Refused e = ⊥
+
+-- ---- the tables
+
+-- where the tables lie by an optional header, and how they are read; without one there are none
+unfoldable pub tables_of : Option OptionalHeader → Tables
+tables_of None = record { magic = 0; file_alignment = 0; exports = None; imports = None; relocations = None }
+tables_of (Some h) = record {
+  magic = h.standard_fields.magic;
+  file_alignment = h.windows_fields.file_alignment;
+  exports = directory_in h.data_directories.data_directories 0;
+  imports = directory_in h.data_directories.data_directories 1;
+  relocations = directory_in h.data_directories.data_directories 5;
+}
+
+-- the entries of the import tables: of four bytes by the magic of 32 bits, else of eight
+unfoldable pub entry_format : ℕ → Format EntryValue
+entry_format magic =
+    if magic == 0x10B then record { width = 4; value_of = λ bytes. entry_value (2 ^ 31) (number Little 4 bytes 0) }
+    else record { width = 8; value_of = λ bytes. entry_value (2 ^ 63) (number Little 8 bytes 0) }
+
+-- the file offset of an address
+abbrev pub offset_by : ParseOptions → List Section → Tables → ℕ → Option ℕ
+offset_by opts sections tables = file_offset opts sections tables.file_alignment
+
+-- the import data; there is none where imports are not asked for
+unfoldable pub import_data_part : ParseOptions → List Section → List ℕ → Tables → Option (Part (List ImportedLibrary))
+import_data_part opts sections bytes tables =
+    if opts.parse_imports
+    then part_at (is_strict opts.parse_mode) (λ d. import_data (is_strict opts.parse_mode) (entry_format tables.magic) (offset_by opts sections tables) bytes d.virtual_address) tables.imports
+    else Some Absent
+
+-- the list of imports
+unfoldable pub imports_part : ParseOptions → Tables → Part (List ImportedLibrary) → Option (Part (List ImportValue))
+imports_part opts tables libraries = part_then (is_strict opts.parse_mode) (imports_of (entry_format tables.magic).width) libraries
+
+-- the export data
+unfoldable pub export_data_part : ParseOptions → List Section → List ℕ → Tables → Option (Part ExportTables)
+export_data_part opts sections bytes tables = part_at (is_strict opts.parse_mode) (λ d. export_data (offset_by opts sections tables) d bytes) tables.exports
+
+-- the list of exports
+unfoldable pub exports_part : ParseOptions → List Section → List ℕ → Tables → Part ExportTables → Part (List ExportRow)
+exports_part opts sections bytes tables tables_read = part_map (exports (offset_by opts sections tables) bytes) tables_read
+
+-- the bytes of the base relocations
+unfoldable pub relocations_part : ParseOptions → List Section → List ℕ → Tables → Option (Part (List ℕ))
+relocations_part opts sections bytes tables = part_at (is_strict opts.parse_mode) (relocation_data (offset_by opts sections tables) bytes) tables.relocations
+
+-- ---- the whole file
+
+-- a whole file, its texts and slices as their bytes
+pub record WholeFile : Type 0 where
+  pub header : PeHeader
+  pub sections : List Section
+  pub import_data : Part (List ImportedLibrary)
+  pub imports : Part (List ImportValue)
+  pub export_data : Part ExportTables
+  pub exports : Part (List ExportRow)
+  pub relocations : Part (List ℕ)
+
+-- where the section table stands: behind the optional header, by the size that the COFF header says
+abbrev pub section_table_offset : PeHeader → ℕ
+section_table_offset h = h.dos_header.pe_pointer + 24 + h.coff_header.size_of_optional_header
+
+-- the sections of a file with this header
+unfoldable pub file_sections : Bool → List ℕ → PeHeader → Option (List Section)
+file_sections strict bytes h = sections_at strict (string_table_offset h.coff_header) h.coff_header.number_of_sections bytes (section_table_offset h)
+
+-- a whole file: its header and its sections, which have to be there in both modes, and its tables
+unfoldable pub whole_file : ParseOptions → List ℕ → Option WholeFile
+whole_file opts bytes = do
+  header ← pe_header (is_strict opts.parse_mode) bytes
+  sections ← file_sections (is_strict opts.parse_mode) bytes header
+  import_data ← import_data_part opts sections bytes (tables_of header.optional_header)
+  imports ← imports_part opts (tables_of header.optional_header) import_data
+  export_data ← export_data_part opts sections bytes (tables_of header.optional_header)
+  relocations ← relocations_part opts sections bytes (tables_of header.optional_header)
+  Some (record {
+    header = header;
+    sections = sections;
+    import_data = import_data;
+    imports = imports;
+    export_data = export_data;
+    exports = exports_part opts sections bytes (tables_of header.optional_header) export_data;
+    relocations = relocations;
+  })
+
+-- which cause is true of import data that refuses all
+abbrev pub IsImportPartFault : ParseOptions → List Section → List ℕ → Tables → ErrorOf → Type 0
+IsImportPartFault opts sections bytes tables =
+    IsPartAtFault (is_strict opts.parse_mode) (λ d. IsImportDataFault (is_strict opts.parse_mode) (entry_format tables.magic) (offset_by opts sections tables) bytes d.virtual_address) tables.imports
+
+-- which cause is true of export data that refuses all
+abbrev pub IsExportPartFault : ParseOptions → List Section → List ℕ → Tables → ErrorOf → Type 0
+IsExportPartFault opts sections bytes tables = IsPartAtFault (is_strict opts.parse_mode) (λ d. IsExportDataFault (offset_by opts sections tables) d bytes) tables.exports
+
+-- which cause is true of base relocations that refuse all
+abbrev pub IsRelocationsPartFault : ParseOptions → List Section → List ℕ → Tables → ErrorOf → Type 0
+IsRelocationsPartFault opts sections bytes tables = IsPartAtFault (is_strict opts.parse_mode) (IsRelocationDataFault (offset_by opts sections tables) bytes) tables.relocations
+
+-- which cause is true of a file that is refused: that of the first part that is not there
+unfoldable pub IsWholeFault : ParseOptions → List ℕ → ErrorOf → Type 0
+IsWholeFault opts bytes =
+    FirstFault (pe_header (is_strict opts.parse_mode) bytes) (IsHeaderFault (is_strict opts.parse_mode) bytes) (λ header.
+    FirstFault (file_sections (is_strict opts.parse_mode) bytes header) (IsSectionsFault (is_strict opts.parse_mode) header.coff_header.number_of_sections bytes (section_table_offset header)) (λ sections.
+    FirstFault (import_data_part opts sections bytes (tables_of header.optional_header)) (IsImportPartFault opts sections bytes (tables_of header.optional_header)) (λ import_data.
+    FirstFault (imports_part opts (tables_of header.optional_header) import_data) (IsPartThenFault (is_strict opts.parse_mode) IsOverflow import_data) (λ imports.
+    FirstFault (export_data_part opts sections bytes (tables_of header.optional_header)) (IsExportPartFault opts sections bytes (tables_of header.optional_header)) (λ export_data.
+    FirstFault (relocations_part opts sections bytes (tables_of header.optional_header)) (IsRelocationsPartFault opts sections bytes (tables_of header.optional_header)) (λ relocations e. ⊥))))))
+
+-- a list that a part owns, as its items
+abbrev pub items_part : {A : Type 0} → Part (Vec A Global) → Part (List A)
+items_part part = part_map (λ v. v.items) part

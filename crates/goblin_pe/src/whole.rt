@@ -1,0 +1,319 @@
+//! A whole file: its header, its sections, and the tables to which its directories lead.
+
+ghost use Rattle.std.specs.Prelude.{◌≡◌};
+ghost use Rattle.goblin_base.specs.Answers.{Answers, AnswersOrMemory};
+ghost use Rattle.goblin_pe_sect.specs.BaseRelocations.{relocation_bytes};
+ghost use Rattle.goblin_pe_sect.specs.Options.{is_strict};
+ghost use Rattle.goblin_pe_head.specs.PeHeader.{header_value};
+ghost use Rattle.goblin_pe_head.specs.Sections.{IsSectionsFault};
+ghost use Rattle.goblin_pe.specs.Exports.{GivesOrMemory};
+ghost use Rattle.goblin_pe.specs.ImportDirectory.{IsImportDataFault, import_data};
+ghost use Rattle.goblin_pe.specs.Imports.{IsOverflow, imports_of};
+ghost use Rattle.goblin_pe.specs.Whole.{BecomesPart, IsExportPartFault, IsImportPartFault, IsPartThenFault, IsRelocationsPartFault, IsWholeFault, entry_format, export_data_part, exports_part, file_sections, import_data_part, imports_part, items_part, offset_by, part_map, relocations_part, section_table_offset, tables_of, whole_file};
+
+use crate::export::{Export, ExportData};
+use crate::import::{Import, ImportData};
+use goblin_base::{Error, Result};
+use goblin_pe_head::header::{Header, SIZEOF_COFF_HEADER, SIZEOF_PE_MAGIC};
+use goblin_pe_head::optional_header::{MAGIC_32, OptionalHeader};
+use goblin_pe_sect::relocation::RelocationData;
+use goblin_pe_sect::{DataDirectory, ParseOptions, SectionTable};
+use std::alloc::Global;
+use std::marker::Model;
+
+/// A table of a file.
+#[derive(Debug, Drop)]
+pub enum Part<T> {
+    /// The file has no such table, or it was not asked for.
+    Absent,
+    /// The table.
+    Read(T),
+    /// The table is refused.
+    Refused,
+}
+
+/// A whole file.
+///
+/// Source: PE Format, "Overview".
+#[derive(Debug, Drop)]
+pub struct Whole<'a> {
+    /// The header.
+    pub header: Header<'a>,
+    /// The sections, in the order of their records.
+    pub sections: Vec<SectionTable>,
+    /// What the import directory leads to.
+    pub import_data: Part<ImportData<'a>>,
+    /// The imports of the import data.
+    pub imports: Part<Vec<Import<'a>>>,
+    /// What the export directory leads to.
+    pub export_data: Part<ExportData<'a>>,
+    /// The exports of the export data.
+    pub exports: Part<Vec<Export<'a>>>,
+    /// The base relocations.
+    pub relocations: Part<RelocationData<'a>>,
+}
+
+impl<'a> Model for Whole<'a> {
+    ghost use Rattle.goblin_pe_sect.specs.BaseRelocations.{relocation_bytes};
+    ghost use Rattle.goblin_pe_head.specs.PeHeader.{header_value};
+    ghost use Rattle.goblin_pe.specs.Whole.{WholeFile, items_part, part_map};
+
+    ghost Value = { WholeFile };
+
+    ghost view = { λ x. record {
+      header = header_value x.header;
+      sections = x.sections.items;
+      import_data = x.import_data;
+      imports = items_part x.imports;
+      export_data = x.export_data;
+      exports = items_part x.exports;
+      relocations = part_map relocation_bytes x.relocations;
+    } };
+}
+
+// What becomes of a table that was asked for. Permissive mode passes over each refusal but that for
+// want of memory.
+fn part_of<T: Drop>(table: Result<T>, opts: &ParseOptions) -> Result<Part<T>>
+    ensures { BecomesPart (is_strict opts.now.parse_mode) table.entry result }
+{
+    match table {
+        Ok(table) => Ok(Part::Read(table)),
+        Err(Error::Memory(error)) => Err(Error::Memory(error)),
+        Err(_) if opts.parse_mode.is_permissive() => Ok(Part::Refused),
+        Err(error) => Err(error),
+    }
+}
+
+// Where the tables of a file lie, and how they are read.
+#[derive(Copy, Clone)]
+struct Tables {
+    magic: u16,
+    file_alignment: u32,
+    exports: Option<DataDirectory>,
+    imports: Option<DataDirectory>,
+    relocations: Option<DataDirectory>,
+}
+
+impl Tables {
+    // By an optional header; without one there are none.
+    #[tactic(auto, unfolding(crate::specs::Whole::tables_of))]
+    fn of(header: &Option<OptionalHeader>) -> Tables
+        ensures { result ≡ tables_of header.now }
+    {
+        let Some(header) = header else {
+            return Tables {
+                magic: 0,
+                file_alignment: 0,
+                exports: None,
+                imports: None,
+                relocations: None,
+            };
+        };
+        Tables {
+            magic: header.standard_fields.magic,
+            file_alignment: header.windows_fields.file_alignment,
+            exports: header.data_directories.get_export_table().copied(),
+            imports: header.data_directories.get_import_table().copied(),
+            relocations: header.data_directories.get_base_relocation_table().copied(),
+        }
+    }
+
+    // The import data of a directory, whose entries have four bytes by the magic of 32 bits, else
+    // eight.
+    #[tactic(auto, unfolding(crate::specs::Whole::entry_format))]
+    fn import_data_of<'a>(
+        &self,
+        alloc: Global,
+        bytes: &'a [u8],
+        directory: DataDirectory,
+        sections: &[SectionTable],
+        opts: &ParseOptions,
+    ) -> Result<ImportData<'a>>
+        ensures { let strict = is_strict opts.now.parse_mode in
+            let offset_of = offset_by opts.now sections.now self.now in
+            AnswersOrMemory (λ x. x) result (import_data strict (entry_format self.now.magic) offset_of bytes.now directory.virtual_address) (IsImportDataFault strict (entry_format self.now.magic) offset_of bytes.now directory.virtual_address) }
+    {
+        let alignment = self.file_alignment;
+        if self.magic == MAGIC_32 {
+            ImportData::parse_with_opts::<u32>(alloc, bytes, directory, sections, alignment, opts)
+        } else {
+            ImportData::parse_with_opts::<u64>(alloc, bytes, directory, sections, alignment, opts)
+        }
+    }
+
+    // The import data.
+    #[tactic(auto, unfolding(crate::specs::Whole::import_data_part, crate::specs::Whole::part_at), using(crate::proofs::Parts::becomes_same))]
+    fn import_data<'a>(
+        &self,
+        alloc: Global,
+        bytes: &'a [u8],
+        sections: &[SectionTable],
+        opts: &ParseOptions,
+    ) -> Result<Part<ImportData<'a>>>
+        ensures { AnswersOrMemory (λ x. x) result (import_data_part opts.now sections.now bytes.now self.now) (IsImportPartFault opts.now sections.now bytes.now self.now) }
+    {
+        match self.imports {
+            Some(directory) if opts.parse_imports => part_of(
+                self.import_data_of(alloc, bytes, directory, sections, opts),
+                opts,
+            ),
+            _ => Ok(Part::Absent),
+        }
+    }
+
+    // The imports of import data.
+    #[tactic(auto, unfolding(crate::specs::Whole::entry_format))]
+    fn imports_of<'a>(
+        &self,
+        alloc: Global,
+        bytes: &'a [u8],
+        data: &ImportData<'a>,
+        sections: &[SectionTable],
+    ) -> Result<Vec<Import<'a>>>
+        ensures { AnswersOrMemory (λ v. v.items) result (imports_of (entry_format self.now.magic).width data.now) IsOverflow }
+    {
+        if self.magic == MAGIC_32 {
+            Import::parse::<u32>(alloc, bytes, data, sections)
+        } else {
+            Import::parse::<u64>(alloc, bytes, data, sections)
+        }
+    }
+
+    // The list of imports.
+    #[tactic(auto, unfolding(crate::specs::Whole::imports_part, crate::specs::Whole::part_then, crate::specs::Whole::part_map), using(crate::proofs::Parts::becomes_part))]
+    fn imports<'a>(
+        &self,
+        alloc: Global,
+        bytes: &'a [u8],
+        import_data: &Part<ImportData<'a>>,
+        sections: &[SectionTable],
+        opts: &ParseOptions,
+    ) -> Result<Part<Vec<Import<'a>>>>
+        ensures { AnswersOrMemory items_part result (imports_part opts.now self.now import_data.now) (IsPartThenFault (is_strict opts.now.parse_mode) IsOverflow import_data.now) }
+    {
+        match import_data {
+            Part::Absent => Ok(Part::Absent),
+            Part::Read(data) => part_of(self.imports_of(alloc, bytes, data, sections), opts),
+            Part::Refused => Ok(Part::Refused),
+        }
+    }
+
+    // The export data.
+    #[tactic(auto, unfolding(crate::specs::Whole::export_data_part, crate::specs::Whole::part_at), using(crate::proofs::Parts::becomes_same))]
+    fn export_data<'a>(
+        &self,
+        alloc: Global,
+        bytes: &'a [u8],
+        sections: &[SectionTable],
+        opts: &ParseOptions,
+    ) -> Result<Part<ExportData<'a>>>
+        ensures { AnswersOrMemory (λ x. x) result (export_data_part opts.now sections.now bytes.now self.now) (IsExportPartFault opts.now sections.now bytes.now self.now) }
+    {
+        let Some(directory) = self.exports else {
+            return Ok(Part::Absent);
+        };
+        let alignment = self.file_alignment;
+        part_of(
+            ExportData::parse_with_opts(alloc, bytes, directory, sections, alignment, opts),
+            opts,
+        )
+    }
+
+    // The list of exports.
+    #[tactic(auto, unfolding(crate::specs::Whole::exports_part, crate::specs::Whole::part_map))]
+    fn exports<'a>(
+        &self,
+        alloc: Global,
+        bytes: &'a [u8],
+        export_data: &Part<ExportData<'a>>,
+        sections: &[SectionTable],
+        opts: &ParseOptions,
+    ) -> Result<Part<Vec<Export<'a>>>>
+        ensures { GivesOrMemory items_part result (exports_part opts.now sections.now bytes.now self.now export_data.now) }
+    {
+        match export_data {
+            Part::Absent => Ok(Part::Absent),
+            Part::Read(data) => {
+                let alignment = self.file_alignment;
+                let exports = Export::parse_with_opts(
+                    alloc, bytes, data, sections, alignment, opts,
+                )?;
+                Ok(Part::Read(exports))
+            }
+            Part::Refused => Ok(Part::Refused),
+        }
+    }
+
+    // The base relocations.
+    #[tactic(auto, unfolding(crate::specs::Whole::relocations_part, crate::specs::Whole::part_at, crate::specs::Whole::part_map), using(crate::proofs::Parts::becomes_always))]
+    fn relocations<'a>(
+        &self,
+        bytes: &'a [u8],
+        sections: &[SectionTable],
+        opts: &ParseOptions,
+    ) -> Result<Part<RelocationData<'a>>>
+        ensures { AnswersOrMemory (part_map relocation_bytes) result (relocations_part opts.now sections.now bytes.now self.now) (IsRelocationsPartFault opts.now sections.now bytes.now self.now) }
+    {
+        let Some(directory) = self.relocations else {
+            return Ok(Part::Absent);
+        };
+        let alignment = self.file_alignment;
+        part_of(
+            RelocationData::parse_with_opts(bytes, directory, sections, alignment, opts),
+            opts,
+        )
+    }
+}
+
+// The sections of a file with this header, whose records stand behind the optional header.
+#[tactic(auto, unfolding(crate::specs::Whole::file_sections))]
+fn sections_of(
+    alloc: Global,
+    bytes: &[u8],
+    header: &Header,
+    opts: &ParseOptions,
+) -> Result<Vec<SectionTable>>
+    ensures { AnswersOrMemory (λ v. v.items) result (file_sections (is_strict opts.now.parse_mode) bytes.now (header_value header.now)) (IsSectionsFault (is_strict opts.now.parse_mode) header.now.coff_header.number_of_sections bytes.now (section_table_offset (header_value header.now))) }
+{
+    let coff_header = &header.coff_header;
+    let mut offset = header.dos_header.pe_pointer as usize + SIZEOF_PE_MAGIC + SIZEOF_COFF_HEADER;
+    offset += coff_header.size_of_optional_header as usize;
+    coff_header.sections_with_opts(alloc, bytes, &mut offset, opts)
+}
+
+impl<'a> Whole<'a> {
+    /// Reads a whole file: its header, its sections, its imports, exports and base relocations. The
+    /// entries of its import tables have four bytes by the magic of 32 bits, else eight; addresses
+    /// are mapped by the header's file alignment.
+    ///
+    /// A table is absent where there is no optional header or no directory for it; the imports also
+    /// where they are not asked for. In permissive mode a table that is refused is
+    /// [`Part::Refused`], and so is the list that would be made from it.
+    ///
+    /// # Errors
+    /// As [`Header::parse_with_opts`]; as
+    /// [`CoffHeader::sections_with_opts`](goblin_pe_head::CoffHeader::sections_with_opts); in strict
+    /// mode as the readers of the tables; [`Error::Memory`] where memory is refused, in both modes.
+    #[tactic(auto, unfolding(crate::specs::Whole::whole_file, crate::specs::Whole::IsWholeFault))]
+    pub fn read(alloc: Global, bytes: &'a [u8], opts: &ParseOptions) -> Result<Whole<'a>>
+        ensures { AnswersOrMemory (λ x. x) result (whole_file opts.now bytes.now) (IsWholeFault opts.now bytes.now) }
+    {
+        let header = Header::parse_with_opts(bytes, opts)?;
+        let sections = sections_of(alloc, bytes, &header, opts)?;
+        let tables = Tables::of(&header.optional_header);
+        let import_data = tables.import_data(alloc, bytes, &sections, opts)?;
+        let imports = tables.imports(alloc, bytes, &import_data, &sections, opts)?;
+        let export_data = tables.export_data(alloc, bytes, &sections, opts)?;
+        let exports = tables.exports(alloc, bytes, &export_data, &sections, opts)?;
+        let relocations = tables.relocations(bytes, &sections, opts)?;
+        Ok(Whole {
+            header,
+            sections,
+            import_data,
+            imports,
+            export_data,
+            exports,
+            relocations,
+        })
+    }
+}
