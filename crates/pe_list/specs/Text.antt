@@ -1,11 +1,15 @@
 -- The pieces of a line: numbers and names as text.
 use Rattle.std.specs.Prelude.{ℕ, List, [], ◌∷◌, ◌++◌, Bool, false, ◌==◌, nat_le, not, ◌&&◌, codes, if◌then◌else◌, ◌/◌, ◌%◌}
 use Rattle.std.specs.List.{flat_map}
-use Rattle.std.specs.Fmt.{digits, digit_glyph}
+use Rattle.std.specs.Fmt.{decimal, digits, digit_glyph}
 
 -- a label, and a number in hexadecimal: `0x` and lower-case digits without leading zeros
 unfoldable pub hex_field : List ℕ → ℕ → List ℕ
 hex_field label n = label ++ codes "0x" ++ digits 16 false n
+
+-- a label, and a number in decimal
+unfoldable pub decimal_field : List ℕ → ℕ → List ℕ
+decimal_field label n = label ++ decimal n
 
 -- the printable characters but the backslash stand for themselves
 abbrev pub is_plain : ℕ → Bool
@@ -18,3 +22,7 @@ escaped_byte b = if is_plain b then b ∷ [] else codes "\\x" ++ digit_glyph fal
 -- a name, as it is printed
 abbrev pub escaped : List ℕ → List ℕ
 escaped name = flat_map escaped_byte name
+
+-- a label, and a name
+unfoldable pub name_field : List ℕ → List ℕ → List ℕ
+name_field label name = label ++ escaped name

@@ -1,62 +1,99 @@
 //! The lines that list a file.
 
-ghost use Rattle.std.specs.Prelude.{◌≡◌, ◌++◌, OnOk, string_bytes};
+ghost use Rattle.std.specs.Prelude.{◌≡◌, ◌++◌, ℕ, List, OnOk, codes, length, option_map, string_bytes};
+ghost use Rattle.std.specs.List.{flat_map};
 ghost use Rattle.goblin_base.specs.Answers.{AnswersOrMemory};
-ghost use Rattle.pe_list.specs.Lines.{section_line, section_lines, shown_name};
-ghost use Rattle.pe_list.specs.Listing.{IsLayoutFault, layout_of, listing_of};
+ghost use Rattle.goblin_pe_head.specs.PeHeader.{header_value};
+ghost use Rattle.goblin_pe_sect.specs.BaseRelocations.{block_item, block_items, relocation_bytes};
+ghost use Rattle.goblin_pe.specs.Forwarders.{forwarder_value};
+ghost use Rattle.goblin_pe.specs.Whole.{items_part, part_map};
+ghost use Rattle.pe_list.specs.Lines.{block_count, block_line, export_line, forward_field, header_line, if_there, import_line, optional_fields, part_lines, relocation_lines, section_line, shown_name, whole_lines};
+ghost use Rattle.pe_list.specs.Listing.{IsLayoutFault, listing_of};
+ghost use Rattle.pe_list.specs.Text.{hex_field, name_field};
 
-use crate::text::{push_escaped, push_hex};
+use crate::text::{push_decimal, push_hex, push_name};
 use goblin_base::{Error, ParseMode, before_nul};
-use goblin_pe_head::header::{CoffHeader, DosHeader, SIZEOF_PE_MAGIC};
-use goblin_pe_sect::{ParseOptions, SectionTable};
+use goblin_pe::export::{Export, Reexport};
+use goblin_pe::header::Header;
+use goblin_pe::import::Import;
+use goblin_pe::optional_header::OptionalHeader;
+use goblin_pe::options::ParseOptions;
+use goblin_pe::relocation::{RelocationBlock, RelocationData};
+use goblin_pe::section_table::SectionTable;
+use goblin_pe::{Part, Whole};
 use std::alloc::{AllocError, Global};
 
-/// The listing of a file: a line for each section.
+/// The listing of a file: a line for the header, for each section, and for each table of the file with
+/// its entries.
 ///
 /// # Errors
-/// Those of [`DosHeader::parse`], [`CoffHeader::parse`] and [`CoffHeader::sections_with_opts`] in this mode, in this order;
-/// [`Error::Memory`] where memory is refused.
+/// Those of [`Whole::read`] in this mode; [`Error::Memory`] where memory is refused.
 pub fn list(alloc: Global, bytes: &[u8], mode: ParseMode) -> Result<String, Error>
     ensures { AnswersOrMemory (λ text. string_bytes text) result (listing_of mode bytes.now) (IsLayoutFault mode bytes.now) }
 {
-    let sections = read_sections(alloc, bytes, mode)?;
+    let opts = ParseOptions::default().with_parse_mode(mode);
+    let whole = Whole::read(alloc, bytes, &opts)?;
     let mut text = String::new(alloc);
-    push_sections(&mut text, &sections)?;
+    push_whole(&mut text, &whole)?;
     Ok(text)
 }
 
-// The sections behind the optional header of the PE header to which the DOS header points.
-fn read_sections(alloc: Global, bytes: &[u8], mode: ParseMode) -> Result<Vec<SectionTable>, Error>
-    ensures { AnswersOrMemory (λ sections. sections.items) result (layout_of mode bytes.now) (IsLayoutFault mode bytes.now) }
-{
-    let dos = DosHeader::parse(bytes)?;
-    let mut offset = dos.pe_pointer as usize + SIZEOF_PE_MAGIC;
-    let coff = CoffHeader::parse(bytes, &mut offset)?;
-    offset += coff.size_of_optional_header as usize;
-    let opts = ParseOptions::default().with_parse_mode(mode);
-    coff.sections_with_opts(alloc, bytes, &mut offset, &opts)
+/// A value that the listing has a line for.
+trait Listed {
+    ghost line: { Self → List ℕ };
+
+    fn push_line(&self, text: &mut String) -> Result<(), AllocError>
+        ensures { OnOk result (string_bytes text.new ≡ string_bytes text.old ++ line self.now) };
 }
 
-fn push_sections(text: &mut String, sections: &[SectionTable]) -> Result<(), AllocError>
-    ensures { OnOk result (string_bytes text.new ≡ string_bytes text.old ++ section_lines sections.now) }
+fn push_whole(text: &mut String, whole: &Whole) -> Result<(), AllocError>
+    ensures { OnOk result (string_bytes text.new ≡ string_bytes text.old ++ whole_lines whole.now) }
 {
-    'lines: for section in sections {
-        push_section(text, section)?;
+    push_header(text, &whole.header)?;
+    push_lines(text, &whole.sections)?;
+    push_part(text, "imports", &whole.imports)?;
+    push_part(text, "exports", &whole.exports)?;
+    push_relocations(text, &whole.relocations)?;
+    Ok(())
+}
+
+fn push_header(text: &mut String, header: &Header) -> Result<(), AllocError>
+    ensures { OnOk result (string_bytes text.new ≡ string_bytes text.old ++ header_line (header_value header.now)) }
+{
+    let coff_header = &header.coff_header;
+    push_hex(text, "header machine=", coff_header.machine as u64)?;
+    push_decimal(text, " sections=", coff_header.number_of_sections as u64)?;
+    push_optional_header(text, &header.optional_header)?;
+    text.push_str("\n")?;
+    Ok(())
+}
+
+fn push_optional_header(
+    text: &mut String,
+    header: &Option<OptionalHeader>,
+) -> Result<(), AllocError>
+    ensures { OnOk result (string_bytes text.new ≡ string_bytes text.old ++ if_there optional_fields header.now) }
+{
+    if let Some(header) = header {
+        let fields = &header.standard_fields;
+        push_hex(text, " magic=", fields.magic as u64)?;
+        push_hex(text, " entry=", fields.address_of_entry_point as u64)?;
     }
     Ok(())
 }
 
-fn push_section(text: &mut String, section: &SectionTable) -> Result<(), AllocError>
-    ensures { OnOk result (string_bytes text.new ≡ string_bytes text.old ++ section_line section.now) }
-{
-    push_hex(text, "section va=", section.virtual_address)?;
-    push_hex(text, " vsize=", section.virtual_size)?;
-    push_hex(text, " raw=", section.size_of_raw_data)?;
-    push_hex(text, " ptr=", section.pointer_to_raw_data)?;
-    text.push_str(" name=")?;
-    push_escaped(text, shown_name(section))?;
-    text.push_str("\n")?;
-    Ok(())
+impl Listed for SectionTable {
+    ghost line = { λ s. section_line s };
+
+    fn push_line(&self, text: &mut String) -> Result<(), AllocError> {
+        push_hex(text, "section va=", self.virtual_address as u64)?;
+        push_hex(text, " vsize=", self.virtual_size as u64)?;
+        push_hex(text, " raw=", self.size_of_raw_data as u64)?;
+        push_hex(text, " ptr=", self.pointer_to_raw_data as u64)?;
+        push_name(text, " name=", shown_name(self))?;
+        text.push_str("\n")?;
+        Ok(())
+    }
 }
 
 // The bytes of a section's name that are printed.
@@ -68,4 +105,154 @@ fn shown_name(section: &SectionTable) -> &[u8]
         Some(name) => name.as_bytes(),
         None => before_nul(&section.name),
     }
+}
+
+impl Listed for Import<'_> {
+    ghost line = { λ i. import_line i };
+
+    fn push_line(&self, text: &mut String) -> Result<(), AllocError> {
+        push_hex(text, "import offset=", self.offset as u64)?;
+        push_decimal(text, " ordinal=", self.ordinal as u64)?;
+        push_hex(text, " rva=", self.rva as u64)?;
+        push_decimal(text, " size=", self.size as u64)?;
+        push_name(text, " dll=", self.dll.as_bytes())?;
+        push_name(text, " name=", self.name.as_str().as_bytes())?;
+        text.push_str("\n")?;
+        Ok(())
+    }
+}
+
+impl Listed for Export<'_> {
+    ghost line = { λ e. export_line e };
+
+    fn push_line(&self, text: &mut String) -> Result<(), AllocError> {
+        push_hex(text, "export rva=", self.rva as u64)?;
+        push_offset(text, self.offset)?;
+        push_reexport(text, self.reexport)?;
+        push_export_name(text, self.name)?;
+        text.push_str("\n")?;
+        Ok(())
+    }
+}
+
+fn push_offset(text: &mut String, offset: Option<usize>) -> Result<(), AllocError>
+    ensures { OnOk result (string_bytes text.new ≡ string_bytes text.old ++ if_there (hex_field (codes " offset=")) offset) }
+{
+    if let Some(offset) = offset {
+        push_hex(text, " offset=", offset as u64)?;
+    }
+    Ok(())
+}
+
+fn push_export_name(text: &mut String, name: Option<&str>) -> Result<(), AllocError>
+    ensures { OnOk result (string_bytes text.new ≡ string_bytes text.old ++ if_there (name_field (codes " name=")) (option_map (λ n. n.now) name.entry)) }
+{
+    if let Some(name) = name {
+        push_name(text, " name=", name.as_bytes())?;
+    }
+    Ok(())
+}
+
+#[tactic(auto, unfolding(crate::specs::Lines::forward_field))]
+fn push_reexport(text: &mut String, reexport: Option<Reexport>) -> Result<(), AllocError>
+    ensures { OnOk result (string_bytes text.new ≡ string_bytes text.old ++ if_there forward_field (option_map forwarder_value reexport.entry)) }
+{
+    match reexport {
+        Some(Reexport::DLLName { export, lib }) => {
+            push_name(text, " forward=", lib.as_bytes())?;
+            push_name(text, ".", export.as_bytes())?;
+        }
+        Some(Reexport::DLLOrdinal { ordinal, lib }) => {
+            push_name(text, " forward=", lib.as_bytes())?;
+            push_decimal(text, ".#", ordinal as u64)?;
+        }
+        None => {}
+    }
+    Ok(())
+}
+
+fn push_lines<T: Listed>(text: &mut String, items: &[T]) -> Result<(), AllocError>
+    ensures { OnOk result (string_bytes text.new ≡ string_bytes text.old ++ flat_map T.line items.now) }
+{
+    'lines: for item in items {
+        item.push_line(text)?;
+    }
+    Ok(())
+}
+
+#[tactic(auto, unfolding(crate::specs::Lines::part_lines, goblin_pe::specs::Whole::part_map))]
+fn push_part<T: Listed>(
+    text: &mut String,
+    label: &str,
+    part: &Part<Vec<T>>,
+) -> Result<(), AllocError>
+    ensures { OnOk result (string_bytes text.new ≡ string_bytes text.old ++ part_lines label.now length (flat_map T.line) (items_part part.now)) }
+{
+    text.push_str(label)?;
+    match part {
+        Part::Absent => text.push_str(" absent\n")?,
+        Part::Read(items) => {
+            push_decimal(text, " ", items.len() as u64)?;
+            text.push_str("\n")?;
+            push_lines(text, items)?;
+        }
+        Part::Refused => text.push_str(" refused\n")?,
+    }
+    Ok(())
+}
+
+#[tactic(auto, unfolding(crate::specs::Lines::part_lines, goblin_pe::specs::Whole::part_map))]
+fn push_relocations(text: &mut String, part: &Part<RelocationData>) -> Result<(), AllocError>
+    ensures { OnOk result (string_bytes text.new ≡ string_bytes text.old ++ relocation_lines (part_map relocation_bytes part.now)) }
+{
+    text.push_str("relocations")?;
+    match part {
+        Part::Absent => text.push_str(" absent\n")?,
+        Part::Read(relocations) => {
+            push_decimal(text, " ", block_count(relocations) as u64)?;
+            text.push_str("\n")?;
+            push_blocks(text, relocations)?;
+        }
+        Part::Refused => text.push_str(" refused\n")?,
+    }
+    Ok(())
+}
+
+// How many blocks come without error.
+#[tactic(auto, unfolding(crate::specs::Lines::block_count), using(crate::proofs::Blocks::block_count_below))]
+fn block_count(relocations: &RelocationData) -> usize
+    ensures { result ≡ block_count (block_items (relocation_bytes relocations.now) 0) }
+{
+    let mut count = 0;
+    'blocks: for block in relocations.blocks() {
+        if let Ok(_) = block {
+            count += 1;
+        }
+    }
+    count
+}
+
+fn push_blocks(text: &mut String, relocations: &RelocationData) -> Result<(), AllocError>
+    ensures { OnOk result (string_bytes text.new ≡ string_bytes text.old ++ flat_map block_line (block_items (relocation_bytes relocations.now) 0)) }
+{
+    'blocks: for block in relocations.blocks() {
+        push_block(text, block)?;
+    }
+    Ok(())
+}
+
+#[tactic(auto, unfolding(crate::specs::Lines::block_line))]
+fn push_block(text: &mut String, block: Result<RelocationBlock, Error>) -> Result<(), AllocError>
+    ensures { OnOk result (string_bytes text.new ≡ string_bytes text.old ++ block_line (block_item block.entry)) }
+{
+    match block {
+        Ok(block) => {
+            push_hex(text, "block rva=", block.rva as u64)?;
+            push_hex(text, " size=", block.size as u64)?;
+            push_decimal(text, " words=", (block.bytes.len() / 2) as u64)?;
+            text.push_str("\n")?;
+        }
+        Err(_) => text.push_str("block refused\n")?,
+    }
+    Ok(())
 }
