@@ -486,7 +486,7 @@ impl<'a> SymbolTable<'a> {
     /// behind them.
     pub fn iter(&self) -> SymbolIterator<'a>
         ensures items { symbols_left result ≡ symbols_in (table_bytes self.now) }
-        ensures heads { AreSymbolsOf (table_bytes self.now) (symbols_left result) }
+        ensures heads { AreSymbolsOf (table_bytes self.now) (symbols_in (table_bytes self.now)) }
     {
         SymbolIterator {
             symbols: self.symbols,
@@ -522,6 +522,7 @@ impl<'a> Iterator for SymbolIterator<'a> {
 
     ghost remaining = { item_count symbols_left };
 
+    #[tactic(auto, using(crate::proofs::SymbolHeads::symbols_next, crate::proofs::SymbolHeads::symbols_past))]
     fn next(&mut self) -> Option<(usize, Option<&'a str>, Symbol)> {
         let index = self.index;
         if self.symbols.len() / COFF_SYMBOL_SIZE <= index {
