@@ -26,8 +26,9 @@ impl<'a> Model for Strtab<'a> {
 }
 
 impl<'a> Strtab<'a> {
-    /// The string table of the `len` bytes at `offset`, which may be none, also at the end. It stays
-    /// where it stands in the file, so no memory is taken.
+    /// The string table of the `len` bytes at `offset`, which may be none, also at the end. `delim`,
+    /// the byte behind each text, must be a NUL. The table stays where it stands in the file, so no
+    /// memory is taken.
     ///
     /// # Errors
     /// [`Error::Malformed`] with [`Cause::StringTable`] where not all bytes are there;
