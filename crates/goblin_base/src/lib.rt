@@ -1,5 +1,5 @@
-//! What every layer of the reader stands on: errors, byte order, parse modes, and numbers, slices
-//! and texts read and written at an offset.
+//! What every layer of the reader stands on: errors, byte order, parse modes, numbers, slices and texts
+//! read and written at an offset, and string tables.
 #![tactic(auto)]
 
 pub mod container;

@@ -4,7 +4,8 @@ use Rattle.std.proofs.lemmas.Bool.{cases_lt}
 use Rattle.goblin_base.specs.declared.endian.Endian.TheVariants.{Little}
 use Rattle.goblin_base.specs.declared.error.ErrorOf.{ErrorOf}
 use Rattle.goblin_base.specs.Bytes.{number, slice_at}
-use Rattle.goblin_pe_sect.specs.BaseRelocations.{Block, block_at, block_items, first_items, then_items, with_head, with_words}
+use Rattle.goblin_pe_sect.specs.declared.relocation.base.RelocationBlock.{RelocationBlock}
+use Rattle.goblin_pe_sect.specs.BaseRelocations.{Block, block_at, block_items, block_value, first_items, then_items, with_head, with_words}
 
 size_by_words : (head : List ℕ) (p : ℕ) (words : Option (List ℕ)) (b : Block) → with_words head p words ≡ Ok b → b.size ≡ number Little 4 head 4
 size_by_words head p None b e = absurd cc
@@ -50,12 +51,12 @@ enough (suc n) (suc m) directory p h k =
       | inr le ↦ past directory (suc n) p le ∙ sym (past directory (suc m) p le)
     ]
 
-pub items-past : (directory : List ℕ) (p : ℕ) → length directory ≤ p → block_items directory p ≡ []
-items-past directory p le = past directory (length directory - p) p le
+pub items_past : (directory : List ℕ) (p : ℕ) → length directory ≤ p → block_items directory p ≡ []
+items_past directory p le = past directory (length directory - p) p le
 
 -- a block comes first, then the items behind it
-pub items-Ok : (directory : List ℕ) (p : ℕ) (b : Block) → p < length directory → block_at directory p ≡ Ok b → block_items directory p ≡ Ok b ∷ block_items directory (p + b.size)
-items-Ok directory p b lt is =
+pub items_ok : (directory : List ℕ) (p : ℕ) (b : Block) → p < length directory → block_at directory p ≡ Ok b → block_items directory p ≡ Ok b ∷ block_items directory (p + b.size)
+items_ok directory p b lt is =
     let large = size-block_at directory p b is in
     enough (length directory - p) (suc (length directory - p - 1)) directory p (omega arith) (omega arith)
     ∙ inside directory (length directory - p - 1) p lt
@@ -63,8 +64,8 @@ items-Ok directory p b lt is =
     ∙ ap (λ (items : List (Result Block ErrorOf)). Ok b ∷ items) (enough (length directory - p - 1) (length directory - (p + b.size)) directory (p + b.size) (omega (arith, large)) (omega arith))
 
 -- an error comes alone
-pub items-Err : (directory : List ℕ) (p : ℕ) (e : ErrorOf) → p < length directory → block_at directory p ≡ Err e → block_items directory p ≡ Err e ∷ []
-items-Err directory p e lt is =
+pub items_err : (directory : List ℕ) (p : ℕ) (e : ErrorOf) → p < length directory → block_at directory p ≡ Err e → block_items directory p ≡ Err e ∷ []
+items_err directory p e lt is =
     enough (length directory - p) (suc (length directory - p - 1)) directory p (omega arith) (omega arith)
     ∙ inside directory (length directory - p - 1) p lt
     ∙ ap (then_items (first_items (length directory - p - 1) directory) p) is
@@ -88,3 +89,7 @@ items_few (suc n) directory p =
 -- no more come than heads fit, with one for a rest
 pub items_most : (directory : List ℕ) (p : ℕ) → length (block_items directory p) ≤ (length directory - p + 7) / 8
 items_most directory p = items_few (length directory - p) directory p
+
+-- the same of a block that was read
+pub block_first : (directory : List ℕ) (p : ℕ) (block : RelocationBlock) → p < length directory → Ok (block_value block) ≡ block_at directory p → block_items directory p ≡ Ok (block_value block) ∷ block_items directory (p + block.size)
+block_first directory p block lt is = items_ok directory p (block_value block) lt (sym is)

@@ -4,7 +4,7 @@ use Rattle.std.specs.List.{All, AllPairs, Contains}
 use Rattle.std.proofs.lemmas.Bool.{cases_lt}
 use Rattle.std.proofs.lemmas.List.Elements.{All-cons, All-nil, All-weaker, Contains-append_right, Contains-get_or}
 use Rattle.std.proofs.lemmas.List.Kept.{AllPairs-cons}
-use Rattle.goblin_pe_sect.specs.Symbols.{AreSymbolsOf, IsHead, first, next, SymbolItem, aux, symbol_of, symbols_from}
+use Rattle.goblin_pe_sect.specs.Symbols.{AreSymbolsOf, IsHead, first, next, SymbolItem, aux, symbol_of, symbols_from, symbols_in}
 
 -- skipped records are left out
 symbols_from-skip : (k m : ℕ) (table : List ℕ) (i : ℕ) → symbols_from m k table i ≡ symbols_from (m - k) 0 table (i + k)
@@ -22,18 +22,18 @@ symbols_from-skip (suc k) (suc m) table i =
     rw (a, b) (symbols_from-skip k m table (i + 1))
 
 -- a symbol, and what comes behind its auxiliary records
-pub symbols_from-next : (n : ℕ) (table : List ℕ) (i : ℕ) → i < n → symbols_from (n - i) 0 table i ≡ symbol_of table i ∷ symbols_from (n - (i + 1 + aux table i)) 0 table (i + 1 + aux table i)
+pub symbols_next : (n : ℕ) (table : List ℕ) (i : ℕ) → i < n → symbols_from (n - i) 0 table i ≡ symbol_of table i ∷ symbols_from (n - (i + 1 + aux table i)) 0 table (i + 1 + aux table i)
 unfolding symbols_from
-symbols_from-next n table i h =
+symbols_next n table i h =
     let more : n - i ≡ suc (n - i - 1) = omega (arith, h) in
     let rest : n - i - 1 - aux table i ≡ n - (i + 1 + aux table i) = omega arith in
     let skip = symbols_from-skip (aux table i) (n - i - 1) table (i + 1) in
     rw more (ap (λ (xs : List SymbolItem). symbol_of table i ∷ xs) (skip ∙ ap (λ (k : ℕ). symbols_from k 0 table (i + 1 + aux table i)) rest))
 
 -- past the last record nothing comes
-pub symbols_from-past : (n : ℕ) (table : List ℕ) (i : ℕ) → n ≤ i → symbols_from (n - i) 0 table i ≡ []
+pub symbols_past : (n : ℕ) (table : List ℕ) (i : ℕ) → n ≤ i → symbols_from (n - i) 0 table i ≡ []
 unfolding symbols_from
-symbols_from-past n table i h =
+symbols_past n table i h =
     let none : n - i ≡ 0 = omega (arith, h) in
     rw none refl
 
@@ -48,7 +48,7 @@ heads_all table n _ (first some) =
     ([], ap (λ (m : ℕ). symbols_from m 0 table 0) (sym all))
 heads_all table n _ (next h before inside) =
     let earlier = heads_all table n h before in
-    let step = symbols_from-next n table h (head_inside table n h before) in
+    let step = symbols_next n table h (head_inside table n h before) in
     let later = symbols_from (n - (h + 1 + aux table h)) 0 table (h + 1 + aux table h) in
     (earlier.0 ++ symbol_of table h ∷ [], earlier.1 ∙ ap (λ (xs : List SymbolItem). earlier.0 ++ xs) step ∙ sym (append_assoc earlier.0 (symbol_of table h ∷ []) later))
 
@@ -58,7 +58,7 @@ at_front x xs = Contains-get_or (x ∷ xs) 0 x (omega arith)
 head_contained : (table : List ℕ) (n h : ℕ) → IsHead table n h → Contains (symbols_from n 0 table 0) (symbol_of table h)
 head_contained table n h head =
     let split = heads_all table n h head in
-    let step = symbols_from-next n table h (head_inside table n h head) in
+    let step = symbols_next n table h (head_inside table n h head) in
     let later = symbols_from (n - (h + 1 + aux table h)) 0 table (h + 1 + aux table h) in
     rw (split.1, step) (Contains-append_right split.0 (symbol_of table h ∷ later) (symbol_of table h) (at_front (symbol_of table h) later))
 
@@ -82,23 +82,22 @@ one_rises table n h items head rest = record {
 }
 
 rise : (limit : ℕ) (table : List ℕ) (n h : ℕ) → n - h ≤ limit → (h < n → IsHead table n h) → Rise table n h (symbols_from (n - h) 0 table h)
-rise zero table n h few head = subst (Rise table n h) (sym (symbols_from-past n table h (omega (arith, few)))) (none_rise table n h)
+rise zero table n h few head = subst (Rise table n h) (sym (symbols_past n table h (omega (arith, few)))) (none_rise table n h)
 rise (suc limit) table n h few head =
     elim (cases_lt h n) [
-      | inr past ↦ subst (Rise table n h) (sym (symbols_from-past n table h past)) (none_rise table n h)
+      | inr past ↦ subst (Rise table n h) (sym (symbols_past n table h past)) (none_rise table n h)
       | inl inside ↦
           let later = rise limit table n (h + 1 + aux table h) (omega (arith, few)) (λ within. next h (head inside) within) in
-          subst (Rise table n h) (sym (symbols_from-next n table h inside)) (one_rises table n h _ (head inside) later)
+          subst (Rise table n h) (sym (symbols_next n table h inside)) (one_rises table n h _ (head inside) later)
     ]
 
 -- the items are the heads, in order
-pub symbols_of : (table : List ℕ) → AreSymbolsOf table (symbols_from (length table / 18 - 0) 0 table 0)
+pub symbols_of : (table : List ℕ) → AreSymbolsOf table (symbols_in table)
 symbols_of table =
     let n = length table / 18 in
     let whole : n - 0 ≡ n = omega arith in
-    let found = rise n table n 0 (omega arith) first in
-    let all = subst (λ (m : ℕ). (h : ℕ) → IsHead table n h → Contains (symbols_from m 0 table 0) (symbol_of table h)) (sym whole) (head_contained table n) in
-    record { each = found.each; all = all; order = found.order }
+    let found = subst (λ (m : ℕ). Rise table n 0 (symbols_from m 0 table 0)) whole (rise n table n 0 (omega arith) first) in
+    record { each = found.each; all = head_contained table n; order = found.order }
 
 -- no more come than there are records left
 pub symbols_most : (m k : ℕ) (table : List ℕ) (i : ℕ) → length (symbols_from m k table i) ≤ m

@@ -1,16 +1,16 @@
 //! The relocations of a PE file: those of an object's sections, for linkers, and the base relocations
 //! of an image, for loaders.
 
-ghost use Rattle.std.specs.Prelude.{◌≡◌, ◌*◌, ◌^◌, Some, length, IfOk, IfSome};
+ghost use Rattle.std.specs.Prelude.{◌≡◌, ◌*◌, Some, length, IfOk, IfSome};
 ghost use Rattle.std.specs.Iterator.{UpTo, YieldsFirst, at_most, item_count};
 ghost use Rattle.std.specs.Iterator.SizeHint.{IsWithinCount};
 ghost use Rattle.goblin_base.specs.Answers.{Answers, Writes};
-ghost use Rattle.goblin_base.specs.Bytes.{overwritten, slice_at};
+ghost use Rattle.goblin_base.specs.Bytes.{overwritten};
 ghost use Rattle.goblin_base.specs.Faults.{IsSliceFault};
 ghost use Rattle.goblin_base.specs.Record.{WritesBack, encoding, record_in};
 ghost use Rattle.goblin_base.proofs.RecordLaws.{record_in-within, slice_fault-no_memory};
 ghost use Rattle.goblin_pe_sect.specs.declared.relocation.Relocation.{Relocation};
-ghost use Rattle.goblin_pe_sect.specs.Relocations.{IsRelocationsFault, relocation_fields, relocation_record, relocations_at, relocations_in, relocations_left};
+ghost use Rattle.goblin_pe_sect.specs.Relocations.{IsRelocationsFault, relocation_fields, relocation_record, relocations_at, relocations_left};
 
 use goblin_base::{
     Cause, Endian, Error, Field, Result, TryFromCtx, field_u16, field_u32, pread_slice,

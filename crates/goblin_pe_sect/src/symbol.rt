@@ -26,7 +26,7 @@ pub use auxiliary::{
 /// The size of a record of the symbol table, in bytes.
 pub const COFF_SYMBOL_SIZE: usize = 18;
 
-/// A symbol's section: none; the symbol is defined elsewhere, or is common where its value is not 0.
+/// A symbol's section: none; it is defined elsewhere, or is common where its value is not 0.
 pub const IMAGE_SYM_UNDEFINED: i16 = 0;
 /// A symbol's section: none; the value is no address.
 pub const IMAGE_SYM_ABSOLUTE: i16 = -1;
@@ -414,7 +414,7 @@ impl<'a> SymbolTable<'a> {
         Ok(SymbolTable { symbols })
     }
 
-    /// The size of `number` records, in bytes.
+    /// The size of `number` records in bytes, which must fit 64 bits.
     pub fn size(number: usize) -> usize
         requires { 18 * number < 2 ^ 64 }
         ensures { result ≡ 18 * number }
@@ -486,7 +486,7 @@ impl<'a> SymbolTable<'a> {
     /// behind them.
     pub fn iter(&self) -> SymbolIterator<'a>
         ensures items { symbols_left result ≡ symbols_in (table_bytes self.now) }
-        ensures heads { AreSymbolsOf (table_bytes self.now) (symbols_left result) }
+        ensures heads { AreSymbolsOf (table_bytes self.now) (symbols_in (table_bytes self.now)) }
     {
         SymbolIterator {
             symbols: self.symbols,
@@ -522,6 +522,7 @@ impl<'a> Iterator for SymbolIterator<'a> {
 
     ghost remaining = { item_count symbols_left };
 
+    #[tactic(auto, using(crate::proofs::SymbolHeads::symbols_next, crate::proofs::SymbolHeads::symbols_past))]
     fn next(&mut self) -> Option<(usize, Option<&'a str>, Symbol)> {
         let index = self.index;
         if self.symbols.len() / COFF_SYMBOL_SIZE <= index {

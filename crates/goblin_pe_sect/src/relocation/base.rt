@@ -81,9 +81,10 @@ impl<'a> RelocationData<'a> {
     }
 
     /// The blocks, in order. Where a rest is left with which no block begins, one error comes last.
+    #[tactic(auto, using(crate::proofs::BlocksOf::blocks_of))]
     pub fn blocks(&self) -> RelocationBlockIterator<'a>
         ensures items { blocks_left result ≡ block_items (relocation_bytes self.now) 0 }
-        ensures blocks { AreBlocksOf (relocation_bytes self.now) (blocks_left result) }
+        ensures blocks { AreBlocksOf (relocation_bytes self.now) (block_items (relocation_bytes self.now) 0) }
     {
         RelocationBlockIterator {
             bytes: self.bytes,
@@ -156,6 +157,7 @@ impl<'a> Iterator for RelocationBlockIterator<'a> {
 
     ghost remaining = { item_count blocks_left };
 
+    #[tactic(auto, using(crate::proofs::BlockItems::block_first, crate::proofs::BlockItems::items_err, crate::proofs::BlockItems::items_past))]
     fn next(&mut self) -> Option<Result<RelocationBlock<'a>>> {
         if self.offset >= self.bytes.len() {
             return None;
