@@ -1,7 +1,7 @@
 //! Calls that take memory, each growth refused in turn.
 
 use super::sample::{
-    ELSEWHERE, NAMED_LISTING, TABLE, TABLE_END, import_name, sample_coff, sample_named,
+    ELSEWHERE, LISTING, TABLE, TABLE_END, import_name, sample, sample_coff, sample_named,
     sample_section, section,
 };
 use crate::program::{RunFault, run};
@@ -90,10 +90,10 @@ fn run_into(alloc: Global, file: &[u8], taken: &mut Vec<u8>) -> Result<(), RunFa
 #[test]
 fn a_run_is_refused_at_each_growth(rt: HostRuntime) -> Result<(), Fail> {
     let alloc = rt.alloc();
-    let file = sample_named(alloc, ELSEWHERE)?;
-    let mut taken = Vec::with_capacity(alloc, NAMED_LISTING.len())?;
+    let file = sample(alloc)?;
+    let mut taken = Vec::with_capacity(alloc, LISTING.len())?;
     let is_right = is_refused_until_right(alloc, || match run_into(alloc, &file, &mut taken) {
-        Ok(()) if taken.as_slice() == NAMED_LISTING => Outcome::Right,
+        Ok(()) if taken.as_slice() == LISTING => Outcome::Right,
         Err(fault) if fault.line() == "out of memory" && taken.is_empty() => Outcome::Refused,
         _ => Outcome::Wrong,
     })?;
