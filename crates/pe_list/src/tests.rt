@@ -7,6 +7,7 @@ mod constants;
 mod directories;
 mod header;
 mod headers;
+mod imports;
 mod memory;
 mod modes;
 mod names;

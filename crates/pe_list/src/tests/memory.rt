@@ -37,7 +37,7 @@ fn blocks_of_all_memory(alloc: Global) -> Result<(Vec<Vec<u8>>, Vec<Vec<u8>>), A
 }
 
 /// How a call ended that asks for memory.
-enum Outcome {
+pub enum Outcome {
     /// It was refused for want of memory, and left what it was handed.
     Refused,
     /// It gave what it should.
@@ -48,7 +48,7 @@ enum Outcome {
 
 /// Whether a call is refused where no memory is left, and again with a little more each time, until it
 /// gives what it should.
-fn is_refused_until_right<F: FnMut() -> Outcome>(
+pub fn is_refused_until_right<F: FnMut() -> Outcome>(
     alloc: Global,
     mut call: F,
 ) -> Result<bool, AllocError>
