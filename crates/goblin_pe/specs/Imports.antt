@@ -1,5 +1,5 @@
 -- The imports of import data: one for each entry that a lookup table keeps, in the order of the libraries and of the entries.
-use Rattle.std.specs.Prelude.{ℕ, ◌+◌, ◌*◌, ◌^◌, ◌++◌, nat_lt, if◌then◌else◌, codes, List, [], length, slice_get, Option, Some, None, unwrap_or}
+use Rattle.std.specs.Prelude.{ℕ, ◌+◌, ◌*◌, ◌^◌, ◌++◌, nat_lt, if◌then◌else◌, codes, List, [], length, slice_get, sum_by, Option, Some, None, unwrap_or}
 use Rattle.std.specs.Fmt.{decimal}
 use Rattle.goblin_base.specs.declared.error.ErrorOf.{ErrorOf}
 use Rattle.goblin_base.specs.declared.error.ErrorOf.TheVariants.{Malformed}
@@ -48,6 +48,10 @@ imports_by size dll rva entries = all_at (import_at size dll rva entries) (lengt
 -- the entries that a library's lookup table keeps
 abbrev pub kept_entries : ImportedLibrary → List LookupEntry
 kept_entries library = unwrap_or library.import_lookup_table []
+
+-- how many entries the lookup tables of libraries keep
+abbrev pub kept_count : List ImportedLibrary → ℕ
+kept_count libraries = sum_by (λ library. length (kept_entries library)) libraries
 
 -- the imports from a library
 abbrev pub library_imports : ℕ → ImportedLibrary → Option (List ImportValue)

@@ -8,6 +8,7 @@ mod directories;
 mod exports;
 mod header;
 mod headers;
+mod imports;
 mod memory;
 mod modes;
 mod names;

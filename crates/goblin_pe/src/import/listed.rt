@@ -1,9 +1,9 @@
 //! The list of imports.
 
-ghost use Rattle.std.specs.Prelude.{◌≡◌, ◌++◌, Some, map, option_map, string_bytes};
+ghost use Rattle.std.specs.Prelude.{◌≡◌, ◌++◌, Some, length, map, min, option_map, string_bytes};
 ghost use Rattle.goblin_base.specs.Answers.{AnswersOrMemory};
 ghost use Rattle.goblin_pe.specs.ImportViews.{entry_view};
-ghost use Rattle.goblin_pe.specs.Imports.{IsOverflow, import_of, import_offset, imports_by, imports_of, kept_entries, library_imports, ordinal_name};
+ghost use Rattle.goblin_pe.specs.Imports.{IsOverflow, import_of, import_offset, imports_by, imports_of, kept_count, kept_entries, library_imports, ordinal_name};
 
 use crate::import::ImportData;
 use crate::import::bitfield::Bitfield;
@@ -120,7 +120,8 @@ impl<'a> Import<'a> {
 fn kept_entries<'b, 'a>(
     library: &'b SyntheticImportDirectoryEntry<'a>,
 ) -> &'b [SyntheticImportLookupTableEntry<'a>]
-    ensures { map entry_view result.now ≡ kept_entries library.now }
+    ensures entries { map entry_view result.now ≡ kept_entries library.now }
+    ensures count { length result.now ≡ length (kept_entries library.now) }
 {
     match &library.import_lookup_table {
         Some(table) => table.as_slice(),
@@ -128,10 +129,13 @@ fn kept_entries<'b, 'a>(
     }
 }
 
-// How many entries the lookup tables of libraries keep, or more than there is memory for.
-fn count_of(libraries: &[SyntheticImportDirectoryEntry]) -> usize {
+// How many entries the lookup tables of libraries keep, or the greatest number, for which there is no
+// memory.
+fn count_of(libraries: &[SyntheticImportDirectoryEntry]) -> usize
+    ensures { result ≡ min (kept_count libraries.now) usize.MAX }
+{
     let mut count = 0usize;
-    for library in libraries {
+    'libraries: for library in libraries {
         count = count.saturating_add(kept_entries(library).len());
     }
     count
