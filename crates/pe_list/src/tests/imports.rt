@@ -149,6 +149,41 @@ fn imports_are_listed_by_each_entry_type(rt: HostRuntime) -> Result<(), Fail> {
     Ok(())
 }
 
+/// How many entries each reader of the sample file's tables gives, by entries of type `T`: of the
+/// lookup table, and of the address table.
+fn lengths<'a, 'e, T: Bitfield<'a>>(alloc: Global, file: &'a [u8]) -> ResultOf<'e, [usize; 4]> {
+    let sections = [sample_section()];
+    let opts = options(ParseMode::Permissive);
+    let strict = SyntheticImportLookupTableEntry::parse::<T>(
+        alloc, file, 0x240, &sections, ALIGNMENT,
+    )?;
+    let permissive = SyntheticImportLookupTableEntry::parse_with_opts::<T>(
+        alloc, file, 0x240, &sections, ALIGNMENT, &opts,
+    )?;
+    let library = SyntheticImportDirectoryEntry::parse::<T>(
+        alloc, file, RECORD, &sections, ALIGNMENT,
+    )?;
+    let again = SyntheticImportDirectoryEntry::parse_with_opts::<T>(
+        alloc, file, RECORD, &sections, ALIGNMENT, &opts,
+    )?;
+    Ok([
+        strict.into_vec().len(),
+        permissive.as_slice().len(),
+        library.import_address_table.into_vec().len(),
+        again.import_address_table.as_slice().len(),
+    ])
+}
+
+#[test]
+fn tables_are_read_by_each_entry_type(rt: HostRuntime) -> Result<(), Fail> {
+    let alloc = rt.alloc();
+    let file = sample(alloc)?;
+    assert_eq!(rt; lengths::<u32>(alloc, &file)?, [2; 4]);
+    assert_eq!(rt; lengths::<u64>(alloc, &file)?, [1; 4]);
+    assert_eq!(rt; lengths::<Short>(alloc, &file)?, [1; 4]);
+    Ok(())
+}
+
 #[test]
 fn names_end_at_their_nul_and_lookup_tables_may_stand_at_the_addresses(
     rt: HostRuntime,
@@ -340,6 +375,28 @@ fn a_lookup_table_is_refused_at_each_growth(rt: HostRuntime) -> Result<(), Fail>
                 alloc, &file, 0x240, &sections, ALIGNMENT, &opts,
             ) {
                 Ok(table) if is_sample_table(&table) => Outcome::Right,
+                Err(Error::Memory(_)) => Outcome::Refused,
+                _ => Outcome::Wrong,
+            },
+        )?;
+        assert!(rt; is_right, "{mode:?}");
+    }
+    Ok(())
+}
+
+#[test]
+fn a_library_is_refused_at_each_growth(rt: HostRuntime) -> Result<(), Fail> {
+    let alloc = rt.alloc();
+    let file = sample(alloc)?;
+    let sections = [sample_section()];
+    for mode in [ParseMode::Strict, ParseMode::Permissive] {
+        let opts = options(mode);
+        let is_right = is_refused_until_right(
+            alloc,
+            || match SyntheticImportDirectoryEntry::parse_with_opts::<u32>(
+                alloc, &file, RECORD, &sections, ALIGNMENT, &opts,
+            ) {
+                Ok(library) if library.import_address_table.as_slice().len() == 2 => Outcome::Right,
                 Err(Error::Memory(_)) => Outcome::Refused,
                 _ => Outcome::Wrong,
             },
