@@ -1,3 +1,4 @@
+pub mod Decoding
 pub mod Encoding
 pub mod Fronts
 pub mod Numbers

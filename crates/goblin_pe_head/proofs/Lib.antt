@@ -1,6 +1,7 @@
 pub mod HeaderAgain
 pub mod HeaderBack
 pub mod HeaderForm
+pub mod HeaderRead
 pub mod OptionalBack
 pub mod OptionalForm
 pub mod RichEntries

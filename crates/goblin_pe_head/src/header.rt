@@ -6,7 +6,7 @@ ghost use Rattle.std.specs.Prelude.{◌≡◌, ◌+◌, ◌*◌, ◌/◌, ◌<�
 ghost use Rattle.goblin_base.specs.Answers.{Answers, AnswersOrMemory, Writes};
 ghost use Rattle.goblin_base.specs.Bytes.{overwritten};
 ghost use Rattle.goblin_base.specs.Faults.{IsSliceFault};
-ghost use Rattle.goblin_base.specs.Record.{WritesBack, encoding, record_at, record_in};
+ghost use Rattle.goblin_base.specs.Record.{ReadsBack, WritesBack, encoding, record_at, record_in};
 ghost use Rattle.goblin_base.proofs.RecordLaws.{record_in-within, slice_fault-no_memory};
 ghost use Rattle.goblin_pe_sect.specs.Options.{is_strict};
 ghost use Rattle.goblin_pe_head.specs.declared.header.CoffHeader.{CoffHeader};
@@ -341,9 +341,10 @@ impl CoffHeader {
     }
 
     // The record's bytes.
-    #[tactic(auto, unfolding(crate::specs::Header::coff_fields))]
+    #[tactic(auto, unfolding(crate::specs::Header::coff_fields), using(crate::proofs::HeaderRead::coff_again))]
     pub(crate) fn to_bytes(&self, endian: Endian) -> [u8; SIZEOF_COFF_HEADER]
-        ensures { result ≡ encoding endian (coff_fields self.now) }
+        ensures made { result ≡ encoding endian (coff_fields self.now) }
+        ensures again { ReadsBack 20 coff_header coff_fields self.now }
     {
         let fields = [
             Field::U16(self.machine),
@@ -358,7 +359,8 @@ impl CoffHeader {
     }
 
     /// Writes the record at the front of `bytes` and answers its size, 20. A header that was read is
-    /// written as it stood, by the same order of bytes.
+    /// written as it stood, and any header is read again from what was written, by the same order of
+    /// bytes.
     ///
     /// # Errors
     /// [`Error::Read`] where there is no room for 20 bytes; `bytes` are then as they were.
@@ -367,6 +369,7 @@ impl CoffHeader {
         ensures size { IfOk result (λ n. n ≡ 20) }
         ensures written { Writes result (overwritten bytes.old 0 (encoding endian (coff_fields self))) bytes.old bytes.new (IsSliceFault bytes.old 0 20) }
         ensures back { WritesBack 20 coff_header coff_fields }
+        ensures again { ReadsBack 20 coff_header coff_fields self }
     {
         pwrite_slice(bytes, 0, &self.to_bytes(endian))?;
         Ok(SIZEOF_COFF_HEADER)
