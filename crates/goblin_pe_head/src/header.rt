@@ -10,6 +10,7 @@ ghost use Rattle.goblin_base.specs.Record.{ReadsBack, WritesBack, encoding, reco
 ghost use Rattle.goblin_base.proofs.RecordLaws.{record_in-within, slice_fault-no_memory};
 ghost use Rattle.goblin_pe_sect.specs.Options.{is_strict};
 ghost use Rattle.goblin_pe_head.specs.declared.header.CoffHeader.{CoffHeader};
+ghost use Rattle.goblin_pe_head.specs.HeaderLaws.{DosWritesBack};
 ghost use Rattle.goblin_pe_head.specs.Header.{dos_record, dos_fields, dos_header, IsDosFault, coff_fields, coff_header};
 ghost use Rattle.goblin_pe_head.specs.Sections.{string_table_offset, sections_at, IsSectionsFault, IsTooShort};
 
@@ -278,15 +279,17 @@ impl DosHeader {
     }
 
     /// Writes the record at the front of `bytes` and answers its size, 64. A header that was read is
-    /// written as it stood, by the same order of bytes.
+    /// written as it stood, by the same order of bytes: in little-endian order, that of a file as the
+    /// file's first 64 bytes.
     ///
     /// # Errors
     /// [`Error::Read`] where there is no room for 64 bytes; `bytes` are then as they were.
-    #[tactic(auto, using(crate::proofs::HeaderBack::dos_back))]
+    #[tactic(auto, using(crate::proofs::HeaderBack::dos_back, crate::proofs::HeaderForm::dos_file))]
     pub fn try_into_ctx(self, bytes: &mut [u8], endian: Endian) -> Result<usize>
         ensures size { IfOk result (λ n. n ≡ 64) }
         ensures written { Writes result (overwritten bytes.old 0 (encoding endian (dos_fields self))) bytes.old bytes.new (IsSliceFault bytes.old 0 64) }
         ensures back { WritesBack 64 dos_record dos_fields }
+        ensures file { DosWritesBack }
     {
         pwrite_slice(bytes, 0, &self.to_bytes(endian))?;
         Ok(SIZEOF_DOS_HEADER)
