@@ -7,12 +7,12 @@ use Rattle.goblin_pe_head.specs.declared.header.te.TeHeader.{TeHeader}
 use Rattle.goblin_pe_head.specs.Header.{coff_fields, coff_header}
 use Rattle.goblin_pe_head.specs.TeHeader.{te_fields, te_record}
 
-abbrev number_in : FieldValue → ℕ
+abbrev pub number_in : FieldValue → ℕ
 number_in (uint n x) = x
 number_in (octets xs) = 0
 
 -- the number of the field at index i
-abbrev number_of : List FieldValue → ℕ → ℕ
+abbrev pub number_of : List FieldValue → ℕ → ℕ
 number_of fields i = number_in (get_or fields i (uint 0 0))
 
 abbrev coff_of : List FieldValue → CoffHeader

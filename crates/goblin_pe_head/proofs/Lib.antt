@@ -4,6 +4,7 @@ pub mod HeaderForm
 pub mod HeaderRead
 pub mod OptionalBack
 pub mod OptionalForm
+pub mod OptionalRead
 pub mod RichEntries
 pub mod RichLaw
 pub mod Sections
