@@ -1,5 +1,5 @@
 -- What is written of headers that were read, and what is read of it again.
-use Rattle.std.specs.Prelude.{◌≡◌, ◌≤◌, ℕ, ◌+◌, ◌-◌, ◌*◌, ◌==◌, if◌then◌else◌, List, ◌++◌, length, replicate, take, Option, Some, None, option_and_then, true}
+use Rattle.std.specs.Prelude.{◌≡◌, ◌≤◌, ℕ, ◌+◌, ◌-◌, ◌*◌, ◌==◌, if◌then◌else◌, List, [], ◌++◌, length, replicate, take, Option, Some, None, option_and_then, true}
 use Rattle.goblin_base.specs.declared.endian.Endian.TheVariants.{Little}
 use Rattle.goblin_base.specs.Bytes.{IsBytes, overwritten, slice_at}
 use Rattle.goblin_base.specs.Record.{encoding}
@@ -37,7 +37,7 @@ header_end h = end_behind h.dos_header.pe_pointer h.optional_header
 
 -- the zeros that are written behind a header
 abbrev pub filling_behind : Option OptionalHeader → List ℕ
-filling_behind None = replicate 0 0
+filling_behind None = []
 filling_behind (Some h) = filling h
 
 -- A header that was read in strict mode is written as the file's bytes up to its end, with the missing directories behind them.
