@@ -205,9 +205,10 @@ impl DosHeader {
     }
 
     // The record's bytes.
-    #[tactic(auto, unfolding(crate::specs::Header::dos_fields))]
+    #[tactic(auto, unfolding(crate::specs::Header::dos_fields), using(crate::proofs::HeaderRead::dos_again))]
     pub(crate) fn to_bytes(&self, endian: Endian) -> [u8; SIZEOF_DOS_HEADER]
-        ensures { result ≡ encoding endian (dos_fields self.now) }
+        ensures made { result ≡ encoding endian (dos_fields self.now) }
+        ensures again { ReadsBack 64 dos_record dos_fields self.now }
     {
         let fields = [
             Field::U16(self.signature),
@@ -279,8 +280,8 @@ impl DosHeader {
     }
 
     /// Writes the record at the front of `bytes` and answers its size, 64. A header that was read is
-    /// written as it stood, by the same order of bytes: in little-endian order, that of a file as the
-    /// file's first 64 bytes.
+    /// written as it stood, and any header is read again from what was written, by the same order of
+    /// bytes. In little-endian order that of a file is written as the file's first 64 bytes.
     ///
     /// # Errors
     /// [`Error::Read`] where there is no room for 64 bytes; `bytes` are then as they were.
@@ -290,6 +291,7 @@ impl DosHeader {
         ensures written { Writes result (overwritten bytes.old 0 (encoding endian (dos_fields self))) bytes.old bytes.new (IsSliceFault bytes.old 0 64) }
         ensures back { WritesBack 64 dos_record dos_fields }
         ensures file { DosWritesBack }
+        ensures again { ReadsBack 64 dos_record dos_fields self }
     {
         pwrite_slice(bytes, 0, &self.to_bytes(endian))?;
         Ok(SIZEOF_DOS_HEADER)
