@@ -1,22 +1,16 @@
--- DOS headers, COFF headers and headers of Terse Executables that were written are read again as they were.
-use Rattle.std.proofs.Common.{◌≡◌, ℕ, zero, suc, ◌+◌, ◌≤◌, List, ◌∷◌, length, map, take, take_all, drop, slice_index, get_or, refl, sym, ap, ◌∙◌, add-one, arith}
+-- Headers, and entries of a Rich header, that were written are read again as they were.
+use Rattle.std.proofs.Common.{◌≡◌, ℕ, zero, suc, ◌+◌, ◌≤◌, List, ◌∷◌, length, map, take, take_all, drop, slice_index, refl, sym, ap, ◌∙◌, add-one, arith}
 use Rattle.std.specs.List.{range_with_len}
 use Rattle.std.proofs.Math.Seq.{drop-cons}
-use Rattle.goblin_base.specs.Record.{FieldValue, FieldsFit, ReadsBack, uint, octets}
-use Rattle.goblin_base.proofs.Decoding.{reads_back}
+use Rattle.goblin_base.specs.Record.{FieldValue, FieldsFit, ReadsBack}
+use Rattle.goblin_base.proofs.Decoding.{number_of, reads_back}
 use Rattle.goblin_pe_head.specs.declared.header.CoffHeader.{CoffHeader}
 use Rattle.goblin_pe_head.specs.declared.header.DosHeader.{DosHeader}
+use Rattle.goblin_pe_head.specs.declared.header.rich.RichMetadata.{RichMetadata}
 use Rattle.goblin_pe_head.specs.declared.header.te.TeHeader.{TeHeader}
 use Rattle.goblin_pe_head.specs.Header.{coff_fields, coff_header, dos_fields, dos_record}
+use Rattle.goblin_pe_head.specs.RichMetadata.{metadata_fields, metadata_record}
 use Rattle.goblin_pe_head.specs.TeHeader.{te_fields, te_record}
-
-abbrev pub number_in : FieldValue → ℕ
-number_in (uint n x) = x
-number_in (octets xs) = 0
-
--- the number of the field at index i
-abbrev pub number_of : List FieldValue → ℕ → ℕ
-number_of fields i = number_in (get_or fields i (uint 0 0))
 
 abbrev coff_of : List FieldValue → CoffHeader
 coff_of fields = record {
@@ -96,3 +90,10 @@ dos_same h four ten =
 pub dos_again : (h : DosHeader) → length h.reserved ≡ 4 → length h.reserved2 ≡ 10 → FieldsFit (dos_fields h) → ReadsBack 64 dos_record dos_fields h
 unfolding dos_record dos_fields
 dos_again h four ten fit = reads_back 64 dos_record dos_fields dos_of h refl (omega arith) fit (λ endian own. refl) (λ endian own. refl) (dos_same h four ten)
+
+abbrev metadata_of : List FieldValue → RichMetadata
+metadata_of fields = record { build = number_of fields 0; product = number_of fields 1; use_count = number_of fields 2 }
+
+pub metadata_again : (m : RichMetadata) → FieldsFit (metadata_fields m) → ReadsBack 8 metadata_record metadata_fields m
+unfolding metadata_record metadata_fields
+metadata_again m fit = reads_back 8 metadata_record metadata_fields metadata_of m refl (omega arith) fit (λ endian own. refl) (λ endian own. refl) refl

@@ -1,13 +1,12 @@
 -- The fields of an optional header that were written are read again as they were.
 use Rattle.std.proofs.Common.{List, refl, arith}
 use Rattle.goblin_base.specs.Record.{FieldValue, FieldsFit, ReadsBack}
-use Rattle.goblin_base.proofs.Decoding.{reads_back}
+use Rattle.goblin_base.proofs.Decoding.{number_of, reads_back}
 use Rattle.goblin_pe_head.specs.declared.optional_header.standard_fields.StandardFields32.{StandardFields32}
 use Rattle.goblin_pe_head.specs.declared.optional_header.standard_fields.StandardFields64.{StandardFields64}
 use Rattle.goblin_pe_head.specs.declared.optional_header.windows_fields.WindowsFields32.{WindowsFields32}
 use Rattle.goblin_pe_head.specs.declared.optional_header.windows_fields.WindowsFields64.{WindowsFields64}
 use Rattle.goblin_pe_head.specs.OptionalHeader.{standard_32_fields, standard_32_record, standard_64_fields, standard_64_record, windows_32_fields, windows_32_record, windows_64_fields, windows_64_record}
-use Rattle.goblin_pe_head.proofs.HeaderRead.{number_of}
 
 abbrev standard_32_of : List FieldValue → StandardFields32
 standard_32_of fields = record {

@@ -1,3 +1,4 @@
+pub mod DirectoryRead
 pub mod Entries
 pub mod EntriesBack
 pub mod EntriesFront
