@@ -5,7 +5,7 @@ ghost use Rattle.std.specs.Prelude.{◌≡◌, ◌+◌, ◌≤◌, ℕ, List, le
 ghost use Rattle.std.specs.Int.{w16, cast_signed};
 ghost use Rattle.goblin_base.specs.Answers.{Answers, IsMemory};
 ghost use Rattle.goblin_base.specs.Bytes.{number, replaced};
-ghost use Rattle.goblin_base.specs.Record.{encoding, field_bytes, field_value, field_values, total_width, width_of};
+ghost use Rattle.goblin_base.specs.Record.{FieldFits, FieldsFit, encoding, field_bytes, field_value, field_values, total_width, width_of};
 ghost use Rattle.goblin_base.specs.declared.endian.Endian.{Endian};
 ghost use Rattle.goblin_base.specs.declared.error.ErrorOf.{ErrorOf};
 
@@ -134,6 +134,7 @@ fn put_field(bytes: &mut [u8], at: usize, field: Field, endian: Endian) -> usize
     requires { at + width_of (field_value field) ≤ length bytes.old }
     ensures written { bytes.new ≡ replaced bytes.old at (field_bytes endian (field_value field.entry)) }
     ensures width { result ≡ width_of (field_value field.entry) }
+    ensures fits { FieldFits (field_value field.entry) }
 {
     match field {
         Field::U8(value) => {
@@ -168,7 +169,8 @@ fn put_field(bytes: &mut [u8], at: usize, field: Field, endian: Endian) -> usize
 fn put_record(bytes: &mut [u8], at: usize, size: usize, fields: &[Field], endian: Endian)
     requires size_is { size ≡ total_width (field_values fields.now) }
     requires room { at + size ≤ length bytes.old }
-    ensures { bytes.new ≡ replaced bytes.old at (encoding endian (field_values fields.now)) }
+    ensures written { bytes.new ≡ replaced bytes.old at (encoding endian (field_values fields.now)) }
+    ensures fit { FieldsFit (field_values fields.now) }
 {
     let mut end = at;
     'fields: for field in fields {
@@ -176,11 +178,12 @@ fn put_record(bytes: &mut [u8], at: usize, size: usize, fields: &[Field], endian
     }
 }
 
-/// The `N` bytes of a record, of which these are the fields.
+/// The `N` bytes of a record, of which these are the fields. Each number fits its width, by its type.
 #[tactic(auto, using(crate::proofs::Writing::replaced_all, crate::proofs::Writing::length_encoding))]
 pub fn record_bytes<const N: usize>(fields: &[Field], endian: Endian) -> [u8; N]
     requires { N ≡ total_width (field_values fields.now) }
-    ensures { result ≡ encoding endian (field_values fields.now) }
+    ensures made { result ≡ encoding endian (field_values fields.now) }
+    ensures fit { FieldsFit (field_values fields.now) }
 {
     let mut bytes = [0; N];
     put_record(&mut bytes, 0, N, fields, endian);

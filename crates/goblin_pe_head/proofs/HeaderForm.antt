@@ -14,7 +14,7 @@ use Rattle.goblin_pe_head.specs.declared.header.DosHeader.{DosHeader}
 use Rattle.goblin_pe_head.specs.declared.optional_header.OptionalHeader.{OptionalHeader}
 use Rattle.goblin_pe_head.specs.DosStub.{stub_at}
 use Rattle.goblin_pe_head.specs.Header.{coff_fields, coff_header, dos_fields, dos_header, dos_record}
-use Rattle.goblin_pe_head.specs.HeaderLaws.{HeaderWritesBack, end_behind, filling, filling_behind, optional_size}
+use Rattle.goblin_pe_head.specs.HeaderLaws.{DosWritesBack, HeaderWritesBack, end_behind, filling, filling_behind, optional_size}
 use Rattle.goblin_pe_head.specs.OptionalHeader.{optional_header}
 use Rattle.goblin_pe_head.specs.PeHeader.{PeHeader, header_at, header_bytes, header_parts, optional_at, optional_part, pe_header, stub_in}
 use Rattle.goblin_pe_head.specs.RichHeader.{rich_at}
@@ -110,6 +110,10 @@ record IsThere {A : Type 0} (o : Option A) (P : A → Type 0) : Type 0 where
 there : {A : Type 0} (o : Option A) (P : A → Type 0) → IsSomeAnd o P → IsThere o P
 there None P h = absurd h
 there (Some x) P h = record { value = x; is = refl; holds = h }
+
+pub dos_file : DosWritesBack
+unfolding DosWritesBack
+dos_file file h fits e = dos_back Little file 0 h fits (dos_of file h e).own
 
 -- how the parts in front of the optional header lie in the file
 pub record IsLaid (bytes : List ℕ) (h : PeHeader) : Type 0 where

@@ -1,8 +1,10 @@
 pub mod HeaderAgain
 pub mod HeaderBack
 pub mod HeaderForm
+pub mod HeaderRead
 pub mod OptionalBack
 pub mod OptionalForm
+pub mod OptionalRead
 pub mod RichEntries
 pub mod RichLaw
 pub mod Sections

@@ -1,10 +1,17 @@
 -- What is written of headers that were read, and what is read of it again.
-use Rattle.std.specs.Prelude.{◌≡◌, ◌≤◌, ℕ, ◌+◌, ◌-◌, ◌*◌, ◌==◌, if◌then◌else◌, List, ◌++◌, length, replicate, take, Option, Some, None, option_and_then, true}
+use Rattle.std.specs.Prelude.{◌≡◌, ◌≤◌, ℕ, ◌+◌, ◌-◌, ◌*◌, ◌==◌, if◌then◌else◌, List, [], ◌++◌, length, replicate, take, Option, Some, None, option_and_then, true}
 use Rattle.goblin_base.specs.declared.endian.Endian.TheVariants.{Little}
-use Rattle.goblin_base.specs.Bytes.{IsBytes, overwritten}
+use Rattle.goblin_base.specs.Bytes.{IsBytes, overwritten, slice_at}
+use Rattle.goblin_base.specs.Record.{encoding}
+use Rattle.goblin_pe_head.specs.declared.header.DosHeader.{DosHeader}
 use Rattle.goblin_pe_head.specs.declared.optional_header.OptionalHeader.{OptionalHeader}
+use Rattle.goblin_pe_head.specs.Header.{dos_fields, dos_header}
 use Rattle.goblin_pe_head.specs.OptionalHeader.{optional_bytes, optional_header}
 use Rattle.goblin_pe_head.specs.PeHeader.{PeHeader, header_bytes, pe_header}
+
+-- The DOS header of a file is written as the first 64 bytes of the file.
+unfoldable pub DosWritesBack : Type 0
+DosWritesBack = (file : List ℕ) (h : DosHeader) → IsBytes file → dos_header file ≡ Some h → slice_at file 0 64 ≡ Some (encoding Little (dos_fields h))
 
 -- how many bytes an optional header takes in its file: the fields that its magic asks for, and as many directories as they say
 abbrev pub optional_size : OptionalHeader → ℕ
@@ -30,7 +37,7 @@ header_end h = end_behind h.dos_header.pe_pointer h.optional_header
 
 -- the zeros that are written behind a header
 abbrev pub filling_behind : Option OptionalHeader → List ℕ
-filling_behind None = replicate 0 0
+filling_behind None = []
 filling_behind (Some h) = filling h
 
 -- A header that was read in strict mode is written as the file's bytes up to its end, with the missing directories behind them.

@@ -91,6 +91,8 @@ te_section_at d bytes p = option_map (section_adjusted d) (section_at true 0 byt
 unfoldable pub te_sections_at : TeHeader → List ℕ → ℕ → Option (List Section)
 te_sections_at h bytes p = displacement h >>= λ d. all_at (λ i. te_section_at d bytes (p + 40 * i)) h.number_of_sections
 
--- which cause is true of sections that are refused: the file is too short for so many, less was stripped than stands in its place, or that of one of them
+-- which cause is true of sections that are refused: the file is too short for so many; or less was stripped than stands in its place, and else that of one of them
 abbrev pub IsTeSectionsFault : TeHeader → List ℕ → ℕ → ErrorOf → Type 0
-IsTeSectionsFault h bytes p e = IsTooShort h.number_of_sections bytes e ⊎ IsStrippedFault h e ⊎ ((i : ℕ) × (i < h.number_of_sections) × IsSectionFault true bytes (p + 40 * i) e)
+IsTeSectionsFault h bytes p e =
+    IsTooShort h.number_of_sections bytes e
+    ⊎ FirstFault (displacement h) (IsStrippedFault h) (λ d e. (i : ℕ) × (i < h.number_of_sections) × IsSectionFault true bytes (p + 40 * i) e) e

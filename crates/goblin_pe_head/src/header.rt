@@ -6,12 +6,13 @@ ghost use Rattle.std.specs.Prelude.{◌≡◌, ◌+◌, ◌*◌, ◌/◌, ◌<�
 ghost use Rattle.goblin_base.specs.Answers.{Answers, AnswersOrMemory, Writes};
 ghost use Rattle.goblin_base.specs.Bytes.{overwritten};
 ghost use Rattle.goblin_base.specs.Faults.{IsSliceFault};
-ghost use Rattle.goblin_base.specs.Record.{WritesBack, encoding, record_at, record_in};
+ghost use Rattle.goblin_base.specs.Record.{ReadsBack, WritesBack, encoding, record_at, record_in};
 ghost use Rattle.goblin_base.proofs.RecordLaws.{record_in-within, slice_fault-no_memory};
 ghost use Rattle.goblin_pe_sect.specs.Options.{is_strict};
 ghost use Rattle.goblin_pe_sect.specs.Symbols.{table_bytes};
 ghost use Rattle.goblin_pe_head.specs.declared.header.CoffHeader.{CoffHeader};
 ghost use Rattle.goblin_pe_head.specs.CoffTables.{IsNoStrings, IsNoSymbols, strings_of, symbols_of};
+ghost use Rattle.goblin_pe_head.specs.HeaderLaws.{DosWritesBack};
 ghost use Rattle.goblin_pe_head.specs.Header.{dos_record, dos_fields, dos_header, IsDosFault, coff_fields, coff_header};
 ghost use Rattle.goblin_pe_head.specs.Sections.{string_table_offset, sections_at, IsSectionsFault, IsTooShort};
 
@@ -207,9 +208,10 @@ impl DosHeader {
     }
 
     // The record's bytes.
-    #[tactic(auto, unfolding(crate::specs::Header::dos_fields))]
+    #[tactic(auto, unfolding(crate::specs::Header::dos_fields), using(crate::proofs::HeaderRead::dos_again))]
     pub(crate) fn to_bytes(&self, endian: Endian) -> [u8; SIZEOF_DOS_HEADER]
-        ensures { result ≡ encoding endian (dos_fields self.now) }
+        ensures made { result ≡ encoding endian (dos_fields self.now) }
+        ensures again { ReadsBack 64 dos_record dos_fields self.now }
     {
         let fields = [
             Field::U16(self.signature),
@@ -281,15 +283,18 @@ impl DosHeader {
     }
 
     /// Writes the record at the front of `bytes` and answers its size, 64. A header that was read is
-    /// written as it stood, by the same order of bytes.
+    /// written as it stood, and any header is read again from what was written, by the same order of
+    /// bytes. In little-endian order that of a file is written as the file's first 64 bytes.
     ///
     /// # Errors
     /// [`Error::Read`] where there is no room for 64 bytes; `bytes` are then as they were.
-    #[tactic(auto, using(crate::proofs::HeaderBack::dos_back))]
+    #[tactic(auto, using(crate::proofs::HeaderBack::dos_back, crate::proofs::HeaderForm::dos_file))]
     pub fn try_into_ctx(self, bytes: &mut [u8], endian: Endian) -> Result<usize>
         ensures size { IfOk result (λ n. n ≡ 64) }
         ensures written { Writes result (overwritten bytes.old 0 (encoding endian (dos_fields self))) bytes.old bytes.new (IsSliceFault bytes.old 0 64) }
         ensures back { WritesBack 64 dos_record dos_fields }
+        ensures file { DosWritesBack }
+        ensures again { ReadsBack 64 dos_record dos_fields self }
     {
         pwrite_slice(bytes, 0, &self.to_bytes(endian))?;
         Ok(SIZEOF_DOS_HEADER)
@@ -344,9 +349,10 @@ impl CoffHeader {
     }
 
     // The record's bytes.
-    #[tactic(auto, unfolding(crate::specs::Header::coff_fields))]
+    #[tactic(auto, unfolding(crate::specs::Header::coff_fields), using(crate::proofs::HeaderRead::coff_again))]
     pub(crate) fn to_bytes(&self, endian: Endian) -> [u8; SIZEOF_COFF_HEADER]
-        ensures { result ≡ encoding endian (coff_fields self.now) }
+        ensures made { result ≡ encoding endian (coff_fields self.now) }
+        ensures again { ReadsBack 20 coff_header coff_fields self.now }
     {
         let fields = [
             Field::U16(self.machine),
@@ -361,7 +367,8 @@ impl CoffHeader {
     }
 
     /// Writes the record at the front of `bytes` and answers its size, 20. A header that was read is
-    /// written as it stood, by the same order of bytes.
+    /// written as it stood, and any header is read again from what was written, by the same order of
+    /// bytes.
     ///
     /// # Errors
     /// [`Error::Read`] where there is no room for 20 bytes; `bytes` are then as they were.
@@ -370,6 +377,7 @@ impl CoffHeader {
         ensures size { IfOk result (λ n. n ≡ 20) }
         ensures written { Writes result (overwritten bytes.old 0 (encoding endian (coff_fields self))) bytes.old bytes.new (IsSliceFault bytes.old 0 20) }
         ensures back { WritesBack 20 coff_header coff_fields }
+        ensures again { ReadsBack 20 coff_header coff_fields self }
     {
         pwrite_slice(bytes, 0, &self.to_bytes(endian))?;
         Ok(SIZEOF_COFF_HEADER)

@@ -1,6 +1,7 @@
 pub mod AuxiliaryBack
 pub mod BlockItems
 pub mod BlocksOf
+pub mod DirectoryRead
 pub mod Entries
 pub mod EntriesBack
 pub mod EntriesFront

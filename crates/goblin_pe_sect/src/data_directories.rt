@@ -6,7 +6,7 @@ ghost use Rattle.std.specs.Iterator.SizeHint.{IsWithinCount};
 ghost use Rattle.goblin_base.specs.Answers.{Answers, Writes};
 ghost use Rattle.goblin_base.specs.Bytes.{overwritten};
 ghost use Rattle.goblin_base.specs.Faults.{IsSliceFault};
-ghost use Rattle.goblin_base.specs.Record.{WritesBack, encoding, record_at, record_in};
+ghost use Rattle.goblin_base.specs.Record.{ReadsBack, WritesBack, encoding, record_at, record_in};
 ghost use Rattle.goblin_base.proofs.RecordLaws.{record_in-within, slice_fault-no_memory};
 ghost use Rattle.goblin_pe_sect.specs.declared.data_directories.DataDirectory.{DataDirectory};
 ghost use Rattle.goblin_pe_sect.specs.DataDirectories.{EntriesWriteBack, IsDirectoriesFault, IsNoKind, dirs_left, directories_at, directory_fields, directory_in, directory_or_zeros, directory_record, entries_fields, entry_ending, kinds, present_from};
@@ -81,16 +81,18 @@ impl DataDirectory {
     }
 
     // The record's bytes.
-    #[tactic(auto, unfolding(crate::specs::DataDirectories::directory_fields))]
+    #[tactic(auto, unfolding(crate::specs::DataDirectories::directory_fields), using(crate::proofs::DirectoryRead::directory_again))]
     fn to_bytes(self, endian: Endian) -> [u8; SIZEOF_DATA_DIRECTORY]
-        ensures { result ≡ encoding endian (directory_fields self) }
+        ensures made { result ≡ encoding endian (directory_fields self) }
+        ensures again { ReadsBack 8 directory_record directory_fields self }
     {
         let fields = [Field::U32(self.virtual_address), Field::U32(self.size)];
         record_bytes(&fields, endian)
     }
 
     /// Writes the record to the front of `bytes`, and answers its size. A directory that was read is
-    /// written as it stood, by the same order of bytes.
+    /// written as it stood, and any directory is read again from what was written, by the same order
+    /// of bytes.
     ///
     /// # Errors
     /// [`Error::Read`] where there is no room for 8 bytes; `bytes` are then as they were.
@@ -99,6 +101,7 @@ impl DataDirectory {
         ensures size { IfOk result (λ n. n ≡ 8) }
         ensures written { Writes result (overwritten bytes.old 0 (encoding endian (directory_fields self))) bytes.old bytes.new (IsSliceFault bytes.old 0 8) }
         ensures back { WritesBack 8 directory_record directory_fields }
+        ensures again { ReadsBack 8 directory_record directory_fields self }
     {
         let record = self.to_bytes(endian);
         pwrite_slice(bytes, 0, &record)?;

@@ -2,6 +2,9 @@
 //! with what stands beside the samples.
 #![tactic(auto)]
 
+ghost use Rattle.std.specs.Prelude.{◌≡◌, ◌≤◌, IfOk, OnOk, length, IsSomeAnd, Some, true};
+ghost use Rattle.goblin_pe_head.specs.PeHeader.{pe_header};
+
 use goblin_base::Endian;
 use goblin_pe_head::{Header, TeHeader};
 use std::io::{Read, Write};
@@ -46,11 +49,21 @@ fn replay(rt: &HostRuntime) -> Result<(), Refused> {
 
 // The header, written as it was read.
 fn show_header(rt: &HostRuntime, file: &[u8]) -> Result<(), Refused> {
-    let header = Header::parse(file)?;
     let mut written = [0; 4096];
-    let size = header.try_into_ctx(&mut written, Endian::Little)?;
+    let size = write_header(file, &mut written)?;
     rt.stdout().write_all(&written[..size])?;
     Ok(())
+}
+
+// Writes the header of a file to the front of `written`, from which it is read again as it is, and
+// answers how many bytes it takes.
+fn write_header(file: &[u8], written: &mut [u8]) -> goblin_base::Result<usize>
+    ensures again { OnOk result (IsSomeAnd (pe_header true file.now) (λ h. pe_header true written.new ≡ Some h)) }
+    ensures size { IfOk result (λ n. n ≤ length written.old) }
+{
+    let header = Header::parse(file)?;
+    let size = header.try_into_ctx(written, Endian::Little)?;
+    Ok(size)
 }
 
 // The header of a Terse Executable and its sections, a line for each value and for each section.
@@ -65,11 +78,16 @@ fn show_te(rt: &HostRuntime, file: &[u8]) -> Result<(), Refused> {
     println!(rt; "entry_point {:#x}", header.entry_point)?;
     println!(rt; "base_of_code {:#x}", header.base_of_code)?;
     println!(rt; "image_base {:#x}", header.image_base)?;
-    println!(rt; "reloc_dir {:#x} {}", header.reloc_dir.virtual_address, header.reloc_dir.size)?;
-    println!(rt; "debug_dir {:#x} {}", header.debug_dir.virtual_address, header.debug_dir.size)?;
+    println!(rt;
+        "reloc_dir {:#x} {}",
+        header.reloc_dir.virtual_address, header.reloc_dir.size
+    )?;
+    println!(rt;
+        "debug_dir {:#x} {}",
+        header.debug_dir.virtual_address, header.debug_dir.size
+    )?;
     for section in &header.sections(rt.alloc(), file, &mut offset)? {
-        println!(
-            rt;
+        println!(rt;
             "section {} va={:#x} vsize={:#x} raw={:#x} ptr={:#x} characteristics={:#x}",
             section.name()?,
             section.virtual_address,

@@ -6,7 +6,7 @@ ghost use Rattle.std.specs.Iterator.SizeHint.{IsWithinCount};
 ghost use Rattle.goblin_base.specs.Answers.{Answers, Writes};
 ghost use Rattle.goblin_base.specs.Bytes.{IsBytes, overwritten};
 ghost use Rattle.goblin_base.specs.Faults.{IsSliceFault};
-ghost use Rattle.goblin_base.specs.Record.{WritesBack, encoding, record_in};
+ghost use Rattle.goblin_base.specs.Record.{ReadsBack, WritesBack, encoding, record_in};
 ghost use Rattle.goblin_base.proofs.RecordLaws.{record_in-within, slice_fault-no_memory};
 ghost use Rattle.goblin_pe_head.specs.declared.header.rich.RichMetadata.{RichMetadata};
 ghost use Rattle.goblin_pe_head.specs.RichHeader.{PaddingFits, marker_place, dans_place, other_place, leading_words, rich_in, rich_at, rich_header, IsRichAtFault, rich_value, IsStretchFault, IsRichFault};
@@ -158,9 +158,10 @@ impl RichMetadata {
     }
 
     // The record's bytes.
-    #[tactic(auto, unfolding(crate::specs::RichMetadata::metadata_fields))]
+    #[tactic(auto, unfolding(crate::specs::RichMetadata::metadata_fields), using(crate::proofs::HeaderRead::metadata_again))]
     fn to_bytes(self, endian: Endian) -> [u8; RICH_METADATA_SIZE]
-        ensures { result ≡ encoding endian (metadata_fields self) }
+        ensures made { result ≡ encoding endian (metadata_fields self) }
+        ensures again { ReadsBack 8 metadata_record metadata_fields self }
     {
         let fields = [
             Field::U16(self.build),
@@ -171,7 +172,8 @@ impl RichMetadata {
     }
 
     /// Writes the record to the front of `bytes`, and answers its size. An entry that was read by
-    /// [`TryFromCtx`] is written as it stood, by the same order of bytes.
+    /// [`TryFromCtx`] is written as it stood, and any entry is read again by it from what was
+    /// written, by the same order of bytes.
     ///
     /// # Errors
     /// [`Error::Read`] where there is no room for 8 bytes; `bytes` are then as they were.
@@ -180,6 +182,7 @@ impl RichMetadata {
         ensures size { IfOk result (λ n. n ≡ 8) }
         ensures written { Writes result (overwritten bytes.old 0 (encoding endian (metadata_fields self))) bytes.old bytes.new (IsSliceFault bytes.old 0 8) }
         ensures back { WritesBack 8 metadata_record metadata_fields }
+        ensures again { ReadsBack 8 metadata_record metadata_fields self }
     {
         let record = self.to_bytes(endian);
         pwrite_slice(bytes, 0, &record)?;

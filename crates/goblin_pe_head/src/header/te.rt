@@ -5,7 +5,7 @@ ghost use Rattle.std.specs.Prelude.{◌≡◌, ◌+◌, ◌*◌, ◌/◌, ◌<�
 ghost use Rattle.goblin_base.specs.Answers.{Answers, AnswersOrMemory, Writes};
 ghost use Rattle.goblin_base.specs.Bytes.{overwritten};
 ghost use Rattle.goblin_base.specs.Faults.{IsSliceFault};
-ghost use Rattle.goblin_base.specs.Record.{WritesBack, encoding, record_in};
+ghost use Rattle.goblin_base.specs.Record.{ReadsBack, WritesBack, encoding, record_in};
 ghost use Rattle.goblin_base.proofs.RecordLaws.{record_in-within, slice_fault-no_memory};
 ghost use Rattle.goblin_pe_head.specs.declared.header.te.TeHeader.{TeHeader};
 ghost use Rattle.goblin_pe_head.specs.Sections.{IsTooShort};
@@ -82,9 +82,10 @@ impl TeHeader {
     }
 
     // The record's bytes.
-    #[tactic(auto, unfolding(crate::specs::TeHeader::te_fields))]
+    #[tactic(auto, unfolding(crate::specs::TeHeader::te_fields), using(crate::proofs::HeaderRead::te_again))]
     fn to_bytes(self, endian: Endian) -> [u8; SIZEOF_TE_HEADER]
-        ensures { result ≡ encoding endian (te_fields self) }
+        ensures made { result ≡ encoding endian (te_fields self) }
+        ensures again { ReadsBack 40 te_record te_fields self }
     {
         let fields = [
             Field::U16(self.signature),
@@ -104,8 +105,8 @@ impl TeHeader {
     }
 
     /// Writes the record at the front of `bytes` and answers its size, 40. What the plain reader read
-    /// is written as it stood, by the same order of bytes; what [`TeHeader::parse`] adjusted is
-    /// written adjusted.
+    /// is written as it stood, and any header is read again by it from what was written, by the same
+    /// order of bytes; what [`TeHeader::parse`] adjusted is written adjusted.
     ///
     /// # Errors
     /// [`Error::Read`] where there is no room for 40 bytes; `bytes` are then as they were.
@@ -114,6 +115,7 @@ impl TeHeader {
         ensures size { IfOk result (λ n. n ≡ 40) }
         ensures written { Writes result (overwritten bytes.old 0 (encoding endian (te_fields self))) bytes.old bytes.new (IsSliceFault bytes.old 0 40) }
         ensures back { WritesBack 40 te_record te_fields }
+        ensures again { ReadsBack 40 te_record te_fields self }
     {
         pwrite_slice(bytes, 0, &self.to_bytes(endian))?;
         Ok(SIZEOF_TE_HEADER)

@@ -4,7 +4,7 @@ ghost use Rattle.std.specs.Prelude.{◌%◌, ◌^◌, ◌≡◌, length, IfOk};
 ghost use Rattle.goblin_base.specs.Answers.{Writes};
 ghost use Rattle.goblin_base.specs.Bytes.{overwritten};
 ghost use Rattle.goblin_base.specs.Faults.{IsSliceFault};
-ghost use Rattle.goblin_base.specs.Record.{WritesBack, encoding, record_in};
+ghost use Rattle.goblin_base.specs.Record.{ReadsBack, WritesBack, encoding, record_in};
 ghost use Rattle.goblin_base.proofs.RecordLaws.{record_in-within, slice_fault-no_memory};
 ghost use Rattle.goblin_pe_head.specs.declared.optional_header.standard_fields.StandardFields32.{StandardFields32};
 ghost use Rattle.goblin_pe_head.specs.declared.optional_header.standard_fields.StandardFields64.{StandardFields64};
@@ -68,9 +68,10 @@ impl StandardFields32 {
     }
 
     // The record's bytes.
-    #[tactic(auto, unfolding(crate::specs::OptionalHeader::standard_32_fields))]
+    #[tactic(auto, unfolding(crate::specs::OptionalHeader::standard_32_fields), using(crate::proofs::OptionalRead::standard_32_again))]
     pub(super) fn to_bytes(self, endian: Endian) -> [u8; SIZEOF_STANDARD_FIELDS_32]
-        ensures { result ≡ encoding endian (standard_32_fields self) }
+        ensures made { result ≡ encoding endian (standard_32_fields self) }
+        ensures again { ReadsBack 28 standard_32_record standard_32_fields self }
     {
         let fields = [
             Field::U16(self.magic),
@@ -87,7 +88,8 @@ impl StandardFields32 {
     }
 
     /// Writes the record at the front of `bytes` and answers its size, 28. Fields that were read are
-    /// written as they stood, by the same order of bytes.
+    /// written as they stood, and any fields are read again from what was written, by the same order
+    /// of bytes.
     ///
     /// # Errors
     /// [`Error::Read`] where there is no room for 28 bytes; `bytes` are then as they were.
@@ -96,6 +98,7 @@ impl StandardFields32 {
         ensures size { IfOk result (λ n. n ≡ 28) }
         ensures written { Writes result (overwritten bytes.old 0 (encoding endian (standard_32_fields self))) bytes.old bytes.new (IsSliceFault bytes.old 0 28) }
         ensures back { WritesBack 28 standard_32_record standard_32_fields }
+        ensures again { ReadsBack 28 standard_32_record standard_32_fields self }
     {
         pwrite_slice(bytes, 0, &self.to_bytes(endian))?;
         Ok(SIZEOF_STANDARD_FIELDS_32)
@@ -179,9 +182,10 @@ impl StandardFields64 {
     }
 
     // The record's bytes.
-    #[tactic(auto, unfolding(crate::specs::OptionalHeader::standard_64_fields))]
+    #[tactic(auto, unfolding(crate::specs::OptionalHeader::standard_64_fields), using(crate::proofs::OptionalRead::standard_64_again))]
     pub(super) fn to_bytes(self, endian: Endian) -> [u8; SIZEOF_STANDARD_FIELDS_64]
-        ensures { result ≡ encoding endian (standard_64_fields self) }
+        ensures made { result ≡ encoding endian (standard_64_fields self) }
+        ensures again { ReadsBack 24 standard_64_record standard_64_fields self }
     {
         let fields = [
             Field::U16(self.magic),
@@ -197,7 +201,8 @@ impl StandardFields64 {
     }
 
     /// Writes the record at the front of `bytes` and answers its size, 24. Fields that were read are
-    /// written as they stood, by the same order of bytes.
+    /// written as they stood, and any fields are read again from what was written, by the same order
+    /// of bytes.
     ///
     /// # Errors
     /// [`Error::Read`] where there is no room for 24 bytes; `bytes` are then as they were.
@@ -206,6 +211,7 @@ impl StandardFields64 {
         ensures size { IfOk result (λ n. n ≡ 24) }
         ensures written { Writes result (overwritten bytes.old 0 (encoding endian (standard_64_fields self))) bytes.old bytes.new (IsSliceFault bytes.old 0 24) }
         ensures back { WritesBack 24 standard_64_record standard_64_fields }
+        ensures again { ReadsBack 24 standard_64_record standard_64_fields self }
     {
         pwrite_slice(bytes, 0, &self.to_bytes(endian))?;
         Ok(SIZEOF_STANDARD_FIELDS_64)

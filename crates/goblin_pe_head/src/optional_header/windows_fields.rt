@@ -4,7 +4,7 @@ ghost use Rattle.std.specs.Prelude.{◌≡◌, length, IfOk};
 ghost use Rattle.goblin_base.specs.Answers.{Answers, Writes};
 ghost use Rattle.goblin_base.specs.Bytes.{overwritten};
 ghost use Rattle.goblin_base.specs.Faults.{IsSliceFault};
-ghost use Rattle.goblin_base.specs.Record.{WritesBack, encoding, record_in};
+ghost use Rattle.goblin_base.specs.Record.{ReadsBack, WritesBack, encoding, record_in};
 ghost use Rattle.goblin_base.proofs.RecordLaws.{record_in-within, slice_fault-no_memory};
 ghost use Rattle.goblin_pe_head.specs.declared.optional_header.windows_fields.WindowsFields32.{WindowsFields32};
 ghost use Rattle.goblin_pe_head.specs.declared.optional_header.windows_fields.WindowsFields64.{WindowsFields64};
@@ -107,9 +107,10 @@ impl WindowsFields32 {
     }
 
     // The record's bytes.
-    #[tactic(auto, unfolding(crate::specs::OptionalHeader::windows_32_fields))]
+    #[tactic(auto, unfolding(crate::specs::OptionalHeader::windows_32_fields), using(crate::proofs::OptionalRead::windows_32_again))]
     pub(super) fn to_bytes(self, endian: Endian) -> [u8; SIZEOF_WINDOWS_FIELDS_32]
-        ensures { result ≡ encoding endian (windows_32_fields self) }
+        ensures made { result ≡ encoding endian (windows_32_fields self) }
+        ensures again { ReadsBack 68 windows_32_record windows_32_fields self }
     {
         let fields = [
             Field::U32(self.image_base),
@@ -138,7 +139,8 @@ impl WindowsFields32 {
     }
 
     /// Writes the record at the front of `bytes` and answers its size, 68. Fields that were read are
-    /// written as they stood, by the same order of bytes.
+    /// written as they stood, and any fields are read again from what was written, by the same order
+    /// of bytes.
     ///
     /// # Errors
     /// [`Error::Read`] where there is no room for 68 bytes; `bytes` are then as they were.
@@ -147,6 +149,7 @@ impl WindowsFields32 {
         ensures size { IfOk result (λ n. n ≡ 68) }
         ensures written { Writes result (overwritten bytes.old 0 (encoding endian (windows_32_fields self))) bytes.old bytes.new (IsSliceFault bytes.old 0 68) }
         ensures back { WritesBack 68 windows_32_record windows_32_fields }
+        ensures again { ReadsBack 68 windows_32_record windows_32_fields self }
     {
         pwrite_slice(bytes, 0, &self.to_bytes(endian))?;
         Ok(SIZEOF_WINDOWS_FIELDS_32)
@@ -269,9 +272,10 @@ impl WindowsFields64 {
     }
 
     // The record's bytes.
-    #[tactic(auto, unfolding(crate::specs::OptionalHeader::windows_64_fields))]
+    #[tactic(auto, unfolding(crate::specs::OptionalHeader::windows_64_fields), using(crate::proofs::OptionalRead::windows_64_again))]
     pub(super) fn to_bytes(self, endian: Endian) -> [u8; SIZEOF_WINDOWS_FIELDS_64]
-        ensures { result ≡ encoding endian (windows_64_fields self) }
+        ensures made { result ≡ encoding endian (windows_64_fields self) }
+        ensures again { ReadsBack 88 windows_64_record windows_64_fields self }
     {
         let fields = [
             Field::U64(self.image_base),
@@ -300,7 +304,8 @@ impl WindowsFields64 {
     }
 
     /// Writes the record at the front of `bytes` and answers its size, 88. Fields that were read are
-    /// written as they stood, by the same order of bytes.
+    /// written as they stood, and any fields are read again from what was written, by the same order
+    /// of bytes.
     ///
     /// # Errors
     /// [`Error::Read`] where there is no room for 88 bytes; `bytes` are then as they were.
@@ -309,6 +314,7 @@ impl WindowsFields64 {
         ensures size { IfOk result (λ n. n ≡ 88) }
         ensures written { Writes result (overwritten bytes.old 0 (encoding endian (windows_64_fields self))) bytes.old bytes.new (IsSliceFault bytes.old 0 88) }
         ensures back { WritesBack 88 windows_64_record windows_64_fields }
+        ensures again { ReadsBack 88 windows_64_record windows_64_fields self }
     {
         pwrite_slice(bytes, 0, &self.to_bytes(endian))?;
         Ok(SIZEOF_WINDOWS_FIELDS_64)

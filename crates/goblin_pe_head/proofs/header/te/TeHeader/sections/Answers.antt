@@ -40,5 +40,5 @@ returns-in_err-section-clause-value c =
     let fault = c.in_err-section.ensures.value no_memory in
     let none = sym (ap (section_at true 0 bytes) at) ∙ fault.0 in (
       te_sections_at-missing c.args.self.now c.in_ok-displacement.displacement i bytes c.args.offset.now c.in_ok-displacement.ensures c.records-test.true none,
-      inr (inr (i, c.records-test.true, subst (λ (p : ℕ). IsSectionFault true bytes p c.in_err-section.field-0.0) at fault.1)),
+      inr (rw c.in_ok-displacement.ensures (i, c.records-test.true, subst (λ (p : ℕ). IsSectionFault true bytes p c.in_err-section.field-0.0) at fault.1)),
     ))
