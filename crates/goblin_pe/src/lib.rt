@@ -9,7 +9,6 @@ pub mod whole;
 pub use goblin_base::{
     Cause, Container, Endian, Error, Permissive, ReadFault, Result, Strtab, TryFromCtx,
 };
-pub use goblin_base::{Cause, Container, Endian, Error, Permissive, ReadFault, Result, TryFromCtx};
 pub use goblin_pe_head::{header, optional_header};
 pub use goblin_pe_sect::{data_directories, options, relocation, section_table, symbol, utils};
 pub use whole::{Part, Whole};

@@ -46,14 +46,18 @@ pub enum Outcome {
     Wrong,
 }
 
-/// Whether a call is refused where no memory is left, and again with a little more each time, until it
-/// gives what it should.
+/// Whether a call gives what it should with ample memory, is refused where no memory is left, and again
+/// with a little more each time, until it gives what it should. The first call also takes the stack
+/// that the others need: without memory it could not grow.
 pub fn is_refused_until_right<F: FnMut() -> Outcome>(
     alloc: Global,
     mut call: F,
 ) -> Result<bool, AllocError>
     requires { F.IsAlwaysCallable call }
 {
+    if !matches!(call(), Outcome::Right) {
+        return Ok(false);
+    }
     let (_large, mut small) = blocks_of_all_memory(alloc)?;
     let mut was_refused = false;
     for _ in 0..1u32 << 12 {
@@ -92,10 +96,13 @@ fn a_run_is_refused_at_each_growth(rt: HostRuntime) -> Result<(), Fail> {
     let alloc = rt.alloc();
     let file = sample(alloc)?;
     let mut taken = Vec::with_capacity(alloc, LISTING.len())?;
-    let is_right = is_refused_until_right(alloc, || match run_into(alloc, &file, &mut taken) {
-        Ok(()) if taken.as_slice() == LISTING => Outcome::Right,
-        Err(fault) if fault.line() == "out of memory" && taken.is_empty() => Outcome::Refused,
-        _ => Outcome::Wrong,
+    let is_right = is_refused_until_right(alloc, || {
+        taken.truncate(0);
+        match run_into(alloc, &file, &mut taken) {
+            Ok(()) if taken.as_slice() == LISTING => Outcome::Right,
+            Err(fault) if fault.line() == "out of memory" && taken.is_empty() => Outcome::Refused,
+            _ => Outcome::Wrong,
+        }
     })?;
     assert!(rt; is_right);
     Ok(())
