@@ -15,8 +15,9 @@ use std::test::Fail;
 /// its name too.
 const BLOCK: usize = 80;
 
-/// Blocks that leave no memory to others: ever smaller ones, until none is given. The last are a few
-/// thousand small ones, to be given back one by one.
+/// Blocks that leave no memory to others: ever smaller ones, until none is given, and of each small
+/// size, since the C library keeps a list for each. The others are a few thousand small ones, to be
+/// given back one by one.
 fn blocks_of_all_memory(alloc: Global) -> Result<(Vec<Vec<u8>>, Vec<Vec<u8>>), AllocError> {
     let mut small = Vec::with_capacity(alloc, 1 << 12)?;
     for _ in 0..1u32 << 12 {
@@ -27,9 +28,10 @@ fn blocks_of_all_memory(alloc: Global) -> Result<(Vec<Vec<u8>>, Vec<Vec<u8>>), A
     for _ in 0..1u32 << 17 {
         match Vec::<u8>::with_capacity(alloc, size) {
             Ok(block) => large.push(block)?,
-            Err(_) => size /= 2,
+            Err(_) if size > 1024 => size /= 2,
+            Err(_) => size = size.saturating_sub(8),
         }
-        if size < 8 {
+        if size == 0 {
             break;
         }
     }
@@ -37,6 +39,7 @@ fn blocks_of_all_memory(alloc: Global) -> Result<(Vec<Vec<u8>>, Vec<Vec<u8>>), A
 }
 
 /// How a call ended that asks for memory.
+#[derive(Drop)]
 pub enum Outcome {
     /// It was refused for want of memory, and left what it was handed.
     Refused,
