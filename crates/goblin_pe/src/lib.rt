@@ -1,4 +1,5 @@
-//! Reads PE files: headers, sections, imports, exports, relocations, symbols.
+//! Reads PE files: headers, sections, symbols, relocations, imports, exports, whole files. Each module
+//! of the crates below stands here too, so that a user names one crate.
 #![tactic(auto)]
 
 pub mod export;
@@ -7,7 +8,8 @@ pub mod table;
 pub mod whole;
 
 pub use goblin_base::{
-    Cause, Container, Endian, Error, Permissive, ReadFault, Result, Strtab, TryFromCtx,
+    Cause, Container, Endian, Error, Permissive, ReadFault, Result, Strtab, TryFromCtx, container,
+    endian, error, permissive, read, record, strtab, write,
 };
 pub use goblin_pe_head::{header, optional_header};
 pub use goblin_pe_sect::{data_directories, options, relocation, section_table, symbol, utils};
