@@ -6,7 +6,7 @@ ghost use Rattle.std.specs.Prelude.{◌≡◌, ◌≤◌, IfOk, OnOk, length, Is
 ghost use Rattle.goblin_pe_head.specs.PeHeader.{pe_header};
 
 use goblin_base::Endian;
-use goblin_pe_head::{Header, TeHeader};
+use goblin_pe_head::{CoffHeader, Header, TeHeader};
 use std::io::{Read, Write};
 use std::process::ExitCode;
 use std::{env, io};
@@ -43,6 +43,7 @@ fn replay(rt: &HostRuntime) -> Result<(), Refused> {
     match words.next() {
         Some(word) if word.as_str() == "header" => show_header(rt, &file),
         Some(word) if word.as_str() == "te" => show_te(rt, &file),
+        Some(word) if word.as_str() == "symbols" => show_symbols(rt, &file),
         _ => Err(Refused),
     }
 }
@@ -96,6 +97,33 @@ fn show_te(rt: &HostRuntime, file: &[u8]) -> Result<(), Refused> {
             section.pointer_to_raw_data,
             section.characteristics
         )?;
+    }
+    Ok(())
+}
+
+// The symbols of an object, a line for each, and for each section with relocations their number.
+fn show_symbols(rt: &HostRuntime, file: &[u8]) -> Result<(), Refused> {
+    let mut offset = 0;
+    let header = CoffHeader::parse(file, &mut offset)?;
+    let (Some(symbols), Some(strings)) = (header.symbols(file)?, header.strings(rt.alloc(), file)?)
+    else {
+        return Err(Refused);
+    };
+    for (index, _, symbol) in symbols.iter() {
+        println!(rt;
+            "symbol {index} value={} section={} class={} aux={} name={}",
+            symbol.value,
+            symbol.section_number,
+            symbol.storage_class,
+            symbol.number_of_aux_symbols,
+            symbol.name(&strings)?
+        )?;
+    }
+    for section in &header.sections(rt.alloc(), file, &mut offset)? {
+        let (count, _) = section.relocations(file)?.size_hint();
+        if count > 0 {
+            println!(rt; "relocations {} {count}", section.name()?)?;
+        }
     }
     Ok(())
 }
