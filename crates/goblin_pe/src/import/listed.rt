@@ -19,6 +19,8 @@ use std::marker::Model;
 const ORDINAL_NAME_MAX: usize = 13;
 
 /// An import.
+///
+/// Source: PE Format, "The .idata Section".
 #[derive(Debug, Drop)]
 pub struct Import<'a> {
     /// The name that is imported, as it stands in the file; or `ORDINAL ` and the ordinal in decimal
