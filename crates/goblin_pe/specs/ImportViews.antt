@@ -1,5 +1,7 @@
 -- The values of imports as contracts see them: texts as their bytes.
-use Rattle.std.specs.Prelude.{List, map, Option, option_to_list}
+use Rattle.std.specs.Prelude.{Bool, true, false, List, map, Option, option_to_list}
+use Rattle.std.specs.declared.borrow.CowStr.{CowStr}
+use Rattle.std.specs.declared.borrow.CowStr.TheVariants.{Borrowed, Owned}
 use Rattle.goblin_pe.specs.ImportLookup.{HintName, LookupEntry}
 use Rattle.goblin_pe.specs.ImportLookup.LookupEntry.{by_ordinal, by_name}
 use Rattle.goblin_pe.specs.declared.import.lookup_table.HintNameTableEntry.{HintNameTableEntry}
@@ -18,3 +20,8 @@ entry_view (HintNameTableRVA pair) = by_name pair.0 (hint_name_view pair.1)
 -- what is kept of an entry: one entry, or nothing
 abbrev pub kept_view : Option SyntheticImportLookupTableEntry → List LookupEntry
 kept_view kept = map entry_view (option_to_list kept)
+
+-- whether a text is borrowed, not a copy
+abbrev pub is_borrowed_str : {Z : Type 0} → CowStr Z → Bool
+is_borrowed_str (Borrowed r) = true
+is_borrowed_str (Owned s) = false

@@ -1,5 +1,5 @@
 -- The imports of import data: one for each entry that a lookup table keeps, in the order of the libraries and of the entries.
-use Rattle.std.specs.Prelude.{ℕ, ◌+◌, ◌*◌, ◌^◌, ◌++◌, nat_lt, if◌then◌else◌, codes, List, [], length, slice_get, sum_by, Option, Some, None, unwrap_or}
+use Rattle.std.specs.Prelude.{ℕ, ◌+◌, ◌*◌, ◌^◌, ◌++◌, nat_lt, Bool, true, false, if◌then◌else◌, codes, List, [], length, slice_get, sum_by, Option, Some, None, unwrap_or}
 use Rattle.std.specs.Fmt.{decimal}
 use Rattle.goblin_base.specs.declared.error.ErrorOf.{ErrorOf}
 use Rattle.goblin_base.specs.declared.error.ErrorOf.TheVariants.{Malformed}
@@ -10,9 +10,10 @@ use Rattle.goblin_pe.specs.ImportLookup.{LookupEntry}
 use Rattle.goblin_pe.specs.ImportLookup.LookupEntry.{by_ordinal, by_name}
 use Rattle.goblin_pe.specs.ImportDirectory.{ImportedLibrary}
 
--- an import, its texts as their bytes
+-- an import, its texts as their bytes; and whether its name is a text of the file, not a copy
 pub record ImportValue : Type 0 where
   pub name : List ℕ
+  pub is_borrowed : Bool
   pub dll : List ℕ
   pub ordinal : ℕ
   pub offset : ℕ
@@ -23,12 +24,12 @@ pub record ImportValue : Type 0 where
 abbrev pub ordinal_name : ℕ → List ℕ
 ordinal_name ordinal = codes "ORDINAL " ++ decimal ordinal
 
--- the import of an entry, from this library and at this offset, with this size
+-- the import of an entry, from this library and at this offset, with this size; the name of an import by name stands in the file
 unfoldable pub import_of : List ℕ → ℕ → ℕ → LookupEntry → ImportValue
 import_of dll offset size (by_ordinal ordinal) =
-    record { name = ordinal_name ordinal; dll = dll; ordinal = ordinal; offset = offset; rva = 0; size = size }
+    record { name = ordinal_name ordinal; is_borrowed = false; dll = dll; ordinal = ordinal; offset = offset; rva = 0; size = size }
 import_of dll offset size (by_name rva named) =
-    record { name = named.name; dll = dll; ordinal = named.hint; offset = offset; rva = rva; size = size }
+    record { name = named.name; is_borrowed = true; dll = dll; ordinal = named.hint; offset = offset; rva = rva; size = size }
 
 -- the offset of the entry at a position of an address table of entries of `size` bytes, where it does not pass 64 bits
 abbrev pub import_offset : ℕ → ℕ → ℕ → Option ℕ

@@ -135,6 +135,8 @@ impl<'a> ExportData<'a> {
 }
 
 /// An export of an image.
+///
+/// Source: PE Format, "The .edata Section (Image Only)".
 #[derive(Debug, Default, Drop)]
 pub struct Export<'a> {
     /// The export's name, where it can be read.

@@ -1,10 +1,11 @@
 //! The libraries from which an image imports.
 
-ghost use Rattle.std.specs.Prelude.{◌≡◌, true};
+ghost use Rattle.std.specs.Prelude.{◌≡◌, map, option_map, true};
 ghost use Rattle.goblin_base.specs.Answers.{AnswersOrMemory};
 ghost use Rattle.goblin_pe_sect.specs.Mapping.{file_offset};
 ghost use Rattle.goblin_pe_sect.specs.Options.{default_options, is_strict};
 ghost use Rattle.goblin_pe.specs.ImportDirectory.{IsLibraryFault, IsLookupIfFault, address_table_rva, library_of, lookup_offset, lookup_table_if};
+ghost use Rattle.goblin_pe.specs.ImportViews.{entry_view};
 
 use crate::import::address_table::{ImportAddressTable, address_table};
 use crate::import::bitfield::Bitfield;
@@ -18,6 +19,8 @@ use std::alloc::Global;
 use std::marker::Model;
 
 /// What a record of an import directory leads to.
+///
+/// Source: PE Format, "Import Directory Table".
 #[derive(Debug, Drop)]
 pub struct SyntheticImportDirectoryEntry<'a> {
     /// The record.
@@ -31,14 +34,16 @@ pub struct SyntheticImportDirectoryEntry<'a> {
 }
 
 impl<'a> Model for SyntheticImportDirectoryEntry<'a> {
+    ghost use Rattle.std.specs.Prelude.{map, option_map};
     ghost use Rattle.goblin_pe.specs.ImportDirectory.{ImportedLibrary};
+    ghost use Rattle.goblin_pe.specs.ImportViews.{entry_view};
 
     ghost Value = { ImportedLibrary };
 
     ghost view = { λ entry. record {
       import_directory_entry = entry.import_directory_entry;
       name = entry.name.now;
-      import_lookup_table = entry.import_lookup_table;
+      import_lookup_table = option_map (map entry_view) entry.import_lookup_table;
       import_address_table = entry.import_address_table;
     } };
 }
@@ -54,7 +59,7 @@ fn lookup_table_if<'a, 'e, T: Bitfield<'a>>(
 ) -> ResultOf<'e, Option<ImportLookupTable<'a>>>
     ensures { let m = file_offset opts.now sections.now file_alignment in
         let strict = is_strict opts.now.parse_mode in
-        AnswersOrMemory (λ t. t) result (lookup_table_if strict T.format m bytes.now offset) (IsLookupIfFault strict T.format m bytes.now offset) }
+        AnswersOrMemory (option_map (map entry_view)) result (lookup_table_if strict T.format m bytes.now offset) (IsLookupIfFault strict T.format m bytes.now offset) }
 {
     let Some(offset) = offset else {
         return Ok(None);

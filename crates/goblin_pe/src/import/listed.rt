@@ -19,9 +19,12 @@ use std::marker::Model;
 const ORDINAL_NAME_MAX: usize = 13;
 
 /// An import.
+///
+/// Source: PE Format, "The .idata Section".
 #[derive(Debug, Drop)]
 pub struct Import<'a> {
-    /// The name that is imported, or `ORDINAL ` and the ordinal in decimal digits.
+    /// The name that is imported, as it stands in the file; or `ORDINAL ` and the ordinal in decimal
+    /// digits.
     pub name: CowStr<'a>,
     /// The name of the library.
     pub dll: &'a str,
@@ -37,12 +40,14 @@ pub struct Import<'a> {
 
 impl<'a> Model for Import<'a> {
     ghost use Rattle.std.specs.Cow.{cow_str_bytes};
+    ghost use Rattle.goblin_pe.specs.ImportViews.{is_borrowed_str};
     ghost use Rattle.goblin_pe.specs.Imports.{ImportValue};
 
     ghost Value = { ImportValue };
 
     ghost view = { λ import. record {
       name = cow_str_bytes import.name;
+      is_borrowed = is_borrowed_str import.name;
       dll = import.dll.now;
       ordinal = import.ordinal;
       offset = import.offset;

@@ -1,6 +1,6 @@
 //! Import lookup tables: what is imported from a library, by name or by ordinal.
 
-ghost use Rattle.std.specs.Prelude.{◌≡◌, map, true};
+ghost use Rattle.std.specs.Prelude.{map, true};
 ghost use Rattle.goblin_base.specs.Answers.{Answers, AnswersOrMemory};
 ghost use Rattle.goblin_pe_sect.specs.Mapping.{file_offset};
 ghost use Rattle.goblin_pe_sect.specs.Options.{default_options, is_strict};
@@ -10,10 +10,10 @@ ghost use Rattle.goblin_pe.specs.ImportViews.{entry_view, hint_name_view, kept_v
 use crate::import::bitfield::{Bitfield, read_entry};
 use crate::options::ParseOptions;
 use crate::section_table::SectionTable;
+use crate::table::Table;
 use crate::utils::find_offset;
 use goblin_base::{Cause, Endian, Error, Result, ResultOf, pread_str, pread_u16};
 use std::alloc::Global;
-use std::marker::Model;
 
 /// A hint, and the name behind it, by which a library exports what is imported.
 ///
@@ -105,45 +105,9 @@ impl<'a> SyntheticImportLookupTableEntry<'a> {
 }
 
 /// What a lookup table keeps, in order.
-#[derive(Debug, Drop)]
-pub struct ImportLookupTable<'a> {
-    entries: Vec<SyntheticImportLookupTableEntry<'a>>,
-}
-
-impl<'a> Model for ImportLookupTable<'a> {
-    ghost use Rattle.std.specs.Prelude.{List, map};
-    ghost use Rattle.goblin_pe.specs.ImportLookup.{LookupEntry};
-    ghost use Rattle.goblin_pe.specs.ImportViews.{entry_view};
-
-    ghost Value = { List LookupEntry };
-
-    ghost view = { λ table. map entry_view table.entries.items };
-}
-
-impl<'a> From<Vec<SyntheticImportLookupTableEntry<'a>>> for ImportLookupTable<'a> {
-    ghost from_gives = { λ entries table. table ≡ map entry_view entries.items };
-
-    /// The table of these entries. It takes no memory.
-    fn from(entries: Vec<SyntheticImportLookupTableEntry<'a>>) -> ImportLookupTable<'a> {
-        ImportLookupTable { entries }
-    }
-}
-
-impl<'a> ImportLookupTable<'a> {
-    /// The entries.
-    pub fn as_slice(&self) -> &[SyntheticImportLookupTableEntry<'a>]
-        ensures { map entry_view result.now ≡ self.now }
-    {
-        &self.entries
-    }
-
-    /// The entries, in the memory that they have.
-    pub fn into_vec(self) -> Vec<SyntheticImportLookupTableEntry<'a>>
-        ensures { map entry_view result.items ≡ self.entry }
-    {
-        self.entries
-    }
-}
+///
+/// Source: PE Format, "Import Lookup Table".
+pub type ImportLookupTable<'a> = Table<SyntheticImportLookupTableEntry<'a>>;
 
 impl<'a> SyntheticImportLookupTableEntry<'a> {
     /// The lookup table at `offset`, as [`SyntheticImportLookupTableEntry::parse_with_opts`] with the
@@ -159,7 +123,7 @@ impl<'a> SyntheticImportLookupTableEntry<'a> {
         file_alignment: u32,
     ) -> ResultOf<'e, ImportLookupTable<'a>>
         ensures { let m = file_offset default_options sections.now file_alignment in
-            AnswersOrMemory (λ t. t) result (lookup_table true T.format m bytes.now offset) (IsLookupTableFault true T.format m bytes.now offset) }
+            AnswersOrMemory (map entry_view) result (lookup_table true T.format m bytes.now offset) (IsLookupTableFault true T.format m bytes.now offset) }
     {
         let opts = ParseOptions::default();
         SyntheticImportLookupTableEntry::parse_with_opts::<T>(
@@ -192,7 +156,7 @@ impl<'a> SyntheticImportLookupTableEntry<'a> {
     ) -> ResultOf<'e, ImportLookupTable<'a>>
         ensures { let m = file_offset opts.now sections.now file_alignment in
             let strict = is_strict opts.now.parse_mode in
-            AnswersOrMemory (λ t. t) result (lookup_table strict T.format m bytes.now offset) (IsLookupTableFault strict T.format m bytes.now offset) }
+            AnswersOrMemory (map entry_view) result (lookup_table strict T.format m bytes.now offset) (IsLookupTableFault strict T.format m bytes.now offset) }
     {
         let size = T::size_of();
         let mut entries = Vec::new(alloc);
@@ -219,6 +183,6 @@ impl<'a> SyntheticImportLookupTableEntry<'a> {
             }
             place += size;
         }
-        Ok(ImportLookupTable { entries })
+        Ok(Table::from(entries))
     }
 }

@@ -19,7 +19,7 @@ returns-in_err-entry g c =
 pub returns-then-is_zero : goal.returns-then-is_zero
 returns-then-is_zero g c =
     let width : 1 ≤ g.T.Bitfield.format.width = omega (arith, c.size_of-size.ensures.width, c.size_of-size.ensures.positive) in
-    at-last _ _ _ _ _ _ _ _ width c.slots.invariant c.in_ok-entry.ensures (sym c.is_zero.ensures ∙ c.if-is_zero.true)
+    rw (c.from.ensures) (at-last _ _ _ _ _ _ _ _ width c.slots.invariant c.in_ok-entry.ensures (sym c.is_zero.ensures ∙ c.if-is_zero.true))
 
 pub slots-preserved : goal.slots-preserved
 slots-preserved g c =

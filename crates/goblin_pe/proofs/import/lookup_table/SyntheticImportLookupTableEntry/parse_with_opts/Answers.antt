@@ -49,7 +49,7 @@ returns g c =
     let width : 1 ≤ g.T.Bitfield.format.width = omega (arith, c.size_of-size.ensures.width, c.size_of-size.ensures.positive) in
     elim c.match-read_entry.branch [
       | in_default+then-is_permissive w ↦
-          at-end _ _ _ _ _ _ _ width c.slots.invariant w.in_default.ensures.0 (permissive _ _ w.is_permissive.ensures w.if-is_permissive.true)
+          rw c.from.ensures (at-end _ _ _ _ _ _ _ width c.slots.invariant w.in_default.ensures.0 (permissive _ _ w.is_permissive.ensures w.if-is_permissive.true))
       | in-Ok+then-is_zero w ↦
-          at-last _ _ _ _ _ _ _ _ width c.slots.invariant w.in-Ok.ensures (sym w.is_zero.ensures ∙ w.if-is_zero.true)
+          rw c.from.ensures (at-last _ _ _ _ _ _ _ _ width c.slots.invariant w.in-Ok.ensures (sym w.is_zero.ensures ∙ w.if-is_zero.true))
     ]
