@@ -4,7 +4,7 @@ use Rattle.goblin_base.specs.declared.endian.Endian.TheVariants.{Little}
 use Rattle.goblin_base.specs.declared.error.ErrorOf.{ErrorOf}
 use Rattle.goblin_base.specs.declared.error.ErrorOf.TheVariants.{Malformed}
 use Rattle.goblin_base.specs.declared.error.CauseOf.TheVariants.{HintEntry, LookupEnd}
-use Rattle.goblin_base.specs.Bytes.{number_at, text_at}
+use Rattle.goblin_base.specs.Bytes.{number, number_at, text_at}
 use Rattle.goblin_base.specs.Faults.{IsSliceFault, IsTextFault}
 use Rattle.goblin_base.specs.Steps.{◌>>=◌, FirstFault}
 use Rattle.goblin_base.specs.SlotTables.{SlotFormat, slot_table, or_left_out, IsTableFault, IsEndFault}
@@ -20,6 +20,13 @@ pub record EntryValue : Type 0 where
 -- the entry of a number that imports by ordinal from `first` on
 abbrev pub entry_value : ℕ → ℕ → EntryValue
 entry_value first n = record { number = n; is_ordinal = nat_le first n; ordinal = n % 2 ^ 16; rva = n % 2 ^ 31 }
+
+-- entries of 32 bits, which import by ordinal where the highest bit is set; and entries of 64 bits
+abbrev pub entries_32 : Format EntryValue
+entries_32 = record { width = 4; value_of = λ bytes. entry_value (2 ^ 31) (number Little 4 bytes 0) }
+
+abbrev pub entries_64 : Format EntryValue
+entries_64 = record { width = 8; value_of = λ bytes. entry_value (2 ^ 63) (number Little 8 bytes 0) }
 
 -- tables of such entries, up to one of number 0
 abbrev pub entry_slots : Format EntryValue → SlotFormat EntryValue

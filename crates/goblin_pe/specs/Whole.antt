@@ -1,12 +1,10 @@
 -- A whole file: its header, its sections, and the tables to which its directories lead.
-use Rattle.std.specs.Prelude.{◌≡◌, ℕ, ◌+◌, ◌^◌, ◌==◌, Bool, true, false, if◌then◌else◌, List, Option, Some, None, Result, Ok, Err, Vec}
+use Rattle.std.specs.Prelude.{◌≡◌, ℕ, ◌+◌, ◌==◌, Bool, true, false, if◌then◌else◌, List, Option, Some, None, Result, Ok, Err, Vec}
 use Rattle.std.specs.Global.{Global}
 use Rattle.goblin_base.specs.declared.error.ErrorOf.{ErrorOf}
 use Rattle.goblin_base.specs.declared.error.ErrorOf.TheVariants.{Memory}
 use Rattle.goblin_base.specs.Steps.{◌>>=◌, FirstFault}
 use Rattle.goblin_base.specs.Tables.{Format}
-use Rattle.goblin_base.specs.Bytes.{number}
-use Rattle.goblin_base.specs.declared.endian.Endian.TheVariants.{Little}
 use Rattle.goblin_pe_sect.specs.declared.data_directories.DataDirectory.{DataDirectory}
 use Rattle.goblin_pe_sect.specs.declared.options.ParseOptions.{ParseOptions}
 use Rattle.goblin_pe_sect.specs.BaseRelocations.{IsRelocationDataFault, relocation_data}
@@ -23,7 +21,7 @@ use Rattle.goblin_pe.specs.declared.whole.Part.TheVariants as part
 use Rattle.goblin_pe.specs.declared.whole.Tables.{Tables}
 use Rattle.goblin_pe.specs.Exports.{ExportRow, ExportTables, IsExportDataFault, export_data, exports}
 use Rattle.goblin_pe.specs.ImportDirectory.{ImportedLibrary, IsImportDataFault, import_data}
-use Rattle.goblin_pe.specs.ImportLookup.{EntryValue, entry_value}
+use Rattle.goblin_pe.specs.ImportLookup.{EntryValue, entries_32, entries_64}
 use Rattle.goblin_pe.specs.Imports.{ImportValue, IsOverflow, imports_of}
 
 -- ---- parts
@@ -71,8 +69,20 @@ IsPartThenFault strict IsFault Refused e = ⊥
 
 -- ---- the tables
 
--- where the tables lie by an optional header, and how they are read; without one there are none
-unfoldable pub tables_of : Option OptionalHeader → Tables
+-- where the tables of a file lie, and by which magic and file alignment they are read
+pub record TablePlaces : Type 0 where
+  pub magic : ℕ
+  pub file_alignment : ℕ
+  pub exports : Option DataDirectory
+  pub imports : Option DataDirectory
+  pub relocations : Option DataDirectory
+
+-- what contracts see of the reader's own struct
+abbrev pub table_places : Tables → TablePlaces
+table_places t = record { magic = t.magic; file_alignment = t.file_alignment; exports = t.exports; imports = t.imports; relocations = t.relocations }
+
+-- where the tables lie by an optional header; without one there are no tables
+unfoldable pub tables_of : Option OptionalHeader → TablePlaces
 tables_of None = record { magic = 0; file_alignment = 0; exports = None; imports = None; relocations = None }
 tables_of (Some h) = record {
   magic = h.standard_fields.magic;
@@ -84,35 +94,33 @@ tables_of (Some h) = record {
 
 -- the entries of the import tables: of four bytes by the magic of 32 bits, else of eight
 unfoldable pub entry_format : ℕ → Format EntryValue
-entry_format magic =
-    if magic == 0x10B then record { width = 4; value_of = λ bytes. entry_value (2 ^ 31) (number Little 4 bytes 0) }
-    else record { width = 8; value_of = λ bytes. entry_value (2 ^ 63) (number Little 8 bytes 0) }
+entry_format magic = if magic == 0x10B then entries_32 else entries_64
 
 -- the file offset of an address
-abbrev pub offset_by : ParseOptions → List Section → Tables → ℕ → Option ℕ
+abbrev pub offset_by : ParseOptions → List Section → TablePlaces → ℕ → Option ℕ
 offset_by opts sections tables = file_offset opts sections tables.file_alignment
 
 -- the import data; there is none where imports are not asked for
-unfoldable pub import_data_part : ParseOptions → List Section → List ℕ → Tables → Option (Part (List ImportedLibrary))
+unfoldable pub import_data_part : ParseOptions → List Section → List ℕ → TablePlaces → Option (Part (List ImportedLibrary))
 import_data_part opts sections bytes tables =
     if opts.parse_imports
     then part_at (is_strict opts.parse_mode) (λ d. import_data (is_strict opts.parse_mode) (entry_format tables.magic) (offset_by opts sections tables) bytes d.virtual_address) tables.imports
     else Some Absent
 
 -- the list of imports
-unfoldable pub imports_part : ParseOptions → Tables → Part (List ImportedLibrary) → Option (Part (List ImportValue))
+unfoldable pub imports_part : ParseOptions → TablePlaces → Part (List ImportedLibrary) → Option (Part (List ImportValue))
 imports_part opts tables libraries = part_then (is_strict opts.parse_mode) (imports_of (entry_format tables.magic).width) libraries
 
 -- the export data
-unfoldable pub export_data_part : ParseOptions → List Section → List ℕ → Tables → Option (Part ExportTables)
+unfoldable pub export_data_part : ParseOptions → List Section → List ℕ → TablePlaces → Option (Part ExportTables)
 export_data_part opts sections bytes tables = part_at (is_strict opts.parse_mode) (λ d. export_data (offset_by opts sections tables) d bytes) tables.exports
 
 -- the list of exports
-unfoldable pub exports_part : ParseOptions → List Section → List ℕ → Tables → Part ExportTables → Part (List ExportRow)
+unfoldable pub exports_part : ParseOptions → List Section → List ℕ → TablePlaces → Part ExportTables → Part (List ExportRow)
 exports_part opts sections bytes tables tables_read = part_map (exports (offset_by opts sections tables) bytes) tables_read
 
 -- the bytes of the base relocations
-unfoldable pub relocations_part : ParseOptions → List Section → List ℕ → Tables → Option (Part (List ℕ))
+unfoldable pub relocations_part : ParseOptions → List Section → List ℕ → TablePlaces → Option (Part (List ℕ))
 relocations_part opts sections bytes tables = part_at (is_strict opts.parse_mode) (relocation_data (offset_by opts sections tables) bytes) tables.relocations
 
 -- ---- the whole file
@@ -155,16 +163,16 @@ whole_file opts bytes = do
   })
 
 -- which cause is true of import data that refuses all
-abbrev pub IsImportPartFault : ParseOptions → List Section → List ℕ → Tables → ErrorOf → Type 0
+abbrev pub IsImportPartFault : ParseOptions → List Section → List ℕ → TablePlaces → ErrorOf → Type 0
 IsImportPartFault opts sections bytes tables =
     IsPartAtFault (is_strict opts.parse_mode) (λ d. IsImportDataFault (is_strict opts.parse_mode) (entry_format tables.magic) (offset_by opts sections tables) bytes d.virtual_address) tables.imports
 
 -- which cause is true of export data that refuses all
-abbrev pub IsExportPartFault : ParseOptions → List Section → List ℕ → Tables → ErrorOf → Type 0
+abbrev pub IsExportPartFault : ParseOptions → List Section → List ℕ → TablePlaces → ErrorOf → Type 0
 IsExportPartFault opts sections bytes tables = IsPartAtFault (is_strict opts.parse_mode) (λ d. IsExportDataFault (offset_by opts sections tables) d bytes) tables.exports
 
 -- which cause is true of base relocations that refuse all
-abbrev pub IsRelocationsPartFault : ParseOptions → List Section → List ℕ → Tables → ErrorOf → Type 0
+abbrev pub IsRelocationsPartFault : ParseOptions → List Section → List ℕ → TablePlaces → ErrorOf → Type 0
 IsRelocationsPartFault opts sections bytes tables = IsPartAtFault (is_strict opts.parse_mode) (IsRelocationDataFault (offset_by opts sections tables) bytes) tables.relocations
 
 -- which cause is true of a file that is refused: that of the first part that is not there

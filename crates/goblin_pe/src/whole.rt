@@ -9,7 +9,7 @@ ghost use Rattle.goblin_pe_head.specs.Sections.{IsSectionsFault};
 ghost use Rattle.goblin_pe.specs.Exports.{GivesOrMemory};
 ghost use Rattle.goblin_pe.specs.ImportDirectory.{IsImportDataFault, import_data};
 ghost use Rattle.goblin_pe.specs.Imports.{IsOverflow, imports_of};
-ghost use Rattle.goblin_pe.specs.Whole.{BecomesPart, IsExportPartFault, IsImportPartFault, IsPartThenFault, IsRelocationsPartFault, IsWholeFault, entry_format, export_data_part, exports_part, file_sections, import_data_part, imports_part, items_part, offset_by, part_map, relocations_part, section_table_offset, tables_of, whole_file};
+ghost use Rattle.goblin_pe.specs.Whole.{BecomesPart, IsExportPartFault, IsImportPartFault, IsPartThenFault, IsRelocationsPartFault, IsWholeFault, entry_format, export_data_part, exports_part, file_sections, import_data_part, imports_part, items_part, offset_by, part_map, relocations_part, section_table_offset, table_places, tables_of, whole_file};
 
 use crate::export::{Export, ExportData};
 use crate::import::{Import, ImportData};
@@ -98,7 +98,7 @@ impl Tables {
     // By an optional header; without one there are none.
     #[tactic(auto, unfolding(crate::specs::Whole::tables_of))]
     fn of(header: &Option<OptionalHeader>) -> Tables
-        ensures { result ≡ tables_of header.now }
+        ensures { table_places result ≡ tables_of header.now }
     {
         let Some(header) = header else {
             return Tables {
@@ -130,7 +130,7 @@ impl Tables {
         opts: &ParseOptions,
     ) -> Result<ImportData<'a>>
         ensures { let strict = is_strict opts.now.parse_mode in
-            let offset_of = offset_by opts.now sections.now self.now in
+            let offset_of = offset_by opts.now sections.now (table_places self.now) in
             AnswersOrMemory (λ x. x) result (import_data strict (entry_format self.now.magic) offset_of bytes.now directory.virtual_address) (IsImportDataFault strict (entry_format self.now.magic) offset_of bytes.now directory.virtual_address) }
     {
         let alignment = self.file_alignment;
@@ -150,7 +150,7 @@ impl Tables {
         sections: &[SectionTable],
         opts: &ParseOptions,
     ) -> Result<Part<ImportData<'a>>>
-        ensures { AnswersOrMemory (λ x. x) result (import_data_part opts.now sections.now bytes.now self.now) (IsImportPartFault opts.now sections.now bytes.now self.now) }
+        ensures { AnswersOrMemory (λ x. x) result (import_data_part opts.now sections.now bytes.now (table_places self.now)) (IsImportPartFault opts.now sections.now bytes.now (table_places self.now)) }
     {
         match self.imports {
             Some(directory) if opts.parse_imports => part_of(
@@ -167,15 +167,15 @@ impl Tables {
         &self,
         alloc: Global,
         bytes: &'a [u8],
-        data: &ImportData<'a>,
+        libraries: &ImportData<'a>,
         sections: &[SectionTable],
     ) -> Result<Vec<Import<'a>>>
-        ensures { AnswersOrMemory (λ v. v.items) result (imports_of (entry_format self.now.magic).width data.now) IsOverflow }
+        ensures { AnswersOrMemory (λ v. v.items) result (imports_of (entry_format self.now.magic).width libraries.now) IsOverflow }
     {
         if self.magic == MAGIC_32 {
-            Import::parse::<u32>(alloc, bytes, data, sections)
+            Import::parse::<u32>(alloc, bytes, libraries, sections)
         } else {
-            Import::parse::<u64>(alloc, bytes, data, sections)
+            Import::parse::<u64>(alloc, bytes, libraries, sections)
         }
     }
 
@@ -189,7 +189,7 @@ impl Tables {
         sections: &[SectionTable],
         opts: &ParseOptions,
     ) -> Result<Part<Vec<Import<'a>>>>
-        ensures { AnswersOrMemory items_part result (imports_part opts.now self.now import_data.now) (IsPartThenFault (is_strict opts.now.parse_mode) IsOverflow import_data.now) }
+        ensures { AnswersOrMemory items_part result (imports_part opts.now (table_places self.now) import_data.now) (IsPartThenFault (is_strict opts.now.parse_mode) IsOverflow import_data.now) }
     {
         match import_data {
             Part::Absent => Ok(Part::Absent),
@@ -207,7 +207,7 @@ impl Tables {
         sections: &[SectionTable],
         opts: &ParseOptions,
     ) -> Result<Part<ExportData<'a>>>
-        ensures { AnswersOrMemory (λ x. x) result (export_data_part opts.now sections.now bytes.now self.now) (IsExportPartFault opts.now sections.now bytes.now self.now) }
+        ensures { AnswersOrMemory (λ x. x) result (export_data_part opts.now sections.now bytes.now (table_places self.now)) (IsExportPartFault opts.now sections.now bytes.now (table_places self.now)) }
     {
         let Some(directory) = self.exports else {
             return Ok(Part::Absent);
@@ -229,7 +229,7 @@ impl Tables {
         sections: &[SectionTable],
         opts: &ParseOptions,
     ) -> Result<Part<Vec<Export<'a>>>>
-        ensures { GivesOrMemory items_part result (exports_part opts.now sections.now bytes.now self.now export_data.now) }
+        ensures { GivesOrMemory items_part result (exports_part opts.now sections.now bytes.now (table_places self.now) export_data.now) }
     {
         match export_data {
             Part::Absent => Ok(Part::Absent),
@@ -252,7 +252,7 @@ impl Tables {
         sections: &[SectionTable],
         opts: &ParseOptions,
     ) -> Result<Part<RelocationData<'a>>>
-        ensures { AnswersOrMemory (part_map relocation_bytes) result (relocations_part opts.now sections.now bytes.now self.now) (IsRelocationsPartFault opts.now sections.now bytes.now self.now) }
+        ensures { AnswersOrMemory (part_map relocation_bytes) result (relocations_part opts.now sections.now bytes.now (table_places self.now)) (IsRelocationsPartFault opts.now sections.now bytes.now (table_places self.now)) }
     {
         let Some(directory) = self.relocations else {
             return Ok(Part::Absent);

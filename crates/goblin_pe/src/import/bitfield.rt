@@ -3,12 +3,10 @@
 ghost use Rattle.std.specs.Prelude.{◌≡◌, ◌==◌, ◌≤◌, ◌^◌, length};
 ghost use Rattle.std.proofs.Common.{lit≤};
 ghost use Rattle.goblin_base.specs.Answers.{Answers};
-ghost use Rattle.goblin_base.specs.Bytes.{number};
 ghost use Rattle.goblin_base.specs.Faults.{IsSliceFault};
 ghost use Rattle.goblin_base.specs.Record.{record_at};
 ghost use Rattle.goblin_base.specs.Tables.{Format};
-ghost use Rattle.goblin_base.specs.declared.endian.Endian.TheVariants.{Little};
-ghost use Rattle.goblin_pe.specs.ImportLookup.{EntryValue, entry_value};
+ghost use Rattle.goblin_pe.specs.ImportLookup.{EntryValue, entries_32, entries_64, entry_value};
 
 use goblin_base::{Endian, ResultOf, field_u32, field_u64, pread_slice};
 
@@ -68,7 +66,7 @@ pub trait Bitfield<'a>: Eq + Drop {
 }
 
 impl<'a> Bitfield<'a> for u32 {
-    ghost format = { record { width = 4; value_of = λ bytes. entry_value (2 ^ 31) (number Little 4 bytes 0) } };
+    ghost format = { entries_32 };
 
     ghost value = { entry_value (2 ^ 31) };
 
@@ -104,7 +102,7 @@ impl<'a> Bitfield<'a> for u32 {
 }
 
 impl<'a> Bitfield<'a> for u64 {
-    ghost format = { record { width = 8; value_of = λ bytes. entry_value (2 ^ 63) (number Little 8 bytes 0) } };
+    ghost format = { entries_64 };
 
     ghost value = { entry_value (2 ^ 63) };
 
