@@ -10,6 +10,7 @@ pub mod NameBack
 pub mod NameLaw
 pub mod Numerals
 pub mod ReadBack
+pub mod RecordRead
 pub mod RelocationRecords
 pub mod SectionBack
 pub mod SymbolHeads

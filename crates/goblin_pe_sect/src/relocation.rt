@@ -7,7 +7,7 @@ ghost use Rattle.std.specs.Iterator.SizeHint.{IsWithinCount};
 ghost use Rattle.goblin_base.specs.Answers.{Answers, Writes};
 ghost use Rattle.goblin_base.specs.Bytes.{overwritten};
 ghost use Rattle.goblin_base.specs.Faults.{IsSliceFault};
-ghost use Rattle.goblin_base.specs.Record.{WritesBack, encoding, record_in};
+ghost use Rattle.goblin_base.specs.Record.{ReadsBack, WritesBack, encoding, record_in};
 ghost use Rattle.goblin_base.proofs.RecordLaws.{record_in-within, slice_fault-no_memory};
 ghost use Rattle.goblin_pe_sect.specs.declared.relocation.Relocation.{Relocation};
 ghost use Rattle.goblin_pe_sect.specs.Relocations.{IsRelocationsFault, relocation_fields, relocation_record, relocations_at, relocations_left};
@@ -277,9 +277,10 @@ impl Relocation {
     }
 
     // The record's bytes.
-    #[tactic(auto, unfolding(crate::specs::Relocations::relocation_fields))]
+    #[tactic(auto, unfolding(crate::specs::Relocations::relocation_fields), using(crate::proofs::RecordRead::relocation_again))]
     fn to_bytes(self, endian: Endian) -> [u8; COFF_RELOCATION_SIZE]
-        ensures { result ≡ encoding endian (relocation_fields self) }
+        ensures made { result ≡ encoding endian (relocation_fields self) }
+        ensures again { ReadsBack 10 relocation_record relocation_fields self }
     {
         let fields = [
             Field::U32(self.virtual_address),
@@ -290,7 +291,7 @@ impl Relocation {
     }
 
     /// Writes the record to the front of `bytes`, and answers its size. One that was read is written
-    /// as it stood, by the same order of bytes.
+    /// as it stood, and any is read again from what was written, by the same order of bytes.
     ///
     /// # Errors
     /// [`Error::Read`] where there is no room for 10 bytes; `bytes` are
@@ -300,6 +301,7 @@ impl Relocation {
         ensures size { IfOk result (λ n. n ≡ 10) }
         ensures written { Writes result (overwritten bytes.old 0 (encoding endian (relocation_fields self))) bytes.old bytes.new (IsSliceFault bytes.old 0 10) }
         ensures back { WritesBack 10 relocation_record relocation_fields }
+        ensures again { ReadsBack 10 relocation_record relocation_fields self }
     {
         let record = self.to_bytes(endian);
         pwrite_slice(bytes, 0, &record)?;

@@ -1,12 +1,12 @@
 //! The symbols of a COFF file: their records and names, and the table of them.
 
-ghost use Rattle.std.specs.Prelude.{◌≡◌, ◌↔◌, ◌+◌, ◌*◌, ◌/◌, ◌%◌, ◌^◌, ◌<◌, ◌≤◌, ◌<ℤ◌, pos, IfOk, IfSome, IsSomeAnd, IsTrue, length, option_map};
+ghost use Rattle.std.specs.Prelude.{◌≡◌, ◌↔◌, ◌+◌, ◌-◌, ◌*◌, ◌/◌, ◌%◌, ◌^◌, ◌<◌, ◌≤◌, ◌<ℤ◌, pos, Some, IfOk, IfSome, IsTrue, length, option_map};
 ghost use Rattle.std.specs.Iterator.{UpTo, YieldsFirstBy, at_most, item_count};
 ghost use Rattle.std.specs.Iterator.SizeHint.{IsWithinCount};
 ghost use Rattle.goblin_base.specs.Answers.{Answers, Writes};
 ghost use Rattle.goblin_base.specs.Bytes.{overwritten, slice_at};
 ghost use Rattle.goblin_base.specs.Faults.{IsSliceFault};
-ghost use Rattle.goblin_base.specs.Record.{WritesBack, encoding, record_at, record_in};
+ghost use Rattle.goblin_base.specs.Record.{ReadsBack, WritesBack, encoding, record_at, record_in};
 ghost use Rattle.goblin_base.proofs.RecordLaws.{record_in-within, slice_fault-no_memory};
 ghost use Rattle.goblin_pe_sect.specs.declared.symbol.Symbol.{Symbol};
 ghost use Rattle.goblin_pe_sect.specs.AuxiliarySymbols.{begin_and_end_function_record, function_definition_record, section_definition_record, weak_external_record};
@@ -307,9 +307,10 @@ impl Symbol {
     }
 
     // The record's bytes.
-    #[tactic(auto, unfolding(crate::specs::Symbols::symbol_fields))]
+    #[tactic(auto, unfolding(crate::specs::Symbols::symbol_fields), using(crate::proofs::RecordRead::symbol_again))]
     fn to_bytes(self, endian: Endian) -> [u8; COFF_SYMBOL_SIZE]
-        ensures { result ≡ encoding endian (symbol_fields self) }
+        ensures made { result ≡ encoding endian (symbol_fields self) }
+        ensures again { ReadsBack 18 symbol_record symbol_fields self }
     {
         let fields = [
             Field::Bytes(&self.name),
@@ -323,7 +324,7 @@ impl Symbol {
     }
 
     /// Writes the record to the front of `bytes`, and answers its size. One that was read is written
-    /// as it stood, by the same order of bytes.
+    /// as it stood, and any is read again from what was written, by the same order of bytes.
     ///
     /// # Errors
     /// [`Error::Read`] where there is no room for 18 bytes; `bytes` are then as they were.
@@ -332,6 +333,7 @@ impl Symbol {
         ensures size { IfOk result (λ n. n ≡ 18) }
         ensures written { Writes result (overwritten bytes.old 0 (encoding endian (symbol_fields self))) bytes.old bytes.new (IsSliceFault bytes.old 0 18) }
         ensures back { WritesBack 18 symbol_record symbol_fields }
+        ensures again { ReadsBack 18 symbol_record symbol_fields self }
     {
         let record = self.to_bytes(endian);
         pwrite_slice(bytes, 0, &record)?;
@@ -539,7 +541,7 @@ impl<'a> Iterator for SymbolIterator<'a> {
     fn size_hint(&self) -> (usize, Option<usize>)
         ensures lower { IsWithinCount result.0 (at_most (length (symbols_left self.now))) }
         ensures upper { IfSome result.1 (UpTo (at_most (length (symbols_left self.now)))) }
-        ensures bounded { IsSomeAnd result.1 (λ n. n ≤ length self.now.symbols.now / 18) }
+        ensures value { result ≡ (0, Some (length self.now.symbols.now / 18 - self.now.index)) }
     {
         let records = self.symbols.len() / COFF_SYMBOL_SIZE;
         (0, Some(records.saturating_sub(self.index)))

@@ -1,12 +1,12 @@
 //! The base relocations of an image: blocks of words.
 
-ghost use Rattle.std.specs.Prelude.{◌≡◌, ◌+◌, ◌/◌, ◌%◌, ◌<◌, ◌≤◌, Some, length, IfOk, IfSome, IsSomeAnd};
+ghost use Rattle.std.specs.Prelude.{◌≡◌, ◌+◌, ◌-◌, ◌/◌, ◌%◌, ◌<◌, Some, length, IfOk, IfSome};
 ghost use Rattle.std.specs.Iterator.{UpTo, YieldsFirst, YieldsFirstBy, at_most, item_count};
 ghost use Rattle.std.specs.Iterator.SizeHint.{IsWithinCount};
 ghost use Rattle.goblin_base.specs.Answers.{Answers, Writes};
 ghost use Rattle.goblin_base.specs.Bytes.{overwritten};
 ghost use Rattle.goblin_base.specs.Faults.{IsSliceFault};
-ghost use Rattle.goblin_base.specs.Record.{WritesBack, encoding, record_in};
+ghost use Rattle.goblin_base.specs.Record.{ReadsBack, WritesBack, encoding, record_in};
 ghost use Rattle.goblin_base.proofs.RecordLaws.{record_in-within, slice_fault-no_memory};
 ghost use Rattle.goblin_pe_sect.specs.declared.relocation.base.RelocationWord.{RelocationWord};
 ghost use Rattle.goblin_pe_sect.specs.BaseRelocations.{AreBlocksOf, IsRelocationDataFault, block_at, block_item, block_items, blocks_left, relocation_data, relocation_bytes, word_fields, word_items, word_record, words_left};
@@ -179,7 +179,7 @@ impl<'a> Iterator for RelocationBlockIterator<'a> {
     fn size_hint(&self) -> (usize, Option<usize>)
         ensures lower { IsWithinCount result.0 (at_most (length (blocks_left self.now))) }
         ensures upper { IfSome result.1 (UpTo (at_most (length (blocks_left self.now)))) }
-        ensures bounded { IsSomeAnd result.1 (λ n. n ≤ (length self.now.bytes.now + 7) / 8) }
+        ensures value { result ≡ (0, Some ((length self.now.bytes.now - self.now.offset + 7) / 8)) }
     {
         let rest = self.bytes.len().saturating_sub(self.offset);
         (0, Some(rest.div_ceil(RELOCATION_BLOCK_SIZE)))
@@ -224,16 +224,17 @@ impl RelocationWord {
     }
 
     // The record's bytes.
-    #[tactic(auto, unfolding(crate::specs::BaseRelocations::word_fields))]
+    #[tactic(auto, unfolding(crate::specs::BaseRelocations::word_fields), using(crate::proofs::RecordRead::word_again))]
     fn to_bytes(self, endian: Endian) -> [u8; RELOCATION_WORD_SIZE]
-        ensures { result ≡ encoding endian (word_fields self) }
+        ensures made { result ≡ encoding endian (word_fields self) }
+        ensures again { ReadsBack 2 word_record word_fields self }
     {
         let fields = [Field::U16(self.value)];
         record_bytes(&fields, endian)
     }
 
     /// Writes the record to the front of `bytes`, and answers its size. One that was read is written
-    /// as it stood, by the same order of bytes.
+    /// as it stood, and any is read again from what was written, by the same order of bytes.
     ///
     /// # Errors
     /// [`Error::Read`] where there is no room for 2 bytes; `bytes` are
@@ -243,6 +244,7 @@ impl RelocationWord {
         ensures size { IfOk result (λ n. n ≡ 2) }
         ensures written { Writes result (overwritten bytes.old 0 (encoding endian (word_fields self))) bytes.old bytes.new (IsSliceFault bytes.old 0 2) }
         ensures back { WritesBack 2 word_record word_fields }
+        ensures again { ReadsBack 2 word_record word_fields self }
     {
         let record = self.to_bytes(endian);
         pwrite_slice(bytes, 0, &record)?;

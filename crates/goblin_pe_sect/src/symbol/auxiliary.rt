@@ -4,7 +4,7 @@ ghost use Rattle.std.specs.Prelude.{◌≡◌, length, IfOk};
 ghost use Rattle.goblin_base.specs.Answers.{Writes};
 ghost use Rattle.goblin_base.specs.Bytes.{overwritten};
 ghost use Rattle.goblin_base.specs.Faults.{IsSliceFault};
-ghost use Rattle.goblin_base.specs.Record.{WritesBack, encoding, record_in};
+ghost use Rattle.goblin_base.specs.Record.{ReadsBack, WritesBack, encoding, record_in};
 ghost use Rattle.goblin_base.proofs.RecordLaws.{record_in-within, slice_fault-no_memory};
 ghost use Rattle.goblin_pe_sect.specs.declared.symbol.auxiliary.AuxBeginAndEndFunction.{AuxBeginAndEndFunction};
 ghost use Rattle.goblin_pe_sect.specs.declared.symbol.auxiliary.AuxFunctionDefinition.{AuxFunctionDefinition};
@@ -54,9 +54,10 @@ impl AuxFunctionDefinition {
     }
 
     // The record's bytes.
-    #[tactic(auto, unfolding(crate::specs::AuxiliarySymbols::function_definition_fields))]
+    #[tactic(auto, unfolding(crate::specs::AuxiliarySymbols::function_definition_fields), using(crate::proofs::RecordRead::function_definition_again))]
     fn to_bytes(self, endian: Endian) -> [u8; COFF_SYMBOL_SIZE]
-        ensures { result ≡ encoding endian (function_definition_fields self) }
+        ensures made { result ≡ encoding endian (function_definition_fields self) }
+        ensures again { ReadsBack 18 function_definition_record function_definition_fields self }
     {
         let fields = [
             Field::U32(self.tag_index),
@@ -69,7 +70,7 @@ impl AuxFunctionDefinition {
     }
 
     /// Writes the record to the front of `bytes`, and answers its size. One that was read is written
-    /// as it stood, by the same order of bytes.
+    /// as it stood, and any is read again from what was written, by the same order of bytes.
     ///
     /// # Errors
     /// [`Error::Read`](goblin_base::Error::Read) where there is no room for 18 bytes; `bytes` are
@@ -79,6 +80,7 @@ impl AuxFunctionDefinition {
         ensures size { IfOk result (λ n. n ≡ 18) }
         ensures written { Writes result (overwritten bytes.old 0 (encoding endian (function_definition_fields self))) bytes.old bytes.new (IsSliceFault bytes.old 0 18) }
         ensures back { WritesBack 18 function_definition_record function_definition_fields }
+        ensures again { ReadsBack 18 function_definition_record function_definition_fields self }
     {
         let record = self.to_bytes(endian);
         pwrite_slice(bytes, 0, &record)?;
@@ -155,9 +157,10 @@ impl AuxBeginAndEndFunction {
     }
 
     // The record's bytes.
-    #[tactic(auto, unfolding(crate::specs::AuxiliarySymbols::begin_and_end_function_fields))]
+    #[tactic(auto, unfolding(crate::specs::AuxiliarySymbols::begin_and_end_function_fields), using(crate::proofs::RecordRead::begin_and_end_function_again))]
     fn to_bytes(self, endian: Endian) -> [u8; COFF_SYMBOL_SIZE]
-        ensures { result ≡ encoding endian (begin_and_end_function_fields self) }
+        ensures made { result ≡ encoding endian (begin_and_end_function_fields self) }
+        ensures again { ReadsBack 18 begin_and_end_function_record begin_and_end_function_fields self }
     {
         let fields = [
             Field::Bytes(&self.unused1),
@@ -170,7 +173,7 @@ impl AuxBeginAndEndFunction {
     }
 
     /// Writes the record to the front of `bytes`, and answers its size. One that was read is written
-    /// as it stood, by the same order of bytes.
+    /// as it stood, and any is read again from what was written, by the same order of bytes.
     ///
     /// # Errors
     /// [`Error::Read`](goblin_base::Error::Read) where there is no room for 18 bytes; `bytes` are
@@ -180,6 +183,7 @@ impl AuxBeginAndEndFunction {
         ensures size { IfOk result (λ n. n ≡ 18) }
         ensures written { Writes result (overwritten bytes.old 0 (encoding endian (begin_and_end_function_fields self))) bytes.old bytes.new (IsSliceFault bytes.old 0 18) }
         ensures back { WritesBack 18 begin_and_end_function_record begin_and_end_function_fields }
+        ensures again { ReadsBack 18 begin_and_end_function_record begin_and_end_function_fields self }
     {
         let record = self.to_bytes(endian);
         pwrite_slice(bytes, 0, &record)?;
@@ -249,9 +253,10 @@ impl AuxWeakExternal {
     }
 
     // The record's bytes.
-    #[tactic(auto, unfolding(crate::specs::AuxiliarySymbols::weak_external_fields))]
+    #[tactic(auto, unfolding(crate::specs::AuxiliarySymbols::weak_external_fields), using(crate::proofs::RecordRead::weak_external_again))]
     fn to_bytes(self, endian: Endian) -> [u8; COFF_SYMBOL_SIZE]
-        ensures { result ≡ encoding endian (weak_external_fields self) }
+        ensures made { result ≡ encoding endian (weak_external_fields self) }
+        ensures again { ReadsBack 18 weak_external_record weak_external_fields self }
     {
         let fields = [
             Field::U32(self.tag_index),
@@ -262,7 +267,7 @@ impl AuxWeakExternal {
     }
 
     /// Writes the record to the front of `bytes`, and answers its size. One that was read is written
-    /// as it stood, by the same order of bytes.
+    /// as it stood, and any is read again from what was written, by the same order of bytes.
     ///
     /// # Errors
     /// [`Error::Read`](goblin_base::Error::Read) where there is no room for 18 bytes; `bytes` are
@@ -272,6 +277,7 @@ impl AuxWeakExternal {
         ensures size { IfOk result (λ n. n ≡ 18) }
         ensures written { Writes result (overwritten bytes.old 0 (encoding endian (weak_external_fields self))) bytes.old bytes.new (IsSliceFault bytes.old 0 18) }
         ensures back { WritesBack 18 weak_external_record weak_external_fields }
+        ensures again { ReadsBack 18 weak_external_record weak_external_fields self }
     {
         let record = self.to_bytes(endian);
         pwrite_slice(bytes, 0, &record)?;
@@ -351,9 +357,10 @@ impl AuxSectionDefinition {
     }
 
     // The record's bytes.
-    #[tactic(auto, unfolding(crate::specs::AuxiliarySymbols::section_definition_fields))]
+    #[tactic(auto, unfolding(crate::specs::AuxiliarySymbols::section_definition_fields), using(crate::proofs::RecordRead::section_definition_again))]
     fn to_bytes(self, endian: Endian) -> [u8; COFF_SYMBOL_SIZE]
-        ensures { result ≡ encoding endian (section_definition_fields self) }
+        ensures made { result ≡ encoding endian (section_definition_fields self) }
+        ensures again { ReadsBack 18 section_definition_record section_definition_fields self }
     {
         let fields = [
             Field::U32(self.length),
@@ -368,7 +375,7 @@ impl AuxSectionDefinition {
     }
 
     /// Writes the record to the front of `bytes`, and answers its size. One that was read is written
-    /// as it stood, by the same order of bytes.
+    /// as it stood, and any is read again from what was written, by the same order of bytes.
     ///
     /// # Errors
     /// [`Error::Read`](goblin_base::Error::Read) where there is no room for 18 bytes; `bytes` are
@@ -378,6 +385,7 @@ impl AuxSectionDefinition {
         ensures size { IfOk result (λ n. n ≡ 18) }
         ensures written { Writes result (overwritten bytes.old 0 (encoding endian (section_definition_fields self))) bytes.old bytes.new (IsSliceFault bytes.old 0 18) }
         ensures back { WritesBack 18 section_definition_record section_definition_fields }
+        ensures again { ReadsBack 18 section_definition_record section_definition_fields self }
     {
         let record = self.to_bytes(endian);
         pwrite_slice(bytes, 0, &record)?;
