@@ -340,6 +340,8 @@ impl TryFromCtx<'_> for Relocation {
 }
 
 /// The relocations of a section of an object, in order.
+///
+/// Source: PE Format, "COFF Relocations (Object Only)".
 #[derive(Default, Drop)]
 pub struct Relocations<'a> {
     relocations: &'a [u8],
