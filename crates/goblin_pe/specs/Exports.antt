@@ -1,14 +1,14 @@
 -- Export directories, the tables that they lead to, and the exports that these list. A file offset stands for an address by a map, `offset_of`.
-use Rattle.std.specs.Prelude.{◌≡◌, ◌<◌, ◌≤◌, ◌⊎◌, ℕ, ◌+◌, ◌==◌, ◌&&◌, nat_le, nat_lt, if◌then◌else◌, Bool, List, [], ◌∷◌, length, codes, slice_get, Option, Some, None, option_map, option_to_list, Result, Ok, Err}
+use Rattle.std.specs.Prelude.{◌≡◌, ◌≤◌, ◌⊎◌, ℕ, ◌+◌, ◌==◌, ◌&&◌, nat_le, nat_lt, if◌then◌else◌, Bool, List, [], ◌∷◌, length, codes, slice_get, Option, Some, None, option_map, option_to_list}
 use Rattle.goblin_base.specs.declared.endian.Endian.{Endian}
 use Rattle.goblin_base.specs.declared.endian.Endian.TheVariants.{Little}
 use Rattle.goblin_base.specs.declared.error.ErrorOf.{ErrorOf}
-use Rattle.goblin_base.specs.declared.error.ErrorOf.TheVariants.{Malformed, BufferTooShort}
+use Rattle.goblin_base.specs.declared.error.ErrorOf.TheVariants.{Malformed}
 use Rattle.goblin_base.specs.declared.error.CauseOf.TheVariants.{ExportTable}
-use Rattle.goblin_base.specs.Answers.{IsMemory}
 use Rattle.goblin_base.specs.Below.{concat_below}
 use Rattle.goblin_base.specs.Bytes.{number}
 use Rattle.goblin_base.specs.CountedTables.{counted_table_if}
+use Rattle.goblin_base.specs.Faults.{IsTooShort}
 use Rattle.goblin_base.specs.Record.{FieldValue, uint, record_at}
 use Rattle.goblin_base.specs.Steps.{◌>>=◌, FirstFault}
 use Rattle.goblin_base.specs.Tables.{Format}
@@ -107,16 +107,11 @@ export_data offset_of d bytes = do
   t ← export_directory_at bytes p
   tables_if offset_of d bytes t
 
--- the file is too short for so many entries
-abbrev pub IsTooShort : ℕ → List ℕ → List ℕ → ErrorOf → Type 0
-IsTooShort n name bytes (BufferTooShort count what) = (count ≡ n) × (what.now ≡ name) × (length bytes < n)
-IsTooShort n name bytes e = ⊥
-
 -- which cause is true of a record whose counts do not fit: there are too many name pointers, or, where these fit, too many addresses
 abbrev pub IsCountFault : List ℕ → ExportDirectoryTable → ErrorOf → Type 0
 IsCountFault bytes t e =
-    IsTooShort t.number_of_name_pointers (codes "name pointers") bytes e
-    ⊎ ((t.number_of_name_pointers ≤ length bytes) × IsTooShort t.address_table_entries (codes "address table entries") bytes e)
+    IsTooShort t.number_of_name_pointers (codes "name pointers") (length bytes) e
+    ⊎ ((t.number_of_name_pointers ≤ length bytes) × IsTooShort t.address_table_entries (codes "address table entries") (length bytes) e)
 
 -- which cause is true of a directory without export data: the first of its address, its record and that record's counts that is at fault
 abbrev pub IsExportDataFault : (ℕ → Option ℕ) → DataDirectory → List ℕ → ErrorOf → Type 0
@@ -156,8 +151,3 @@ unfoldable pub exports : (ℕ → Option ℕ) → List ℕ → ExportTables → 
 exports offset_of bytes tables =
     if length bytes == 0 then []
     else concat_below (λ x. option_to_list (export_row offset_of bytes tables x)) (length tables.export_name_pointer_table)
-
--- A call that always has a value gives it, or is refused for want of memory.
-abbrev pub GivesOrMemory : {X Y : Type 0} → (X → Y) → Result X ErrorOf → Y → Type 0
-GivesOrMemory view (Ok x) value = value ≡ view x
-GivesOrMemory view (Err e) value = IsMemory e

@@ -39,8 +39,8 @@ pub record HintName : Type 0 where
 
 -- an entry that a table keeps: an ordinal, or an address with the hint and the name there
 pub data LookupEntry : Type 0 where
-  by_ordinal : ℕ → LookupEntry
-  by_name : ℕ → HintName → LookupEntry
+  ByOrdinal : ℕ → LookupEntry
+  ByName : ℕ → HintName → LookupEntry
 
 -- a text; where there is none, permissive mode takes the empty one
 abbrev pub or_empty : Bool → Option (List ℕ) → Option (List ℕ)
@@ -58,12 +58,12 @@ hint_name strict bytes p = do
 -- what is kept of an entry whose address has this offset: the hint and the name there, and nothing where it has none
 abbrev pub kept_name : Bool → List ℕ → ℕ → Option ℕ → Option (List LookupEntry)
 kept_name strict bytes rva None = Some []
-kept_name strict bytes rva (Some p) = or_left_out strict (option_map (by_name rva) (hint_name strict bytes p))
+kept_name strict bytes rva (Some p) = or_left_out strict (option_map (ByName rva) (hint_name strict bytes p))
 
 -- what is kept of an entry: one entry, or nothing; none where strict mode has no value for it
 unfoldable pub kept_entry : Bool → (ℕ → Option ℕ) → List ℕ → EntryValue → Option (List LookupEntry)
 kept_entry strict offset_of bytes entry =
-    if entry.is_ordinal then Some (by_ordinal entry.ordinal ∷ []) else kept_name strict bytes entry.rva (offset_of entry.rva)
+    if entry.is_ordinal then Some (ByOrdinal entry.ordinal ∷ []) else kept_name strict bytes entry.rva (offset_of entry.rva)
 
 -- The lookup table at an offset: what is kept of the entries before the first slot that is not in the file or has number 0. Strict mode needs that slot.
 abbrev pub lookup_table : Bool → Format EntryValue → (ℕ → Option ℕ) → List ℕ → ℕ → Option (List LookupEntry)

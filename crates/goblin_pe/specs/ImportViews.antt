@@ -3,7 +3,7 @@ use Rattle.std.specs.Prelude.{Bool, true, false, List, map, Option, option_to_li
 use Rattle.std.specs.declared.borrow.CowStr.{CowStr}
 use Rattle.std.specs.declared.borrow.CowStr.TheVariants.{Borrowed, Owned}
 use Rattle.goblin_pe.specs.ImportLookup.{HintName, LookupEntry}
-use Rattle.goblin_pe.specs.ImportLookup.LookupEntry.{by_ordinal, by_name}
+use Rattle.goblin_pe.specs.ImportLookup.LookupEntry.{ByOrdinal, ByName}
 use Rattle.goblin_pe.specs.declared.import.lookup_table.HintNameTableEntry.{HintNameTableEntry}
 use Rattle.goblin_pe.specs.declared.import.lookup_table.SyntheticImportLookupTableEntry.{SyntheticImportLookupTableEntry}
 use Rattle.goblin_pe.specs.declared.import.lookup_table.SyntheticImportLookupTableEntry.TheVariants.{OrdinalNumber, HintNameTableRVA}
@@ -14,8 +14,8 @@ hint_name_view entry = record { hint = entry.hint; name = entry.name.now }
 
 -- an entry that a lookup table keeps
 abbrev pub entry_view : SyntheticImportLookupTableEntry → LookupEntry
-entry_view (OrdinalNumber ordinal) = by_ordinal ordinal
-entry_view (HintNameTableRVA pair) = by_name pair.0 (hint_name_view pair.1)
+entry_view (OrdinalNumber ordinal) = ByOrdinal ordinal
+entry_view (HintNameTableRVA pair) = ByName pair.0 (hint_name_view pair.1)
 
 -- what is kept of an entry: one entry, or nothing
 abbrev pub kept_view : Option SyntheticImportLookupTableEntry → List LookupEntry

@@ -7,7 +7,7 @@ use Rattle.goblin_base.specs.declared.error.CauseOf.TheVariants.{Overflow}
 use Rattle.goblin_base.specs.Below.{each_below}
 use Rattle.goblin_base.specs.Steps.{◌>>=◌, all_at}
 use Rattle.goblin_pe.specs.ImportLookup.{LookupEntry}
-use Rattle.goblin_pe.specs.ImportLookup.LookupEntry.{by_ordinal, by_name}
+use Rattle.goblin_pe.specs.ImportLookup.LookupEntry.{ByOrdinal, ByName}
 use Rattle.goblin_pe.specs.ImportDirectory.{ImportedLibrary}
 
 -- an import, its texts as their bytes; and whether its name is a text of the file, not a copy
@@ -26,9 +26,9 @@ ordinal_name ordinal = codes "ORDINAL " ++ decimal ordinal
 
 -- the import of an entry, from this library and at this offset, with this size; the name of an import by name stands in the file
 unfoldable pub import_of : List ℕ → ℕ → ℕ → LookupEntry → ImportValue
-import_of dll offset size (by_ordinal ordinal) =
+import_of dll offset size (ByOrdinal ordinal) =
     record { name = ordinal_name ordinal; is_borrowed = false; dll = dll; ordinal = ordinal; offset = offset; rva = 0; size = size }
-import_of dll offset size (by_name rva named) =
+import_of dll offset size (ByName rva named) =
     record { name = named.name; is_borrowed = true; dll = dll; ordinal = named.hint; offset = offset; rva = rva; size = size }
 
 -- the offset of the entry at a position of an address table of entries of `size` bytes, where it does not pass 64 bits

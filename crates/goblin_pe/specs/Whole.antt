@@ -82,9 +82,9 @@ abbrev pub table_places : Tables → TablePlaces
 table_places t = record { magic = t.magic; file_alignment = t.file_alignment; exports = t.exports; imports = t.imports; relocations = t.relocations }
 
 -- where the tables lie by an optional header; without one there are no tables
-unfoldable pub tables_of : Option OptionalHeader → TablePlaces
-tables_of None = record { magic = 0; file_alignment = 0; exports = None; imports = None; relocations = None }
-tables_of (Some h) = record {
+unfoldable pub places_in : Option OptionalHeader → TablePlaces
+places_in None = record { magic = 0; file_alignment = 0; exports = None; imports = None; relocations = None }
+places_in (Some h) = record {
   magic = h.standard_fields.magic;
   file_alignment = h.windows_fields.file_alignment;
   exports = directory_in h.data_directories.data_directories 0;
@@ -117,7 +117,7 @@ export_data_part opts sections bytes tables = part_at (is_strict opts.parse_mode
 
 -- the list of exports
 unfoldable pub exports_part : ParseOptions → List Section → List ℕ → TablePlaces → Part ExportTables → Part (List ExportRow)
-exports_part opts sections bytes tables tables_read = part_map (exports (offset_by opts sections tables) bytes) tables_read
+exports_part opts sections bytes tables export_data = part_map (exports (offset_by opts sections tables) bytes) export_data
 
 -- the bytes of the base relocations
 unfoldable pub relocations_part : ParseOptions → List Section → List ℕ → TablePlaces → Option (Part (List ℕ))
@@ -148,17 +148,17 @@ unfoldable pub whole_file : ParseOptions → List ℕ → Option WholeFile
 whole_file opts bytes = do
   header ← pe_header (is_strict opts.parse_mode) bytes
   sections ← file_sections (is_strict opts.parse_mode) bytes header
-  import_data ← import_data_part opts sections bytes (tables_of header.optional_header)
-  imports ← imports_part opts (tables_of header.optional_header) import_data
-  export_data ← export_data_part opts sections bytes (tables_of header.optional_header)
-  relocations ← relocations_part opts sections bytes (tables_of header.optional_header)
+  import_data ← import_data_part opts sections bytes (places_in header.optional_header)
+  imports ← imports_part opts (places_in header.optional_header) import_data
+  export_data ← export_data_part opts sections bytes (places_in header.optional_header)
+  relocations ← relocations_part opts sections bytes (places_in header.optional_header)
   Some (record {
     header = header;
     sections = sections;
     import_data = import_data;
     imports = imports;
     export_data = export_data;
-    exports = exports_part opts sections bytes (tables_of header.optional_header) export_data;
+    exports = exports_part opts sections bytes (places_in header.optional_header) export_data;
     relocations = relocations;
   })
 
@@ -180,10 +180,10 @@ unfoldable pub IsWholeFault : ParseOptions → List ℕ → ErrorOf → Type 0
 IsWholeFault opts bytes =
     FirstFault (pe_header (is_strict opts.parse_mode) bytes) (IsHeaderFault (is_strict opts.parse_mode) bytes) (λ header.
     FirstFault (file_sections (is_strict opts.parse_mode) bytes header) (IsSectionsFault (is_strict opts.parse_mode) header.coff_header.number_of_sections bytes (section_table_offset header)) (λ sections.
-    FirstFault (import_data_part opts sections bytes (tables_of header.optional_header)) (IsImportPartFault opts sections bytes (tables_of header.optional_header)) (λ import_data.
-    FirstFault (imports_part opts (tables_of header.optional_header) import_data) (IsPartThenFault (is_strict opts.parse_mode) IsOverflow import_data) (λ imports.
-    FirstFault (export_data_part opts sections bytes (tables_of header.optional_header)) (IsExportPartFault opts sections bytes (tables_of header.optional_header)) (λ export_data.
-    FirstFault (relocations_part opts sections bytes (tables_of header.optional_header)) (IsRelocationsPartFault opts sections bytes (tables_of header.optional_header)) (λ relocations e. ⊥))))))
+    FirstFault (import_data_part opts sections bytes (places_in header.optional_header)) (IsImportPartFault opts sections bytes (places_in header.optional_header)) (λ import_data.
+    FirstFault (imports_part opts (places_in header.optional_header) import_data) (IsPartThenFault (is_strict opts.parse_mode) IsOverflow import_data) (λ imports.
+    FirstFault (export_data_part opts sections bytes (places_in header.optional_header)) (IsExportPartFault opts sections bytes (places_in header.optional_header)) (λ export_data.
+    FirstFault (relocations_part opts sections bytes (places_in header.optional_header)) (IsRelocationsPartFault opts sections bytes (places_in header.optional_header)) (λ relocations e. ⊥))))))
 
 -- a list that a part owns, as its items
 abbrev pub items_part : {A : Type 0} → Part (Vec A Global) → Part (List A)

@@ -1,11 +1,11 @@
 //! The exports of an image: what its export directory leads to, and the forwarders among them.
 
 ghost use Rattle.std.specs.Prelude.{◌≡◌, ◌++◌, IfErr, IsOk, OnOk, length, option_and_then, option_map, option_to_list};
-ghost use Rattle.goblin_base.specs.Answers.{AnswersOrMemory, IsMemory};
+ghost use Rattle.goblin_base.specs.Answers.{AnswersOrMemory, GivesOrMemory, IsMemory};
 ghost use Rattle.goblin_base.specs.Bytes.{text_at};
 ghost use Rattle.goblin_pe_sect.specs.Mapping.{file_offset};
 ghost use Rattle.goblin_pe_sect.specs.Options.{default_options};
-ghost use Rattle.goblin_pe.specs.Exports.{GivesOrMemory, IsExportDataFault, export_data, export_row, exports};
+ghost use Rattle.goblin_pe.specs.Exports.{IsExportDataFault, export_data, export_row, exports};
 ghost use Rattle.goblin_pe.specs.Forwarders.{forwarder_at, forwarder_value};
 
 use goblin_base::{Cause, Error, Result, pread_str};

@@ -1,15 +1,14 @@
 //! A whole file: its header, its sections, and the tables to which its directories lead.
 
 ghost use Rattle.std.specs.Prelude.{◌≡◌};
-ghost use Rattle.goblin_base.specs.Answers.{Answers, AnswersOrMemory};
+ghost use Rattle.goblin_base.specs.Answers.{AnswersOrMemory, GivesOrMemory};
 ghost use Rattle.goblin_pe_sect.specs.BaseRelocations.{relocation_bytes};
 ghost use Rattle.goblin_pe_sect.specs.Options.{is_strict};
 ghost use Rattle.goblin_pe_head.specs.PeHeader.{header_value};
 ghost use Rattle.goblin_pe_head.specs.Sections.{IsSectionsFault};
-ghost use Rattle.goblin_pe.specs.Exports.{GivesOrMemory};
 ghost use Rattle.goblin_pe.specs.ImportDirectory.{IsImportDataFault, import_data};
 ghost use Rattle.goblin_pe.specs.Imports.{IsOverflow, imports_of};
-ghost use Rattle.goblin_pe.specs.Whole.{BecomesPart, IsExportPartFault, IsImportPartFault, IsPartThenFault, IsRelocationsPartFault, IsWholeFault, entry_format, export_data_part, exports_part, file_sections, import_data_part, imports_part, items_part, offset_by, part_map, relocations_part, section_table_offset, table_places, tables_of, whole_file};
+ghost use Rattle.goblin_pe.specs.Whole.{BecomesPart, IsExportPartFault, IsImportPartFault, IsPartThenFault, IsRelocationsPartFault, IsWholeFault, entry_format, export_data_part, exports_part, file_sections, import_data_part, imports_part, items_part, offset_by, part_map, relocations_part, section_table_offset, table_places, places_in, whole_file};
 
 use crate::export::{Export, ExportData};
 use crate::import::{Import, ImportData};
@@ -96,9 +95,9 @@ struct Tables {
 
 impl Tables {
     // By an optional header; without one there are none.
-    #[tactic(auto, unfolding(crate::specs::Whole::tables_of))]
+    #[tactic(auto, unfolding(crate::specs::Whole::places_in))]
     fn of(header: &Option<OptionalHeader>) -> Tables
-        ensures { table_places result ≡ tables_of header.now }
+        ensures { table_places result ≡ places_in header.now }
     {
         let Some(header) = header else {
             return Tables {

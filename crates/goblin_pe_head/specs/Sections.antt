@@ -1,7 +1,7 @@
 -- The section table of a file.
-use Rattle.std.specs.Prelude.{◌≡◌, ◌<◌, ◌⊎◌, ℕ, ◌+◌, ◌*◌, ◌/◌, Bool, List, length, codes, Option}
+use Rattle.std.specs.Prelude.{◌<◌, ◌⊎◌, ℕ, ◌+◌, ◌*◌, ◌/◌, Bool, List, length, codes, Option}
 use Rattle.goblin_base.specs.declared.error.ErrorOf.{ErrorOf}
-use Rattle.goblin_base.specs.declared.error.ErrorOf.TheVariants.{BufferTooShort}
+use Rattle.goblin_base.specs.Faults.{IsTooShort}
 use Rattle.goblin_base.specs.Steps.{all_at}
 use Rattle.goblin_pe_sect.specs.SectionTable.{Section, section_at, IsSectionFault}
 use Rattle.goblin_pe_head.specs.declared.header.CoffHeader.{CoffHeader}
@@ -15,10 +15,9 @@ abbrev pub sections_at : Bool → ℕ → ℕ → List ℕ → ℕ → Option (L
 sections_at strict table n bytes p = all_at (λ i. section_at strict table bytes (p + 40 * i)) n
 
 -- the file is too short for n sections, wherever they stand
-abbrev pub IsTooShort : ℕ → List ℕ → ErrorOf → Type 0
-IsTooShort n bytes (BufferTooShort count what) = (count ≡ n) × (what.now ≡ codes "sections") × (length bytes / 40 < n)
-IsTooShort n bytes e = ⊥
+abbrev pub IsTooManySections : ℕ → List ℕ → ErrorOf → Type 0
+IsTooManySections n bytes = IsTooShort n (codes "sections") (length bytes / 40)
 
 -- which cause is true of a file that has no n sections at p: it is too short for so many, or that of one of the sections
 abbrev pub IsSectionsFault : Bool → ℕ → List ℕ → ℕ → ErrorOf → Type 0
-IsSectionsFault strict n bytes p e = IsTooShort n bytes e ⊎ ((i : ℕ) × (i < n) × IsSectionFault strict bytes (p + 40 * i) e)
+IsSectionsFault strict n bytes p e = IsTooManySections n bytes e ⊎ ((i : ℕ) × (i < n) × IsSectionFault strict bytes (p + 40 * i) e)

@@ -11,7 +11,7 @@ use Rattle.goblin_base.specs.Record.{FieldValue, record_at, uint}
 use Rattle.goblin_base.specs.Steps.{◌>>=◌, FirstFault, all_at}
 use Rattle.goblin_pe_sect.specs.SectionTable.{Section, section_at, IsSectionFault}
 use Rattle.goblin_pe_head.specs.declared.header.te.TeHeader.{TeHeader}
-use Rattle.goblin_pe_head.specs.Sections.{IsTooShort}
+use Rattle.goblin_pe_head.specs.Sections.{IsTooManySections}
 
 -- the header in a record's 40 bytes, as stored
 unfoldable pub te_record : Endian → List ℕ → TeHeader
@@ -94,5 +94,5 @@ te_sections_at h bytes p = displacement h >>= λ d. all_at (λ i. te_section_at 
 -- which cause is true of sections that are refused: the file is too short for so many; or less was stripped than stands in its place, and else that of one of them
 abbrev pub IsTeSectionsFault : TeHeader → List ℕ → ℕ → ErrorOf → Type 0
 IsTeSectionsFault h bytes p e =
-    IsTooShort h.number_of_sections bytes e
+    IsTooManySections h.number_of_sections bytes e
     ⊎ FirstFault (displacement h) (IsStrippedFault h) (λ d e. (i : ℕ) × (i < h.number_of_sections) × IsSectionFault true bytes (p + 40 * i) e) e

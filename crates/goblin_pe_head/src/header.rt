@@ -14,7 +14,7 @@ ghost use Rattle.goblin_pe_head.specs.declared.header.CoffHeader.{CoffHeader};
 ghost use Rattle.goblin_pe_head.specs.CoffTables.{IsNoStrings, IsNoSymbols, strings_of, symbols_of};
 ghost use Rattle.goblin_pe_head.specs.HeaderLaws.{DosWritesBack};
 ghost use Rattle.goblin_pe_head.specs.Header.{dos_record, dos_fields, dos_header, IsDosFault, coff_fields, coff_header};
-ghost use Rattle.goblin_pe_head.specs.Sections.{string_table_offset, sections_at, IsSectionsFault, IsTooShort};
+ghost use Rattle.goblin_pe_head.specs.Sections.{string_table_offset, sections_at, IsSectionsFault, IsTooManySections};
 
 use goblin_base::{
     Cause, Endian, Error, Field, Result, Strtab, TryFromCtx, field_u16, field_u32, gread_slice,
@@ -414,7 +414,7 @@ impl CoffHeader {
         offset: &mut usize,
     ) -> Result<Vec<SectionTable>>
         ensures value { AnswersOrMemory (λ v. v.items) result (sections_at true (string_table_offset self.now) self.now.number_of_sections bytes.now offset.old) (IsSectionsFault true self.now.number_of_sections bytes.now offset.old) }
-        ensures first { length bytes.now / 40 < self.now.number_of_sections → IsErrAnd result (IsTooShort self.now.number_of_sections bytes.now) }
+        ensures first { length bytes.now / 40 < self.now.number_of_sections → IsErrAnd result (IsTooManySections self.now.number_of_sections bytes.now) }
         ensures ok { OnOk result (offset.new ≡ offset.old + 40 * self.now.number_of_sections) }
         ensures err { OnErr result (offset.new ≡ offset.old) }
     {
@@ -437,7 +437,7 @@ impl CoffHeader {
         opts: &ParseOptions,
     ) -> Result<Vec<SectionTable>>
         ensures value { AnswersOrMemory (λ v. v.items) result (sections_at (is_strict opts.now.parse_mode) (string_table_offset self.now) self.now.number_of_sections bytes.now offset.old) (IsSectionsFault (is_strict opts.now.parse_mode) self.now.number_of_sections bytes.now offset.old) }
-        ensures first { length bytes.now / 40 < self.now.number_of_sections → IsErrAnd result (IsTooShort self.now.number_of_sections bytes.now) }
+        ensures first { length bytes.now / 40 < self.now.number_of_sections → IsErrAnd result (IsTooManySections self.now.number_of_sections bytes.now) }
         ensures ok { OnOk result (offset.new ≡ offset.old + 40 * self.now.number_of_sections) }
         ensures err { OnErr result (offset.new ≡ offset.old) }
     {

@@ -1,4 +1,4 @@
--- Relocations, words, symbols and auxiliary records that were written are read again as they were.
+-- Sections, relocations, words, symbols and auxiliary records that were written are read again as they were.
 use Rattle.std.proofs.Common.{◌≡◌, ℕ, ℤ, List, [], ◌∷◌, length, get_or, SFits, refl, sym, ap, ◌∙◌, arith}
 use Rattle.std.specs.Prelude.{Option, Some, None, option_map, slice_range}
 use Rattle.std.specs.Int.{w16, cast_signed}
@@ -18,6 +18,7 @@ use Rattle.goblin_pe_sect.specs.declared.symbol.auxiliary.AuxWeakExternal.{AuxWe
 use Rattle.goblin_pe_sect.specs.AuxiliarySymbols.{begin_and_end_function_fields, begin_and_end_function_record, function_definition_fields, function_definition_record, section_definition_fields, section_definition_record, weak_external_fields, weak_external_record}
 use Rattle.goblin_pe_sect.specs.BaseRelocations.{word_fields, word_record}
 use Rattle.goblin_pe_sect.specs.Relocations.{relocation_fields, relocation_record}
+use Rattle.goblin_pe_sect.specs.SectionTable.{Section, SectionReadsBack, section_fields, section_record}
 use Rattle.goblin_pe_sect.specs.Symbols.{symbol_fields, symbol_record}
 
 abbrev relocation_of : List FieldValue → Relocation
@@ -93,6 +94,26 @@ pub section_definition_again : (r : AuxSectionDefinition) → length r.unused �
 unfolding section_definition_record section_definition_fields
 section_definition_again r three fit =
     reads_back 18 section_definition_record section_definition_fields section_definition_of r (rw three refl) (omega arith) fit (λ endian own. rw three refl) (λ endian own. refl) refl
+
+abbrev section_of : List FieldValue → Section
+section_of fields = record {
+  name = octets_of fields 0;
+  real_name = None;
+  virtual_size = number_of fields 1;
+  virtual_address = number_of fields 2;
+  size_of_raw_data = number_of fields 3;
+  pointer_to_raw_data = number_of fields 4;
+  pointer_to_relocations = number_of fields 5;
+  pointer_to_linenumbers = number_of fields 6;
+  number_of_relocations = number_of fields 7;
+  number_of_linenumbers = number_of fields 8;
+  characteristics = number_of fields 9;
+}
+
+pub section_again : (s : Section) → length s.name ≡ 8 → FieldsFit (section_fields s) → SectionReadsBack s
+unfolding ReadsBack SectionReadsBack section_record section_fields
+section_again s eight fit =
+    reads_back 40 section_record section_fields section_of (record s { real_name = None }) (rw eight refl) (omega arith) fit (λ endian own. rw eight refl) (λ endian own. refl) refl
 
 -- the fields of a symbol in a record's 18 bytes, the section's number without its sign
 abbrev symbol_raw : Endian → List ℕ → List FieldValue

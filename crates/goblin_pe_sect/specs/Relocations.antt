@@ -1,5 +1,5 @@
 -- The relocations of a section of an object.
-use Rattle.std.specs.Prelude.{◌≤◌, ℕ, ◌+◌, ◌*◌, ◌/◌, ◌^◌, List, [], ◌∷◌, length, map, slice_range, Option, option_map}
+use Rattle.std.specs.Prelude.{◌<◌, ◌≤◌, ℕ, ◌+◌, ◌*◌, ◌/◌, ◌^◌, List, [], ◌∷◌, length, map, slice_range, Option, option_map}
 use Rattle.std.specs.List.{range_with_len}
 use Rattle.goblin_base.specs.declared.endian.Endian.{Endian}
 use Rattle.goblin_base.specs.declared.endian.Endian.TheVariants.{Little}
@@ -40,7 +40,7 @@ relocations_at bytes p n = option_map relocations_in (slice_at bytes p (10 * n))
 -- which cause is true of bytes without n relocations at p: they are not all there, or their size passes 64 bits
 abbrev pub IsRelocationsFault : List ℕ → ℕ → ℕ → ErrorOf → Type 0
 IsRelocationsFault bytes p n (Malformed Overflow) = 2 ^ 64 ≤ 10 * n
-IsRelocationsFault bytes p n (Read fault) = IsSliceFault bytes p (10 * n) (Read fault)
+IsRelocationsFault bytes p n (Read fault) = (10 * n < 2 ^ 64) × IsSliceFault bytes p (10 * n) (Read fault)
 IsRelocationsFault bytes p n e = ⊥
 
 -- what an iterator over relocations has left

@@ -65,6 +65,10 @@ SectionWritesBack =
     (strict : Bool) (table : ℕ) (bytes : List ℕ) (p : ℕ) (section : Section) → IsBytes bytes → section_at strict table bytes p ≡ Some section
     → slice_at bytes p 40 ≡ Some (encoding Little (section_fields section))
 
+-- A section that is written, whatever its fields say, is read again from what was written, in the same order of bytes, without its real name, which is no part of the record.
+unfoldable pub SectionReadsBack : Section → Type 0
+SectionReadsBack s = (endian : Endian) → record_at 40 (section_record endian) (encoding endian (section_fields s)) 0 ≡ Some (record s { real_name = None })
+
 -- which cause is true of a section that is refused: there is no record, or its name is refused
 unfoldable pub IsSectionFault : Bool → List ℕ → ℕ → ErrorOf → Type 0
 IsSectionFault strict bytes p =

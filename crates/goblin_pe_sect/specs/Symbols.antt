@@ -83,7 +83,7 @@ table_bytes table = table.symbols.now
 -- which cause is true of bytes without a table of n records at p: they are not all there, or their size passes 64 bits
 abbrev pub IsSymbolsFault : List ℕ → ℕ → ℕ → ErrorOf → Type 0
 IsSymbolsFault bytes p n (Malformed Overflow) = 2 ^ 64 ≤ 18 * n
-IsSymbolsFault bytes p n (Read fault) = IsSliceFault bytes p (18 * n) (Read fault)
+IsSymbolsFault bytes p n (Read fault) = (18 * n < 2 ^ 64) × IsSliceFault bytes p (18 * n) (Read fault)
 IsSymbolsFault bytes p n e = ⊥
 
 -- the name of a source file in the n records from record i on: their text

@@ -1,6 +1,6 @@
 //! The data directories of an optional header: where the tables of an image lie.
 
-ghost use Rattle.std.specs.Prelude.{◌≡◌, ◌+◌, ◌*◌, ◌<◌, ◌≤◌, length, slice_get, option_map, IfOk, IfSome, IsSomeAnd, OnOk, OnErr};
+ghost use Rattle.std.specs.Prelude.{◌≡◌, ◌+◌, ◌-◌, ◌*◌, ◌<◌, Some, length, slice_get, option_map, IfOk, IfSome, OnOk, OnErr};
 ghost use Rattle.std.specs.Iterator.{UpTo, YieldsFirst, at_most, item_count};
 ghost use Rattle.std.specs.Iterator.SizeHint.{IsWithinCount};
 ghost use Rattle.goblin_base.specs.Answers.{Answers, Writes};
@@ -434,12 +434,12 @@ impl Iterator for Dirs {
         None
     }
 
-    /// No more come than there are kinds.
+    /// No more come than there are kinds left.
     #[tactic(auto, using(crate::proofs::Entries::walk_most))]
     fn size_hint(&self) -> (usize, Option<usize>)
         ensures lower { IsWithinCount result.0 (at_most (length (dirs_left self.now))) }
         ensures upper { IfSome result.1 (UpTo (at_most (length (dirs_left self.now)))) }
-        ensures bounded { IsSomeAnd result.1 (λ n. n ≤ 15) }
+        ensures value { result ≡ (0, Some (15 - self.now.index)) }
     {
         (0, Some(KINDS.len().saturating_sub(self.index)))
     }

@@ -1,19 +1,19 @@
 //! The section records of a PE file.
 
-ghost use Rattle.std.specs.Prelude.{◌≡◌, ◌↔◌, ◌+◌, ◌*◌, ◌<◌, ◌≤◌, Bool, Err, IfErr, IfOk, IfSome, IsTrue, None, Ok, OnErr, OnOk, Some, if◌then◌else◌, length, nat_eq, string_bytes, true};
+ghost use Rattle.std.specs.Prelude.{◌≡◌, ◌↔◌, ◌+◌, ◌*◌, ◌<◌, ◌≤◌, Bool, Err, IfErr, IfOk, IfSome, IsSome, IsSomeAnd, IsTrue, None, Ok, OnErr, OnOk, Some, if◌then◌else◌, length, nat_eq, string_bytes, true};
 ghost use Rattle.std.specs.Cow.{cow_slice_items, IsBorrowedSlice};
 ghost use Rattle.std.specs.Option.{option_eq, option_map};
 ghost use Rattle.std.specs.Cmp.Lexicographic.{pointwise};
 ghost use Rattle.goblin_base.specs.declared.error.ErrorOf.TheVariants.{Malformed};
 ghost use Rattle.goblin_base.specs.declared.error.CauseOf.TheVariants.{NameText};
-ghost use Rattle.goblin_base.specs.Answers.{Answers, AnswersOrMemory, Writes};
+ghost use Rattle.goblin_base.specs.Answers.{Answers, AnswersOrMemory, IsMemory, Writes};
 ghost use Rattle.goblin_base.specs.Bytes.{overwritten, replaced};
 ghost use Rattle.goblin_base.specs.Faults.{IsSliceFault};
 ghost use Rattle.goblin_base.specs.Record.{WritesBack, encoding};
 ghost use Rattle.goblin_pe_sect.specs.Options.{is_strict};
 ghost use Rattle.goblin_pe_sect.specs.Relocations.{relocations_at, relocations_left};
 ghost use Rattle.goblin_pe_sect.specs.SectionName.{name_value, IsNameFault, indirect_name, IsNameOffsetFault, real_name_at};
-ghost use Rattle.goblin_pe_sect.specs.SectionTable.{Section, section_eq, section_per, SectionWritesBack, section_record, section_fields, section_at, IsSectionFault, name_of, IsNoName, section_data, OverlapRawData};
+ghost use Rattle.goblin_pe_sect.specs.SectionTable.{Section, section_eq, section_per, SectionReadsBack, SectionWritesBack, section_record, section_fields, section_at, IsSectionFault, name_of, IsNoName, section_data, OverlapRawData};
 
 use crate::digits::{Digits, decimal_number, indirect_name};
 use crate::options::{ParseMode, ParseOptions};
@@ -215,6 +215,7 @@ impl SectionTable {
         string_table_offset: usize,
     ) -> Result<SectionTable>
         ensures value { AnswersOrMemory (λ s. s) result (section_at true string_table_offset bytes.now offset.old) (IsSectionFault true bytes.now offset.old) }
+        ensures grown { IfErr result (λ e. IsMemory e → IsSomeAnd (section_at true string_table_offset bytes.now offset.old) (λ s. IsSome s.real_name)) }
         ensures ok { OnOk result (offset.new ≡ offset.old + 40) }
         ensures err { OnErr result (offset.new ≡ offset.old) }
     {
@@ -230,7 +231,7 @@ impl SectionTable {
     /// [`Error::Read`] where the file has no 40 bytes there; as
     /// [`SectionTable::name_offset_with_opts`] where the name is refused; [`Error::Memory`] where
     /// memory for the real name is refused. `offset` then stays.
-    #[tactic(auto, unfolding(crate::specs::SectionTable::section_at, crate::specs::SectionTable::IsSectionFault))]
+    #[tactic(auto, unfolding(crate::specs::SectionTable::section_at, crate::specs::SectionTable::IsSectionFault, crate::specs::SectionName::IsNameFault))]
     pub fn parse_with_opts(
         alloc: Global,
         bytes: &[u8],
@@ -239,6 +240,7 @@ impl SectionTable {
         opts: &ParseOptions,
     ) -> Result<SectionTable>
         ensures value { AnswersOrMemory (λ s. s) result (section_at (is_strict opts.now.parse_mode) string_table_offset bytes.now offset.old) (IsSectionFault (is_strict opts.now.parse_mode) bytes.now offset.old) }
+        ensures grown { IfErr result (λ e. IsMemory e → IsSomeAnd (section_at (is_strict opts.now.parse_mode) string_table_offset bytes.now offset.old) (λ s. IsSome s.real_name)) }
         ensures ok { OnOk result (offset.new ≡ offset.old + 40) }
         ensures err { OnErr result (offset.new ≡ offset.old) }
     {
@@ -251,12 +253,13 @@ impl SectionTable {
         Ok(section)
     }
 
-    /// A copy with its own text.
+    /// A copy with its own text. One without a real name takes no memory.
     ///
     /// # Errors
     /// [`Error::Memory`] where memory for the text is refused.
     pub fn clone(&self, alloc: Global) -> Result<SectionTable>
-        ensures { AnswersOrMemory (λ s. s) result (Some self.now) (λ e. ⊥) }
+        ensures value { AnswersOrMemory (λ s. s) result (Some self.now) (λ e. ⊥) }
+        ensures grown { OnErr result (IsSome self.now.real_name) }
     {
         let real_name = match &self.real_name {
             Some(name) => Some(String::from_str(alloc, name.as_str())?),
@@ -403,7 +406,8 @@ impl SectionTable {
     }
 
     /// Writes the record at the front of `bytes` and answers its size, 40. The real name is no part
-    /// of it. A record that was read is written as it stood, by the same order of bytes.
+    /// of it. A record that was read is written as it stood, and any section is read again from what
+    /// was written, but for its real name, by the same order of bytes.
     ///
     /// # Errors
     /// [`Error::Read`] where there is no room; `bytes` then stays.
@@ -413,6 +417,7 @@ impl SectionTable {
         ensures written { Writes result (overwritten bytes.old 0 (encoding endian (section_fields self.now))) bytes.old bytes.new (IsSliceFault bytes.old 0 40) }
         ensures back { WritesBack 40 section_record section_fields }
         ensures parsed_back { SectionWritesBack }
+        ensures again { SectionReadsBack self.now }
     {
         pwrite_slice(bytes, 0, &self.to_bytes(endian))?;
         Ok(SIZEOF_SECTION_TABLE)
@@ -427,9 +432,10 @@ impl SectionTable {
     }
 
     // The bytes of the record.
-    #[tactic(auto, unfolding(crate::specs::SectionTable::section_fields))]
+    #[tactic(auto, unfolding(crate::specs::SectionTable::section_fields), using(crate::proofs::RecordRead::section_again))]
     fn to_bytes(&self, endian: Endian) -> [u8; SIZEOF_SECTION_TABLE]
-        ensures { result ≡ encoding endian (section_fields self.now) }
+        ensures made { result ≡ encoding endian (section_fields self.now) }
+        ensures again { SectionReadsBack self.now }
     {
         let fields = [
             Field::Bytes(&self.name),
@@ -490,7 +496,8 @@ fn real_name(
     string_table_offset: usize,
     value: Option<usize>,
 ) -> Result<Option<String>>
-    ensures { AnswersOrMemory (λ name. option_map string_bytes name) result (Some (real_name_at bytes.now string_table_offset value)) (λ e. ⊥) }
+    ensures value { AnswersOrMemory (λ name. option_map string_bytes name) result (Some (real_name_at bytes.now string_table_offset value)) (λ e. ⊥) }
+    ensures grown { OnErr result (IsSome (real_name_at bytes.now string_table_offset value)) }
 {
     let Some(offset) = value.and_then(|value| string_table_offset.checked_add(value)) else {
         return Ok(None);

@@ -11,7 +11,7 @@ ghost use Rattle.pe_list.specs.Lines.{block_count, block_line, export_line, forw
 ghost use Rattle.pe_list.specs.Listing.{IsLayoutFault, listing_of};
 ghost use Rattle.pe_list.specs.Text.{hex_field, name_field};
 
-use crate::text::{push_decimal, push_hex, push_name};
+use crate::text::{push_decimal, push_hex, push_name, push_name_bytes};
 use goblin_base::{Error, ParseMode, before_nul};
 use goblin_pe::export::{Export, Reexport};
 use goblin_pe::header::Header;
@@ -90,7 +90,7 @@ impl Listed for SectionTable {
         push_hex(text, " vsize=", self.virtual_size as u64)?;
         push_hex(text, " raw=", self.size_of_raw_data as u64)?;
         push_hex(text, " ptr=", self.pointer_to_raw_data as u64)?;
-        push_name(text, " name=", shown_name(self))?;
+        push_name_bytes(text, " name=", shown_name(self))?;
         text.push_str("\n")?;
         Ok(())
     }
@@ -115,8 +115,8 @@ impl Listed for Import<'_> {
         push_decimal(text, " ordinal=", self.ordinal as u64)?;
         push_hex(text, " rva=", self.rva as u64)?;
         push_decimal(text, " size=", self.size as u64)?;
-        push_name(text, " dll=", self.dll.as_bytes())?;
-        push_name(text, " name=", self.name.as_str().as_bytes())?;
+        push_name(text, " dll=", self.dll)?;
+        push_name(text, " name=", self.name.as_str())?;
         text.push_str("\n")?;
         Ok(())
     }
@@ -148,7 +148,7 @@ fn push_export_name(text: &mut String, name: Option<&str>) -> Result<(), AllocEr
     ensures { OnOk result (string_bytes text.new ≡ string_bytes text.old ++ if_there (name_field (codes " name=")) (option_map (λ n. n.now) name.entry)) }
 {
     if let Some(name) = name {
-        push_name(text, " name=", name.as_bytes())?;
+        push_name(text, " name=", name)?;
     }
     Ok(())
 }
@@ -159,11 +159,11 @@ fn push_reexport(text: &mut String, reexport: Option<Reexport>) -> Result<(), Al
 {
     match reexport {
         Some(Reexport::DLLName { export, lib }) => {
-            push_name(text, " forward=", lib.as_bytes())?;
-            push_name(text, ".", export.as_bytes())?;
+            push_name(text, " forward=", lib)?;
+            push_name(text, ".", export)?;
         }
         Some(Reexport::DLLOrdinal { ordinal, lib }) => {
-            push_name(text, " forward=", lib.as_bytes())?;
+            push_name(text, " forward=", lib)?;
             push_decimal(text, ".#", ordinal as u64)?;
         }
         None => {}

@@ -67,6 +67,10 @@ pub fn run<R: Read, W: Write>(
     ensures input { result ≡ Err RunFault.Input → IsTrue reader.new.failed }
     ensures output { result ≡ Err RunFault.Output → IsTrue writer.new.failed }
 
+    // A call that failed ends the run: it isn't tried again.
+    ensures read_once { result ≢ Err RunFault.Input → reader.new.failed ≡ reader.old.failed }
+    ensures written_once { result ≢ Err RunFault.Output → writer.new.failed ≡ writer.old.failed }
+
     // The file is judged only when all of it was read.
     ensures ended { OnOk result (IsTrue reader.new.ended) }
     ensures judged { IfRefused result (λ cause. ¬ IsMemory cause → IsTrue reader.new.ended) }

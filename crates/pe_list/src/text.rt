@@ -1,22 +1,58 @@
 //! The pieces of a line: numbers and names as text.
 
-ghost use Rattle.std.specs.Prelude.{◌≡◌, ◌++◌, OnOk, string_bytes};
-ghost use Rattle.pe_list.specs.Text.{decimal_field, escaped, escaped_byte, hex_field, name_field};
+ghost use Rattle.std.specs.Prelude.{[], ◌≡◌, ◌++◌, ◌∷◌, ◌<◌, IsTrue, OnOk, false, string_bytes};
+ghost use Rattle.std.specs.Fmt.{digit_glyph, digits};
+ghost use Rattle.std.specs.List.{list_all};
+ghost use Rattle.pe_list.specs.Text.{decimal_field, escaped, escaped_byte, hex_field, is_plain, name_field};
 
 use std::alloc::AllocError;
 
 /// Appends a label, and a number as `0x` and lower-case hexadecimal digits without leading zeros.
 #[tactic(auto, unfolding(crate::specs::Text::hex_field))]
+#[inline(always)]
 pub fn push_hex(text: &mut String, label: &str, number: u64) -> Result<(), AllocError>
     ensures { OnOk result (string_bytes text.new ≡ string_bytes text.old ++ hex_field label.now number) }
 {
     text.push_str(label)?;
-    write!(text, "0x{number:x}")?;
+    text.push_str("0x")?;
+    push_hex_digits(text, number)?;
     Ok(())
+}
+
+// Appends the digits of a number, without leading zeros.
+#[tactic(auto, using(std::proofs::lemmas::Fmt::hex_one_digit, crate::proofs::HexDigits::more_digits))]
+fn push_hex_digits(text: &mut String, number: u64) -> Result<(), AllocError>
+    ensures { OnOk result (string_bytes text.new ≡ string_bytes text.old ++ digits 16 false number) }
+{
+    if number < 16 {
+        return push_hex_digit(text, number);
+    }
+    push_hex_digits(text, number / 16)?;
+    push_hex_digit(text, number % 16)?;
+    Ok(())
+}
+
+fn push_hex_digit(text: &mut String, value: u64) -> Result<(), AllocError>
+    requires { value < 16 }
+    ensures { OnOk result (string_bytes text.new ≡ string_bytes text.old ++ digit_glyph false value ∷ []) }
+{
+    text.push(hex_digit(value) as char)
+}
+
+fn hex_digit(value: u64) -> u8
+    requires { value < 16 }
+    ensures { result ≡ digit_glyph false value }
+{
+    if value < 10 {
+        b'0' + value as u8
+    } else {
+        b'a' + (value - 10) as u8
+    }
 }
 
 /// Appends a label, and a number in decimal digits.
 #[tactic(auto, unfolding(crate::specs::Text::decimal_field))]
+#[inline(always)]
 pub fn push_decimal(text: &mut String, label: &str, number: u64) -> Result<(), AllocError>
     ensures { OnOk result (string_bytes text.new ≡ string_bytes text.old ++ decimal_field label.now number) }
 {
@@ -28,7 +64,8 @@ pub fn push_decimal(text: &mut String, label: &str, number: u64) -> Result<(), A
 /// Appends a label, and a name. A byte that is no printable ASCII character, and the backslash, is
 /// `\x` and two lower-case hexadecimal digits.
 #[tactic(auto, unfolding(crate::specs::Text::name_field))]
-pub fn push_name(text: &mut String, label: &str, name: &[u8]) -> Result<(), AllocError>
+#[inline(always)]
+pub fn push_name(text: &mut String, label: &str, name: &str) -> Result<(), AllocError>
     ensures { OnOk result (string_bytes text.new ≡ string_bytes text.old ++ name_field label.now name.now) }
 {
     text.push_str(label)?;
@@ -36,8 +73,42 @@ pub fn push_name(text: &mut String, label: &str, name: &[u8]) -> Result<(), Allo
     Ok(())
 }
 
-// Appends a name, as it is printed.
-fn push_escaped(text: &mut String, name: &[u8]) -> Result<(), AllocError>
+/// As [`push_name`], of a name that need not be text.
+#[tactic(auto, unfolding(crate::specs::Text::name_field))]
+pub fn push_name_bytes(text: &mut String, label: &str, name: &[u8]) -> Result<(), AllocError>
+    ensures { OnOk result (string_bytes text.new ≡ string_bytes text.old ++ name_field label.now name.now) }
+{
+    text.push_str(label)?;
+    push_each_escaped(text, name)?;
+    Ok(())
+}
+
+// Appends a name, as it is printed: at once where nothing in it is escaped.
+#[tactic(auto, using(crate::proofs::PlainNames::plain_name))]
+fn push_escaped(text: &mut String, name: &str) -> Result<(), AllocError>
+    ensures { OnOk result (string_bytes text.new ≡ string_bytes text.old ++ escaped name.now) }
+{
+    if is_plain_name(name.as_bytes()) {
+        text.push_str(name)?;
+    } else {
+        push_each_escaped(text, name.as_bytes())?;
+    }
+    Ok(())
+}
+
+// Whether every byte stands for itself. All are looked at, which is faster than to stop at the first.
+fn is_plain_name(name: &[u8]) -> bool
+    ensures { result ≡ list_all is_plain name.now }
+{
+    let mut plain = true;
+    'bytes: for byte in name {
+        plain &= is_plain(*byte);
+    }
+    plain
+}
+
+// Appends a name, byte by byte.
+fn push_each_escaped(text: &mut String, name: &[u8]) -> Result<(), AllocError>
     ensures { OnOk result (string_bytes text.new ≡ string_bytes text.old ++ escaped name.now) }
 {
     'escaping: for byte in name {
@@ -46,14 +117,23 @@ fn push_escaped(text: &mut String, name: &[u8]) -> Result<(), AllocError>
     Ok(())
 }
 
-#[tactic(auto, using(std::proofs::lemmas::Bool::Decides::nat_tests, std::proofs::lemmas::Fmt::hex_byte), unfolding(crate::specs::Text::escaped_byte))]
+#[tactic(auto, using(std::proofs::lemmas::Fmt::hex_byte), unfolding(crate::specs::Text::escaped_byte))]
 fn push_escaped_byte(text: &mut String, byte: u8) -> Result<(), AllocError>
     ensures { OnOk result (string_bytes text.new ≡ string_bytes text.old ++ escaped_byte byte) }
 {
-    if matches!(byte, 0x20..=0x7e) && byte != b'\\' {
+    if is_plain(byte) {
         text.push(byte as char)?;
     } else {
         write!(text, "\\x{byte:02x}")?;
     }
     Ok(())
+}
+
+// Whether a byte stands for itself: a printable ASCII character but the backslash.
+#[tactic(auto, using(std::proofs::lemmas::Bool::Decides::nat_tests))]
+fn is_plain(byte: u8) -> bool
+    ensures value { result ≡ is_plain byte }
+    ensures ascii { IsTrue result → byte < 128 }
+{
+    matches!(byte, 0x20..=0x7e) && byte != b'\\'
 }

@@ -23,6 +23,7 @@ pub fn read_all<R: Read>(alloc: Global, reader: &mut Watched<R>) -> Result<Vec<u
     ensures ended { OnOk result (IsTrue reader.new.ended) }
     ensures refused { IfErr result (λ fault. fault ≢ RunFault.Input → IsOutOfMemory fault) }
     ensures input { result ≡ Err RunFault.Input → IsTrue reader.new.failed }
+    ensures once { result ≢ Err RunFault.Input → reader.new.failed ≡ reader.old.failed }
 {
     let mut bytes = Vec::new(alloc);
     let mut chunk = [0; CHUNK];
@@ -47,6 +48,7 @@ pub fn write_text<W: Write>(writer: &mut Watched<W>, text: &[u8]) -> Result<(), 
     ensures fault { IfErr result (λ fault. fault ≡ RunFault.Output) }
     ensures failed { OnErr result (IsTrue writer.new.failed) }
     ensures cut { OnErr result (AppendsPart (W.contents writer.old.inner) (W.contents writer.new.inner) text.now) }
+    ensures once { OnOk result (writer.new.failed ≡ writer.old.failed) }
 {
     let mut rest = text;
     'writing: while !rest.is_empty() {
@@ -65,6 +67,7 @@ fn write_front<W: Write>(writer: &mut Watched<W>, bytes: &[u8]) -> Result<usize,
     ensures fault { IfErr result (λ fault. fault ≡ RunFault.Output) }
     ensures failed { OnErr result (IsTrue writer.new.failed) }
     ensures kept { OnErr result (Keeps (W.contents writer.old.inner) (W.contents writer.new.inner)) }
+    ensures once { OnOk result (writer.new.failed ≡ writer.old.failed) }
 {
     match writer.write(bytes) {
         Ok(0) | Err(_) => Err(RunFault::Output),

@@ -3,7 +3,7 @@
 #![tactic(auto)]
 
 ghost use Rattle.std.specs.Prelude.{◌≡◌, ◌≤◌, IfOk, OnOk, length, IsSomeAnd, Some, true};
-ghost use Rattle.goblin_pe_head.specs.PeHeader.{pe_header};
+ghost use Rattle.goblin_pe_head.specs.PeHeader.{header_bytes, pe_header};
 
 use goblin_base::Endian;
 use goblin_pe_head::{CoffHeader, Header, TeHeader};
@@ -60,7 +60,8 @@ fn show_header(rt: &HostRuntime, file: &[u8]) -> Result<(), Refused> {
 // answers how many bytes it takes.
 fn write_header(file: &[u8], written: &mut [u8]) -> goblin_base::Result<usize>
     ensures again { OnOk result (IsSomeAnd (pe_header true file.now) (λ h. pe_header true written.new ≡ Some h)) }
-    ensures size { IfOk result (λ n. n ≤ length written.old) }
+    ensures size { IfOk result (λ n. IsSomeAnd (pe_header true file.now) (λ h. IsSomeAnd (header_bytes Endian.Little h) (λ bytes. n ≡ length bytes))) }
+    ensures room { IfOk result (λ n. n ≤ length written.old) }
 {
     let header = Header::parse(file)?;
     let size = header.try_into_ctx(written, Endian::Little)?;

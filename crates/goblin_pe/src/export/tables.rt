@@ -1,14 +1,14 @@
 //! The export directory's record, and the three tables that it leads to.
 
 ghost use Rattle.std.specs.Prelude.{◌≡◌, true, false, List, ℕ, IfErr, IfOk, OnErr, OnOk, length};
-ghost use Rattle.goblin_base.specs.Answers.{Answers, Writes};
+ghost use Rattle.goblin_base.specs.Answers.{Answers, GivesOrMemory, Writes};
 ghost use Rattle.goblin_base.specs.Bytes.{overwritten};
 ghost use Rattle.goblin_base.specs.CountedTables.{counted_table_if};
 ghost use Rattle.goblin_base.specs.Faults.{IsSliceFault};
-ghost use Rattle.goblin_base.specs.Record.{WritesBack, encoding, record_in};
+ghost use Rattle.goblin_base.specs.Record.{ReadsBack, WritesBack, encoding, record_in};
 ghost use Rattle.goblin_base.proofs.RecordLaws.{record_in-within, slice_fault-no_memory};
 ghost use Rattle.goblin_pe.specs.declared.export.tables.ExportDirectoryTable.{ExportDirectoryTable};
-ghost use Rattle.goblin_pe.specs.Exports.{GivesOrMemory, IsCountFault, IsNoExportTable, address_entry, addresses, counts_fit, export_directory_at, export_directory_fields, export_directory_record, name_pointers, ordinals};
+ghost use Rattle.goblin_pe.specs.Exports.{IsCountFault, IsNoExportTable, address_entry, addresses, counts_fit, export_directory_at, export_directory_fields, export_directory_record, name_pointers, ordinals};
 
 use crate::table::Table;
 use goblin_base::{
@@ -95,9 +95,10 @@ impl ExportDirectoryTable {
     }
 
     // The record's bytes.
-    #[tactic(auto, unfolding(crate::specs::Exports::export_directory_fields))]
+    #[tactic(auto, unfolding(crate::specs::Exports::export_directory_fields), using(crate::proofs::ExportRecord::export_directory_again))]
     fn to_bytes(self, endian: Endian) -> [u8; SIZEOF_EXPORT_DIRECTORY_TABLE]
-        ensures { result ≡ encoding endian (export_directory_fields self) }
+        ensures made { result ≡ encoding endian (export_directory_fields self) }
+        ensures again { ReadsBack 40 export_directory_record export_directory_fields self }
     {
         let fields = [
             Field::U32(self.export_flags),
@@ -116,7 +117,8 @@ impl ExportDirectoryTable {
     }
 
     /// Writes the record to the front of `bytes`, and answers its size. A record that was read is
-    /// written as it stood, by the same order of bytes.
+    /// written as it stood, and any record is read again from what was written, by the same order of
+    /// bytes.
     ///
     /// # Errors
     /// [`Error::Read`] where there is no room for 40 bytes; `bytes` are then as they were.
@@ -125,6 +127,7 @@ impl ExportDirectoryTable {
         ensures size { IfOk result (λ n. n ≡ 40) }
         ensures written { Writes result (overwritten bytes.old 0 (encoding endian (export_directory_fields self))) bytes.old bytes.new (IsSliceFault bytes.old 0 40) }
         ensures back { WritesBack 40 export_directory_record export_directory_fields }
+        ensures again { ReadsBack 40 export_directory_record export_directory_fields self }
     {
         let record = self.to_bytes(endian);
         pwrite_slice(bytes, 0, &record)?;

@@ -4,7 +4,7 @@ ghost use Rattle.std.specs.Prelude.{◌≡◌, ◌==◌, ◌&&◌, IfOk, length,
 ghost use Rattle.goblin_base.specs.Answers.{Answers, Writes};
 ghost use Rattle.goblin_base.specs.Bytes.{overwritten};
 ghost use Rattle.goblin_base.specs.Faults.{IsSliceFault};
-ghost use Rattle.goblin_base.specs.Record.{WritesBack, encoding, record_at, record_in};
+ghost use Rattle.goblin_base.specs.Record.{ReadsBack, WritesBack, encoding, record_at, record_in};
 ghost use Rattle.goblin_base.proofs.RecordLaws.{record_in-within, slice_fault-no_memory};
 ghost use Rattle.goblin_pe.specs.ImportDirectory.{import_fields, import_record, is_last_record};
 ghost use Rattle.goblin_pe.specs.declared.import.directory_entry.ImportDirectoryEntry.{ImportDirectoryEntry};
@@ -59,9 +59,10 @@ impl ImportDirectoryEntry {
     }
 
     // The record's bytes.
-    #[tactic(auto, unfolding(crate::specs::ImportDirectory::import_fields))]
+    #[tactic(auto, unfolding(crate::specs::ImportDirectory::import_fields), using(crate::proofs::ImportBack::record_again))]
     fn to_bytes(self, endian: Endian) -> [u8; SIZEOF_IMPORT_DIRECTORY_ENTRY]
-        ensures { result ≡ encoding endian (import_fields self) }
+        ensures made { result ≡ encoding endian (import_fields self) }
+        ensures again { ReadsBack 20 import_record import_fields self }
     {
         let fields = [
             Field::U32(self.import_lookup_table_rva),
@@ -74,7 +75,8 @@ impl ImportDirectoryEntry {
     }
 
     /// Writes the record to the front of `bytes`, and answers its size. A record that was read is
-    /// written as it stood, by the same order of bytes.
+    /// written as it stood, and any record is read again from what was written, by the same order of
+    /// bytes.
     ///
     /// # Errors
     /// [`Error::Read`] where there is no room for 20 bytes; `bytes` are then as they were.
@@ -83,6 +85,7 @@ impl ImportDirectoryEntry {
         ensures size { IfOk result (λ n. n ≡ 20) }
         ensures written { Writes result (overwritten bytes.old 0 (encoding endian (import_fields self))) bytes.old bytes.new (IsSliceFault bytes.old 0 20) }
         ensures back { WritesBack 20 import_record import_fields }
+        ensures again { ReadsBack 20 import_record import_fields self }
     {
         let record = self.to_bytes(endian);
         pwrite_slice(bytes, 0, &record)?;

@@ -19,7 +19,7 @@ use crate::header::{
 };
 use crate::optional_header::{OptionalHeader, WrittenHeader};
 use goblin_base::{
-    Cause, Endian, Error, Field, Permissive, ReadFault, Result, TryFromCtx, pread_u32, put_bytes,
+    Cause, Endian, Error, Field, Permissive, Result, TryFromCtx, pread_slice, pread_u32, put_bytes,
     record_bytes,
 };
 use goblin_pe_sect::ParseOptions;
@@ -178,9 +178,8 @@ impl<'a> Header<'a> {
         let optional = optional_bytes(&self.optional_header, endian)?;
         let optional = optional.as_slice();
         let size = self.written_size(optional);
-        if bytes.len() < size {
-            return Err(Error::Read(ReadFault::TooBig));
-        }
+        // There must be room for all of it.
+        pread_slice(bytes, 0, size)?;
         self.put(bytes, optional, endian);
         Ok(size)
     }

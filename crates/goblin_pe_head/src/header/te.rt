@@ -8,7 +8,7 @@ ghost use Rattle.goblin_base.specs.Faults.{IsSliceFault};
 ghost use Rattle.goblin_base.specs.Record.{ReadsBack, WritesBack, encoding, record_in};
 ghost use Rattle.goblin_base.proofs.RecordLaws.{record_in-within, slice_fault-no_memory};
 ghost use Rattle.goblin_pe_head.specs.declared.header.te.TeHeader.{TeHeader};
-ghost use Rattle.goblin_pe_head.specs.Sections.{IsTooShort};
+ghost use Rattle.goblin_pe_head.specs.Sections.{IsTooManySections};
 ghost use Rattle.goblin_pe_head.specs.TeHeader.{displacement, lessened, pointer_lessened, section_adjusted, te_adjusted, te_fields, te_header, te_record, te_sections_at, IsStrippedFault, IsTeFault, IsTeSectionsFault};
 
 use goblin_base::{
@@ -182,7 +182,7 @@ impl TeHeader {
         offset: &mut usize,
     ) -> Result<Vec<SectionTable>>
         ensures value { AnswersOrMemory (λ v. v.items) result (te_sections_at self.now bytes.now offset.old) (IsTeSectionsFault self.now bytes.now offset.old) }
-        ensures first { length bytes.now / 40 < self.now.number_of_sections → IsErrAnd result (IsTooShort self.now.number_of_sections bytes.now) }
+        ensures first { length bytes.now / 40 < self.now.number_of_sections → IsErrAnd result (IsTooManySections self.now.number_of_sections bytes.now) }
         ensures ok { OnOk result (offset.new ≡ offset.old + 40 * self.now.number_of_sections) }
         ensures err { OnErr result (offset.new ≡ offset.old) }
     {

@@ -1,6 +1,6 @@
 //! Imports, by entry types of two, four and eight bytes.
 
-ghost use Rattle.std.specs.Prelude.{◌≤◌};
+ghost use Rattle.std.specs.Prelude.{◌≤◌, ◌-◌, ◌^◌};
 ghost use Rattle.std.proofs.Common.{lit≤};
 ghost use Rattle.goblin_base.specs.Bytes.{number};
 ghost use Rattle.goblin_base.specs.declared.endian.Endian.TheVariants.{Little};
@@ -57,6 +57,46 @@ impl<'a> Bitfield<'a> for Short {
 
     fn number(&self) -> u64 {
         u64::from(self.number)
+    }
+
+    ghost positive = { lit≤ tt };
+}
+
+/// An entry of as many bytes as a `usize` can count, which no file holds.
+#[derive(Debug, PartialEq, Eq, Copy, Clone)]
+struct Vast;
+
+impl<'a> Bitfield<'a> for Vast {
+    ghost format = { record { width = 2 ^ 64 - 1; value_of = λ bytes. short_value 0 } };
+
+    ghost value = { λ entry. short_value 0 };
+
+    fn is_ordinal(&self) -> bool {
+        false
+    }
+
+    fn to_ordinal(&self) -> u16 {
+        0
+    }
+
+    fn to_rva(&self) -> u32 {
+        0
+    }
+
+    fn size_of() -> usize {
+        usize::MAX
+    }
+
+    fn is_zero(&self) -> bool {
+        true
+    }
+
+    fn read(_bytes: &'a [u8]) -> Vast {
+        Vast
+    }
+
+    fn number(&self) -> u64 {
+        0
     }
 
     ghost positive = { lit≤ tt };
@@ -321,6 +361,30 @@ fn a_record_is_written_as_it_was_read_in_both_orders(rt: HostRuntime) -> Result<
         assert_eq!(rt; record.try_into_ctx(&mut room, endian)?, len);
         assert!(rt; room == bytes, "{endian:?}");
         assert_eq!(rt; ImportDirectoryEntry::size_with(&endian), 20);
+    }
+    Ok(())
+}
+
+#[test]
+fn an_import_whose_offset_passes_64_bits_is_refused(rt: HostRuntime) -> Result<(), Fail> {
+    let alloc = rt.alloc();
+    let file = sample(alloc)?;
+    let sections = [sample_section()];
+    // The sample file has two imports, so the offset of the last is that of its address table and one
+    // entry more.
+    for (address, last) in [(0, Some(usize::MAX)), (1, None)] {
+        let mut data = ImportData::parse::<u32>(alloc, &file, DIRECTORY, &sections, ALIGNMENT)?;
+        for library in &mut data.import_data {
+            library.import_directory_entry.import_address_table_rva = address;
+        }
+        let imports = Import::parse::<Vast>(alloc, &file, &data, &sections);
+        let is_right = match (imports, last) {
+            (Ok(imports), Some(last)) =>
+                matches!(imports.last(), Some(import) if import.offset == last),
+            (Err(Error::Malformed(Cause::Overflow)), None) => true,
+            _ => false,
+        };
+        assert!(rt; is_right, "{address}");
     }
     Ok(())
 }
