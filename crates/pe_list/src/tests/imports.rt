@@ -62,12 +62,12 @@ impl<'a> Bitfield<'a> for Short {
     ghost positive = { lit≤ tt };
 }
 
-/// An entry of as many bytes as a `usize` can count, which no file holds.
+/// An entry of as many bytes as a slice can have, which no file holds.
 #[derive(Debug, PartialEq, Eq, Copy, Clone)]
 struct Vast;
 
 impl<'a> Bitfield<'a> for Vast {
-    ghost format = { record { width = 2 ^ 64 - 1; value_of = λ bytes. short_value 0 } };
+    ghost format = { record { width = 2 ^ 63 - 1; value_of = λ bytes. short_value 0 } };
 
     ghost value = { λ entry. short_value 0 };
 
@@ -84,7 +84,7 @@ impl<'a> Bitfield<'a> for Vast {
     }
 
     fn size_of() -> usize {
-        usize::MAX
+        isize::MAX as usize
     }
 
     fn is_zero(&self) -> bool {
@@ -368,11 +368,11 @@ fn a_record_is_written_as_it_was_read_in_both_orders(rt: HostRuntime) -> Result<
 #[test]
 fn an_import_whose_offset_passes_64_bits_is_refused(rt: HostRuntime) -> Result<(), Fail> {
     let alloc = rt.alloc();
-    let file = sample(alloc)?;
+    let file = sample_with(alloc, 0x248, b"\x08\x00\x00\x80")?;
     let sections = [sample_section()];
-    // The sample file has two imports, so the offset of the last is that of its address table and one
-    // entry more.
-    for (address, last) in [(0, Some(usize::MAX)), (1, None)] {
+    // With a third import, the offset of the last is that of its address table and two entries more,
+    // which are 2^64 - 2 bytes.
+    for (address, last) in [(1, Some(usize::MAX)), (2, None)] {
         let mut data = ImportData::parse::<u32>(alloc, &file, DIRECTORY, &sections, ALIGNMENT)?;
         for library in &mut data.import_data {
             library.import_directory_entry.import_address_table_rva = address;
