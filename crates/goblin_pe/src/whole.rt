@@ -1,11 +1,11 @@
 //! A whole file: its header, its sections, and the tables to which its directories lead.
 
-ghost use Rattle.std.specs.Prelude.{◌≡◌};
+ghost use Rattle.std.specs.Prelude.{◌≡◌, ◌<◌, ◌/◌, IfSome, IsErrAnd, length};
 ghost use Rattle.goblin_base.specs.Answers.{AnswersOrMemory, GivesOrMemory};
 ghost use Rattle.goblin_pe_sect.specs.BaseRelocations.{relocation_bytes};
 ghost use Rattle.goblin_pe_sect.specs.Options.{is_strict};
-ghost use Rattle.goblin_pe_head.specs.PeHeader.{header_value};
-ghost use Rattle.goblin_pe_head.specs.Sections.{IsSectionsFault};
+ghost use Rattle.goblin_pe_head.specs.PeHeader.{header_value, pe_header};
+ghost use Rattle.goblin_pe_head.specs.Sections.{IsSectionsFault, IsTooManySections};
 ghost use Rattle.goblin_pe.specs.ImportDirectory.{IsImportDataFault, import_data};
 ghost use Rattle.goblin_pe.specs.Imports.{IsOverflow, imports_of};
 ghost use Rattle.goblin_pe.specs.Whole.{BecomesPart, IsExportPartFault, IsImportPartFault, IsPartThenFault, IsRelocationsPartFault, IsWholeFault, entry_format, export_data_part, exports_part, file_sections, import_data_part, imports_part, items_part, offset_by, part_map, relocations_part, section_table_offset, table_places, places_in, whole_file};
@@ -272,7 +272,8 @@ fn sections_of(
     header: &Header,
     opts: &ParseOptions,
 ) -> Result<Vec<SectionTable>>
-    ensures { AnswersOrMemory (λ v. v.items) result (file_sections (is_strict opts.now.parse_mode) bytes.now (header_value header.now)) (IsSectionsFault (is_strict opts.now.parse_mode) header.now.coff_header.number_of_sections bytes.now (section_table_offset (header_value header.now))) }
+    ensures value { AnswersOrMemory (λ v. v.items) result (file_sections (is_strict opts.now.parse_mode) bytes.now (header_value header.now)) (IsSectionsFault (is_strict opts.now.parse_mode) header.now.coff_header.number_of_sections bytes.now (section_table_offset (header_value header.now))) }
+    ensures first { length bytes.now / 40 < header.now.coff_header.number_of_sections → IsErrAnd result (IsTooManySections header.now.coff_header.number_of_sections bytes.now) }
 {
     let coff_header = &header.coff_header;
     let mut offset = header.dos_header.pe_pointer as usize + SIZEOF_PE_MAGIC + SIZEOF_COFF_HEADER;
@@ -295,7 +296,9 @@ impl<'a> Whole<'a> {
     /// mode as the readers of the tables; [`Error::Memory`] where memory is refused, in both modes.
     #[tactic(auto, unfolding(crate::specs::Whole::whole_file, crate::specs::Whole::IsWholeFault))]
     pub fn read(alloc: Global, bytes: &'a [u8], opts: &ParseOptions) -> Result<Whole<'a>>
-        ensures { AnswersOrMemory (λ x. x) result (whole_file opts.now bytes.now) (IsWholeFault opts.now bytes.now) }
+        ensures value { AnswersOrMemory (λ x. x) result (whole_file opts.now bytes.now) (IsWholeFault opts.now bytes.now) }
+        ensures first { IfSome (pe_header (is_strict opts.now.parse_mode) bytes.now) (λ header.
+            length bytes.now / 40 < header.coff_header.number_of_sections → IsErrAnd result (IsTooManySections header.coff_header.number_of_sections bytes.now)) }
     {
         let header = Header::parse_with_opts(bytes, opts)?;
         let sections = sections_of(alloc, bytes, &header, opts)?;

@@ -6,7 +6,7 @@ ghost use Rattle.std.specs.Option.{option_eq, option_map};
 ghost use Rattle.std.specs.Cmp.Lexicographic.{pointwise};
 ghost use Rattle.goblin_base.specs.declared.error.ErrorOf.TheVariants.{Malformed};
 ghost use Rattle.goblin_base.specs.declared.error.CauseOf.TheVariants.{NameText};
-ghost use Rattle.goblin_base.specs.Answers.{Answers, AnswersOrMemory, IsMemory, Writes};
+ghost use Rattle.goblin_base.specs.Answers.{Answers, AnswersOrMemory, GivesOrMemory, IsMemory, Writes};
 ghost use Rattle.goblin_base.specs.Bytes.{overwritten, replaced};
 ghost use Rattle.goblin_base.specs.Faults.{IsSliceFault};
 ghost use Rattle.goblin_base.specs.Record.{WritesBack, encoding};
@@ -258,7 +258,7 @@ impl SectionTable {
     /// # Errors
     /// [`Error::Memory`] where memory for the text is refused.
     pub fn clone(&self, alloc: Global) -> Result<SectionTable>
-        ensures value { AnswersOrMemory (λ s. s) result (Some self.now) (λ e. ⊥) }
+        ensures value { GivesOrMemory (λ s. s) result self.now }
         ensures grown { OnErr result (IsSome self.now.real_name) }
     {
         let real_name = match &self.real_name {
@@ -291,7 +291,7 @@ impl SectionTable {
         alloc: Global,
         bytes: &'b [u8],
     ) -> Result<Option<CowSlice<'b, u8, Global>>>
-        ensures value { AnswersOrMemory (λ d. option_map cow_slice_items d) result (Some (section_data self.now bytes.now)) (λ e. ⊥) }
+        ensures value { GivesOrMemory (λ d. option_map cow_slice_items d) result (section_data self.now bytes.now) }
         ensures borrowed { IfOk result (λ d. IfSome d (λ items. IsBorrowedSlice items ↔ (self.now.virtual_size ≤ self.now.size_of_raw_data))) }
         ensures grown { OnErr result (self.now.size_of_raw_data < self.now.virtual_size) }
         ensures inside { OnErr result (self.now.pointer_to_raw_data + self.now.size_of_raw_data ≤ length bytes.now) }
@@ -496,7 +496,7 @@ fn real_name(
     string_table_offset: usize,
     value: Option<usize>,
 ) -> Result<Option<String>>
-    ensures value { AnswersOrMemory (λ name. option_map string_bytes name) result (Some (real_name_at bytes.now string_table_offset value)) (λ e. ⊥) }
+    ensures value { GivesOrMemory (λ name. option_map string_bytes name) result (real_name_at bytes.now string_table_offset value) }
     ensures grown { OnErr result (IsSome (real_name_at bytes.now string_table_offset value)) }
 {
     let Some(offset) = value.and_then(|value| string_table_offset.checked_add(value)) else {

@@ -1,7 +1,7 @@
 //! The list of imports.
 
 ghost use Rattle.std.specs.Prelude.{◌≡◌, ◌++◌, Some, length, map, min, option_map, string_bytes};
-ghost use Rattle.goblin_base.specs.Answers.{AnswersOrMemory};
+ghost use Rattle.goblin_base.specs.Answers.{AnswersOrMemory, GivesOrMemory};
 ghost use Rattle.goblin_pe.specs.ImportViews.{entry_view};
 ghost use Rattle.goblin_pe.specs.Imports.{IsOverflow, import_of, import_offset, imports_by, imports_of, kept_count, kept_entries, library_imports, ordinal_name};
 
@@ -58,7 +58,7 @@ impl<'a> Model for Import<'a> {
 
 // The name of an import by ordinal.
 fn ordinal_name(alloc: Global, ordinal: u16) -> Result<String>
-    ensures { AnswersOrMemory string_bytes result (Some (ordinal_name ordinal)) (λ e. ⊥) }
+    ensures { GivesOrMemory string_bytes result (ordinal_name ordinal) }
 {
     let mut name = String::with_capacity(alloc, ORDINAL_NAME_MAX)?;
     write!(name, "ORDINAL {ordinal}")?;
@@ -83,7 +83,7 @@ impl<'a> Import<'a> {
         offset: usize,
         size: usize,
     ) -> Result<Import<'a>>
-        ensures { AnswersOrMemory (λ x. x) result (Some (import_of dll.now offset size (entry_view entry.now))) (λ e. ⊥) }
+        ensures { GivesOrMemory (λ x. x) result (import_of dll.now offset size (entry_view entry.now)) }
     {
         let (name, ordinal, rva) = match entry {
             SyntheticImportLookupTableEntry::OrdinalNumber(ordinal) => {

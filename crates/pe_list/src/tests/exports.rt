@@ -53,6 +53,11 @@ fn are(exports: &[Export], want: &[Row]) -> bool {
 }
 
 #[test]
+fn a_default_export_has_nothing(rt: HostRuntime) {
+    assert!(rt; are(&[Export::default()], &[(None, None, 0, None)]));
+}
+
+#[test]
 fn exports_are_dropped_for_a_missing_part_and_not_for_a_name(rt: HostRuntime) -> Result<(), Fail> {
     let unnamed = (None, PLAIN.1, PLAIN.2, None);
     // Bytes that are changed, and the exports that are left.

@@ -79,6 +79,11 @@ fn no_relocations_are_refused_at_the_end_alone(rt: HostRuntime) -> Result<(), Fa
 }
 
 #[test]
+fn default_relocations_are_none(rt: HostRuntime) {
+    assert!(rt; Relocations::default().next().is_none());
+}
+
+#[test]
 fn the_words_of_a_library_are_those_that_another_tool_shows(rt: HostRuntime) -> Result<(), Fail> {
     let section = SectionTable {
         virtual_address: 0x4000,

@@ -5,7 +5,7 @@ use goblin_base::{Cause, Endian, Error, Strtab, TryFromCtx};
 use goblin_pe_head::CoffHeader;
 use goblin_pe_sect::symbol::{
     AuxBeginAndEndFunction, AuxFunctionDefinition, AuxSectionDefinition, AuxWeakExternal, Symbol,
-    SymbolTable,
+    SymbolIterator, SymbolTable,
 };
 use std::test::Fail;
 
@@ -150,6 +150,11 @@ fn records_behind_a_symbol_are_no_symbols(rt: HostRuntime) -> Result<(), Fail> {
     assert!(rt; matches!(symbols.next(), Some((0, _, _))));
     assert!(rt; symbols.next().is_none());
     Ok(())
+}
+
+#[test]
+fn default_symbols_are_none(rt: HostRuntime) {
+    assert!(rt; SymbolIterator::default().next().is_none());
 }
 
 #[test]

@@ -1,4 +1,4 @@
-use Rattle.std.proofs.Common.{sym, arith}
+use Rattle.std.proofs.Common.{Some, sym, ap, arith}
 use Rattle.std.proofs.lemmas.List.{length-map}
 use Rattle.std.proofs.lemmas.Result.{err_from_is_err_and}
 use Rattle.goblin_pe.specs.ImportViews.{entry_view}
@@ -15,11 +15,11 @@ returns-in_default c = λ _.
 pub returns-in_err-import : goal.returns-in_err-import
 returns-in_err-import c =
     let e = err_from_is_err_and c.from_residual.result c.from_residual.ensures.1 in
-    rw (e.1, e.2) (λ memory. absurd (c.in_err-import.ensures memory).1)
+    rw (e.1, e.2) (λ other. absurd (other c.in_err-import.ensures))
 
 pub entries-preserved : goal.entries-preserved
 entries-preserved c =
-    let next = entry-next _ _ _ _ _ _ _ _ _ _ c.entries.invariant (entry-read entry_view _ _ _ c.entries-test.true) c.in-Some.ensures c.in_ok-import.ensures in
+    let next = entry-next _ _ _ _ _ _ _ _ _ _ c.entries.invariant (entry-read entry_view _ _ _ c.entries-test.true) c.in-Some.ensures (ap Some c.in_ok-import.ensures) in
     rw c.in_ok-push.ensures.items next
 
 pub returns : goal.returns
