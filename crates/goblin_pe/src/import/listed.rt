@@ -1,6 +1,6 @@
 //! The list of imports.
 
-ghost use Rattle.std.specs.Prelude.{◌≡◌, ◌++◌, Some, length, map, min, option_map, string_bytes};
+ghost use Rattle.std.specs.Prelude.{◌≡◌, ◌++◌, length, map, min, option_map, string_bytes};
 ghost use Rattle.goblin_base.specs.Answers.{AnswersOrMemory, GivesOrMemory};
 ghost use Rattle.goblin_pe.specs.ImportViews.{entry_view};
 ghost use Rattle.goblin_pe.specs.Imports.{IsOverflow, import_of, import_offset, imports_by, imports_of, kept_count, kept_entries, library_imports, ordinal_name};
