@@ -1,6 +1,6 @@
 //! Relocations of objects, and the blocks and words of base relocations.
 
-use super::sample::put;
+use fixture::sample::put;
 use goblin_base::{Endian, Error, ReadFault, TryFromCtx};
 use goblin_pe_sect::relocation::{
     Relocation, RelocationBlock, RelocationData, RelocationWord, RelocationWordIterator,

@@ -1,6 +1,6 @@
 //! Symbols, their names, and the records behind them.
 
-use super::sample::put;
+use fixture::sample::put;
 use goblin_base::{Cause, Endian, Error, Strtab, TryFromCtx};
 use goblin_pe_head::CoffHeader;
 use goblin_pe_sect::symbol::{

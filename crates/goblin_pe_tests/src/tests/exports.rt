@@ -1,7 +1,7 @@
 //! The exports of the sample file, and the forwarders among them.
 
-use super::memory::{Outcome, is_refused_until_right};
-use super::sample::{put, sample, sample_section};
+use fixture::memory::{Outcome, is_refused_until_right};
+use fixture::sample::{put, sample, sample_section};
 use goblin_base::{Cause, Endian, Error};
 use goblin_pe::export::{
     Export, ExportAddressTableEntry, ExportData, ExportDirectoryTable, Reexport,

@@ -1,6 +1,6 @@
 //! Addresses, their offsets in a file, and what stands there.
 
-use super::sample::{put, sample, sample_section, section};
+use fixture::sample::{put, sample, sample_section, section};
 use goblin_base::{Cause, Error, ParseMode, ReadFault};
 use goblin_pe_sect::utils::{
     find_offset, find_offset_or, get_data, get_data_with_opts, is_in_range, safe_try_name, try_name,

@@ -1,6 +1,7 @@
 //! The headers, the section table behind them, and the texts of refusals.
 
-use super::sample::{TABLE, TABLE_END, put, sample, sample_coff, sample_section};
+use super::sample::sample_coff;
+use fixture::sample::{TABLE, TABLE_END, put, sample, sample_section};
 use goblin_base::{Cause, Error};
 use goblin_pe_head::header::DOS_MAGIC;
 use goblin_pe_head::{CoffHeader, DosHeader};

@@ -1,6 +1,6 @@
 //! The Rich header and its entries.
 
-use super::sample::put;
+use fixture::sample::put;
 use goblin_base::{Cause, Endian, Error, ParseMode, ReadFault, TryFromCtx, pwrite_u32};
 use goblin_pe_head::{DosStub, Header, RichHeader, RichMetadata};
 use goblin_pe_sect::ParseOptions;

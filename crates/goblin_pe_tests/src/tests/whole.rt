@@ -1,7 +1,7 @@
 //! Whole files: which parts are there, absent or refused, and each growth refused.
 
-use super::memory::{Outcome, is_refused_until_right};
-use super::sample::{SAMPLE_LEN, put, sample};
+use fixture::memory::{Outcome, is_refused_until_right};
+use fixture::sample::{SAMPLE_LEN, put, sample};
 use goblin_pe::options::{ParseMode, ParseOptions};
 use goblin_pe::{Error, Part, Whole};
 use std::test::Fail;

@@ -4,10 +4,10 @@ ghost use Rattle.std.specs.Prelude.{◌≤◌, ◌-◌, ◌^◌};
 ghost use Rattle.std.proofs.Common.{lit≤};
 ghost use Rattle.goblin_base.specs.Bytes.{number};
 ghost use Rattle.goblin_base.specs.declared.endian.Endian.TheVariants.{Little};
-ghost use Rattle.pe_list.specs.ShortEntry.{short_value};
+ghost use Rattle.goblin_pe_tests.specs.ShortEntry.{short_value};
 
-use super::memory::{Outcome, is_refused_until_right};
-use super::sample::{put, sample, sample_section};
+use fixture::memory::{Outcome, is_refused_until_right};
+use fixture::sample::{put, sample, sample_section};
 use goblin_base::{Cause, Endian, Error, ParseMode, ReadFault, ResultOf, TryFromCtx, field_u16};
 use goblin_pe::import::{
     Bitfield, HintNameTableEntry, IMPORT_BY_ORDINAL_32, IMPORT_BY_ORDINAL_64, IMPORT_RVA_MASK_32,

@@ -1,6 +1,6 @@
 //! The names of sections, and the offsets that they say.
 
-use super::sample::{import_name, sample_section};
+use fixture::sample::{import_name, sample_section};
 use goblin_base::{Cause, Error, ParseMode, ReadFault};
 use goblin_pe_sect::{ParseOptions, SectionTable};
 use std::test::Fail;

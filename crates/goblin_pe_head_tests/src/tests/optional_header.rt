@@ -1,6 +1,6 @@
 //! The optional header of either width.
 
-use super::sample::{put, sample};
+use fixture::sample::{put, sample};
 use goblin_base::{Cause, Container, Endian, Error, TryFromCtx, pwrite_u32};
 use goblin_pe_head::OptionalHeader;
 use goblin_pe_head::optional_header::{

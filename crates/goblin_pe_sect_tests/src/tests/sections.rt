@@ -1,6 +1,6 @@
 //! Section records, read and written, and the data of sections.
 
-use super::sample::{
+use fixture::sample::{
     ELSEWHERE, TABLE, TABLE_END, import_name, sample, sample_named, sample_section, section,
 };
 use goblin_base::{Endian, Error, ReadFault};

@@ -1,7 +1,6 @@
 //! The modes of a reader, and its options.
 
 use goblin_base::{Error, ParseMode, Permissive, ReadFault, Result};
-use goblin_pe_sect::ParseOptions;
 use std::alloc::AllocError;
 
 /// A byte that was read.
@@ -72,45 +71,5 @@ fn a_value_stays_in_both_modes(rt: HostRuntime) {
         for outcome in rows {
             assert!(rt; matches!(outcome, Ok(1)), "{permissive}");
         }
-    }
-}
-
-/// What the options say, in the order of their fields; the mode by whether it is permissive.
-fn fields(opts: ParseOptions) -> [bool; 6] {
-    [
-        opts.resolve_rva,
-        opts.parse_attribute_certificates,
-        opts.parse_tls_data,
-        opts.parse_resources,
-        opts.parse_mode.is_permissive(),
-        opts.parse_imports,
-    ]
-}
-
-#[test]
-fn options_say_what_they_were_made_for(rt: HostRuntime) {
-    let all = ParseOptions::default();
-    let rows = [
-        (all, [true, true, true, true, false, true]),
-        (ParseOptions::te(), [false, false, true, true, false, true]),
-        (
-            all.with_parse_mode(ParseMode::Permissive),
-            [true, true, true, true, true, true],
-        ),
-        (
-            all.with_parse_tls_data(false),
-            [true, true, false, true, false, true],
-        ),
-        (
-            all.with_parse_resources(false),
-            [true, true, true, false, false, true],
-        ),
-        (
-            all.with_parse_imports(false),
-            [true, true, true, true, false, false],
-        ),
-    ];
-    for (opts, want) in rows {
-        assert_eq!(rt; fields(opts), want);
     }
 }

@@ -1,7 +1,7 @@
 //! The header of a Terse Executable and its sections.
 
-use super::memory::{Outcome, is_refused_until_right};
-use super::sample::{put, section};
+use fixture::memory::{Outcome, is_refused_until_right};
+use fixture::sample::{put, section};
 use goblin_base::{Cause, Endian, Error};
 use goblin_pe_head::TeHeader;
 use goblin_pe_head::header::TE_MAGIC;

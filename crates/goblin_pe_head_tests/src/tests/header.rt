@@ -1,6 +1,7 @@
 //! The whole header of a file.
 
-use super::sample::{put, sample, sample_coff};
+use super::sample::sample_coff;
+use fixture::sample::{put, sample};
 use goblin_base::{Cause, Error, ParseMode};
 use goblin_pe_head::header::{COFF_MACHINE_X86, COFF_MACHINE_X86_64, DOS_MAGIC, PE_MAGIC};
 use goblin_pe_head::optional_header::{MAGIC_32, MAGIC_64, StandardFields, WindowsFields};

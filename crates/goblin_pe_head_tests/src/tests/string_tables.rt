@@ -1,28 +1,8 @@
-//! String tables, by themselves and behind a symbol table.
+//! The string table of a COFF file, after its symbol table.
 
-use goblin_base::{Cause, Error, Strtab};
+use goblin_base::{Cause, Error};
 use goblin_pe_head::CoffHeader;
 use std::test::Fail;
-
-#[test]
-fn a_text_is_what_is_left_of_its_piece(rt: HostRuntime) -> Result<(), Fail> {
-    let rows: [(&[u8], usize, Option<&str>); 9] = [
-        (b"ab\0c", 0, Some("ab")),
-        (b"ab\0c", 1, Some("b")),
-        (b"ab\0c", 2, Some("")),
-        (b"ab\0c", 3, Some("c")),
-        (b"ab\0c", 4, Some("")),
-        (b"ab\0c", 5, None),
-        (b"a\0", 0, Some("a")),
-        (b"a\0", 1, Some("")),
-        (b"a\0", 2, None),
-    ];
-    for (bytes, offset, want) in rows {
-        let table = Strtab::parse(rt.alloc(), bytes, 0, bytes.len(), 0)?;
-        assert!(rt; table.get_at(offset) == want, "{offset} of {bytes:?}");
-    }
-    Ok(())
-}
 
 /// A header whose symbol table has no records and stands at an offset.
 fn header_of(pointer_to_symbol_table: u32) -> CoffHeader {

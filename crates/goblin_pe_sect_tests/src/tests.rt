@@ -1,0 +1,10 @@
+//! Worked values of sections, directories, addresses and relocations.
+
+mod addresses;
+mod directories;
+mod memory;
+mod names;
+mod options;
+mod relocations;
+mod sections;
+mod symbol_constants;
