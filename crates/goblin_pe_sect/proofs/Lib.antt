@@ -1,11 +1,15 @@
 pub mod AuxiliaryBack
 pub mod BlockItems
 pub mod BlocksOf
+pub mod Cuts
 pub mod DirectoryRead
 pub mod Entries
 pub mod EntriesBack
 pub mod EntriesFront
 mod First
+pub mod Halving
+pub mod Mapped
+pub mod Multiples
 pub mod NameBack
 pub mod NameLaw
 pub mod Numerals
@@ -13,7 +17,8 @@ pub mod ReadBack
 pub mod RecordRead
 pub mod RelocationRecords
 pub mod SectionBack
+pub mod Stretches
 pub mod SymbolHeads
 pub mod SymbolRecords
-pub mod Windows
+pub mod WindowPieces
 pub mod WordItems
