@@ -12,5 +12,7 @@ pub use goblin_base::{
     endian, error, permissive, read, record, strtab, write,
 };
 pub use goblin_pe_head::{header, optional_header};
-pub use goblin_pe_sect::{data_directories, options, relocation, section_table, symbol, utils};
+pub use goblin_pe_sect::{
+    data_directories, options, relocation, section_table, symbol, utils, windows,
+};
 pub use whole::{Part, Whole};

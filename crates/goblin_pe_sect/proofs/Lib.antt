@@ -1,17 +1,22 @@
 pub mod AuxiliarySymbolsRoundTrip
 pub mod BlockItems
 pub mod BlocksOf
+pub mod Cuts
 pub mod DataDirectoriesRoundTrip
 pub mod DigitsRoundTrip
 pub mod Entries
 pub mod EntriesFront
 mod First
+pub mod Halving
+pub mod Mapped
+pub mod Multiples
 pub mod Numerals
 pub mod RelocationRecords
 pub mod RelocationsRoundTrip
 pub mod SectionNameRoundTrip
 pub mod SectionTableRoundTrip
+pub mod Stretches
 pub mod SymbolHeads
 pub mod SymbolsRoundTrip
-pub mod Windows
+pub mod WindowPieces
 pub mod WordItems

@@ -2,8 +2,11 @@ pub mod AuxiliarySymbols
 pub mod BaseRelocations
 pub mod DataDirectories
 pub mod Mapping
+pub mod Multiples
 pub mod Options
 pub mod Relocations
 pub mod SectionName
 pub mod SectionTable
 pub mod Symbols
+pub mod WindowIndex
+pub mod WindowStretches

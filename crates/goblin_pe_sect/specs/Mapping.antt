@@ -1,6 +1,6 @@
 -- How an address in memory maps to an offset in the file, and what stands at an address.
 use Rattle.std.specs.Prelude.{IsTrue, ℕ, ◌+◌, ◌-◌, ◌*◌, ◌/◌, ◌==◌, ◌≡◌, ◌<◌, ◌≤◌, ◌⊎◌, min, Bool, ◌&&◌, nat_le, nat_lt, if◌then◌else◌, List, length, drop, Option, Some, None, find, slice_get, option_map}
-use Rattle.std.specs.Int.{next_multiple_of, is_power_of_two}
+use Rattle.std.specs.Int.{is_power_of_two}
 use Rattle.goblin_base.specs.declared.endian.Endian.{Endian}
 use Rattle.goblin_base.specs.declared.endian.Endian.TheVariants.{Little}
 use Rattle.goblin_base.specs.declared.error.CauseOf.TheVariants.{Message, Unmapped, NameRead}
@@ -10,32 +10,37 @@ use Rattle.goblin_base.specs.declared.error.ReadFault.TheVariants.{BadOffset}
 use Rattle.goblin_base.specs.Bytes.{text_at}
 use Rattle.goblin_base.specs.Answers.{IsTextFault, ◌>>=◌, FirstFault}
 use Rattle.goblin_pe_sect.specs.declared.options.ParseOptions.{ParseOptions}
+use Rattle.goblin_pe_sect.specs.Multiples.{greatest_multiple, least_multiple}
 use Rattle.goblin_pe_sect.specs.SectionTable.{Section}
 
--- the greatest multiple of y that is at most x
-abbrev pub previous_multiple_of : ℕ → ℕ → ℕ
-previous_multiple_of x y = x / y * y
-
 -- how many bytes of a section are read from the file at this file alignment: none where it has no raw data; else those from the
--- 512-byte border before its raw data to the file border behind it, at most the whole pages of the raw size, and at most the whole
--- pages of the virtual size, where that is given
+-- greatest multiple of 512 that is at most its raw pointer to the least multiple of the alignment that is at least its raw data's end;
+-- at most the raw size in whole pages, and at most the virtual size in whole pages, where that is given
 unfoldable pub read_size : Section → ℕ → ℕ
 read_size s alignment =
     let raw = s.size_of_raw_data in
-    let stored = min (next_multiple_of (s.pointer_to_raw_data + raw) alignment - previous_multiple_of s.pointer_to_raw_data 512) (next_multiple_of raw 4096) in
-    if raw == 0 then 0 else (if s.virtual_size == 0 then stored else min stored (next_multiple_of s.virtual_size 4096))
+    let stored = min (least_multiple alignment (s.pointer_to_raw_data + raw) - greatest_multiple 512 s.pointer_to_raw_data) (least_multiple 4096 raw) in
+    if raw == 0 then 0 else (if s.virtual_size == 0 then stored else min stored (least_multiple 4096 s.virtual_size))
 
 -- the first address behind a section's window, which begins at the section's address
 abbrev pub window_end : Section → ℕ → ℕ
 window_end s alignment = s.virtual_address + read_size s alignment
 
+-- the begin and the end of a section's window; there is none where the alignment is no power of two
+abbrev pub window_of : Section → ℕ → Option (ℕ × ℕ)
+window_of s alignment = if is_power_of_two alignment then Some (s.virtual_address, window_end s alignment) else None
+
 -- the window of a section holds this address
 abbrev pub is_in_window : ℕ → ℕ → Section → Bool
 is_in_window alignment rva s = nat_le s.virtual_address rva && nat_lt rva (window_end s alignment)
 
--- where the file has what stands at an address of a section's window: as far behind the raw data's begin, which is not rounded
+-- where a section's raw data begins for the mapping of addresses: at its raw pointer, which is not rounded
+abbrev pub raw_begin : ParseOptions → Section → ℕ
+raw_begin opts s = s.pointer_to_raw_data
+
+-- where the file has what stands at an address of a section's window: as far behind the raw data's begin
 abbrev pub offset_in : ParseOptions → Section → ℕ → ℕ
-offset_in opts s rva = s.pointer_to_raw_data + (rva - s.virtual_address)
+offset_in opts s rva = raw_begin opts s + (rva - s.virtual_address)
 
 -- the file offset of an address: that of the first section whose window holds it; and the address itself where addresses are
 -- not mapped. No address has one where the alignment is no power of two.

@@ -9,7 +9,9 @@ pub mod relocation;
 pub mod section_table;
 pub mod symbol;
 pub mod utils;
+pub mod windows;
 
 pub use data_directories::{DataDirectories, DataDirectory, DataDirectoryType, Dirs};
 pub use options::{ParseMode, ParseOptions};
 pub use section_table::SectionTable;
+pub use windows::WindowIndex;

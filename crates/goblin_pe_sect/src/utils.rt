@@ -1,10 +1,11 @@
 //! Addresses in memory and their offsets in the file, and what stands there.
 
-ghost use Rattle.std.specs.Prelude.{◌≡◌, ◌+◌, ◌-◌, ◌^◌, ◌<◌, ◌≤◌, ◌↔◌, IsTrue, IfSome, MatchOption, find};
+ghost use Rattle.std.specs.Prelude.{◌≡◌, ◌+◌, ◌^◌, ◌<◌, ◌≤◌, ◌↔◌, IsTrue, IfSome, MatchOption, find};
 ghost use Rattle.std.specs.Int.{is_power_of_two};
 ghost use Rattle.std.specs.Option.{option_copied, option_map};
 ghost use Rattle.goblin_base.specs.Answers.{Answers};
-ghost use Rattle.goblin_pe_sect.specs.Mapping.{read_size, is_in_window, file_offset, InWindow, MapsTo, MapsNowhere, OffsetsApart, name_at, name_or_none, data_at, IsMessage, IsNameAtFault, IsSafeNameFault, IsDataFault};
+ghost use Rattle.goblin_pe_sect.specs.Mapping.{read_size, window_end, window_of, is_in_window, raw_begin, offset_in, file_offset, InWindow, MapsTo, MapsNowhere, OffsetsApart, name_at, name_or_none, data_at, IsMessage, IsNameAtFault, IsSafeNameFault, IsDataFault};
+ghost use Rattle.goblin_pe_sect.specs.Multiples.{greatest_multiple, least_multiple};
 ghost use Rattle.goblin_pe_sect.specs.Options.{is_strict, default_options};
 
 use crate::data_directories::DataDirectory;
@@ -19,24 +20,73 @@ pub fn is_in_range(rva: usize, r1: usize, r2: usize) -> bool
     r1 <= rva && rva < r2
 }
 
+// The greatest multiple of `step` that is at most `size`.
+#[tactic(auto, using(crate::proofs::Multiples::down))]
+fn round_down(size: usize, step: usize) -> usize
+    requires { 0 < step }
+    ensures value { result ≡ greatest_multiple step size }
+    ensures bound { result ≤ size }
+{
+    size / step * step
+}
+
+// The least multiple of `step` that is at least `size`.
+#[tactic(auto, using(crate::proofs::Multiples::up))]
+fn round_up(size: usize, step: usize) -> usize
+    requires some { 0 < step }
+    requires room { size + step ≤ usize.MAX }
+    ensures value { result ≡ least_multiple step size }
+    ensures bound { (size ≤ result) × (result < size + step) }
+{
+    size.next_multiple_of(step)
+}
+
 // How many bytes of the section are read from the file, in whole file blocks and pages.
-#[tactic(auto, using(crate::proofs::Windows::rounding), unfolding(crate::specs::Mapping::read_size))]
+#[tactic(auto, unfolding(crate::specs::Mapping::read_size))]
 fn read_size(section: &SectionTable, file_alignment: u32) -> usize
     requires { 0 < file_alignment }
     ensures value { result ≡ read_size section.now file_alignment }
-    ensures bound { result < 2 ^ 32 + 4096 }
+    ensures bound { result < 2 ^ 33 }
 {
     let raw_size = section.size_of_raw_data as usize;
     if raw_size == 0 {
         return 0;
     }
     let pointer = section.pointer_to_raw_data as usize;
-    let begin = pointer / 512 * 512;
-    let end = (pointer + raw_size).next_multiple_of(file_alignment as usize);
-    let stored = (end - begin).min(raw_size.next_multiple_of(4096));
+    let end = round_up(pointer + raw_size, file_alignment as usize);
+    let stored = (end - round_down(pointer, 512)).min(round_up(raw_size, 4096));
     match section.virtual_size as usize {
         0 => stored,
-        virtual_size => stored.min(virtual_size.next_multiple_of(4096)),
+        virtual_size => stored.min(round_up(virtual_size, 4096)),
+    }
+}
+
+// The begin and the end of the section's window.
+pub(crate) fn section_window(section: &SectionTable, file_alignment: u32) -> (usize, usize)
+    requires { 0 < file_alignment }
+    ensures begin { result.0 ≡ section.now.virtual_address }
+    ensures end { result.1 ≡ window_end section.now file_alignment }
+    ensures near { result.1 < result.0 + 2 ^ 33 }
+{
+    let begin = section.virtual_address as usize;
+    (begin, begin + read_size(section, file_alignment))
+}
+
+/// The addresses that the section maps, from its window's begin up to, and without, its end; `None`
+/// where `file_alignment` is no power of two.
+///
+/// The window begins at the section's address. It is empty where the raw size is 0; else it has the
+/// least of these: the raw data's end rounded up to `file_alignment`, less its begin rounded down to
+/// 512; the raw size rounded up to 4,096; and, where the virtual size is not 0, that rounded up to
+/// 4,096. It may pass the raw data and the file.
+#[tactic(auto, using(crate::proofs::Mapped::power_positive))]
+pub fn window(section: &SectionTable, file_alignment: u32) -> Option<(usize, usize)>
+    ensures { result ≡ window_of section.now file_alignment }
+{
+    if file_alignment.is_power_of_two() {
+        Some(section_window(section, file_alignment))
+    } else {
+        None
     }
 }
 
@@ -45,12 +95,12 @@ fn is_in_window(rva: usize, section: &SectionTable, file_alignment: u32) -> bool
     requires { 0 < file_alignment }
     ensures { result ≡ is_in_window file_alignment rva section.now }
 {
-    let begin = section.virtual_address as usize;
-    is_in_range(rva, begin, begin + read_size(section, file_alignment))
+    let (begin, end) = section_window(section, file_alignment);
+    is_in_range(rva, begin, end)
 }
 
 // The first section whose window holds the address.
-#[tactic(auto, using(crate::proofs::Windows::found_in_window))]
+#[tactic(auto, using(crate::proofs::Mapped::found_in_window))]
 fn first_in_window(
     rva: usize,
     sections: &[SectionTable],
@@ -65,20 +115,27 @@ fn first_in_window(
         .find(|section| is_in_window(rva, section, file_alignment))
 }
 
+// Where the section's raw data begins for the mapping of addresses.
+pub(crate) fn raw_begin(section: &SectionTable, opts: &ParseOptions) -> u32
+    ensures { result ≡ raw_begin opts.now section.now }
+{
+    section.pointer_to_raw_data
+}
+
 // Where the file has what stands at an address of the section's window.
-#[tactic(auto, using(crate::proofs::Windows::read_size_le))]
-fn offset_in(rva: usize, section: &SectionTable, file_alignment: u32) -> usize
+#[tactic(auto, using(crate::proofs::Mapped::read_size_le))]
+fn offset_in(rva: usize, section: &SectionTable, file_alignment: u32, opts: &ParseOptions) -> usize
     requires { InWindow file_alignment rva section.now }
-    ensures { result ≡ section.now.pointer_to_raw_data + (rva - section.now.virtual_address) }
+    ensures { result ≡ offset_in opts.now section.now rva }
 {
     let distance = rva - section.virtual_address as usize;
     let raw_size = section.size_of_raw_data as usize;
     prove!(distance < raw_size + 4096);
-    section.pointer_to_raw_data as usize + distance
+    raw_begin(section, opts) as usize + distance
 }
 
 // The file offset of an address.
-#[tactic(auto, using(crate::proofs::Windows::power_positive), unfolding(crate::specs::Mapping::file_offset))]
+#[tactic(auto, using(crate::proofs::Mapped::power_positive), unfolding(crate::specs::Mapping::file_offset))]
 fn file_offset(
     rva: usize,
     sections: &[SectionTable],
@@ -94,18 +151,15 @@ fn file_offset(
         return None;
     }
     let section = first_in_window(rva, sections, file_alignment)?;
-    Some(offset_in(rva, section, file_alignment))
+    Some(offset_in(rva, section, file_alignment, opts))
 }
 
 /// The file offset of the address `rva`: that of the first section whose window holds it.
 ///
-/// A window begins at its section's address. It is empty where the raw size is 0; else it has the
-/// least of these: the raw data's end rounded up to `file_alignment`, less its begin rounded down to
-/// 512; the raw size rounded up to 4,096; and, where the virtual size is not 0, that rounded up to
-/// 4,096. The offset is the raw pointer, not rounded, plus the distance from the section's address;
-/// it may lie past the file. Where `opts` leaves addresses unmapped, the answer is the address
-/// itself. There is none where `file_alignment` is no power of two.
-#[tactic(auto, using(crate::proofs::Windows::file_offset_first))]
+/// The windows are those that [`window`] answers. The offset is the raw pointer, not rounded, plus the
+/// distance from the section's address; it may lie past the file. Where `opts` leaves addresses
+/// unmapped, the answer is the address itself. There is none where `file_alignment` is no power of two.
+#[tactic(auto, using(crate::proofs::Mapped::file_offset_first))]
 pub fn find_offset(
     rva: usize,
     sections: &[SectionTable],

@@ -1,4 +1,4 @@
-use Rattle.goblin_pe_sect.proofs.Windows.{offsets_apart}
+use Rattle.goblin_pe_sect.proofs.Mapped.{offsets_apart}
 use Rattle.goblin_pe_sect.proofs.utils.find_offset.Goals as goal
 
 pub returns-clause-apart : goal.returns-clause-apart

@@ -1,19 +1,15 @@
 -- Bounds on what the windows of sections reach, and what the mapping of addresses means.
 use Rattle.std.proofs.Common.{◌≡◌, ℕ, zero, suc, ◌+◌, ◌-◌, ◌%◌, ◌<◌, ◌≤◌, Bool, true, false, cond, ◌==◌, min, IsTrue, List, Option, Some, None, find, MatchOption, refl, ap, sym, subst, arith, rules, tests}
-use Rattle.std.specs.Int.{next_multiple_of, is_power_of_two}
+use Rattle.std.specs.Int.{is_power_of_two}
 use Rattle.std.specs.Option.{option_map}
 use Rattle.std.specs.List.{position_or_len}
 use Rattle.std.proofs.lemmas.Bool.Decides.{nat_tests}
-use Rattle.std.proofs.lemmas.Nat.{mod_below}
 use lib.Count.{ones}
 use Rattle.goblin_pe_sect.specs.declared.options.ParseOptions.{ParseOptions}
 use Rattle.goblin_pe_sect.specs.SectionTable.{Section}
-use Rattle.goblin_pe_sect.specs.Mapping.{OffsetsApart, read_size, is_in_window, offset_in, file_offset, InWindow, IsFirstWindow, MapsTo, MapsNowhere}
+use Rattle.goblin_pe_sect.specs.Mapping.{OffsetsApart, read_size, is_in_window, offset_in, file_offset, InWindow, IsFirstWindow, MapsTo, MapsNowhere, raw_begin}
+use Rattle.goblin_pe_sect.proofs.Multiples.{up_near}
 use Rattle.goblin_pe_sect.proofs.First.{found_at_first, found_passes, fails_before, none_passes, first_is_found}
-
--- a multiple at or above a number is less than one step from it
-pub rounding : (x y : ℕ) → 0 < y → (x ≤ next_multiple_of x y) × (next_multiple_of x y < x + y)
-rounding x y h = omega (arith, mod_below (y - x % y) y h)
 
 -- zero is no power of two
 pub power_positive : (a : ℕ) → IsTrue (is_power_of_two a) → 0 < a
@@ -30,7 +26,7 @@ least_below false false x y z bound h = omega arith
 pub read_size_le : (s : Section) (alignment : ℕ) → read_size s alignment ≤ s.size_of_raw_data + 4095
 unfolding read_size
 read_size_le s alignment =
-    least_below (s.size_of_raw_data == 0) (s.virtual_size == 0) _ _ _ _ (omega (arith, rounding s.size_of_raw_data 4096 (omega arith)))
+    least_below (s.size_of_raw_data == 0) (s.virtual_size == 0) _ _ _ _ (omega (arith, up_near 4096 s.size_of_raw_data (omega arith)))
 
 -- an address in a window lies between its begin and its end
 pub in_window : (alignment rva : ℕ) (s : Section) → is_in_window alignment rva s ≡ true → InWindow alignment rva s
@@ -97,7 +93,7 @@ unfolding file_offset
 file_offset_injective opts sections alignment first second index even x y e =
     let even' : is_power_of_two alignment ≡ true = search (rules, tests) in
     let one : x.section ≡ y.section = cc (x.is, y.is) in
-    let pointer = ap (λ (s : Section). s.pointer_to_raw_data) one in
+    let pointer = ap (raw_begin opts) one in
     let address = ap (λ (s : Section). s.virtual_address) one in
     let x_at = ap (option_map (λ s. offset_in opts s first)) (first_window-find sections alignment first index x) in
     let y_at = ap (option_map (λ s. offset_in opts s second)) (first_window-find sections alignment second index y) in

@@ -1,0 +1,110 @@
+-- A search by halving among numbers that rise.
+use Rattle.std.proofs.Common.{◌≡◌, ℕ, zero, suc, ◌+◌, ◌-◌, ◌*◌, ◌/◌, ◌^◌, ◌<◌, ◌≤◌, true, false, List, [], length, slice_index, get_or, nat_le, ap, sym, inl, inr, arith, tests, rules}
+use Rattle.std.specs.List.{prefix_len}
+use Rattle.std.specs.List.Sorted.{IsStrictlyIncreasing}
+use Rattle.std.proofs.lemmas.List.Kept.{AllPairs-from_increasing}
+use Rattle.std.proofs.lemmas.List.Sums.{prefix_len_is}
+use Rattle.std.proofs.lemmas.Bool.{cases_lt}
+use Rattle.std.proofs.lemmas.Nat.{pow-add, pow_pos}
+
+-- how far a search has come: what is below `low` begins at or before the address, what is from `high` on begins after it; the probes
+-- made so far leave enough of any d with fewer than 2 ^ d numbers, and no more than enough of any d with 2 ^ d - 1 numbers or more
+pub record IsSearched (begins : List ℕ) (rva low high probes : ℕ) : Type 0 where
+  pub ordered : low ≤ high
+  pub within : high ≤ length begins
+  pub below : (k : ℕ) → k < low → slice_index begins k ≤ rva
+  pub above : (k : ℕ) → high ≤ k → k < length begins → rva < slice_index begins k
+  pub most : (d : ℕ) → length begins < 2 ^ d → (probes ≤ d) × (high - low < 2 ^ (d - probes))
+  pub fewest : (d : ℕ) → 2 ^ d ≤ length begins + 1 → 2 ^ (d - probes) ≤ high - low + 1
+
+-- rising numbers keep their order at any two places
+pub rising_at : (xs : List ℕ) → IsStrictlyIncreasing xs → (i j : ℕ) → i < j → j < length xs → slice_index xs i < slice_index xs j
+rising_at xs up i j lt within = AllPairs-from_increasing xs up i j 0 lt within
+
+pub rising_to : (xs : List ℕ) → IsStrictlyIncreasing xs → (i j : ℕ) → i ≤ j → j < length xs → slice_index xs i ≤ slice_index xs j
+rising_to xs up i j le within =
+    elim (cases_lt i j) [
+      | inl lt ↦ omega (arith, rising_at xs up i j lt within)
+      | inr ge ↦ let same : i ≡ j = omega arith in omega (arith, ap (λ (k : ℕ). slice_index xs k) same)
+    ]
+
+-- half of a number has a digit less
+pub half_below : (e s : ℕ) → 0 < s → s < 2 ^ e → (1 ≤ e) × (s / 2 < 2 ^ (e - 1))
+half_below zero s positive below = absurd (omega arith)
+half_below (suc e) s positive below =
+    let power : 2 ^ (e + 1) ≡ 2 ^ e * 2 = pow-add 2 e 1 in
+    let same : 2 ^ (suc e) ≡ 2 ^ (e + 1) = ap (λ (k : ℕ). 2 ^ k) (omega arith) in
+    let less : s / 2 < 2 ^ e = omega (arith, power, same, below) in
+    let exponent : 2 ^ (suc e - 1) ≡ 2 ^ e = ap (λ (k : ℕ). 2 ^ k) (omega arith) in
+    (omega arith, omega (arith, less, exponent))
+
+-- a part of at most half the size costs one probe
+fewer : (d probes s t : ℕ) → 0 < s → t ≤ s / 2 → (probes ≤ d) × (s < 2 ^ (d - probes)) → (probes + 1 ≤ d) × (t < 2 ^ (d - (probes + 1)))
+fewer d probes s t positive half h =
+    let halved = half_below (d - probes) s positive h.1 in
+    let exponent : 2 ^ (d - (probes + 1)) ≡ 2 ^ (d - probes - 1) = ap (λ (k : ℕ). 2 ^ k) (omega arith) in
+    (omega (arith, halved.0, h.0), omega (arith, halved.1, exponent))
+
+-- a part of at least half the size, but for the number in the middle, costs at most one probe of those that are needed
+no_fewer : (d probes s t : ℕ) → 0 < s → s ≤ 2 * t + 2 → 2 ^ (d - probes) ≤ s + 1 → 2 ^ (d - (probes + 1)) ≤ t + 1
+no_fewer d probes s t positive half h =
+    elim (cases_lt probes d) [
+      | inl less ↦
+          let e : ℕ = d - (probes + 1) in
+          let power : 2 ^ (e + 1) ≡ 2 ^ e * 2 = pow-add 2 e 1 in
+          let exponent : 2 ^ (d - probes) ≡ 2 ^ (e + 1) = ap (λ (k : ℕ). 2 ^ k) (omega arith) in
+          omega (arith, power, exponent, h, half)
+      | inr done ↦
+          let none : d - (probes + 1) ≡ 0 = omega arith in
+          omega (arith, ap (λ (k : ℕ). 2 ^ k) none)
+    ]
+
+-- a power of two that is at most 1
+pub no_power : (d probes : ℕ) → 2 ^ (d - probes) ≤ 1 → d ≤ probes
+no_power d probes h =
+    elim (cases_lt probes d) [
+      | inl less ↦
+          let e : ℕ = d - probes - 1 in
+          let power : 2 ^ (e + 1) ≡ 2 ^ e * 2 = pow-add 2 e 1 in
+          let exponent : 2 ^ (d - probes) ≡ 2 ^ (e + 1) = ap (λ (k : ℕ). 2 ^ k) (omega arith) in
+          absurd (omega (arith, power, exponent, h, pow_pos e))
+      | inr done ↦ done
+    ]
+
+pub searched_up : (begins : List ℕ) (rva low high probes : ℕ) → IsStrictlyIncreasing begins → IsSearched begins rva low high probes → low < high → slice_index begins (low + (high - low) / 2) ≤ rva → IsSearched begins rva (low + (high - low) / 2 + 1) high (probes + 1)
+searched_up begins rva low high probes up h some reaches = record {
+  ordered = omega arith;
+  within = h.within;
+  below = λ k lt. omega (arith, reaches, rising_to begins up k (low + (high - low) / 2) (omega arith) (omega (arith, h.within)));
+  above = h.above;
+  most = λ d size. fewer d probes (high - low) (high - (low + (high - low) / 2 + 1)) (omega arith) (omega arith) (h.most d size);
+  fewest = λ d size. no_fewer d probes (high - low) (high - (low + (high - low) / 2 + 1)) (omega arith) (omega arith) (h.fewest d size);
+}
+
+pub searched_down : (begins : List ℕ) (rva low high probes : ℕ) → IsStrictlyIncreasing begins → IsSearched begins rva low high probes → low < high → rva < slice_index begins (low + (high - low) / 2) → IsSearched begins rva low (low + (high - low) / 2) (probes + 1)
+searched_down begins rva low high probes up h some passes = record {
+  ordered = omega arith;
+  within = omega (arith, h.within);
+  below = h.below;
+  above = λ k ge lt. omega (arith, passes, rising_to begins up (low + (high - low) / 2) k ge lt);
+  most = λ d size. fewer d probes (high - low) (low + (high - low) / 2 - low) (omega arith) (omega arith) (h.most d size);
+  fewest = λ d size. no_fewer d probes (high - low) (low + (high - low) / 2 - low) (omega arith) (omega arith) (h.fewest d size);
+}
+
+-- where a search ends, it has counted what begins at or before the address
+pub searched_all : (begins : List ℕ) (rva low high probes : ℕ) → IsSearched begins rva low high probes → high ≤ low → low ≡ prefix_len (λ b. nat_le b rva) begins
+searched_all begins rva low high probes h done =
+    let passes : (k : ℕ) → k < low → nat_le (get_or begins k 0) rva ≡ true = λ k lt. let below : get_or begins k 0 ≤ rva = h.below k lt in search (rules, tests) in
+    let stops : low < length begins → nat_le (get_or begins low 0) rva ≡ false = λ lt. let above : rva < get_or begins low 0 = h.above low done lt in search (rules, tests) in
+    sym (prefix_len_is (λ b. nat_le b rva) begins low 0 (omega (arith, h.ordered, h.within)) passes stops)
+
+-- and it made no fewer probes than halving needs
+pub searched_fewest : (begins : List ℕ) (rva low high probes : ℕ) → IsSearched begins rva low high probes → high ≤ low → (d : ℕ) → 2 ^ d ≤ length begins + 1 → d ≤ probes
+searched_fewest begins rva low high probes h done d size = no_power d probes (omega (arith, h.fewest d size))
+
+-- no pieces need no probe
+pub none_needed : (begins : List ℕ) → begins ≡ [] → (d : ℕ) → 2 ^ d ≤ length begins + 1 → d ≤ 0
+none_needed begins none d size =
+    let empty : length begins ≡ 0 = ap (λ (xs : List ℕ). length xs) none in
+    let exponent : d - 0 ≡ d = omega arith in
+    no_power d 0 (omega (arith, size, empty, ap (λ (k : ℕ). 2 ^ k) exponent))

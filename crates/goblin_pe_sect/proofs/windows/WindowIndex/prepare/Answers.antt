@@ -1,0 +1,24 @@
+use Rattle.std.proofs.Common.{◌≡◌, ◌∙◌, ap, map, rules}
+use Rattle.goblin_pe_sect.specs.WindowIndex.{first_owner}
+use Rattle.goblin_pe_sect.proofs.WindowPieces.{located-direct, located-unaligned, located-prepared, index_is}
+use Rattle.goblin_pe_sect.proofs.windows.WindowIndex.prepare.Goals as goal
+
+pub returns-then-not-opts-clause-mapped : goal.returns-then-not-opts-clause-mapped
+returns-then-not-opts-clause-mapped c =
+    λ rva. rw c.without_pieces.ensures (located-direct c.args.opts.now c.args.sections.now c.args.file_alignment rva (search rules))
+
+pub returns-then-not-is_power_of_two-clause-mapped : goal.returns-then-not-is_power_of_two-clause-mapped
+returns-then-not-is_power_of_two-clause-mapped c =
+    λ rva. rw c.without_pieces-then-not-is_power_of_two.ensures (located-unaligned c.args.opts.now c.args.sections.now c.args.file_alignment rva (search rules) (cc))
+
+pub invariant_of-result : goal.invariant_of-result
+invariant_of-result c =
+    let first = first_owner c.args.opts.now c.args.sections.now c.args.file_alignment in
+    let owners : c.in_ok-owners.owners.items ≡ map first c.in_ok-begins.begins.items = c.in_ok-owners.ensures ∙ ap (map first) c.deref.ensures.value in
+    rw (c.new.ensures, owners) (index_is c.args.opts.now c.args.sections.now c.args.file_alignment c.in_ok-begins.begins.items c.in_ok-begins.ensures.cut c.in_ok-begins.ensures.near)
+
+pub returns-clause-mapped : goal.returns-clause-mapped
+returns-clause-mapped c =
+    let first = first_owner c.args.opts.now c.args.sections.now c.args.file_alignment in
+    let owners : c.in_ok-owners.owners.items ≡ map first c.in_ok-begins.begins.items = c.in_ok-owners.ensures ∙ ap (map first) c.deref.ensures.value in
+    λ rva. rw c.new.ensures (located-prepared c.args.opts.now c.args.sections.now c.args.file_alignment c.in_ok-begins.begins.items c.in_ok-owners.owners.items (search rules) (cc) c.in_ok-begins.ensures.cut owners rva)

@@ -1,0 +1,23 @@
+use Rattle.std.proofs.Common.{length, ◌<◌, ◌^◌, arith, rules}
+use Rattle.std.proofs.lemmas.Grind.{common_steps}
+use Rattle.goblin_pe_sect.proofs.Halving.{searched_up, searched_down, searched_all, searched_fewest}
+use Rattle.goblin_pe_sect.proofs.windows.count_reached.Goals as goal
+
+pub reaches-requires-clause-room : goal.reaches-requires-clause-room
+reaches-requires-clause-room c =
+    let fits : length c.args.bounds.now < 2 ^ 64 = omega arith in
+    omega (arith, c.halving.invariant.most 64 fits)
+
+pub halving-preserved-then-reaches : goal.halving-preserved-then-reaches
+halving-preserved-then-reaches c =
+    rw c.reaches.ensures.counted (searched_up _ _ _ _ _ c.requires c.halving.invariant c.halving-test.true (search rules))
+
+pub halving-preserved : goal.halving-preserved
+halving-preserved c =
+    rw c.reaches.ensures.counted (searched_down _ _ _ _ _ c.requires c.halving.invariant c.halving-test.true (grind (arith, common_steps)))
+
+pub returns-clause-value : goal.returns-clause-value
+returns-clause-value c = searched_all _ _ _ _ _ c.halving.invariant c.halving-test.false
+
+pub returns-clause-fewest : goal.returns-clause-fewest
+returns-clause-fewest c = searched_fewest _ _ _ _ _ c.halving.invariant c.halving-test.false

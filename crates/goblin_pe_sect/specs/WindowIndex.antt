@@ -1,0 +1,72 @@
+-- The line of addresses, cut into pieces at the windows of sections, and what an index of the pieces answers.
+use Rattle.std.specs.Prelude.{ℕ, zero, suc, ◌+◌, ◌-◌, ◌*◌, ◌≡◌, ◌<◌, ◌≤◌, ◌^◌, ◌⊎◌, Bool, false, nat_le, if◌then◌else◌, List, [], Option, Some, None, length, slice_index, slice_index_or, slice_get, Contains, position}
+use Rattle.std.specs.List.{prefix_len}
+use Rattle.std.specs.List.Sorted.{IsStrictlyIncreasing}
+use Rattle.std.specs.Option.{option_map, option_and_then}
+use Rattle.goblin_pe_sect.specs.declared.options.ParseOptions.{ParseOptions}
+use Rattle.goblin_pe_sect.specs.declared.windows.owners.Owner.{Owner}
+use Rattle.goblin_pe_sect.specs.Mapping.{read_size, window_end, is_in_window, raw_begin}
+use Rattle.goblin_pe_sect.specs.SectionTable.{Section}
+
+-- an index: whether it maps addresses at all, where each piece begins, and what is kept of the section that each piece belongs to
+pub record Pieces : Type 0 where
+  pub resolves : Bool
+  pub begins : List ℕ
+  pub owners : List (Option Owner)
+
+-- ---- the pieces
+
+-- a place where the line is cut: 0, and each begin and end of a window that is not empty
+abbrev pub IsBorder : List Section → ℕ → ℕ → Type 0
+IsBorder sections alignment x =
+    (x ≡ 0)
+    ⊎ ((k : ℕ) × (s : Section) × (slice_get sections k ≡ Some s) × (0 < read_size s alignment) × ((x ≡ s.virtual_address) ⊎ (x ≡ window_end s alignment)))
+
+-- the pieces begin where the line is cut, in rising order: at most two for each section, and the one at 0
+pub record IsCut (sections : List Section) (alignment : ℕ) (begins : List ℕ) : Type 0 where
+  pub rising : IsStrictlyIncreasing begins
+  pub all : (x : ℕ) → IsBorder sections alignment x → Contains begins x
+  pub only : (x : ℕ) → Contains begins x → IsBorder sections alignment x
+  pub few : length begins ≤ 2 * length sections + 1
+
+-- what an index keeps of the section at this place of the table
+abbrev pub owner_of_section : ParseOptions → ℕ → Section → Owner
+owner_of_section opts i s = record { index = i; address = s.virtual_address; pointer = raw_begin opts s }
+
+-- what an index keeps of the first section whose window holds an address
+abbrev pub first_owner : ParseOptions → List Section → ℕ → ℕ → Option Owner
+first_owner opts sections alignment rva =
+    option_and_then (λ (i : ℕ). option_map (owner_of_section opts i) (slice_get sections i)) (position (is_in_window alignment rva) sections)
+
+-- ---- what an index answers
+
+-- how many pieces begin at or before an address
+abbrev pub reached : List ℕ → ℕ → ℕ
+reached begins rva = prefix_len (λ b. nat_le b rva) begins
+
+-- the owner of the last of the first n pieces
+abbrev pub last_owner : List (Option Owner) → ℕ → Option Owner
+last_owner owners zero = None
+last_owner owners (suc k) = slice_index_or owners k None
+
+-- where the file has an address of a piece with this owner
+abbrev pub offset_by : ℕ → Owner → ℕ
+offset_by rva o = o.pointer + (rva - o.address)
+
+-- the file offset that an index gives an address: by the owner of the last piece that begins at or before it
+unfoldable pub located : Pieces → ℕ → Option ℕ
+located w rva = if w.resolves then option_map (offset_by rva) (last_owner w.owners (reached w.begins rva)) else Some rva
+
+-- ---- what is true of every index
+
+-- the begins rise, one owner each; a piece with an owner lies behind its address, and ends within reach of it; there is no piece where addresses are not mapped
+pub record IsIndex (resolves : Bool) (begins : List ℕ) (owners : List (Option Owner)) : Type 0 where
+  pub rising : IsStrictlyIncreasing begins
+  pub one_each : length owners ≡ length begins
+  pub low : (k : ℕ) (o : Owner) → slice_index_or owners k None ≡ Some o → o.address ≤ slice_index begins k
+  pub high : (k : ℕ) (o : Owner) → slice_index_or owners k None ≡ Some o → (k + 1 < length begins) × (slice_index begins (k + 1) ≤ o.address + 2 ^ 33)
+  pub unmapped : resolves ≡ false → begins ≡ []
+
+-- every section's window ends within reach of its address
+abbrev pub AreNear : List Section → ℕ → Type 0
+AreNear sections alignment = (k : ℕ) (s : Section) → slice_get sections k ≡ Some s → read_size s alignment ≤ 2 ^ 33

@@ -1,0 +1,40 @@
+-- The windows of sections, handed down from a stretch of the line of addresses to its halves.
+use Rattle.std.specs.Prelude.{ℕ, ◌≡◌, ◌≤◌, ◌<◌, Bool, ◌&&◌, nat_le, nat_lt, List, Option, find, map, length, slice_index}
+use Rattle.std.specs.List.{enumerate_from}
+use Rattle.std.specs.Option.{option_map}
+use Rattle.goblin_pe_sect.specs.declared.options.ParseOptions.{ParseOptions}
+use Rattle.goblin_pe_sect.specs.declared.windows.owners.Owner.{Owner}
+use Rattle.goblin_pe_sect.specs.declared.windows.owners.Window.{Window}
+use Rattle.goblin_pe_sect.specs.Mapping.{window_end}
+use Rattle.goblin_pe_sect.specs.SectionTable.{Section}
+use Rattle.goblin_pe_sect.specs.WindowIndex.{owner_of_section}
+
+-- a window holds this address
+abbrev pub window_holds : ℕ → Window → Bool
+window_holds rva w = nat_le w.begin rva && nat_lt rva w.end
+
+-- a window holds each address from first to last, and a window may hold some of them
+abbrev pub window_covers : ℕ → ℕ → Window → Bool
+window_covers first last w = nat_le w.begin first && nat_lt last w.end
+
+abbrev pub window_meets : ℕ → ℕ → Window → Bool
+window_meets first last w = nat_le w.begin last && nat_lt first w.end
+
+-- the owner of the first of these windows that holds an address
+abbrev pub owner_among : List Window → ℕ → Option Owner
+owner_among windows rva = option_map (λ (w : Window). w.owner) (find (window_holds rva) windows)
+
+-- for each address from first to last, the first window that holds it is the same among the fewer windows
+abbrev pub FindTheSame : ℕ → ℕ → List Window → List Window → Type 0
+FindTheSame first last fewer windows = (rva : ℕ) → first ≤ rva → rva ≤ last → find (window_holds rva) fewer ≡ find (window_holds rva) windows
+
+-- the window of the section at this place of the table, and those of all sections, in the table's order
+abbrev pub section_window_at : ParseOptions → ℕ → ℕ → Section → Window
+section_window_at opts alignment i s = record { begin = s.virtual_address; end = window_end s alignment; owner = owner_of_section opts i s }
+
+abbrev pub section_windows : ParseOptions → ℕ → List Section → List Window
+section_windows opts alignment sections = map (λ (r : ℕ × Section). section_window_at opts alignment r.0 r.1) (enumerate_from 0 sections)
+
+-- the numbers do not fall
+abbrev pub IsRising : List ℕ → Type 0
+IsRising xs = (i j : ℕ) → i ≤ j → j < length xs → slice_index xs i ≤ slice_index xs j

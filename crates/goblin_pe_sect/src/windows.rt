@@ -1,0 +1,155 @@
+//! An index of the windows of sections, which maps addresses to file offsets by a search by halving.
+//!
+//! A walk over the sections, as [`find_offset`](crate::utils::find_offset) makes it, takes steps like their
+//! number for each address. Here the line of addresses is cut once, at 0 and at each begin and end of a
+//! window that is not empty, and each piece keeps its first section; an address is then found among n pieces
+//! by about log n comparisons.
+
+ghost use Rattle.std.specs.Prelude.{◌≡◌, ℕ, ◌+◌, ◌*◌, ◌^◌, ◌<◌, ◌≤◌, IsTrue, IfOk, IfErr, length, map, []};
+ghost use Rattle.std.specs.Int.{is_power_of_two};
+ghost use Rattle.std.specs.List.Sorted.{IsStrictlyIncreasing};
+ghost use Rattle.goblin_base.specs.Answers.{IsMemory};
+ghost use Rattle.goblin_pe_sect.specs.Mapping.{file_offset};
+ghost use Rattle.goblin_pe_sect.specs.WindowIndex.{IsCut, first_owner, located, offset_by, reached};
+
+mod bounds;
+mod cuts;
+mod owners;
+
+use crate::options::ParseOptions;
+use crate::section_table::SectionTable;
+pub use bounds::Bounds;
+use cuts::cut_points;
+use goblin_base::Result;
+use owners::{Owner, owners_of};
+use std::alloc::Global;
+use std::marker::Model;
+
+// How many pieces begin at or before the address, and how many bounds were looked at.
+fn count_reached(bounds: &Bounds, rva: usize) -> (usize, usize)
+    requires { IsStrictlyIncreasing bounds.now }
+    ensures value { result.0 ≡ reached bounds.now rva }
+    ensures most { (d : ℕ) → length bounds.now < 2 ^ d → result.1 ≤ d }
+    ensures fewest { (d : ℕ) → 2 ^ d ≤ length bounds.now + 1 → d ≤ result.1 }
+{
+    let mut probes = 0;
+    let mut low = 0;
+    let mut high = bounds.len();
+    'halving: while low < high {
+        let middle = low + (high - low) / 2;
+        if bounds.reaches(middle, rva, &mut probes) {
+            low = middle + 1;
+        } else {
+            high = middle;
+        }
+    }
+    (low, probes)
+}
+
+/// The line of addresses, cut into pieces at the windows of sections. Each piece keeps the place, the
+/// address and the raw pointer of the first section whose window covers it, or none; nothing else is kept
+/// of the sections.
+#[derive(Drop)]
+pub struct WindowIndex {
+    resolves: bool,
+    bounds: Bounds,
+    owners: Vec<Option<Owner>>,
+}
+
+impl Model for WindowIndex {
+    ghost use Rattle.goblin_pe_sect.specs.WindowIndex.{Pieces, IsIndex};
+
+    ghost Value = { Pieces };
+
+    ghost view = { λ w. record { resolves = w.resolves; begins = w.bounds; owners = w.owners.items } };
+
+    ghost invariant = { λ w. IsIndex w.resolves w.bounds w.owners.items };
+}
+
+impl WindowIndex {
+    // An index that has no pieces: no address is mapped, or each is its own offset.
+    fn without_pieces(alloc: Global, resolves: bool) -> WindowIndex
+        ensures { result ≡ record { resolves = resolves; begins = []; owners = [] } }
+    {
+        WindowIndex {
+            resolves,
+            bounds: Bounds::new(Vec::new(alloc)),
+            owners: Vec::new(alloc),
+        }
+    }
+
+    /// An index of the sections' windows, which maps every address as
+    /// [`find_offset`](crate::utils::find_offset) does with the same arguments. It has at most two pieces
+    /// for each section and one more; none where `opts` leaves addresses unmapped or `file_alignment` is no
+    /// power of two, and then no memory is taken.
+    ///
+    /// # Errors
+    /// [`Error::Memory`](goblin_base::Error::Memory) alone.
+    pub fn prepare(
+        alloc: Global,
+        sections: &[SectionTable],
+        file_alignment: u32,
+        opts: &ParseOptions,
+    ) -> Result<WindowIndex>
+        ensures mapped { IfOk result (λ w. (rva : ℕ) → located w rva ≡ file_offset opts.now sections.now file_alignment rva) }
+        ensures refused { IfErr result IsMemory }
+        ensures grown { IfErr result (λ e. IsTrue opts.now.resolve_rva × IsTrue (is_power_of_two file_alignment)) }
+        ensures few { IfOk result (λ w. length w.begins ≤ 2 * length sections.now + 1) }
+        ensures no_pieces { IfOk result (λ w. ¬ (IsTrue opts.now.resolve_rva × IsTrue (is_power_of_two file_alignment)) → w.begins ≡ []) }
+        ensures cut { IfOk result (λ w. IsTrue opts.now.resolve_rva → IsTrue (is_power_of_two file_alignment) → IsCut sections.now file_alignment w.begins) }
+        ensures owned { IfOk result (λ w. w.owners ≡ map (first_owner opts.now sections.now file_alignment) w.begins) }
+    {
+        if !opts.resolve_rva {
+            return Ok(WindowIndex::without_pieces(alloc, false));
+        }
+        if !file_alignment.is_power_of_two() {
+            return Ok(WindowIndex::without_pieces(alloc, true));
+        }
+        let begins = cut_points(alloc, sections, file_alignment)?;
+        let owners = owners_of(alloc, &begins, sections, file_alignment, opts)?;
+        Ok(WindowIndex {
+            resolves: true,
+            bounds: Bounds::new(begins),
+            owners,
+        })
+    }
+
+    /// The number of pieces.
+    pub fn pieces(&self) -> usize
+        ensures { result ≡ length self.now.begins }
+    {
+        self.bounds.len()
+    }
+
+    /// The file offset of the address `rva`, and how many probes were made: calls of [`Bounds::reaches`],
+    /// the only call that tells where a piece begins. Fewer than 2 to the power d pieces take at most d
+    /// probes.
+    #[tactic(auto, unfolding(crate::specs::WindowIndex::located))]
+    pub fn find_counted(&self, rva: usize) -> (Option<usize>, usize)
+        ensures value { result.0 ≡ located self.now rva }
+        ensures most { (d : ℕ) → length self.now.begins < 2 ^ d → result.1 ≤ d }
+        ensures fewest { (d : ℕ) → 2 ^ d ≤ length self.now.begins + 1 → d ≤ result.1 }
+    {
+        if !self.resolves {
+            return (Some(rva), 0);
+        }
+        let (reached, probes) = count_reached(&self.bounds, rva);
+        if reached == 0 {
+            return (None, probes);
+        }
+        match self.owners[reached - 1] {
+            Some(owner) => (
+                Some(owner.pointer as usize + (rva - owner.address as usize)),
+                probes,
+            ),
+            None => (None, probes),
+        }
+    }
+
+    /// The file offset of the address `rva`.
+    pub fn find(&self, rva: usize) -> Option<usize>
+        ensures { result ≡ located self.now rva }
+    {
+        self.find_counted(rva).0
+    }
+}

@@ -1,0 +1,47 @@
+//! Where the pieces of the line of addresses begin, behind a call that counts.
+
+ghost use Rattle.std.specs.Prelude.{◌≡◌, ◌+◌, ◌<◌, ◌≤◌, ◌↔◌, IsTrue, length, slice_index};
+
+use std::marker::Model;
+
+/// Where the pieces of the line of addresses begin. A search sees a bound by [`Bounds::reaches`] alone,
+/// which counts its calls.
+#[derive(Drop)]
+pub struct Bounds {
+    begins: Vec<usize>,
+}
+
+impl Model for Bounds {
+    ghost use Rattle.std.specs.Prelude.{ℕ, List};
+
+    ghost Value = { List ℕ };
+
+    ghost view = { λ b. b.begins.items };
+}
+
+impl Bounds {
+    /// The bounds of pieces that begin at these addresses.
+    pub fn new(begins: Vec<usize>) -> Bounds
+        ensures { result ≡ begins.items }
+    {
+        Bounds { begins }
+    }
+
+    /// The number of pieces.
+    pub fn len(&self) -> usize
+        ensures { result ≡ length self.now }
+    {
+        self.begins.len()
+    }
+
+    /// Whether piece `i` begins at or before the address `rva`; adds one to `probes`.
+    pub fn reaches(&self, i: usize, rva: usize, probes: &mut usize) -> bool
+        requires piece { i < length self.now }
+        requires room { probes.old < usize.MAX }
+        ensures value { IsTrue result ↔ (slice_index self.now i ≤ rva) }
+        ensures counted { probes.new ≡ probes.old + 1 }
+    {
+        *probes += 1;
+        self.begins[i] <= rva
+    }
+}

@@ -1,0 +1,33 @@
+//! Where the line of addresses is cut into pieces.
+
+ghost use Rattle.std.specs.Prelude.{◌<◌, IfOk};
+ghost use Rattle.goblin_pe_sect.specs.WindowIndex.{AreNear, IsCut};
+
+use crate::section_table::SectionTable;
+use crate::utils::section_window;
+use std::alloc::{AllocError, Global};
+
+/// Where the line of addresses is cut, in rising order: at 0 and at each begin and end of a window that is
+/// not empty.
+pub(super) fn cut_points(
+    alloc: Global,
+    sections: &[SectionTable],
+    file_alignment: u32,
+) -> Result<Vec<usize>, AllocError>
+    requires { 0 < file_alignment }
+    ensures cut { IfOk result (λ v. IsCut sections.now file_alignment v.items) }
+    ensures near { IfOk result (λ v. AreNear sections.now file_alignment) }
+{
+    let mut points = Vec::new(alloc);
+    points.push(0)?;
+    for section in sections {
+        let (begin, end) = section_window(section, file_alignment);
+        if begin < end {
+            points.push(begin)?;
+            points.push(end)?;
+        }
+    }
+    points.sort_unstable();
+    points.dedup();
+    Ok(points)
+}

@@ -1,0 +1,175 @@
+//! Which section each piece of the line of addresses belongs to.
+//!
+//! The pieces are halved, again and again: each stretch of them is handed the windows that may own some of
+//! its pieces, which are few, and hands them on to its halves. So the steps grow like n log n.
+
+ghost use Rattle.std.specs.Prelude.{◌≡◌, ◌<◌, ◌++◌, IsTrue, IfOk, OnOk, map, find, filter, position};
+ghost use Rattle.std.specs.List.Sorted.{IsStrictlyIncreasing};
+ghost use Rattle.goblin_pe_sect.specs.WindowIndex.{first_owner};
+ghost use Rattle.goblin_pe_sect.specs.WindowStretches.{window_holds, window_covers, window_meets, owner_among, section_window_at, section_windows, FindTheSame, IsRising};
+
+use crate::options::ParseOptions;
+use crate::section_table::SectionTable;
+use crate::utils::{raw_begin, section_window};
+use std::alloc::{AllocError, Global};
+
+/// What an index keeps of the section that a piece belongs to.
+#[derive(Copy, Clone)]
+pub struct Owner {
+    /// The section's place in the table.
+    pub index: usize,
+    /// The section's address.
+    pub address: u32,
+    /// Where the section's raw data begins in the file, for the mapping of addresses.
+    pub pointer: u32,
+}
+
+// The window of a section, and what an index keeps of the section.
+#[derive(Copy, Clone)]
+struct Window {
+    begin: usize,
+    end: usize,
+    owner: Owner,
+}
+
+// The window of the section at this place of the table.
+fn window_at(
+    index: usize,
+    section: &SectionTable,
+    file_alignment: u32,
+    opts: &ParseOptions,
+) -> Window
+    requires { 0 < file_alignment }
+    ensures { result ≡ section_window_at opts.now file_alignment index section.now }
+{
+    let (begin, end) = section_window(section, file_alignment);
+    Window {
+        begin,
+        end,
+        owner: Owner {
+            index,
+            address: section.virtual_address,
+            pointer: raw_begin(section, opts),
+        },
+    }
+}
+
+// The windows of all sections, in the table's order.
+fn windows_of(
+    alloc: Global,
+    sections: &[SectionTable],
+    file_alignment: u32,
+    opts: &ParseOptions,
+) -> Result<Vec<Window>, AllocError>
+    requires { 0 < file_alignment }
+    ensures { IfOk result (λ v. v.items ≡ section_windows opts.now file_alignment sections.now) }
+{
+    sections
+        .iter()
+        .enumerate()
+        .map(|(index, section)| window_at(index, section, file_alignment, opts))
+        .collect(alloc)
+}
+
+// The owner of the first window that holds the address.
+fn owner_at(rva: usize, windows: &[Window]) -> Option<Owner>
+    ensures { result ≡ owner_among windows.now rva }
+{
+    let window = windows
+        .iter()
+        .find(|window| window.begin <= rva && rva < window.end)?;
+    Some(window.owner)
+}
+
+// Where the first window stands that holds all addresses from `first` to `last`.
+fn cover_place(first: usize, last: usize, windows: &[Window]) -> Option<usize>
+    ensures { result ≡ position (window_covers first last) windows.now }
+{
+    windows
+        .iter()
+        .position(|window| window.begin <= first && last < window.end)
+}
+
+// The windows up to the first that holds all addresses from `first` to `last`: what stands behind it
+// owns none of them.
+fn up_to_cover(first: usize, last: usize, windows: &[Window]) -> &[Window]
+    ensures { FindTheSame first last result.now windows.now }
+{
+    match cover_place(first, last, windows) {
+        Some(place) => windows.split_at(place + 1).0,
+        None => windows,
+    }
+}
+
+// The windows that hold some address from `first` to `last`.
+fn meeting(
+    alloc: Global,
+    first: usize,
+    last: usize,
+    windows: &[Window],
+) -> Result<Vec<Window>, AllocError>
+    ensures { IfOk result (λ v. v.items ≡ filter (window_meets first last) windows.now) }
+{
+    windows
+        .iter()
+        .copied()
+        .filter(|window| window.begin <= last && first < window.end)
+        .collect(alloc)
+}
+
+// The windows that may own an address from `first` to `last`.
+fn nearby(
+    alloc: Global,
+    first: usize,
+    last: usize,
+    windows: &[Window],
+) -> Result<Vec<Window>, AllocError>
+    ensures { IfOk result (λ v. FindTheSame first last v.items windows.now) }
+{
+    let near = meeting(alloc, first, last, up_to_cover(first, last, windows))?;
+    Ok(near)
+}
+
+// Adds the owner of each piece: halves of the pieces, each with the windows that may own some of them.
+fn push_owners(
+    alloc: Global,
+    begins: &[usize],
+    windows: &[Window],
+    owners: &mut Vec<Option<Owner>>,
+) -> Result<(), AllocError>
+    requires { IsRising begins.now }
+    ensures { OnOk result (owners.new.items ≡ owners.old.items ++ map (owner_among windows.now) begins.now) }
+{
+    if begins.is_empty() {
+        return Ok(());
+    }
+    let count = begins.len();
+    let first = begins[0];
+    if count == 1 {
+        owners.push(owner_at(first, windows))?;
+        return Ok(());
+    }
+    let near = nearby(alloc, first, begins[count - 1], windows)?;
+    let (front, back) = begins.split_at(count / 2);
+    push_owners(alloc, front, &near, owners)?;
+    push_owners(alloc, back, &near, owners)?;
+    Ok(())
+}
+
+/// What is kept of the section of each piece: the first whose window holds the piece's begin, if one does.
+pub(super) fn owners_of(
+    alloc: Global,
+    begins: &[usize],
+    sections: &[SectionTable],
+    file_alignment: u32,
+    opts: &ParseOptions,
+) -> Result<Vec<Option<Owner>>, AllocError>
+    requires aligned { 0 < file_alignment }
+    requires rising { IsStrictlyIncreasing begins.now }
+    ensures { IfOk result (λ v. v.items ≡ map (first_owner opts.now sections.now file_alignment) begins.now) }
+{
+    let windows = windows_of(alloc, sections, file_alignment, opts)?;
+    let mut owners = Vec::new(alloc);
+    push_owners(alloc, begins, &windows, &mut owners)?;
+    Ok(owners)
+}
