@@ -24,4 +24,5 @@ mod symbol_constants;
 mod symbols;
 mod te;
 mod whole;
+mod windows;
 mod written;
