@@ -1,10 +1,5 @@
 pub mod Answers
-pub mod Below
 pub mod Bytes
-pub mod CountedTables
-pub mod Faults
 pub mod Record
-pub mod SlotTables
-pub mod Steps
 pub mod Strtab
 pub mod Tables

@@ -2,6 +2,5 @@ pub mod Command
 pub mod Lines
 pub mod Listing
 pub mod Run
-pub mod ShortEntry
 pub mod Text
 pub mod Watch

@@ -1,11 +1,9 @@
 //! Whole runs of the program over files.
 
-use super::sample::{
-    ELSEWHERE, EXPORTS, HEADER, IMPORTS, LISTING, RELOCATIONS, SECTION, TABLE, TABLE_END, listing,
-    put, sample, sample_named,
-};
+use super::sample::{EXPORTS, HEADER, IMPORTS, LISTING, RELOCATIONS, SECTION, listing};
 use crate::program::run;
 use crate::watched::Watched;
+use fixture::sample::{ELSEWHERE, TABLE, TABLE_END, put, sample, sample_named};
 use goblin_base::ParseMode;
 use std::test::Fail;
 

@@ -1,8 +1,9 @@
 //! Runs over readers and writers that fail.
 
-use super::sample::{LISTING, SAMPLE_LEN, sample};
+use super::sample::LISTING;
 use crate::program::{RunFault, run};
 use crate::watched::Watched;
+use fixture::sample::{SAMPLE_LEN, sample};
 use goblin_base::ParseMode;
 use std::io;
 use std::io::{ErrorKind, Read, Write};

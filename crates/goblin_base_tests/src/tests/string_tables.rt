@@ -1,0 +1,24 @@
+//! String tables, by themselves.
+
+use goblin_base::Strtab;
+use std::test::Fail;
+
+#[test]
+fn a_text_is_what_is_left_of_its_piece(rt: HostRuntime) -> Result<(), Fail> {
+    let rows: [(&[u8], usize, Option<&str>); 9] = [
+        (b"ab\0c", 0, Some("ab")),
+        (b"ab\0c", 1, Some("b")),
+        (b"ab\0c", 2, Some("")),
+        (b"ab\0c", 3, Some("c")),
+        (b"ab\0c", 4, Some("")),
+        (b"ab\0c", 5, None),
+        (b"a\0", 0, Some("a")),
+        (b"a\0", 1, Some("")),
+        (b"a\0", 2, None),
+    ];
+    for (bytes, offset, want) in rows {
+        let table = Strtab::parse(rt.alloc(), bytes, 0, bytes.len(), 0)?;
+        assert!(rt; table.get_at(offset) == want, "{offset} of {bytes:?}");
+    }
+    Ok(())
+}

@@ -1,0 +1,13 @@
+//! Worked values of headers, and what is read through a header.
+
+mod constants;
+mod header;
+mod headers;
+mod memory;
+mod optional_header;
+mod rich;
+mod sample;
+mod string_tables;
+mod symbols;
+mod te;
+mod written;

@@ -1,0 +1,95 @@
+//! The header of a Terse Executable and its sections.
+
+use fixture::memory::{Outcome, is_refused_until_right};
+use fixture::sample::{put, section};
+use goblin_base::{Cause, Endian, Error};
+use goblin_pe_head::TeHeader;
+use goblin_pe_head::header::TE_MAGIC;
+use goblin_pe_sect::{DataDirectory, SectionTable};
+use std::alloc::{AllocError, Global};
+use std::test::Fail;
+
+/// A header of which so many bytes were stripped, with an entry point and one section.
+fn header(stripped_size: u16) -> TeHeader {
+    TeHeader {
+        signature: TE_MAGIC,
+        number_of_sections: 1,
+        stripped_size,
+        entry_point: 0x1010,
+        ..TeHeader::default()
+    }
+}
+
+/// A file of that header, and the record of a section behind it.
+fn file(alloc: Global, stripped_size: u16) -> Result<Vec<u8>, Fail> {
+    let mut file = vec![in alloc; 0u8; 80]?;
+    header(stripped_size).try_into_ctx(&mut file, Endian::Little)?;
+    let mut record = [0; 40];
+    section(0x1000, 0, 0, 0x200).try_into_ctx(&mut record, Endian::Little)?;
+    put(&mut file, 40, &record);
+    Ok(file)
+}
+
+#[test]
+fn a_header_is_adjusted_by_what_was_stripped(rt: HostRuntime) -> Result<(), Fail> {
+    let file = file(rt.alloc(), 0x128)?;
+    let mut offset = 0;
+    let read = TeHeader::parse(&file, &mut offset)?;
+    assert_eq!(rt; read.entry_point, 0xF10);
+    assert_eq!(rt;
+        read.reloc_dir,
+        DataDirectory {
+            virtual_address: 0xFFFF_FF00,
+            size: 0
+        }
+    );
+    assert_eq!(rt; offset, 40);
+    Ok(())
+}
+
+#[test]
+fn a_header_of_which_too_little_was_stripped_is_refused(rt: HostRuntime) -> Result<(), Fail> {
+    let file = file(rt.alloc(), 0x17)?;
+    let mut offset = 0;
+    let refused = TeHeader::parse(&file, &mut offset);
+    assert!(rt; matches!(refused, Err(Error::Malformed(Cause::StrippedSize(0x17)))));
+    assert_eq!(rt; offset, 0);
+    Ok(())
+}
+
+#[test]
+fn sections_are_adjusted_at_each_growth(rt: HostRuntime) -> Result<(), Fail> {
+    let alloc = rt.alloc();
+    let file = file(alloc, 0x128)?;
+    let want = section(0xF00, 0, 0, 0x100);
+    let is_right = is_refused_until_right(alloc, || {
+        let mut offset = 40;
+        match header(0x128).sections(alloc, &file, &mut offset) {
+            Ok(sections) if offset == 80 => match sections.as_slice() {
+                [read] if *read == want => Outcome::Right,
+                _ => Outcome::Wrong,
+            },
+            Err(Error::Memory(_)) if offset == 40 => Outcome::Refused,
+            _ => Outcome::Wrong,
+        }
+    })?;
+    assert!(rt; is_right);
+    Ok(())
+}
+
+#[test]
+fn sections_of_a_header_of_which_too_little_was_stripped_are_refused(
+    rt: HostRuntime,
+) -> Result<(), Fail> {
+    let mut offset = 1;
+    let short = TeHeader {
+        stripped_size: 0x27,
+        ..TeHeader::default()
+    };
+    let refused = short.sections(rt.alloc(), &[], &mut offset);
+    assert!(rt; matches!(refused, Err(Error::Malformed(Cause::StrippedSize(0x27)))));
+    assert_eq!(rt; offset, 1);
+    let refused = header(0x27).sections(rt.alloc(), &[0; 39], &mut offset);
+    assert!(rt; matches!(refused, Err(Error::BufferTooShort(1, "sections"))));
+    Ok(())
+}

@@ -1,0 +1,11 @@
+//! Worked values of sections, directories, addresses, windows and relocations.
+
+mod addresses;
+mod directories;
+mod memory;
+mod names;
+mod options;
+mod relocations;
+mod sections;
+mod symbol_constants;
+mod windows;

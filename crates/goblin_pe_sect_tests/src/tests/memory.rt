@@ -1,0 +1,57 @@
+//! Sections and their data, each growth refused in turn.
+
+use fixture::memory::{Outcome, is_refused_until_right};
+use fixture::sample::{
+    ELSEWHERE, TABLE, TABLE_END, import_name, sample_named, sample_section, section,
+};
+use goblin_base::Error;
+use goblin_pe_sect::SectionTable;
+use std::test::Fail;
+
+/// How a call ended that should answer this section.
+fn outcome_of(read: &goblin_base::Result<SectionTable>, want: &SectionTable) -> Outcome {
+    match read {
+        Ok(section) if *section == *want => Outcome::Right,
+        Err(Error::Memory(_)) => Outcome::Refused,
+        _ => Outcome::Wrong,
+    }
+}
+
+#[test]
+fn a_section_with_its_name_elsewhere_is_refused_at_each_growth(
+    rt: HostRuntime,
+) -> Result<(), Fail> {
+    let alloc = rt.alloc();
+    let file = sample_named(alloc, ELSEWHERE)?;
+    let want = SectionTable {
+        name: *ELSEWHERE,
+        real_name: import_name(alloc)?,
+        ..sample_section()
+    };
+    let is_read = is_refused_until_right(alloc, || {
+        let mut offset = TABLE;
+        let read = SectionTable::parse(alloc, &file, &mut offset, 0);
+        match outcome_of(&read, &want) {
+            Outcome::Right if offset != TABLE_END => Outcome::Wrong,
+            Outcome::Refused if offset != TABLE => Outcome::Wrong,
+            outcome => outcome,
+        }
+    })?;
+    assert!(rt; is_read, "read");
+    let is_cloned = is_refused_until_right(alloc, || outcome_of(&want.clone(alloc), &want))?;
+    assert!(rt; is_cloned, "cloned");
+    Ok(())
+}
+
+#[test]
+fn data_with_zeros_is_refused_at_each_growth(rt: HostRuntime) -> Result<(), Fail> {
+    let alloc = rt.alloc();
+    let padded = section(0, 6, 4, 4);
+    let is_right = is_refused_until_right(alloc, || match padded.data(alloc, &[0; 16]) {
+        Ok(Some(data)) if &data[..] == [0; 6].as_slice() => Outcome::Right,
+        Err(Error::Memory(_)) => Outcome::Refused,
+        _ => Outcome::Wrong,
+    })?;
+    assert!(rt; is_right);
+    Ok(())
+}

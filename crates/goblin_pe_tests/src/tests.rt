@@ -1,0 +1,5 @@
+//! Worked values of imports, exports and whole files.
+
+mod exports;
+mod imports;
+mod whole;

@@ -1,0 +1,511 @@
+//! Imports, by entry types of two, four and eight bytes.
+
+ghost use Rattle.std.specs.Prelude.{◌≤◌, ◌-◌, ◌^◌};
+ghost use Rattle.std.proofs.Common.{lit≤};
+ghost use Rattle.goblin_base.specs.Bytes.{number};
+ghost use Rattle.goblin_base.specs.declared.endian.Endian.TheVariants.{Little};
+ghost use Rattle.goblin_pe_tests.specs.ShortEntry.{short_value};
+
+use fixture::memory::{Outcome, is_refused_until_right};
+use fixture::sample::{put, sample, sample_section};
+use goblin_base::{Cause, Endian, Error, ParseMode, ReadFault, ResultOf, TryFromCtx, field_u16};
+use goblin_pe::import::{
+    Bitfield, HintNameTableEntry, IMPORT_BY_ORDINAL_32, IMPORT_BY_ORDINAL_64, IMPORT_RVA_MASK_32,
+    IMPORT_RVA_MASK_64, Import, ImportData, ImportDirectoryEntry, ImportLookupTable,
+    SIZEOF_IMPORT_DIRECTORY_ENTRY, SyntheticImportDirectoryEntry, SyntheticImportLookupTableEntry,
+};
+use goblin_pe_sect::{DataDirectory, ParseOptions, SectionTable};
+use std::alloc::{AllocError, Global};
+use std::test::Fail;
+
+/// An entry of two bytes, by ordinal from 2^15 on.
+#[derive(Debug, PartialEq, Eq, Copy, Clone)]
+struct Short {
+    number: u16,
+}
+
+impl<'a> Bitfield<'a> for Short {
+    ghost format = { record { width = 2; value_of = λ bytes. short_value (number Little 2 bytes 0) } };
+
+    ghost value = { λ entry. short_value entry.number };
+
+    fn is_ordinal(&self) -> bool {
+        self.number >= 0x8000
+    }
+
+    fn to_ordinal(&self) -> u16 {
+        self.number % 0x8000
+    }
+
+    fn to_rva(&self) -> u32 {
+        u32::from(self.number % 0x8000)
+    }
+
+    fn size_of() -> usize {
+        2
+    }
+
+    fn is_zero(&self) -> bool {
+        self.number == 0
+    }
+
+    fn read(bytes: &'a [u8]) -> Short {
+        Short {
+            number: field_u16(bytes, 0, Endian::Little),
+        }
+    }
+
+    fn number(&self) -> u64 {
+        u64::from(self.number)
+    }
+
+    ghost positive = { lit≤ tt };
+}
+
+/// An entry of as many bytes as a slice can have, which no file holds.
+#[derive(Debug, PartialEq, Eq, Copy, Clone)]
+struct Vast;
+
+impl<'a> Bitfield<'a> for Vast {
+    ghost format = { record { width = 2 ^ 63 - 1; value_of = λ bytes. short_value 0 } };
+
+    ghost value = { λ entry. short_value 0 };
+
+    fn is_ordinal(&self) -> bool {
+        false
+    }
+
+    fn to_ordinal(&self) -> u16 {
+        0
+    }
+
+    fn to_rva(&self) -> u32 {
+        0
+    }
+
+    fn size_of() -> usize {
+        isize::MAX as usize
+    }
+
+    fn is_zero(&self) -> bool {
+        true
+    }
+
+    fn read(_bytes: &'a [u8]) -> Vast {
+        Vast
+    }
+
+    fn number(&self) -> u64 {
+        0
+    }
+
+    ghost positive = { lit≤ tt };
+}
+
+/// Where the sample file's import directory lies.
+const DIRECTORY: DataDirectory = DataDirectory {
+    virtual_address: 0x1000,
+    size: 0x28,
+};
+
+/// The sample file's file alignment.
+const ALIGNMENT: u32 = 0x200;
+
+/// The record of the sample file's import directory.
+const RECORD: ImportDirectoryEntry = ImportDirectoryEntry {
+    import_lookup_table_rva: 0x1040,
+    time_date_stamp: 0,
+    forwarder_chain: 0,
+    name_rva: 0x1080,
+    import_address_table_rva: 0x1060,
+};
+
+/// An import, by what is wanted of it: name, ordinal, offset, address and size.
+type Row = (&'static str, u16, usize, usize, usize);
+
+/// The sample file's imports.
+const GO: Row = ("Go", 5, 0x1060, 0x1090, 4);
+
+const SEVEN: Row = ("ORDINAL 7", 7, 0x1064, 0, 4);
+
+fn options(mode: ParseMode) -> ParseOptions {
+    ParseOptions::default().with_parse_mode(mode)
+}
+
+/// The sample file with these bytes at an offset.
+fn sample_with(alloc: Global, offset: usize, bytes: &[u8]) -> Result<Vec<u8>, AllocError> {
+    let mut file = sample(alloc)?;
+    put(&mut file, offset, bytes);
+    Ok(file)
+}
+
+/// The imports of the sample directory, by entries of type `T`. What they borrow is the file's.
+fn imports_of<'a, 'e, T: Bitfield<'a>>(
+    alloc: Global,
+    file: &'a [u8],
+    mode: ParseMode,
+) -> ResultOf<'e, Vec<Import<'a>>> {
+    let sections = [sample_section()];
+    let opts = options(mode);
+    let data = ImportData::parse_with_opts::<T>(
+        alloc, file, DIRECTORY, &sections, ALIGNMENT, &opts,
+    )?;
+    Import::parse::<T>(alloc, file, &data, &sections)
+}
+
+/// Whether these are the imports from `a.dll`.
+fn are_rows(imports: &[Import], rows: &[Row]) -> bool {
+    imports.len() == rows.len()
+        && imports.iter().zip(rows).all(|(import, row)| {
+            import.dll == "a.dll"
+                && (
+                    &import.name[..],
+                    import.ordinal,
+                    import.offset,
+                    import.rva,
+                    import.size,
+                ) == *row
+        })
+}
+
+#[test]
+fn imports_are_listed_by_each_entry_type(rt: HostRuntime) -> Result<(), Fail> {
+    let alloc = rt.alloc();
+    let file = sample(alloc)?;
+    for mode in [ParseMode::Strict, ParseMode::Permissive] {
+        let words = imports_of::<u32>(alloc, &file, mode)?;
+        assert!(rt; are_rows(&words, &[GO, SEVEN]), "u32 {mode:?}");
+        let long = imports_of::<u64>(alloc, &file, mode)?;
+        assert!(rt;
+            are_rows(&long, &[("ORDINAL 4240", 4240, 0x1060, 0, 8)]),
+            "u64 {mode:?}"
+        );
+        let short = imports_of::<Short>(alloc, &file, mode)?;
+        assert!(rt;
+            are_rows(&short, &[("Go", 5, 0x1060, 0x1090, 2)]),
+            "Short {mode:?}"
+        );
+    }
+    Ok(())
+}
+
+/// How many entries each reader of the sample file's tables gives, by entries of type `T`: of the
+/// lookup table, and of the address table.
+fn lengths<'a, 'e, T: Bitfield<'a>>(alloc: Global, file: &'a [u8]) -> ResultOf<'e, [usize; 4]> {
+    let sections = [sample_section()];
+    let opts = options(ParseMode::Permissive);
+    let strict = SyntheticImportLookupTableEntry::parse::<T>(
+        alloc, file, 0x240, &sections, ALIGNMENT,
+    )?;
+    let permissive = SyntheticImportLookupTableEntry::parse_with_opts::<T>(
+        alloc, file, 0x240, &sections, ALIGNMENT, &opts,
+    )?;
+    let library = SyntheticImportDirectoryEntry::parse::<T>(
+        alloc, file, RECORD, &sections, ALIGNMENT,
+    )?;
+    let again = SyntheticImportDirectoryEntry::parse_with_opts::<T>(
+        alloc, file, RECORD, &sections, ALIGNMENT, &opts,
+    )?;
+    Ok([
+        strict.into_vec().len(),
+        permissive.as_slice().len(),
+        library.import_address_table.into_vec().len(),
+        again.import_address_table.as_slice().len(),
+    ])
+}
+
+#[test]
+fn tables_are_read_by_each_entry_type(rt: HostRuntime) -> Result<(), Fail> {
+    let alloc = rt.alloc();
+    let file = sample(alloc)?;
+    assert_eq!(rt; lengths::<u32>(alloc, &file)?, [2; 4]);
+    assert_eq!(rt; lengths::<u64>(alloc, &file)?, [1; 4]);
+    assert_eq!(rt; lengths::<Short>(alloc, &file)?, [1; 4]);
+    Ok(())
+}
+
+#[test]
+fn names_end_at_their_nul_and_lookup_tables_may_stand_at_the_addresses(
+    rt: HostRuntime,
+) -> Result<(), Fail> {
+    let alloc = rt.alloc();
+    // A byte that is no text behind the library's name; a record without a lookup table.
+    for (offset, bytes) in [(0x28A, &b"\xFF"[..]), (0x200, b"\0\0")] {
+        let file = sample_with(alloc, offset, bytes)?;
+        for mode in [ParseMode::Strict, ParseMode::Permissive] {
+            let imports = imports_of::<u32>(alloc, &file, mode)?;
+            assert!(rt; are_rows(&imports, &[GO, SEVEN]), "{offset:#x} {mode:?}");
+        }
+    }
+    Ok(())
+}
+
+#[test]
+fn permissive_mode_keeps_a_hint_without_a_name(rt: HostRuntime) -> Result<(), Fail> {
+    let alloc = rt.alloc();
+    let file = sample_with(alloc, 0x240, b"\xFE\x10")?;
+    let strict = imports_of::<u32>(alloc, &file, ParseMode::Strict);
+    assert!(rt; matches!(strict, Err(Error::Read(ReadFault::BadOffset))));
+    let imports = imports_of::<u32>(alloc, &file, ParseMode::Permissive)?;
+    assert!(rt; are_rows(&imports, &[("", 0, 0x1060, 0x10FE, 4), SEVEN]));
+    Ok(())
+}
+
+#[test]
+fn permissive_mode_leaves_out_a_hint_that_is_not_whole(rt: HostRuntime) -> Result<(), Fail> {
+    let alloc = rt.alloc();
+    let file = sample_with(alloc, 0x240, b"\xFF\x10")?;
+    let strict = imports_of::<u32>(alloc, &file, ParseMode::Strict);
+    assert!(rt; matches!(strict, Err(Error::Malformed(Cause::HintEntry(0x2FF)))));
+    let imports = imports_of::<u32>(alloc, &file, ParseMode::Permissive)?;
+    assert!(rt; are_rows(&imports, &[("ORDINAL 7", 7, 0x1060, 0, 4)]));
+    let entry = HintNameTableEntry::parse_with_opts(&file, 0x2FF, &options(ParseMode::Permissive));
+    assert!(rt; matches!(entry, Err(Error::Malformed(Cause::HintEntry(0x2FF)))));
+    Ok(())
+}
+
+#[test]
+fn an_address_that_no_section_maps_is_left_out_in_both_modes(rt: HostRuntime) -> Result<(), Fail> {
+    let alloc = rt.alloc();
+    let file = sample_with(alloc, 0x240, b"\x00\x90")?;
+    for mode in [ParseMode::Strict, ParseMode::Permissive] {
+        let imports = imports_of::<u32>(alloc, &file, mode)?;
+        assert!(rt;
+            are_rows(&imports, &[("ORDINAL 7", 7, 0x1060, 0, 4)]),
+            "{mode:?}"
+        );
+    }
+    Ok(())
+}
+
+/// Whether this is an entry of the sample file's lookup table: that of `Go`, or of the ordinal 7.
+fn is_go(entry: &SyntheticImportLookupTableEntry) -> bool {
+    match entry {
+        SyntheticImportLookupTableEntry::HintNameTableRVA((rva, named)) => *rva == 0x1090
+            && named.hint == 5
+            && named.name == "Go",
+        SyntheticImportLookupTableEntry::OrdinalNumber(_) => false,
+    }
+}
+
+fn is_seven(entry: &SyntheticImportLookupTableEntry) -> bool {
+    matches!(entry, SyntheticImportLookupTableEntry::OrdinalNumber(7))
+}
+
+/// Whether this is the sample file's lookup table, by entries of four bytes.
+fn is_sample_table(table: &ImportLookupTable) -> bool {
+    match table.as_slice() {
+        [first, second] => is_go(first) && is_seven(second),
+        _ => false,
+    }
+}
+
+#[test]
+fn a_record_without_an_address_table_has_it_at_its_lookup_table(
+    rt: HostRuntime,
+) -> Result<(), Fail> {
+    let alloc = rt.alloc();
+    let file = sample(alloc)?;
+    let record = ImportDirectoryEntry {
+        import_address_table_rva: 0,
+        ..RECORD
+    };
+    let read = SyntheticImportDirectoryEntry::parse::<u32>(
+        alloc,
+        &file,
+        record,
+        &[sample_section()],
+        ALIGNMENT,
+    )?;
+    assert!(rt; matches!(&read.import_lookup_table, Some(table) if is_sample_table(table)));
+    assert_eq!(rt;
+        read.import_address_table.as_slice(),
+        [0x1090, 0x8000_0007].as_slice()
+    );
+    assert_eq!(rt; (read.import_directory_entry, read.name), (record, "a.dll"));
+    Ok(())
+}
+
+#[test]
+fn a_record_whose_address_table_is_not_mapped_is_left_out(rt: HostRuntime) -> Result<(), Fail> {
+    let alloc = rt.alloc();
+    let mut file = sample_with(alloc, 0x210, b"\x00\x90")?;
+    let mut second = [0; SIZEOF_IMPORT_DIRECTORY_ENTRY];
+    RECORD.try_into_ctx(&mut second, Endian::Little)?;
+    put(&mut file, 0x214, &second);
+    let sections = [sample_section()];
+    let strict = ImportData::parse::<u32>(alloc, &file, DIRECTORY, &sections, ALIGNMENT);
+    assert!(rt; matches!(strict, Err(Error::Malformed(Cause::Unmapped(0x9000)))));
+    let opts = options(ParseMode::Permissive);
+    let read = ImportData::parse_with_opts::<u32>(
+        alloc, &file, DIRECTORY, &sections, ALIGNMENT, &opts,
+    )?;
+    let is_second = match read.import_data.as_slice() {
+        [library] => library.import_directory_entry == RECORD,
+        _ => false,
+    };
+    assert!(rt; is_second);
+    Ok(())
+}
+
+#[test]
+fn a_record_is_written_as_it_was_read_in_both_orders(rt: HostRuntime) -> Result<(), Fail> {
+    let mut bytes = [0; SIZEOF_IMPORT_DIRECTORY_ENTRY];
+    for (place, byte) in bytes.iter_mut().zip(1u8..) {
+        *place = byte;
+    }
+    for (endian, first) in [(Endian::Little, 0x0403_0201), (Endian::Big, 0x0102_0304)] {
+        let (record, len) = ImportDirectoryEntry::try_from_ctx(&bytes, endian)?;
+        assert_eq!(rt; record.import_lookup_table_rva, first, "{endian:?}");
+        let mut room = [0xFF; SIZEOF_IMPORT_DIRECTORY_ENTRY];
+        assert_eq!(rt; record.try_into_ctx(&mut room, endian)?, len);
+        assert!(rt; room == bytes, "{endian:?}");
+        assert_eq!(rt; ImportDirectoryEntry::size_with(&endian), 20);
+    }
+    Ok(())
+}
+
+#[test]
+fn an_import_whose_offset_passes_64_bits_is_refused(rt: HostRuntime) -> Result<(), Fail> {
+    let alloc = rt.alloc();
+    let file = sample_with(alloc, 0x248, b"\x08\x00\x00\x80")?;
+    let sections = [sample_section()];
+    // With a third import, the offset of the last is that of its address table and two entries more,
+    // which are 2^64 - 2 bytes.
+    for (address, last) in [(1, Some(usize::MAX)), (2, None)] {
+        let mut data = ImportData::parse::<u32>(alloc, &file, DIRECTORY, &sections, ALIGNMENT)?;
+        for library in &mut data.import_data {
+            library.import_directory_entry.import_address_table_rva = address;
+        }
+        let imports = Import::parse::<Vast>(alloc, &file, &data, &sections);
+        let is_right = match (imports, last) {
+            (Ok(imports), Some(last)) =>
+                matches!(imports.last(), Some(import) if import.offset == last),
+            (Err(Error::Malformed(Cause::Overflow)), None) => true,
+            _ => false,
+        };
+        assert!(rt; is_right, "{address}");
+    }
+    Ok(())
+}
+
+#[test]
+fn a_record_that_ends_a_directory_is_told_from_one_of_zeros(rt: HostRuntime) {
+    let no_name = ImportDirectoryEntry {
+        name_rva: 0,
+        ..RECORD
+    };
+    let no_addresses = ImportDirectoryEntry {
+        import_address_table_rva: 0,
+        ..RECORD
+    };
+    let rows = [
+        (RECORD, false, true),
+        (no_name, false, false),
+        (no_addresses, false, false),
+        (ImportDirectoryEntry::default(), true, false),
+    ];
+    for (record, is_null, is_possibly_valid) in rows {
+        assert_eq!(rt;
+            (record.is_null(), record.is_possibly_valid()),
+            (is_null, is_possibly_valid)
+        );
+    }
+}
+
+#[test]
+fn the_constants_have_their_values(rt: HostRuntime) {
+    assert_eq!(rt;
+        (IMPORT_BY_ORDINAL_32, IMPORT_RVA_MASK_32),
+        (0x8000_0000, 0x7FFF_FFFF)
+    );
+    assert_eq!(rt;
+        (IMPORT_BY_ORDINAL_64, IMPORT_RVA_MASK_64),
+        (1 << 63, 0x7FFF_FFFF)
+    );
+    assert_eq!(rt; SIZEOF_IMPORT_DIRECTORY_ENTRY, 20);
+}
+
+#[test]
+fn a_lookup_table_is_refused_at_each_growth(rt: HostRuntime) -> Result<(), Fail> {
+    let alloc = rt.alloc();
+    let file = sample(alloc)?;
+    let sections = [sample_section()];
+    for mode in [ParseMode::Strict, ParseMode::Permissive] {
+        let opts = options(mode);
+        let is_right = is_refused_until_right(
+            alloc,
+            || match SyntheticImportLookupTableEntry::parse_with_opts::<u32>(
+                alloc, &file, 0x240, &sections, ALIGNMENT, &opts,
+            ) {
+                Ok(table) if is_sample_table(&table) => Outcome::Right,
+                Err(Error::Memory(_)) => Outcome::Refused,
+                _ => Outcome::Wrong,
+            },
+        )?;
+        assert!(rt; is_right, "{mode:?}");
+    }
+    Ok(())
+}
+
+#[test]
+fn a_library_is_refused_at_each_growth(rt: HostRuntime) -> Result<(), Fail> {
+    let alloc = rt.alloc();
+    let file = sample(alloc)?;
+    let sections = [sample_section()];
+    for mode in [ParseMode::Strict, ParseMode::Permissive] {
+        let opts = options(mode);
+        let is_right = is_refused_until_right(
+            alloc,
+            || match SyntheticImportDirectoryEntry::parse_with_opts::<u32>(
+                alloc, &file, RECORD, &sections, ALIGNMENT, &opts,
+            ) {
+                Ok(library) if library.import_address_table.as_slice().len() == 2 => Outcome::Right,
+                Err(Error::Memory(_)) => Outcome::Refused,
+                _ => Outcome::Wrong,
+            },
+        )?;
+        assert!(rt; is_right, "{mode:?}");
+    }
+    Ok(())
+}
+
+#[test]
+fn import_data_is_refused_at_each_growth(rt: HostRuntime) -> Result<(), Fail> {
+    let alloc = rt.alloc();
+    let file = sample(alloc)?;
+    let sections = [sample_section()];
+    for mode in [ParseMode::Strict, ParseMode::Permissive] {
+        let opts = options(mode);
+        let is_right = is_refused_until_right(
+            alloc,
+            || match ImportData::parse_with_opts::<u32>(
+                alloc, &file, DIRECTORY, &sections, ALIGNMENT, &opts,
+            ) {
+                Ok(data) if data.import_data.len() == 1 => Outcome::Right,
+                Err(Error::Memory(_)) => Outcome::Refused,
+                _ => Outcome::Wrong,
+            },
+        )?;
+        assert!(rt; is_right, "{mode:?}");
+    }
+    Ok(())
+}
+
+#[test]
+fn the_list_of_imports_is_refused_at_each_growth(rt: HostRuntime) -> Result<(), Fail> {
+    let alloc = rt.alloc();
+    let file = sample(alloc)?;
+    let sections = [sample_section()];
+    let data = ImportData::parse::<u32>(alloc, &file, DIRECTORY, &sections, ALIGNMENT)?;
+    let is_right = is_refused_until_right(
+        alloc,
+        || match Import::parse::<u32>(alloc, &file, &data, &sections) {
+            Ok(imports) if are_rows(&imports, &[GO, SEVEN]) => Outcome::Right,
+            Err(Error::Memory(_)) => Outcome::Refused,
+            _ => Outcome::Wrong,
+        },
+    )?;
+    assert!(rt; is_right);
+    Ok(())
+}

@@ -1,0 +1,65 @@
+//! Whole files: which parts are there, absent or refused, and each growth refused.
+
+use fixture::memory::{Outcome, is_refused_until_right};
+use fixture::sample::{SAMPLE_LEN, put, sample};
+use goblin_pe::options::{ParseMode, ParseOptions};
+use goblin_pe::{Error, Part, Whole};
+use std::test::Fail;
+
+/// How many entries a part has, where it was read.
+fn count<T>(part: &Part<Vec<T>>) -> Option<usize> {
+    match part {
+        Part::Read(items) => Some(items.len()),
+        _ => None,
+    }
+}
+
+#[test]
+fn imports_that_are_not_asked_for_are_absent(rt: HostRuntime) -> Result<(), Fail> {
+    let file = sample(rt.alloc())?;
+    let opts = ParseOptions::default().with_parse_imports(false);
+    let whole = Whole::read(rt.alloc(), &file, &opts)?;
+    assert!(rt; matches!(whole.import_data, Part::Absent));
+    assert!(rt; matches!(whole.imports, Part::Absent));
+    assert_eq!(rt; count(&whole.exports), Some(2));
+    Ok(())
+}
+
+#[test]
+fn what_a_refused_table_lists_is_refused_too(rt: HostRuntime) -> Result<(), Fail> {
+    let mut file = sample(rt.alloc())?;
+    put(&mut file, 0xB8, b"\x00\x90");
+    let opts = ParseOptions::default().with_parse_mode(ParseMode::Permissive);
+    let whole = Whole::read(rt.alloc(), &file, &opts)?;
+    assert!(rt; matches!(whole.export_data, Part::Refused));
+    assert!(rt; matches!(whole.exports, Part::Refused));
+    assert_eq!(rt; count(&whole.imports), Some(2));
+    Ok(())
+}
+
+#[test]
+fn a_file_without_bytes_is_refused(rt: HostRuntime) {
+    for mode in [ParseMode::Strict, ParseMode::Permissive] {
+        let opts = ParseOptions::default().with_parse_mode(mode);
+        let refused = Whole::read(rt.alloc(), &[], &opts);
+        assert!(rt; matches!(refused, Err(Error::Malformed(_))), "{mode:?}");
+    }
+}
+
+#[test]
+fn a_whole_file_is_refused_at_each_growth_in_both_modes(rt: HostRuntime) -> Result<(), Fail> {
+    let alloc = rt.alloc();
+    let file = sample(alloc)?;
+    assert_eq!(rt; file.len(), SAMPLE_LEN);
+    for mode in [ParseMode::Strict, ParseMode::Permissive] {
+        let opts = ParseOptions::default().with_parse_mode(mode);
+        let is_right = is_refused_until_right(alloc, || match Whole::read(alloc, &file, &opts) {
+            Ok(whole) if count(&whole.imports) == Some(2) && count(&whole.exports) == Some(2) =>
+                Outcome::Right,
+            Err(Error::Memory(_)) => Outcome::Refused,
+            _ => Outcome::Wrong,
+        })?;
+        assert!(rt; is_right, "{mode:?}");
+    }
+    Ok(())
+}
