@@ -71,24 +71,25 @@ no_power d probes h =
       | inr done ↦ done
     ]
 
-pub searched_up : (begins : List ℕ) (rva low high probes : ℕ) → IsStrictlyIncreasing begins → IsSearched begins rva low high probes → low < high → slice_index begins (low + (high - low) / 2) ≤ rva → IsSearched begins rva (low + (high - low) / 2 + 1) high (probes + 1)
-searched_up begins rva low high probes up h some reaches = record {
+-- a place in the middle of a stretch, and one probe at it
+pub searched_up : (begins : List ℕ) (rva low high probes half : ℕ) → IsStrictlyIncreasing begins → IsSearched begins rva low high probes → low ≤ half → half < high → 2 * (high - (half + 1)) ≤ high - low → high - low ≤ 2 * (high - (half + 1)) + 2 → slice_index begins half ≤ rva → IsSearched begins rva (half + 1) high (probes + 1)
+searched_up begins rva low high probes half up h from to most fewest reaches = record {
   ordered = omega arith;
   within = h.within;
-  below = λ k lt. omega (arith, reaches, rising_to begins up k (low + (high - low) / 2) (omega arith) (omega (arith, h.within)));
+  below = λ k lt. omega (arith, reaches, rising_to begins up k half (omega arith) (omega (arith, h.within)));
   above = h.above;
-  most = λ d size. fewer d probes (high - low) (high - (low + (high - low) / 2 + 1)) (omega arith) (omega arith) (h.most d size);
-  fewest = λ d size. no_fewer d probes (high - low) (high - (low + (high - low) / 2 + 1)) (omega arith) (omega arith) (h.fewest d size);
+  most = λ d size. fewer d probes (high - low) (high - (half + 1)) (omega arith) (omega arith) (h.most d size);
+  fewest = λ d size. no_fewer d probes (high - low) (high - (half + 1)) (omega arith) (omega arith) (h.fewest d size);
 }
 
-pub searched_down : (begins : List ℕ) (rva low high probes : ℕ) → IsStrictlyIncreasing begins → IsSearched begins rva low high probes → low < high → rva < slice_index begins (low + (high - low) / 2) → IsSearched begins rva low (low + (high - low) / 2) (probes + 1)
-searched_down begins rva low high probes up h some passes = record {
-  ordered = omega arith;
+pub searched_down : (begins : List ℕ) (rva low high probes half : ℕ) → IsStrictlyIncreasing begins → IsSearched begins rva low high probes → low ≤ half → half < high → 2 * (half - low) ≤ high - low → high - low ≤ 2 * (half - low) + 2 → rva < slice_index begins half → IsSearched begins rva low half (probes + 1)
+searched_down begins rva low high probes half up h from to most fewest passes = record {
+  ordered = from;
   within = omega (arith, h.within);
   below = h.below;
-  above = λ k ge lt. omega (arith, passes, rising_to begins up (low + (high - low) / 2) k ge lt);
-  most = λ d size. fewer d probes (high - low) (low + (high - low) / 2 - low) (omega arith) (omega arith) (h.most d size);
-  fewest = λ d size. no_fewer d probes (high - low) (low + (high - low) / 2 - low) (omega arith) (omega arith) (h.fewest d size);
+  above = λ k ge lt. omega (arith, passes, rising_to begins up half k ge lt);
+  most = λ d size. fewer d probes (high - low) (half - low) (omega arith) (omega arith) (h.most d size);
+  fewest = λ d size. no_fewer d probes (high - low) (half - low) (omega arith) (omega arith) (h.fewest d size);
 }
 
 -- where a search ends, it has counted what begins at or before the address

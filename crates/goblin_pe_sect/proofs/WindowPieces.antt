@@ -208,8 +208,5 @@ last_owner_is owners (suc k) o some owned =
     ap (λ (j : ℕ). slice_index_or owners j None) same ∙ owned
 
 -- what an index answers where the last piece has an owner
-pub located-owned : (w : Pieces) (rva n : ℕ) (o : Owner) → w.resolves ≡ true → n ≡ reached w.begins rva → 0 < n → slice_index_or w.owners (n - 1) None ≡ Some o → Some (offset_by rva o) ≡ located w rva
-unfolding located
-located-owned w rva n o on is some owned =
-    let found : last_owner w.owners (reached w.begins rva) ≡ Some o = ap (λ (j : ℕ). last_owner w.owners j) (sym is) ∙ last_owner_is w.owners n o some owned in
-    rw (on, found) refl
+pub owner_answers_last : (owners : List (Option Owner)) (rva n : ℕ) (o : Owner) → 0 < n → slice_index_or owners (n - 1) None ≡ Some o → Some (offset_by rva o) ≡ option_map (offset_by rva) (last_owner owners n)
+owner_answers_last owners rva n o some owned = sym (ap (option_map (offset_by rva)) (last_owner_is owners n o some owned))

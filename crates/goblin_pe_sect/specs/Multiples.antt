@@ -1,6 +1,6 @@
 -- The multiples of a number that are nearest to another.
 use Rattle.std.specs.Prelude.{ℕ, zero, suc, ◌+◌, ◌%◌, ◌==◌, ◌&&◌, Bool, nat_le, if◌then◌else◌}
-use Rattle.goblin_base.specs.Below.{least}
+use Rattle.goblin_base.specs.Tables.{least}
 
 -- m is a multiple of step
 abbrev pub is_multiple : ℕ → ℕ → Bool

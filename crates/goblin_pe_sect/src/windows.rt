@@ -5,12 +5,13 @@
 //! window that is not empty, and each piece keeps its first section; an address is then found among n pieces
 //! by about log n comparisons.
 
-ghost use Rattle.std.specs.Prelude.{◌≡◌, ℕ, ◌+◌, ◌*◌, ◌^◌, ◌<◌, ◌≤◌, IsTrue, IfOk, IfErr, length, map, []};
+ghost use Rattle.std.specs.Prelude.{◌≡◌, ℕ, ◌+◌, ◌-◌, ◌*◌, ◌^◌, ◌<◌, ◌≤◌, IsTrue, IfOk, IfErr, length, map, []};
 ghost use Rattle.std.specs.Int.{is_power_of_two};
+ghost use Rattle.std.specs.Option.{option_map};
 ghost use Rattle.std.specs.List.Sorted.{IsStrictlyIncreasing};
 ghost use Rattle.goblin_base.specs.Answers.{IsMemory};
 ghost use Rattle.goblin_pe_sect.specs.Mapping.{file_offset};
-ghost use Rattle.goblin_pe_sect.specs.WindowIndex.{IsCut, first_owner, located, offset_by, reached};
+ghost use Rattle.goblin_pe_sect.specs.WindowIndex.{IsCut, first_owner, last_owner, located, offset_by, reached};
 
 mod bounds;
 mod cuts;
@@ -25,6 +26,17 @@ use owners::{Owner, owners_of};
 use std::alloc::Global;
 use std::marker::Model;
 
+// The place in the middle of those from `low` up to, and without, `high`: at most half of the others
+// stand on either side, and at most one more on one side than on the other.
+fn middle(low: usize, high: usize) -> usize
+    requires { low < high }
+    ensures within { (low ≤ result) × (result < high) }
+    ensures halves { (2 * (result - low) ≤ high - low) × (2 * (high - (result + 1)) ≤ high - low) }
+    ensures even { (high - low ≤ 2 * (result - low) + 2) × (high - low ≤ 2 * (high - (result + 1)) + 2) }
+{
+    low + (high - low) / 2
+}
+
 // How many pieces begin at or before the address, and how many bounds were looked at.
 fn count_reached(bounds: &Bounds, rva: usize) -> (usize, usize)
     requires { IsStrictlyIncreasing bounds.now }
@@ -36,11 +48,11 @@ fn count_reached(bounds: &Bounds, rva: usize) -> (usize, usize)
     let mut low = 0;
     let mut high = bounds.len();
     'halving: while low < high {
-        let middle = low + (high - low) / 2;
-        if bounds.reaches(middle, rva, &mut probes) {
-            low = middle + 1;
+        let half = middle(low, high);
+        if bounds.reaches(half, rva, &mut probes) {
+            low = half + 1;
         } else {
-            high = middle;
+            high = half;
         }
     }
     (low, probes)
@@ -121,10 +133,22 @@ impl WindowIndex {
         self.bounds.len()
     }
 
+    // The file offset of an address, by how many pieces begin at or before it.
+    fn offset_in_piece(&self, count: usize, rva: usize) -> Option<usize>
+        requires { count ≡ reached self.now.begins rva }
+        ensures { result ≡ option_map (offset_by rva) (last_owner self.now.owners count) }
+    {
+        if count == 0 {
+            return None;
+        }
+        let owner = self.owners[count - 1]?;
+        Some(owner.pointer as usize + (rva - owner.address as usize))
+    }
+
     /// The file offset of the address `rva`, and how many probes were made: calls of [`Bounds::reaches`],
     /// the only call that tells where a piece begins. Fewer than 2 to the power d pieces take at most d
     /// probes.
-    #[tactic(auto, unfolding(crate::specs::WindowIndex::located))]
+    #[tactic(auto, using(crate::proofs::Halving::none_needed), unfolding(crate::specs::WindowIndex::located))]
     pub fn find_counted(&self, rva: usize) -> (Option<usize>, usize)
         ensures value { result.0 ≡ located self.now rva }
         ensures most { (d : ℕ) → length self.now.begins < 2 ^ d → result.1 ≤ d }
@@ -133,17 +157,8 @@ impl WindowIndex {
         if !self.resolves {
             return (Some(rva), 0);
         }
-        let (reached, probes) = count_reached(&self.bounds, rva);
-        if reached == 0 {
-            return (None, probes);
-        }
-        match self.owners[reached - 1] {
-            Some(owner) => (
-                Some(owner.pointer as usize + (rva - owner.address as usize)),
-                probes,
-            ),
-            None => (None, probes),
-        }
+        let (count, probes) = count_reached(&self.bounds, rva);
+        (self.offset_in_piece(count, rva), probes)
     }
 
     /// The file offset of the address `rva`.

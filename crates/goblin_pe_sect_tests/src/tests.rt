@@ -1,4 +1,4 @@
-//! Worked values of sections, directories, addresses and relocations.
+//! Worked values of sections, directories, addresses, windows and relocations.
 
 mod addresses;
 mod directories;
@@ -8,3 +8,4 @@ mod options;
 mod relocations;
 mod sections;
 mod symbol_constants;
+mod windows;

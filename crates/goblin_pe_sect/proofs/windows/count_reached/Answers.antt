@@ -10,11 +10,11 @@ reaches-requires-clause-room c =
 
 pub halving-preserved-then-reaches : goal.halving-preserved-then-reaches
 halving-preserved-then-reaches c =
-    rw c.reaches.ensures.counted (searched_up _ _ _ _ _ c.requires c.halving.invariant c.halving-test.true (search rules))
+    rw c.reaches.ensures.counted (searched_up _ _ _ _ _ _ c.requires c.halving.invariant c.middle-half.ensures.within.0 c.middle-half.ensures.within.1 c.middle-half.ensures.halves.1 c.middle-half.ensures.even.1 (search rules))
 
 pub halving-preserved : goal.halving-preserved
 halving-preserved c =
-    rw c.reaches.ensures.counted (searched_down _ _ _ _ _ c.requires c.halving.invariant c.halving-test.true (grind (arith, common_steps)))
+    rw c.reaches.ensures.counted (searched_down _ _ _ _ _ _ c.requires c.halving.invariant c.middle-half.ensures.within.0 c.middle-half.ensures.within.1 c.middle-half.ensures.halves.0 c.middle-half.ensures.even.0 (grind (arith, common_steps)))
 
 pub returns-clause-value : goal.returns-clause-value
 returns-clause-value c = searched_all _ _ _ _ _ c.halving.invariant c.halving-test.false

@@ -1,0 +1,139 @@
+//! The windows of sections, and the index that maps addresses by halving.
+
+use fixture::memory::{Outcome, is_refused_until_right};
+use fixture::sample::section;
+use goblin_base::Error;
+use goblin_pe_sect::utils::{find_offset, window};
+use goblin_pe_sect::windows::Bounds;
+use goblin_pe_sect::{ParseOptions, SectionTable, WindowIndex};
+use std::test::Fail;
+
+/// A section inside the window of [`wide`].
+fn narrow() -> SectionTable {
+    section(0x1200, 0x200, 0x200, 0x400)
+}
+
+fn wide() -> SectionTable {
+    section(0x1000, 0x800, 0x800, 0x800)
+}
+
+#[test]
+fn a_window_ends_with_the_least_of_its_sizes(rt: HostRuntime) {
+    let rows = [
+        (
+            section(0x1000, 0x600, 0x400, 0x200),
+            0x200,
+            Some((0x1000, 0x1400)),
+        ),
+        (
+            section(0x1000, 0x100, 0x100, 0x210),
+            0x200,
+            Some((0x1000, 0x1200)),
+        ),
+        (
+            section(0x1000, 1, 0x8000, 0x200),
+            0x200,
+            Some((0x1000, 0x2000)),
+        ),
+        (section(0x1000, 0, 1, 0), 0x4000, Some((0x1000, 0x2000))),
+        (
+            section(0x1F_B000, 0x2_8590, 0, 0),
+            0x200,
+            Some((0x1F_B000, 0x1F_B000)),
+        ),
+        (wide(), 0, None),
+        (wide(), 0x300, None),
+    ];
+    for (section, alignment, want) in &rows {
+        assert_eq!(rt; window(section, *alignment), *want, "{alignment:#x}");
+    }
+}
+
+#[test]
+fn an_address_of_two_windows_belongs_to_the_first(rt: HostRuntime) -> Result<(), Fail> {
+    let opts = ParseOptions::default();
+    let sections = [narrow(), wide()];
+    let index = WindowIndex::prepare(rt.alloc(), &sections, 0x200, &opts)?;
+    assert_eq!(rt; index.pieces(), 5);
+    let rows = [
+        (0, None),
+        (0xFFF, None),
+        (0x1100, Some(0x900)),
+        (0x1250, Some(0x450)),
+        (0x1500, Some(0xD00)),
+        (0x1800, None),
+        (usize::MAX, None),
+    ];
+    for (rva, want) in rows {
+        let (found, probes) = index.find_counted(rva);
+        assert!(rt; found == want && probes <= 4, "{rva:#x} by {probes} probes");
+        assert_eq!(rt; index.find(rva), want, "{rva:#x}");
+        assert_eq!(rt; find_offset(rva, &sections, 0x200, &opts), want, "{rva:#x}");
+    }
+    Ok(())
+}
+
+#[test]
+fn a_hidden_window_still_cuts_the_line(rt: HostRuntime) -> Result<(), Fail> {
+    let opts = ParseOptions::default();
+    let hidden = WindowIndex::prepare(rt.alloc(), &[wide(), narrow()], 0x200, &opts)?;
+    assert_eq!(rt; (hidden.pieces(), hidden.find(0x1250)), (5, Some(0xA50)));
+    let pair = [
+        section(0x1000, 0x200, 0x200, 0x400),
+        section(0x1000, 0x200, 0x200, 0x800),
+    ];
+    let twice = WindowIndex::prepare(rt.alloc(), &pair, 0x200, &opts)?;
+    let (found, probes) = twice.find_counted(0x1010);
+    assert_eq!(rt; (twice.pieces(), found), (3, Some(0x410)));
+    assert!(rt; probes <= 3, "{probes} probes");
+    Ok(())
+}
+
+#[test]
+fn an_index_of_no_windows_has_one_piece_or_none(rt: HostRuntime) -> Result<(), Fail> {
+    let opts = ParseOptions::default();
+    let none = WindowIndex::prepare(rt.alloc(), &[], 0x200, &opts)?;
+    let (found, probes) = none.find_counted(0);
+    assert!(rt;
+        none.pieces() == 1 && found == None && probes <= 2,
+        "{probes} probes"
+    );
+    for alignment in [0, 0x300] {
+        let index = WindowIndex::prepare(rt.alloc(), &[wide()], alignment, &opts)?;
+        assert_eq!(rt;
+            (index.pieces(), index.find_counted(0x1100)),
+            (0, (None, 0))
+        );
+    }
+    let direct = WindowIndex::prepare(rt.alloc(), &[wide()], 0x200, &ParseOptions::te())?;
+    assert_eq!(rt;
+        (direct.pieces(), direct.find_counted(0x1100)),
+        (0, (Some(0x1100), 0))
+    );
+    Ok(())
+}
+
+#[test]
+fn a_probe_is_counted(rt: HostRuntime) -> Result<(), Fail> {
+    let bounds = Bounds::new(vec![in rt.alloc(); 0, 0x1000]?);
+    let mut probes = 5;
+    assert!(rt; bounds.len() == 2 && bounds.reaches(1, 0x1000, &mut probes));
+    assert!(rt; !bounds.reaches(1, 0xFFF, &mut probes) && probes == 7);
+    Ok(())
+}
+
+#[test]
+fn an_index_is_refused_at_each_growth(rt: HostRuntime) -> Result<(), Fail> {
+    let alloc = rt.alloc();
+    let sections = [narrow(), wide()];
+    let opts = ParseOptions::default();
+    let is_right = is_refused_until_right(alloc, || {
+        match WindowIndex::prepare(alloc, &sections, 0x200, &opts) {
+            Ok(index) if index.pieces() == 5 && index.find(0x1250) == Some(0x450) => Outcome::Right,
+            Err(Error::Memory(_)) => Outcome::Refused,
+            _ => Outcome::Wrong,
+        }
+    })?;
+    assert!(rt; is_right);
+    Ok(())
+}
