@@ -2,6 +2,7 @@ pub mod Answers
 pub mod Below
 pub mod Bytes
 pub mod CountedTables
+pub mod ErrorText
 pub mod Faults
 pub mod Record
 pub mod SlotTables
