@@ -7,5 +7,6 @@ pub mod OptionalForm
 pub mod OptionalRead
 pub mod RichEntries
 pub mod RichLaw
+pub mod RichPlaces
 pub mod Sections
 pub mod WrittenForm
