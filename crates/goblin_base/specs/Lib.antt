@@ -1,11 +1,6 @@
 pub mod Answers
-pub mod Below
 pub mod Bytes
-pub mod CountedTables
 pub mod ErrorText
-pub mod Faults
 pub mod Record
-pub mod SlotTables
-pub mod Steps
 pub mod Strtab
 pub mod Tables

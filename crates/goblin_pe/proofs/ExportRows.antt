@@ -1,7 +1,7 @@
 -- The exports, row by row.
 use Rattle.std.proofs.Common.{◌≡◌, ◌++◌, ◌+◌, ℕ, List, [], Option, refl, sym, ap, ◌∙◌}
 use Rattle.std.specs.Prelude.{option_to_list}
-use Rattle.goblin_base.specs.Below.{concat_below}
+use Rattle.goblin_base.specs.Tables.{concat_below}
 use Rattle.goblin_base.proofs.Below.{concat_below-next}
 
 pub rows_none : {A : Type 0} → (row : ℕ → Option A) → concat_below (λ x. option_to_list (row x)) 0 ≡ []

@@ -2,9 +2,9 @@
 use Rattle.std.proofs.Common.{◌≡◌, ◌<◌, ℕ, ◌+◌, List, [], ◌∷◌, ◌++◌, length, Option, Some, None, refl, sym, ap, ◌∙◌, append-nil, append_assoc}
 use Rattle.std.specs.Prelude.{map, get_or, slice_get, option_map}
 use Rattle.std.proofs.lemmas.Option.{slice_get-get_or, slice_get-map, slice_get_within}
-use Rattle.goblin_base.specs.Below.{each_below, join}
+use Rattle.goblin_base.specs.Tables.{each_below, join}
 use Rattle.goblin_base.proofs.Below.{each_below-missing, each_below-next}
-use Rattle.goblin_base.specs.Steps.{◌>>=◌, all_at}
+use Rattle.goblin_base.specs.Answers.{◌>>=◌, all_at}
 use Rattle.goblin_base.proofs.Steps.{all_at-more, all_at-none, all_at-zero}
 use Rattle.goblin_pe.specs.ImportLookup.{LookupEntry}
 use Rattle.goblin_pe.specs.ImportDirectory.{ImportedLibrary}

@@ -1,7 +1,7 @@
-mod ExportRecord
+pub mod ExportDirectoryRoundTrip
 mod ExportRows
 mod Grammar
-pub mod ImportBack
+pub mod ImportDirectoryRoundTrip
 pub mod Imports
 pub mod Modes
 pub mod Parts

@@ -5,13 +5,10 @@ use Rattle.goblin_base.specs.declared.endian.Endian.TheVariants.{Little}
 use Rattle.goblin_base.specs.declared.error.ErrorOf.{ErrorOf}
 use Rattle.goblin_base.specs.declared.error.ErrorOf.TheVariants.{Malformed}
 use Rattle.goblin_base.specs.declared.error.CauseOf.TheVariants.{ExportTable}
-use Rattle.goblin_base.specs.Below.{concat_below}
+use Rattle.goblin_base.specs.Tables.{concat_below, counted_table_if, Format}
 use Rattle.goblin_base.specs.Bytes.{number}
-use Rattle.goblin_base.specs.CountedTables.{counted_table_if}
-use Rattle.goblin_base.specs.Faults.{IsTooShort}
+use Rattle.goblin_base.specs.Answers.{IsTooShort, ◌>>=◌, FirstFault}
 use Rattle.goblin_base.specs.Record.{FieldValue, uint, record_at}
-use Rattle.goblin_base.specs.Steps.{◌>>=◌, FirstFault}
-use Rattle.goblin_base.specs.Tables.{Format}
 use Rattle.goblin_pe_sect.specs.declared.data_directories.DataDirectory.{DataDirectory}
 use Rattle.goblin_pe_sect.specs.Mapping.{IsUnmapped, name_at}
 use Rattle.goblin_pe.specs.declared.export.tables.ExportAddressTableEntry.{ExportAddressTableEntry}

@@ -5,10 +5,8 @@ use Rattle.std.proofs.Math.Nat.{min-le_right}
 use Rattle.goblin_base.specs.declared.endian.Endian.{Endian}
 use Rattle.goblin_base.specs.declared.error.ErrorOf.{ErrorOf}
 use Rattle.goblin_base.specs.declared.error.ErrorOf.TheVariants.{Memory}
-use Rattle.goblin_base.specs.Answers.{IsMemory}
+use Rattle.goblin_base.specs.Answers.{IsMemory, IsTextFault, ◌>>=◌, FirstFault}
 use Rattle.goblin_base.specs.Bytes.{text_at}
-use Rattle.goblin_base.specs.Faults.{IsTextFault}
-use Rattle.goblin_base.specs.Steps.{◌>>=◌, FirstFault}
 use Rattle.goblin_pe.specs.Forwarders.{Forwarder, IsForwarderAtFault, IsForwarderFault, forwarder_in, forwarder_of}
 
 at_most : (n len : ℕ) (forwarder : Option Forwarder) → IfSome {T = Forwarder × ℕ} (forwarder >>= (λ f. Some (f, min n len))) (λ x. x.1 ≤ len)

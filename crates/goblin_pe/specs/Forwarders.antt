@@ -8,8 +8,7 @@ use Rattle.goblin_base.specs.declared.error.ErrorOf.{ErrorOf}
 use Rattle.goblin_base.specs.declared.error.ErrorOf.TheVariants.{Malformed}
 use Rattle.goblin_base.specs.declared.error.CauseOf.TheVariants.{Forwarder as NoForwarder, ForwarderOrdinal}
 use Rattle.goblin_base.specs.Bytes.{text_at}
-use Rattle.goblin_base.specs.Faults.{IsTextFault}
-use Rattle.goblin_base.specs.Steps.{◌>>=◌, FirstFault}
+use Rattle.goblin_base.specs.Answers.{IsTextFault, ◌>>=◌, FirstFault}
 use Rattle.goblin_pe.specs.declared.export.forwarder.Reexport.{Reexport}
 use Rattle.goblin_pe.specs.declared.export.forwarder.Reexport.TheVariants.{DLLName, DLLOrdinal}
 

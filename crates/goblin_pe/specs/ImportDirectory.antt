@@ -8,9 +8,8 @@ use Rattle.goblin_base.specs.declared.error.ErrorOf.TheVariants.{Malformed}
 use Rattle.goblin_base.specs.declared.error.CauseOf.TheVariants.{ImportRecordEnd}
 use Rattle.goblin_base.specs.Bytes.{number}
 use Rattle.goblin_base.specs.Record.{FieldValue, uint}
-use Rattle.goblin_base.specs.Steps.{◌>>=◌, FirstFault}
-use Rattle.goblin_base.specs.SlotTables.{SlotFormat, slot_table, or_left_out, IsTableFault}
-use Rattle.goblin_base.specs.Tables.{Format}
+use Rattle.goblin_base.specs.Answers.{◌>>=◌, FirstFault}
+use Rattle.goblin_base.specs.Tables.{SlotFormat, slot_table, or_left_out, IsTableFault, Format}
 use Rattle.goblin_pe_sect.specs.Mapping.{name_at, name_or_none, IsSafeNameFault, IsUnmapped}
 use Rattle.goblin_pe.specs.ImportLookup.{EntryValue, LookupEntry, lookup_table, address_table, IsLookupTableFault, IsAddressTableFault}
 use Rattle.goblin_pe.specs.declared.import.directory_entry.ImportDirectoryEntry.{ImportDirectoryEntry}

@@ -1,14 +1,17 @@
 -- The lookup tables and the address tables of imports, over a map of addresses to file offsets.
-use Rattle.std.specs.Prelude.{◌≡◌, ℕ, ◌+◌, ◌%◌, ◌^◌, ◌==◌, nat_le, Bool, true, false, if◌then◌else◌, List, [], ◌∷◌, Option, Some, None, option_map}
+use Rattle.std.specs.Prelude.{◌≡◌, ℕ, ◌+◌, ◌%◌, ◌^◌, ◌==◌, nat_le, Bool, true, false, if◌then◌else◌, List, [], ◌∷◌, Option, Some, None, option_map, map, option_to_list}
 use Rattle.goblin_base.specs.declared.endian.Endian.TheVariants.{Little}
 use Rattle.goblin_base.specs.declared.error.ErrorOf.{ErrorOf}
 use Rattle.goblin_base.specs.declared.error.ErrorOf.TheVariants.{Malformed}
 use Rattle.goblin_base.specs.declared.error.CauseOf.TheVariants.{HintEntry, LookupEnd}
 use Rattle.goblin_base.specs.Bytes.{number, number_at, text_at}
-use Rattle.goblin_base.specs.Faults.{IsSliceFault, IsTextFault}
-use Rattle.goblin_base.specs.Steps.{◌>>=◌, FirstFault}
-use Rattle.goblin_base.specs.SlotTables.{SlotFormat, slot_table, or_left_out, IsTableFault, IsEndFault}
-use Rattle.goblin_base.specs.Tables.{Format}
+use Rattle.goblin_base.specs.Answers.{IsSliceFault, IsTextFault, ◌>>=◌, FirstFault}
+use Rattle.goblin_base.specs.Tables.{SlotFormat, slot_table, or_left_out, IsTableFault, IsEndFault, Format}
+use Rattle.std.specs.declared.borrow.CowStr.{CowStr}
+use Rattle.std.specs.declared.borrow.CowStr.TheVariants.{Borrowed, Owned}
+use Rattle.goblin_pe.specs.declared.import.lookup_table.HintNameTableEntry.{HintNameTableEntry}
+use Rattle.goblin_pe.specs.declared.import.lookup_table.SyntheticImportLookupTableEntry.{SyntheticImportLookupTableEntry}
+use Rattle.goblin_pe.specs.declared.import.lookup_table.SyntheticImportLookupTableEntry.TheVariants.{OrdinalNumber, HintNameTableRVA}
 
 -- what an entry says: its number; whether it imports by ordinal; the ordinal; and the address of a hint and a name
 pub record EntryValue : Type 0 where
@@ -110,3 +113,23 @@ IsLookupTableFault strict format offset_of bytes o =
 -- which cause is true of an address table that is refused: the slot at its stop can't be read
 abbrev pub IsAddressTableFault : Format EntryValue → List ℕ → ℕ → ErrorOf → Type 0
 IsAddressTableFault format bytes o = IsEndFault (entry_slots format) true (λ p. IsSliceFault bytes p format.width) bytes o
+
+-- ---- as contracts see them: texts as their bytes
+
+-- a hint and a name
+abbrev pub hint_name_view : HintNameTableEntry → HintName
+hint_name_view entry = record { hint = entry.hint; name = entry.name.now }
+
+-- an entry that a lookup table keeps
+abbrev pub entry_view : SyntheticImportLookupTableEntry → LookupEntry
+entry_view (OrdinalNumber ordinal) = ByOrdinal ordinal
+entry_view (HintNameTableRVA pair) = ByName pair.0 (hint_name_view pair.1)
+
+-- what is kept of an entry: one entry, or nothing
+abbrev pub kept_view : Option SyntheticImportLookupTableEntry → List LookupEntry
+kept_view kept = map entry_view (option_to_list kept)
+
+-- whether a text is borrowed, not a copy
+abbrev pub is_borrowed_str : {Z : Type 0} → CowStr Z → Bool
+is_borrowed_str (Borrowed r) = true
+is_borrowed_str (Owned s) = false

@@ -4,8 +4,8 @@ use Rattle.std.specs.Fmt.{decimal}
 use Rattle.goblin_base.specs.declared.error.ErrorOf.{ErrorOf}
 use Rattle.goblin_base.specs.declared.error.ErrorOf.TheVariants.{Malformed}
 use Rattle.goblin_base.specs.declared.error.CauseOf.TheVariants.{Overflow}
-use Rattle.goblin_base.specs.Below.{each_below}
-use Rattle.goblin_base.specs.Steps.{◌>>=◌, all_at}
+use Rattle.goblin_base.specs.Tables.{each_below}
+use Rattle.goblin_base.specs.Answers.{◌>>=◌, all_at}
 use Rattle.goblin_pe.specs.ImportLookup.{LookupEntry}
 use Rattle.goblin_pe.specs.ImportLookup.LookupEntry.{ByOrdinal, ByName}
 use Rattle.goblin_pe.specs.ImportDirectory.{ImportedLibrary}

@@ -3,6 +3,5 @@ pub mod ForwarderLaws
 pub mod Forwarders
 pub mod ImportDirectory
 pub mod ImportLookup
-pub mod ImportViews
 pub mod Imports
 pub mod Whole

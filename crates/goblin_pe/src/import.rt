@@ -2,7 +2,7 @@
 
 ghost use Rattle.std.specs.Prelude.{◌≡◌, ◌↔◌, IfErr, IsTrue, false, option_to_list, true};
 ghost use Rattle.goblin_base.specs.Answers.{AnswersOrMemory, IsMemory};
-ghost use Rattle.goblin_base.specs.SlotTables.{or_left_out};
+ghost use Rattle.goblin_base.specs.Tables.{or_left_out};
 ghost use Rattle.goblin_pe_sect.specs.Mapping.{file_offset};
 ghost use Rattle.goblin_pe_sect.specs.Options.{default_options, is_strict};
 ghost use Rattle.goblin_pe.specs.ImportDirectory.{IsImportDataFault, IsLibrariesFault, IsLibraryFault, import_data, libraries_at, library_of};

@@ -5,7 +5,7 @@ ghost use Rattle.goblin_base.specs.Answers.{AnswersOrMemory, GivesOrMemory};
 ghost use Rattle.goblin_pe_sect.specs.BaseRelocations.{relocation_bytes};
 ghost use Rattle.goblin_pe_sect.specs.Options.{is_strict};
 ghost use Rattle.goblin_pe_head.specs.PeHeader.{header_value, pe_header};
-ghost use Rattle.goblin_pe_head.specs.Sections.{IsSectionsFault, IsTooManySections};
+ghost use Rattle.goblin_pe_head.specs.CoffHeader.{IsSectionsFault, IsTooManySections};
 ghost use Rattle.goblin_pe.specs.ImportDirectory.{IsImportDataFault, import_data};
 ghost use Rattle.goblin_pe.specs.Imports.{IsOverflow, imports_of};
 ghost use Rattle.goblin_pe.specs.Whole.{BecomesPart, IsExportPartFault, IsImportPartFault, IsPartThenFault, IsRelocationsPartFault, IsWholeFault, entry_format, export_data_part, exports_part, file_sections, import_data_part, imports_part, items_part, offset_by, part_map, relocations_part, section_table_offset, table_places, places_in, whole_file};

@@ -10,17 +10,9 @@ use Rattle.goblin_base.specs.declared.error.ErrorOf.TheVariants.{Read}
 use Rattle.goblin_base.specs.declared.error.ReadFault.TheVariants.{TooBig}
 use Rattle.goblin_base.specs.declared.endian.Endian.TheVariants.{Little}
 use Rattle.goblin_base.specs.Bytes.{number}
-use Rattle.goblin_base.specs.Record.{WritesBack}
-use Rattle.goblin_base.proofs.Encoding.{writes_back}
-use Rattle.goblin_base.proofs.Encoding.Slot.{uint_slot}
 use Rattle.goblin_base.proofs.Numbers.{number-slice, read_number}
 use Rattle.goblin_pe_head.specs.declared.header.rich.RichMetadata.{RichMetadata}
-use Rattle.goblin_pe_head.specs.RichMetadata.{metadata_at, metadata_fields, metadata_items, metadata_record, rest_item}
-
--- an entry that was read is written as it stood
-pub metadata_back : WritesBack 8 metadata_record metadata_fields
-unfolding metadata_record metadata_fields
-metadata_back = writes_back 8 metadata_record metadata_fields (uint_slot 2 ∷ uint_slot 2 ∷ uint_slot 4 ∷ []) refl (λ endian own h. refl)
+use Rattle.goblin_pe_head.specs.RichMetadata.{metadata_at, metadata_items, rest_item}
 
 -- a number behind the first k bytes
 number-drop : (n k : ℕ) (bytes : List ℕ) (p : ℕ) → number Little n (drop k bytes) p ≡ number Little n bytes (k + p)

@@ -13,9 +13,9 @@ use Rattle.std.proofs.lemmas.Simd.{map-map}
 use Rattle.goblin_base.specs.declared.endian.Endian.TheVariants.{Little}
 use Rattle.goblin_base.specs.declared.error.ErrorOf.{ErrorOf}
 use Rattle.goblin_base.specs.Bytes.{IsBytes, number_bytes}
-use Rattle.goblin_base.proofs.Encoding.{number_bytes-number}
+use Rattle.goblin_base.proofs.RecordRoundTrip.{number_bytes-number}
 use Rattle.goblin_base.proofs.Steps.{same_value, step}
-use Rattle.goblin_pe_head.specs.Header.{dos_header}
+use Rattle.goblin_pe_head.specs.DosHeader.{dos_header}
 use Rattle.goblin_pe_head.specs.RichHeader.{Rich, dans_place, leading_words, least_below, marker_place, other_place, rich_before, rich_between, rich_header, rich_in, rich_value, word_at}
 use Rattle.goblin_pe_head.specs.RichMetadata.{AreEntriesOf, metadata_at, metadata_items, stored_entry, word_under}
 use Rattle.goblin_pe_head.specs.declared.header.rich.RichHeader.{RichHeader}

@@ -6,8 +6,8 @@ use Rattle.std.specs.Int.Bits.{bit_xor}
 use Rattle.std.proofs.lemmas.Bool.{cases_eq, eqb-true, eq-eqb, ltb-true}
 use Rattle.std.proofs.lemmas.List.{length-take}
 use Rattle.goblin_base.proofs.Steps.{step}
-use Rattle.goblin_pe_head.specs.declared.header.DosHeader.{DosHeader}
-use Rattle.goblin_pe_head.specs.Header.{dos_header}
+use Rattle.goblin_pe_head.specs.declared.header.dos.DosHeader.{DosHeader}
+use Rattle.goblin_pe_head.specs.DosHeader.{dos_header}
 use Rattle.goblin_pe_head.specs.RichHeader.{IsDansAt, IsLeast, IsMarked, IsMarkerAt, Rich, RichIsMarked, RichIsUnmarked, dans_place, leading_words, least_below, marker_place, rich_before, rich_between, rich_header, rich_in, word_at}
 
 -- the first of n numbers from a on that passes the test passes, and none before it does

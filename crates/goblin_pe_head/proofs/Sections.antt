@@ -4,10 +4,10 @@ use Rattle.std.specs.Prelude.{None, Option, Some, nat_le, option_map}
 use Rattle.std.proofs.lemmas.Bool.{lt-leb}
 use Rattle.std.proofs.Math.Bool.{and-false}
 use Rattle.goblin_base.proofs.Steps.{all_at-none}
-use Rattle.goblin_base.specs.Steps.{◌>>=◌, all_at}
+use Rattle.goblin_base.specs.Answers.{◌>>=◌, all_at}
 use Rattle.goblin_pe_sect.specs.SectionTable.{section_at}
 use Rattle.goblin_pe_head.specs.declared.header.te.TeHeader.{TeHeader}
-use Rattle.goblin_pe_head.specs.Sections.{sections_at}
+use Rattle.goblin_pe_head.specs.CoffHeader.{sections_at}
 use Rattle.goblin_pe_head.specs.TeHeader.{displacement, section_adjusted, te_section_at, te_sections_at}
 
 -- where a record isn't all there, its section isn't

@@ -3,9 +3,9 @@ use Rattle.std.specs.Prelude.{◌≡◌, ◌≤◌, ℕ, ◌+◌, ◌-◌, ◌*�
 use Rattle.goblin_base.specs.declared.endian.Endian.TheVariants.{Little}
 use Rattle.goblin_base.specs.Bytes.{IsBytes, overwritten, slice_at}
 use Rattle.goblin_base.specs.Record.{encoding}
-use Rattle.goblin_pe_head.specs.declared.header.DosHeader.{DosHeader}
+use Rattle.goblin_pe_head.specs.declared.header.dos.DosHeader.{DosHeader}
 use Rattle.goblin_pe_head.specs.declared.optional_header.OptionalHeader.{OptionalHeader}
-use Rattle.goblin_pe_head.specs.Header.{dos_fields, dos_header}
+use Rattle.goblin_pe_head.specs.DosHeader.{dos_fields, dos_header}
 use Rattle.goblin_pe_head.specs.OptionalHeader.{optional_bytes, optional_header}
 use Rattle.goblin_pe_head.specs.PeHeader.{PeHeader, header_bytes, pe_header}
 

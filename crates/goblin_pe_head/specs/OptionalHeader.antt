@@ -8,12 +8,10 @@ use Rattle.goblin_base.specs.declared.error.ErrorOf.TheVariants.{BadMagic, Malfo
 use Rattle.goblin_base.specs.declared.error.CauseOf.TheVariants.{FieldTooWide}
 use Rattle.goblin_base.specs.declared.container.Container.{Container}
 use Rattle.goblin_base.specs.declared.container.Container.TheVariants as container
-use Rattle.goblin_base.specs.Answers.{Answers}
+use Rattle.goblin_base.specs.Answers.{Answers, IsSliceFault, ◌>>=◌, FirstFault}
 use Rattle.goblin_base.specs.Bytes.{number, number_at}
-use Rattle.goblin_base.specs.Faults.{IsSliceFault}
 use Rattle.goblin_base.specs.Record.{FieldValue, encoding, record_at}
 use Rattle.goblin_base.specs.Record.FieldValue.{uint}
-use Rattle.goblin_base.specs.Steps.{◌>>=◌, FirstFault}
 use Rattle.goblin_pe_sect.specs.DataDirectories.{IsDirectoriesFault, directories_at, entries_fields}
 use Rattle.goblin_pe_head.specs.declared.optional_header.standard_fields.StandardFields32.{StandardFields32}
 use Rattle.goblin_pe_head.specs.declared.optional_header.standard_fields.StandardFields64.{StandardFields64}

@@ -6,10 +6,9 @@ use Rattle.std.specs.declared.alloc.AllocError.{AllocError}
 use Rattle.goblin_base.specs.declared.error.ErrorOf.{ErrorOf}
 use Rattle.goblin_base.specs.declared.error.ErrorOf.TheVariants.{Memory}
 use Rattle.goblin_base.specs.declared.endian.Endian.TheVariants.{Little}
-use Rattle.goblin_base.specs.Answers.{IsMemory}
+use Rattle.goblin_base.specs.Answers.{IsMemory, ◌>>=◌, FirstFault}
 use Rattle.goblin_base.specs.Bytes.{number_at}
 use Rattle.goblin_base.specs.Record.{record_at}
-use Rattle.goblin_base.specs.Steps.{◌>>=◌, FirstFault}
 use Rattle.goblin_pe_sect.specs.DataDirectories.{directories_at}
 use Rattle.goblin_pe_head.specs.OptionalHeader.{fields_32, fields_64, fixed_fields, optional_header, IsFieldsFault_32, IsFieldsFault_64, IsFixedFault, IsOptionalFault, standard_32_record, standard_64_record, windows_32_record, windows_64_record}
 

@@ -7,15 +7,15 @@ use Rattle.goblin_base.specs.declared.error.ErrorOf.{ErrorOf}
 use Rattle.goblin_base.specs.declared.error.ErrorOf.TheVariants.{Malformed}
 use Rattle.goblin_base.specs.declared.error.CauseOf.TheVariants.{NoPeSignature}
 use Rattle.goblin_base.specs.Bytes.{number_at}
-use Rattle.goblin_base.specs.Faults.{IsSliceFault}
+use Rattle.goblin_base.specs.Answers.{IsSliceFault, ◌>>=◌, FirstFault}
 use Rattle.goblin_base.specs.Record.{encoding, record_at, uint}
-use Rattle.goblin_base.specs.Steps.{◌>>=◌, FirstFault}
-use Rattle.goblin_pe_head.specs.declared.header.CoffHeader.{CoffHeader}
-use Rattle.goblin_pe_head.specs.declared.header.DosHeader.{DosHeader}
+use Rattle.goblin_pe_head.specs.declared.header.coff.CoffHeader.{CoffHeader}
+use Rattle.goblin_pe_head.specs.declared.header.dos.DosHeader.{DosHeader}
 use Rattle.goblin_pe_head.specs.declared.header.pe_header.Header.{Header}
 use Rattle.goblin_pe_head.specs.declared.optional_header.OptionalHeader.{OptionalHeader}
 use Rattle.goblin_pe_head.specs.DosStub.{default_stub, stub_at, stub_bytes, IsStubFault}
-use Rattle.goblin_pe_head.specs.Header.{coff_fields, coff_header, dos_fields, dos_header, IsDosFault}
+use Rattle.goblin_pe_head.specs.CoffHeader.{coff_fields, coff_header}
+use Rattle.goblin_pe_head.specs.DosHeader.{dos_fields, dos_header, IsDosFault}
 use Rattle.goblin_pe_head.specs.OptionalHeader.{optional_bytes, optional_header, IsOptionalFault, IsUnwritten}
 use Rattle.goblin_pe_head.specs.RichHeader.{Rich, rich_value, rich_at, IsRichAtFault}
 

@@ -9,8 +9,8 @@ use Rattle.goblin_base.specs.declared.error.ErrorOf.TheVariants.{Malformed, Read
 use Rattle.goblin_base.specs.declared.error.CauseOf.TheVariants.{NoDans, RichBounds}
 use Rattle.goblin_base.specs.declared.error.ReadFault.TheVariants.{TooBig}
 use Rattle.goblin_base.specs.Bytes.{number}
-use Rattle.goblin_base.specs.Steps.{◌>>=◌, FirstFault}
-use Rattle.goblin_pe_head.specs.Header.{dos_header, IsDosFault}
+use Rattle.goblin_base.specs.Answers.{◌>>=◌, FirstFault}
+use Rattle.goblin_pe_head.specs.DosHeader.{dos_header, IsDosFault}
 use Rattle.goblin_pe_head.specs.declared.header.rich.RichHeader.{RichHeader}
 
 -- a Rich header, with its data as a list

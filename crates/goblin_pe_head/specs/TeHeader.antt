@@ -6,12 +6,11 @@ use Rattle.goblin_base.specs.declared.error.ErrorOf.{ErrorOf}
 use Rattle.goblin_base.specs.declared.error.ErrorOf.TheVariants.{Malformed}
 use Rattle.goblin_base.specs.declared.error.CauseOf.TheVariants.{StrippedSize}
 use Rattle.goblin_base.specs.Bytes.{number}
-use Rattle.goblin_base.specs.Faults.{IsSliceFault}
+use Rattle.goblin_base.specs.Answers.{IsSliceFault, ◌>>=◌, FirstFault, all_at}
 use Rattle.goblin_base.specs.Record.{FieldValue, record_at, uint}
-use Rattle.goblin_base.specs.Steps.{◌>>=◌, FirstFault, all_at}
 use Rattle.goblin_pe_sect.specs.SectionTable.{Section, section_at, IsSectionFault}
 use Rattle.goblin_pe_head.specs.declared.header.te.TeHeader.{TeHeader}
-use Rattle.goblin_pe_head.specs.Sections.{IsTooManySections}
+use Rattle.goblin_pe_head.specs.CoffHeader.{IsTooManySections}
 
 -- the header in a record's 40 bytes, as stored
 unfoldable pub te_record : Endian → List ℕ → TeHeader

@@ -4,10 +4,8 @@
 //! says which. The data directories follow.
 
 ghost use Rattle.std.specs.Prelude.{◌≡◌, ◌≢◌, ◌≤◌, length, IfOk, IsSomeAnd, None, option_and_then};
-ghost use Rattle.goblin_base.specs.Answers.{Answers, Writes};
+ghost use Rattle.goblin_base.specs.Answers.{Answers, Writes, IsSliceFault, FirstFault};
 ghost use Rattle.goblin_base.specs.Bytes.{overwritten};
-ghost use Rattle.goblin_base.specs.Faults.{IsSliceFault};
-ghost use Rattle.goblin_base.specs.Steps.{FirstFault};
 ghost use Rattle.goblin_pe_head.specs.declared.optional_header.OptionalHeader.{OptionalHeader};
 ghost use Rattle.goblin_pe_head.specs.OptionalHeader.{bytes_32, bytes_64, container_of, fields_32, fields_64, fixed_fields, optional_bytes, optional_header, windows_to_32, written_bytes, IsBadMagic, IsFieldsFault_32, IsFieldsFault_64, IsFixedFault, IsOptionalFault, IsTooWide, IsUnwritten};
 ghost use Rattle.goblin_pe_head.specs.HeaderLaws.{OptionalWritesBack};
@@ -239,7 +237,7 @@ impl OptionalHeader {
     /// In this order: [`Error::BadMagic`] of a magic other than [`MAGIC_32`] and [`MAGIC_64`];
     /// [`Error::Malformed`] with `FieldTooWide` where the magic is [`MAGIC_32`] and a Windows field
     /// does not fit 32 bits; [`Error::Read`] where there is no room. `bytes` are then as they were.
-    #[tactic(auto, using(crate::proofs::OptionalForm::optional_back))]
+    #[tactic(auto, using(crate::proofs::OptionalHeaderRoundTrip::optional_back))]
     pub fn try_into_ctx(self, bytes: &mut [u8], endian: Endian) -> Result<usize>
         ensures size { IfOk result (λ n. IsSomeAnd (optional_bytes endian self) (λ written. n ≡ length written)) }
         ensures written { Writes result (option_and_then (overwritten bytes.old 0) (optional_bytes endian self)) bytes.old bytes.new (FirstFault (optional_bytes endian self) (IsUnwritten self) (λ written. IsSliceFault bytes.old 0 (length written))) }

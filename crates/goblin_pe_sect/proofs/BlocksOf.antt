@@ -8,8 +8,8 @@ use Rattle.goblin_base.specs.declared.endian.Endian.TheVariants.{Little}
 use Rattle.goblin_base.specs.declared.error.ErrorOf.{ErrorOf}
 use Rattle.goblin_base.specs.Bytes.{IsBytes, number, slice_at}
 use Rattle.goblin_base.specs.Record.{encoding}
-use Rattle.goblin_base.proofs.Encoding.{Slot, encoding-fields_from, fields_from, slots_width}
-use Rattle.goblin_base.proofs.Encoding.Slot.{octets_slot, uint_slot}
+use Rattle.goblin_base.proofs.RecordRoundTrip.{Slot, encoding-fields_from, fields_from, slots_width}
+use Rattle.goblin_base.proofs.RecordRoundTrip.Slot.{octets_slot, uint_slot}
 use Rattle.goblin_base.proofs.Numbers.{number-slice, read_number, slice_at-some}
 use Rattle.goblin_pe_sect.specs.BaseRelocations.{AreBlocks, AreBlocksOf, Block, IsBlockAt, block_at, block_fields, first_items, then_items, with_head, with_words}
 use Rattle.goblin_pe_sect.proofs.BlockItems.{inside, past}

@@ -1,8 +1,7 @@
 -- The entries of the data directories: read and written one after the other, and walked by their kinds.
 use Rattle.std.proofs.Common.{◌≡◌, ℕ, zero, suc, ◌+◌, ◌-◌, ◌*◌, ◌<◌, ◌≤◌, true, false, nat_le, List, [], ◌∷◌, ◌++◌, length, drop, get_or, set, map, Option, Some, None, refl, sym, ap, ◌∙◌, inl, inr, add-one, arith}
-use Rattle.std.specs.List.{cons_option}
+use Rattle.std.specs.List.{cons_option, range_with_len}
 use Rattle.std.specs.Prelude.{◌==◌, ◌&&◌, ◌||◌, if◌then◌else◌, slice_range, zip, filter_map}
-use Rattle.std.specs.List.{range_with_len}
 use Rattle.std.proofs.lemmas.Bool.{le-leb, lt-leb, lt-ltb, le-ltb, ne_eqb, cases_lt}
 use Rattle.std.proofs.lemmas.Option.{cond_some}
 use Rattle.std.proofs.lemmas.Slice.Zip.{length-zip}
@@ -16,20 +15,14 @@ use Rattle.goblin_base.specs.declared.error.ErrorOf.{ErrorOf}
 use Rattle.goblin_base.specs.declared.error.ErrorOf.TheVariants.{Read}
 use Rattle.goblin_base.specs.declared.error.ReadFault.TheVariants.{BadOffset, TooBig}
 use Rattle.goblin_base.specs.Bytes.{replaced}
-use Rattle.goblin_base.specs.Faults.{IsSliceFault}
-use Rattle.goblin_base.specs.Record.{FieldValue, WritesBack, encoding, record_at, total_width}
-use Rattle.goblin_base.proofs.Encoding.{uint_slot, writes_back}
+use Rattle.goblin_base.specs.Answers.{IsSliceFault}
+use Rattle.goblin_base.specs.Record.{FieldValue, encoding, record_at, total_width}
 use Rattle.goblin_base.proofs.Records.{record_at-some}
 use Rattle.goblin_base.proofs.Writing.{IsGoing, encoding_append, length-replaced, length_encoding, replaced_then}
 use Rattle.goblin_pe_sect.specs.declared.data_directories.DataDirectory.{DataDirectory}
 use Rattle.goblin_pe_sect.specs.declared.data_directories.DataDirectoryType.{DataDirectoryType}
 use Rattle.goblin_pe_sect.specs.declared.data_directories.DataDirectoryType.TheVariants.{ExportTable}
 use Rattle.goblin_pe_sect.specs.DataDirectories.{IsDirectoriesFault, directories_at, directory_fields, directory_or_zeros, directory_record, entries_fields, entry_at, entry_ending, kinds, present_from, with_kind}
-
--- a directory that was read is written as it stood
-pub directory_back : WritesBack 8 directory_record directory_fields
-unfolding directory_record directory_fields
-directory_back = writes_back 8 directory_record directory_fields (uint_slot 4 ∷ uint_slot 4 ∷ []) refl (λ endian own h. refl)
 
 -- too many entries are refused
 pub too_many : (count : ℕ) (bytes : List ℕ) (p : ℕ) → 16 < count → directories_at count bytes p ≡ None

@@ -1,19 +1,17 @@
-pub mod AuxiliaryBack
+pub mod AuxiliarySymbolsRoundTrip
 pub mod BlockItems
 pub mod BlocksOf
-pub mod DirectoryRead
+pub mod DataDirectoriesRoundTrip
+pub mod DigitsRoundTrip
 pub mod Entries
-pub mod EntriesBack
 pub mod EntriesFront
 mod First
-pub mod NameBack
-pub mod NameLaw
 pub mod Numerals
-pub mod ReadBack
-pub mod RecordRead
 pub mod RelocationRecords
-pub mod SectionBack
+pub mod RelocationsRoundTrip
+pub mod SectionNameRoundTrip
+pub mod SectionTableRoundTrip
 pub mod SymbolHeads
-pub mod SymbolRecords
+pub mod SymbolsRoundTrip
 pub mod Windows
 pub mod WordItems

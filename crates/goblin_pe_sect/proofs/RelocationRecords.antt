@@ -5,19 +5,7 @@ use Rattle.std.specs.List.{range_with_len}
 use Rattle.std.proofs.lemmas.List.{drop-drop, length-drop}
 use Rattle.std.proofs.lemmas.List.FromFn.{length-map-range_with_len}
 use Rattle.goblin_base.specs.declared.endian.Endian.TheVariants.{Little}
-use Rattle.goblin_base.specs.Record.{WritesBack}
-use Rattle.goblin_base.proofs.Encoding.{writes_back}
-use Rattle.goblin_base.proofs.Encoding.Slot.{uint_slot}
-use Rattle.goblin_pe_sect.specs.BaseRelocations.{word_fields, word_record}
-use Rattle.goblin_pe_sect.specs.Relocations.{records_in, relocation_fields, relocation_record, relocations_in}
-
-pub relocation_back : WritesBack 10 relocation_record relocation_fields
-unfolding relocation_record relocation_fields
-relocation_back = writes_back 10 relocation_record relocation_fields (uint_slot 4 ∷ uint_slot 4 ∷ uint_slot 2 ∷ []) refl (λ endian own h. refl)
-
-pub word_back : WritesBack 2 word_record word_fields
-unfolding word_record word_fields
-word_back = writes_back 2 word_record word_fields (uint_slot 2 ∷ []) refl (λ endian own h. refl)
+use Rattle.goblin_pe_sect.specs.Relocations.{records_in, relocation_record, relocations_in}
 
 -- functions that agree a step apart
 map-shift : {X : Type 0} (f g : ℕ → X) → ((i : ℕ) → g i ≡ f (suc i)) → (n a : ℕ) → map f (range_with_len (suc a) n) ≡ map g (range_with_len a n)

@@ -7,7 +7,7 @@ use Rattle.goblin_base.specs.declared.error.ErrorOf.{ErrorOf}
 use Rattle.goblin_base.specs.declared.error.ErrorOf.TheVariants.{Malformed, Read}
 use Rattle.goblin_base.specs.declared.error.CauseOf.TheVariants.{DirectoryIndex, DirectoryCount}
 use Rattle.goblin_base.specs.Bytes.{IsBytes, number}
-use Rattle.goblin_base.specs.Faults.{IsRecordsFault}
+use Rattle.goblin_base.specs.Answers.{IsRecordsFault}
 use Rattle.goblin_base.specs.Record.{FieldValue, uint, encoding}
 use Rattle.goblin_pe_sect.specs.declared.data_directories.DataDirectory.{DataDirectory}
 use Rattle.goblin_pe_sect.specs.declared.data_directories.DataDirectoryType.{DataDirectoryType}

@@ -8,8 +8,7 @@ use Rattle.goblin_base.specs.declared.error.ErrorOf.{ErrorOf}
 use Rattle.goblin_base.specs.declared.error.ErrorOf.TheVariants.{Malformed, Read}
 use Rattle.goblin_base.specs.declared.error.ReadFault.TheVariants.{BadOffset}
 use Rattle.goblin_base.specs.Bytes.{text_at}
-use Rattle.goblin_base.specs.Faults.{IsTextFault}
-use Rattle.goblin_base.specs.Steps.{◌>>=◌, FirstFault}
+use Rattle.goblin_base.specs.Answers.{IsTextFault, ◌>>=◌, FirstFault}
 use Rattle.goblin_pe_sect.specs.declared.options.ParseOptions.{ParseOptions}
 use Rattle.goblin_pe_sect.specs.SectionTable.{Section}
 

@@ -7,7 +7,7 @@ use Rattle.goblin_base.specs.declared.error.CauseOf.TheVariants.{Overflow}
 use Rattle.goblin_base.specs.declared.error.ErrorOf.{ErrorOf}
 use Rattle.goblin_base.specs.declared.error.ErrorOf.TheVariants.{Malformed, Read}
 use Rattle.goblin_base.specs.Bytes.{number, slice_at}
-use Rattle.goblin_base.specs.Faults.{IsSliceFault}
+use Rattle.goblin_base.specs.Answers.{IsSliceFault}
 use Rattle.goblin_base.specs.Record.{FieldValue}
 use Rattle.goblin_base.specs.Record.FieldValue.{uint}
 use Rattle.goblin_pe_sect.specs.declared.relocation.Relocation.{Relocation}

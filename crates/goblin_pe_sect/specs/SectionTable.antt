@@ -9,10 +9,9 @@ use Rattle.goblin_base.specs.declared.endian.Endian.{Endian}
 use Rattle.goblin_base.specs.declared.endian.Endian.TheVariants.{Little}
 use Rattle.goblin_base.specs.declared.error.ErrorOf.{ErrorOf}
 use Rattle.goblin_base.specs.Bytes.{IsBytes, bounded_text_at, number, slice_at}
-use Rattle.goblin_base.specs.Faults.{IsSliceFault, IsBoundedTextFault}
+use Rattle.goblin_base.specs.Answers.{IsSliceFault, IsBoundedTextFault, ◌>>=◌, FirstFault}
 use Rattle.goblin_base.specs.Record.{FieldValue, encoding, record_at}
 use Rattle.goblin_base.specs.Record.FieldValue.{octets, uint}
-use Rattle.goblin_base.specs.Steps.{◌>>=◌, FirstFault}
 use Rattle.goblin_pe_sect.specs.SectionName.{name_value, IsNameFault, real_name_at}
 
 -- a section, its texts as their bytes

@@ -9,10 +9,9 @@ use Rattle.goblin_base.specs.declared.error.CauseOf.TheVariants.{Overflow, Symbo
 use Rattle.goblin_base.specs.declared.error.ErrorOf.{ErrorOf}
 use Rattle.goblin_base.specs.declared.error.ErrorOf.TheVariants.{Malformed, Read}
 use Rattle.goblin_base.specs.Bytes.{bounded_text_at, number, number_bytes}
-use Rattle.goblin_base.specs.Faults.{IsBoundedTextFault, IsSliceFault}
+use Rattle.goblin_base.specs.Answers.{IsBoundedTextFault, IsSliceFault, ◌>>=◌}
 use Rattle.goblin_base.specs.Record.{FieldValue}
 use Rattle.goblin_base.specs.Record.FieldValue.{octets, uint}
-use Rattle.goblin_base.specs.Steps.{◌>>=◌}
 use Rattle.goblin_base.specs.Strtab.{rest_at}
 use Rattle.goblin_pe_sect.specs.declared.symbol.Symbol.{Symbol}
 use Rattle.goblin_pe_sect.specs.declared.symbol.SymbolIterator.{SymbolIterator}

@@ -3,9 +3,8 @@
 ghost use Rattle.std.specs.Prelude.{◌≡◌, ◌+◌, ◌-◌, ◌*◌, ◌<◌, Some, length, slice_get, option_map, IfOk, IfSome, OnOk, OnErr};
 ghost use Rattle.std.specs.Iterator.{UpTo, YieldsFirst, at_most, item_count};
 ghost use Rattle.std.specs.Iterator.SizeHint.{IsWithinCount};
-ghost use Rattle.goblin_base.specs.Answers.{Answers, Writes};
+ghost use Rattle.goblin_base.specs.Answers.{Answers, Writes, IsSliceFault};
 ghost use Rattle.goblin_base.specs.Bytes.{overwritten};
-ghost use Rattle.goblin_base.specs.Faults.{IsSliceFault};
 ghost use Rattle.goblin_base.specs.Record.{ReadsBack, WritesBack, encoding, record_at, record_in};
 ghost use Rattle.goblin_base.proofs.RecordLaws.{record_in-within, slice_fault-no_memory};
 ghost use Rattle.goblin_pe_sect.specs.declared.data_directories.DataDirectory.{DataDirectory};
@@ -81,7 +80,7 @@ impl DataDirectory {
     }
 
     // The record's bytes.
-    #[tactic(auto, unfolding(crate::specs::DataDirectories::directory_fields), using(crate::proofs::DirectoryRead::directory_again))]
+    #[tactic(auto, unfolding(crate::specs::DataDirectories::directory_fields), using(crate::proofs::DataDirectoriesRoundTrip::directory_again))]
     fn to_bytes(self, endian: Endian) -> [u8; SIZEOF_DATA_DIRECTORY]
         ensures made { result ≡ encoding endian (directory_fields self) }
         ensures again { ReadsBack 8 directory_record directory_fields self }
@@ -96,7 +95,7 @@ impl DataDirectory {
     ///
     /// # Errors
     /// [`Error::Read`] where there is no room for 8 bytes; `bytes` are then as they were.
-    #[tactic(auto, using(crate::proofs::Entries::directory_back))]
+    #[tactic(auto, using(crate::proofs::DataDirectoriesRoundTrip::directory_back))]
     pub fn try_into_ctx(self, bytes: &mut [u8], endian: Endian) -> Result<usize>
         ensures size { IfOk result (λ n. n ≡ 8) }
         ensures written { Writes result (overwritten bytes.old 0 (encoding endian (directory_fields self))) bytes.old bytes.new (IsSliceFault bytes.old 0 8) }
@@ -255,7 +254,7 @@ impl DataDirectories {
 
     /// The bytes of all sixteen entries, those that are `None` as zeros. In little-endian order,
     /// entries that were read are written as they stood.
-    #[tactic(auto, using(crate::proofs::EntriesBack::entries_back))]
+    #[tactic(auto, using(crate::proofs::DataDirectoriesRoundTrip::entries_back))]
     pub fn to_bytes(self, endian: Endian) -> [u8; 128]
         ensures bytes { result ≡ encoding endian (entries_fields self.data_directories) }
         ensures back { EntriesWriteBack }

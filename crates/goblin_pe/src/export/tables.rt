@@ -1,10 +1,9 @@
 //! The export directory's record, and the three tables that it leads to.
 
 ghost use Rattle.std.specs.Prelude.{◌≡◌, true, false, List, ℕ, IfErr, IfOk, OnErr, OnOk, length};
-ghost use Rattle.goblin_base.specs.Answers.{Answers, GivesOrMemory, Writes};
+ghost use Rattle.goblin_base.specs.Answers.{Answers, GivesOrMemory, Writes, IsSliceFault};
 ghost use Rattle.goblin_base.specs.Bytes.{overwritten};
-ghost use Rattle.goblin_base.specs.CountedTables.{counted_table_if};
-ghost use Rattle.goblin_base.specs.Faults.{IsSliceFault};
+ghost use Rattle.goblin_base.specs.Tables.{counted_table_if};
 ghost use Rattle.goblin_base.specs.Record.{ReadsBack, WritesBack, encoding, record_in};
 ghost use Rattle.goblin_base.proofs.RecordLaws.{record_in-within, slice_fault-no_memory};
 ghost use Rattle.goblin_pe.specs.declared.export.tables.ExportDirectoryTable.{ExportDirectoryTable};
@@ -95,7 +94,7 @@ impl ExportDirectoryTable {
     }
 
     // The record's bytes.
-    #[tactic(auto, unfolding(crate::specs::Exports::export_directory_fields), using(crate::proofs::ExportRecord::export_directory_again))]
+    #[tactic(auto, unfolding(crate::specs::Exports::export_directory_fields), using(crate::proofs::ExportDirectoryRoundTrip::export_directory_again))]
     fn to_bytes(self, endian: Endian) -> [u8; SIZEOF_EXPORT_DIRECTORY_TABLE]
         ensures made { result ≡ encoding endian (export_directory_fields self) }
         ensures again { ReadsBack 40 export_directory_record export_directory_fields self }
@@ -122,7 +121,7 @@ impl ExportDirectoryTable {
     ///
     /// # Errors
     /// [`Error::Read`] where there is no room for 40 bytes; `bytes` are then as they were.
-    #[tactic(auto, using(crate::proofs::ExportRecord::export_directory_back))]
+    #[tactic(auto, using(crate::proofs::ExportDirectoryRoundTrip::export_directory_back))]
     pub fn try_into_ctx(self, bytes: &mut [u8], endian: Endian) -> Result<usize>
         ensures size { IfOk result (λ n. n ≡ 40) }
         ensures written { Writes result (overwritten bytes.old 0 (encoding endian (export_directory_fields self))) bytes.old bytes.new (IsSliceFault bytes.old 0 40) }

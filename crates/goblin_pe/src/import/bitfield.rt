@@ -2,8 +2,7 @@
 
 ghost use Rattle.std.specs.Prelude.{◌≡◌, ◌==◌, ◌≤◌, ◌^◌, length};
 ghost use Rattle.std.proofs.Common.{lit≤};
-ghost use Rattle.goblin_base.specs.Answers.{Answers};
-ghost use Rattle.goblin_base.specs.Faults.{IsSliceFault};
+ghost use Rattle.goblin_base.specs.Answers.{Answers, IsSliceFault};
 ghost use Rattle.goblin_base.specs.Record.{record_at};
 ghost use Rattle.goblin_base.specs.Tables.{Format};
 ghost use Rattle.goblin_pe.specs.ImportLookup.{EntryValue, entries_32, entries_64, entry_value};

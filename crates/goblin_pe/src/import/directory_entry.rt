@@ -1,9 +1,8 @@
 //! The records of an import directory.
 
 ghost use Rattle.std.specs.Prelude.{◌≡◌, ◌==◌, ◌&&◌, IfOk, length, not};
-ghost use Rattle.goblin_base.specs.Answers.{Answers, Writes};
+ghost use Rattle.goblin_base.specs.Answers.{Answers, Writes, IsSliceFault};
 ghost use Rattle.goblin_base.specs.Bytes.{overwritten};
-ghost use Rattle.goblin_base.specs.Faults.{IsSliceFault};
 ghost use Rattle.goblin_base.specs.Record.{ReadsBack, WritesBack, encoding, record_at, record_in};
 ghost use Rattle.goblin_base.proofs.RecordLaws.{record_in-within, slice_fault-no_memory};
 ghost use Rattle.goblin_pe.specs.ImportDirectory.{import_fields, import_record, is_last_record};
@@ -59,7 +58,7 @@ impl ImportDirectoryEntry {
     }
 
     // The record's bytes.
-    #[tactic(auto, unfolding(crate::specs::ImportDirectory::import_fields), using(crate::proofs::ImportBack::record_again))]
+    #[tactic(auto, unfolding(crate::specs::ImportDirectory::import_fields), using(crate::proofs::ImportDirectoryRoundTrip::record_again))]
     fn to_bytes(self, endian: Endian) -> [u8; SIZEOF_IMPORT_DIRECTORY_ENTRY]
         ensures made { result ≡ encoding endian (import_fields self) }
         ensures again { ReadsBack 20 import_record import_fields self }
@@ -80,7 +79,7 @@ impl ImportDirectoryEntry {
     ///
     /// # Errors
     /// [`Error::Read`] where there is no room for 20 bytes; `bytes` are then as they were.
-    #[tactic(auto, using(crate::proofs::ImportBack::record_back))]
+    #[tactic(auto, using(crate::proofs::ImportDirectoryRoundTrip::record_back))]
     pub fn try_into_ctx(self, bytes: &mut [u8], endian: Endian) -> Result<usize>
         ensures size { IfOk result (λ n. n ≡ 20) }
         ensures written { Writes result (overwritten bytes.old 0 (encoding endian (import_fields self))) bytes.old bytes.new (IsSliceFault bytes.old 0 20) }

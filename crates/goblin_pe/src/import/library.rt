@@ -5,7 +5,7 @@ ghost use Rattle.goblin_base.specs.Answers.{AnswersOrMemory};
 ghost use Rattle.goblin_pe_sect.specs.Mapping.{file_offset};
 ghost use Rattle.goblin_pe_sect.specs.Options.{default_options, is_strict};
 ghost use Rattle.goblin_pe.specs.ImportDirectory.{IsLibraryFault, IsLookupIfFault, address_table_rva, library_of, lookup_offset, lookup_table_if};
-ghost use Rattle.goblin_pe.specs.ImportViews.{entry_view};
+ghost use Rattle.goblin_pe.specs.ImportLookup.{entry_view};
 
 use crate::import::address_table::{ImportAddressTable, address_table};
 use crate::import::bitfield::Bitfield;
@@ -36,7 +36,7 @@ pub struct SyntheticImportDirectoryEntry<'a> {
 impl<'a> Model for SyntheticImportDirectoryEntry<'a> {
     ghost use Rattle.std.specs.Prelude.{map, option_map};
     ghost use Rattle.goblin_pe.specs.ImportDirectory.{ImportedLibrary};
-    ghost use Rattle.goblin_pe.specs.ImportViews.{entry_view};
+    ghost use Rattle.goblin_pe.specs.ImportLookup.{entry_view};
 
     ghost Value = { ImportedLibrary };
 

@@ -2,7 +2,7 @@
 
 ghost use Rattle.std.specs.Prelude.{◌≡◌, ◌++◌, length, map, min, option_map, string_bytes};
 ghost use Rattle.goblin_base.specs.Answers.{AnswersOrMemory, GivesOrMemory};
-ghost use Rattle.goblin_pe.specs.ImportViews.{entry_view};
+ghost use Rattle.goblin_pe.specs.ImportLookup.{entry_view};
 ghost use Rattle.goblin_pe.specs.Imports.{IsOverflow, import_of, import_offset, imports_by, imports_of, kept_count, kept_entries, library_imports, ordinal_name};
 
 use crate::import::ImportData;
@@ -40,7 +40,7 @@ pub struct Import<'a> {
 
 impl<'a> Model for Import<'a> {
     ghost use Rattle.std.specs.Cow.{cow_str_bytes};
-    ghost use Rattle.goblin_pe.specs.ImportViews.{is_borrowed_str};
+    ghost use Rattle.goblin_pe.specs.ImportLookup.{is_borrowed_str};
     ghost use Rattle.goblin_pe.specs.Imports.{ImportValue};
 
     ghost Value = { ImportValue };

@@ -4,8 +4,7 @@ ghost use Rattle.std.specs.Prelude.{map, true};
 ghost use Rattle.goblin_base.specs.Answers.{Answers, AnswersOrMemory};
 ghost use Rattle.goblin_pe_sect.specs.Mapping.{file_offset};
 ghost use Rattle.goblin_pe_sect.specs.Options.{default_options, is_strict};
-ghost use Rattle.goblin_pe.specs.ImportLookup.{IsHintNameFault, IsKeptEntryFault, IsLookupTableFault, hint_name, kept_entry, lookup_table};
-ghost use Rattle.goblin_pe.specs.ImportViews.{entry_view, hint_name_view, kept_view};
+ghost use Rattle.goblin_pe.specs.ImportLookup.{IsHintNameFault, IsKeptEntryFault, IsLookupTableFault, hint_name, kept_entry, lookup_table, entry_view, hint_name_view, kept_view};
 
 use crate::import::bitfield::{Bitfield, read_entry};
 use crate::options::ParseOptions;

@@ -2,10 +2,8 @@
 
 ghost use Rattle.std.specs.Prelude.{◌≡◌, ◌+◌, ◌≤◌, IfOk, IfSome, IsSomeAnd, Some, drop, length, option_and_then, option_map, true};
 ghost use Rattle.goblin_base.specs.declared.endian.Endian.{Endian};
-ghost use Rattle.goblin_base.specs.Answers.{Answers, Writes};
+ghost use Rattle.goblin_base.specs.Answers.{Answers, Writes, IsSliceFault, FirstFault};
 ghost use Rattle.goblin_base.specs.Bytes.{overwritten, replaced};
-ghost use Rattle.goblin_base.specs.Faults.{IsSliceFault};
-ghost use Rattle.goblin_base.specs.Steps.{FirstFault};
 ghost use Rattle.goblin_pe_sect.specs.Options.{is_strict};
 ghost use Rattle.goblin_pe_head.specs.HeaderLaws.{HeaderReadsBack, HeaderWritesBack};
 ghost use Rattle.goblin_pe_head.specs.DosStub.{stub_bytes, IsStubFault};
@@ -170,7 +168,7 @@ impl<'a> Header<'a> {
     /// In this order: [`Error::BadMagic`] of an optional header of unknown magic;
     /// [`Error::Malformed`] with [`Cause::FieldTooWide`] where a Windows field does not fit an optional
     /// header for 32 bits; [`Error::Read`] where there is no room. `bytes` are then as they were.
-    #[tactic(auto, unfolding(crate::specs::PeHeader::header_bytes), using(crate::proofs::HeaderForm::header_back, crate::proofs::HeaderAgain::header_again))]
+    #[tactic(auto, unfolding(crate::specs::PeHeader::header_bytes), using(crate::proofs::PeHeaderRoundTrip::header_back, crate::proofs::PeHeaderRoundTrip::header_again))]
     pub fn try_into_ctx(self, bytes: &mut [u8], endian: Endian) -> Result<usize>
         ensures size { IfOk result (λ n. IsSomeAnd (header_bytes endian (header_value self.entry)) (λ written. n ≡ length written)) }
         ensures written { Writes result (option_and_then (overwritten bytes.old 0) (header_bytes endian (header_value self.entry))) bytes.old bytes.new (FirstFault (header_bytes endian (header_value self.entry)) (IsUnwrittenPart self.entry.optional_header) (λ written. IsSliceFault bytes.old 0 (length written))) }

@@ -3,9 +3,8 @@
 ghost use Rattle.std.specs.Prelude.{◌≡◌, ◌≤◌, ◌<◌, ◌+◌, ◌*◌, ◌^◌, List, ℕ, Some, length, drop, option_map, IfOk, IfSome};
 ghost use Rattle.std.specs.Iterator.{UpTo, YieldsFirst, at_most, item_count};
 ghost use Rattle.std.specs.Iterator.SizeHint.{IsWithinCount};
-ghost use Rattle.goblin_base.specs.Answers.{Answers, Writes};
+ghost use Rattle.goblin_base.specs.Answers.{Answers, Writes, IsSliceFault};
 ghost use Rattle.goblin_base.specs.Bytes.{IsBytes, overwritten};
-ghost use Rattle.goblin_base.specs.Faults.{IsSliceFault};
 ghost use Rattle.goblin_base.specs.Record.{ReadsBack, WritesBack, encoding, record_in};
 ghost use Rattle.goblin_base.proofs.RecordLaws.{record_in-within, slice_fault-no_memory};
 ghost use Rattle.goblin_pe_head.specs.declared.header.rich.RichMetadata.{RichMetadata};
@@ -166,7 +165,7 @@ impl RichMetadata {
     }
 
     // The record's bytes.
-    #[tactic(auto, unfolding(crate::specs::RichMetadata::metadata_fields), using(crate::proofs::HeaderRead::metadata_again))]
+    #[tactic(auto, unfolding(crate::specs::RichMetadata::metadata_fields), using(crate::proofs::RichMetadataRoundTrip::metadata_again))]
     fn to_bytes(self, endian: Endian) -> [u8; RICH_METADATA_SIZE]
         ensures made { result ≡ encoding endian (metadata_fields self) }
         ensures again { ReadsBack 8 metadata_record metadata_fields self }
@@ -185,7 +184,7 @@ impl RichMetadata {
     ///
     /// # Errors
     /// [`Error::Read`] where there is no room for 8 bytes; `bytes` are then as they were.
-    #[tactic(auto, using(crate::proofs::RichEntries::metadata_back))]
+    #[tactic(auto, using(crate::proofs::RichMetadataRoundTrip::metadata_back))]
     pub fn try_into_ctx(self, bytes: &mut [u8], endian: Endian) -> Result<usize>
         ensures size { IfOk result (λ n. n ≡ 8) }
         ensures written { Writes result (overwritten bytes.old 0 (encoding endian (metadata_fields self))) bytes.old bytes.new (IsSliceFault bytes.old 0 8) }

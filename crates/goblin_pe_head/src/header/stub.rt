@@ -1,9 +1,8 @@
 //! The DOS stub: the program between the DOS header and the PE signature.
 
 ghost use Rattle.std.specs.Prelude.{◌≡◌, length, IfOk};
-ghost use Rattle.goblin_base.specs.Answers.{Answers, Writes};
+ghost use Rattle.goblin_base.specs.Answers.{Answers, Writes, IsSliceFault};
 ghost use Rattle.goblin_base.specs.Bytes.{overwritten};
-ghost use Rattle.goblin_base.specs.Faults.{IsSliceFault};
 ghost use Rattle.goblin_pe_head.specs.DosStub.{default_stub, stub_at, stub_bytes, IsStubFault};
 
 use goblin_base::{Cause, Endian, Error, Result, pwrite_slice};

@@ -2,13 +2,12 @@
 //! sections.
 
 ghost use Rattle.std.specs.Prelude.{◌≡◌, ◌+◌, ◌*◌, ◌/◌, ◌<◌, length, IfOk, IsErrAnd, OnOk, OnErr};
-ghost use Rattle.goblin_base.specs.Answers.{Answers, AnswersOrMemory, Writes};
+ghost use Rattle.goblin_base.specs.Answers.{Answers, AnswersOrMemory, Writes, IsSliceFault};
 ghost use Rattle.goblin_base.specs.Bytes.{overwritten};
-ghost use Rattle.goblin_base.specs.Faults.{IsSliceFault};
 ghost use Rattle.goblin_base.specs.Record.{ReadsBack, WritesBack, encoding, record_in};
 ghost use Rattle.goblin_base.proofs.RecordLaws.{record_in-within, slice_fault-no_memory};
 ghost use Rattle.goblin_pe_head.specs.declared.header.te.TeHeader.{TeHeader};
-ghost use Rattle.goblin_pe_head.specs.Sections.{IsTooManySections};
+ghost use Rattle.goblin_pe_head.specs.CoffHeader.{IsTooManySections};
 ghost use Rattle.goblin_pe_head.specs.TeHeader.{displacement, lessened, pointer_lessened, section_adjusted, te_adjusted, te_fields, te_header, te_record, te_sections_at, IsStrippedFault, IsTeFault, IsTeSectionsFault};
 
 use goblin_base::{
@@ -82,7 +81,7 @@ impl TeHeader {
     }
 
     // The record's bytes.
-    #[tactic(auto, unfolding(crate::specs::TeHeader::te_fields), using(crate::proofs::HeaderRead::te_again))]
+    #[tactic(auto, unfolding(crate::specs::TeHeader::te_fields), using(crate::proofs::TeHeaderRoundTrip::te_again))]
     fn to_bytes(self, endian: Endian) -> [u8; SIZEOF_TE_HEADER]
         ensures made { result ≡ encoding endian (te_fields self) }
         ensures again { ReadsBack 40 te_record te_fields self }
@@ -110,7 +109,7 @@ impl TeHeader {
     ///
     /// # Errors
     /// [`Error::Read`] where there is no room for 40 bytes; `bytes` are then as they were.
-    #[tactic(auto, using(crate::proofs::HeaderBack::te_back))]
+    #[tactic(auto, using(crate::proofs::TeHeaderRoundTrip::te_back))]
     pub fn try_into_ctx(self, bytes: &mut [u8], endian: Endian) -> Result<usize>
         ensures size { IfOk result (λ n. n ≡ 40) }
         ensures written { Writes result (overwritten bytes.old 0 (encoding endian (te_fields self))) bytes.old bytes.new (IsSliceFault bytes.old 0 40) }

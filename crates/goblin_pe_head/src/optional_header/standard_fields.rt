@@ -1,9 +1,8 @@
 //! The standard fields of an optional header, for either width.
 
 ghost use Rattle.std.specs.Prelude.{◌%◌, ◌^◌, ◌≡◌, length, IfOk};
-ghost use Rattle.goblin_base.specs.Answers.{Writes};
+ghost use Rattle.goblin_base.specs.Answers.{Writes, IsSliceFault};
 ghost use Rattle.goblin_base.specs.Bytes.{overwritten};
-ghost use Rattle.goblin_base.specs.Faults.{IsSliceFault};
 ghost use Rattle.goblin_base.specs.Record.{ReadsBack, WritesBack, encoding, record_in};
 ghost use Rattle.goblin_base.proofs.RecordLaws.{record_in-within, slice_fault-no_memory};
 ghost use Rattle.goblin_pe_head.specs.declared.optional_header.standard_fields.StandardFields32.{StandardFields32};
@@ -68,7 +67,7 @@ impl StandardFields32 {
     }
 
     // The record's bytes.
-    #[tactic(auto, unfolding(crate::specs::OptionalHeader::standard_32_fields), using(crate::proofs::OptionalRead::standard_32_again))]
+    #[tactic(auto, unfolding(crate::specs::OptionalHeader::standard_32_fields), using(crate::proofs::OptionalFieldsRoundTrip::standard_32_again))]
     pub(super) fn to_bytes(self, endian: Endian) -> [u8; SIZEOF_STANDARD_FIELDS_32]
         ensures made { result ≡ encoding endian (standard_32_fields self) }
         ensures again { ReadsBack 28 standard_32_record standard_32_fields self }
@@ -93,7 +92,7 @@ impl StandardFields32 {
     ///
     /// # Errors
     /// [`Error::Read`] where there is no room for 28 bytes; `bytes` are then as they were.
-    #[tactic(auto, using(crate::proofs::OptionalBack::standard_32_back))]
+    #[tactic(auto, using(crate::proofs::OptionalFieldsRoundTrip::standard_32_back))]
     pub fn try_into_ctx(self, bytes: &mut [u8], endian: Endian) -> Result<usize>
         ensures size { IfOk result (λ n. n ≡ 28) }
         ensures written { Writes result (overwritten bytes.old 0 (encoding endian (standard_32_fields self))) bytes.old bytes.new (IsSliceFault bytes.old 0 28) }
@@ -182,7 +181,7 @@ impl StandardFields64 {
     }
 
     // The record's bytes.
-    #[tactic(auto, unfolding(crate::specs::OptionalHeader::standard_64_fields), using(crate::proofs::OptionalRead::standard_64_again))]
+    #[tactic(auto, unfolding(crate::specs::OptionalHeader::standard_64_fields), using(crate::proofs::OptionalFieldsRoundTrip::standard_64_again))]
     pub(super) fn to_bytes(self, endian: Endian) -> [u8; SIZEOF_STANDARD_FIELDS_64]
         ensures made { result ≡ encoding endian (standard_64_fields self) }
         ensures again { ReadsBack 24 standard_64_record standard_64_fields self }
@@ -206,7 +205,7 @@ impl StandardFields64 {
     ///
     /// # Errors
     /// [`Error::Read`] where there is no room for 24 bytes; `bytes` are then as they were.
-    #[tactic(auto, using(crate::proofs::OptionalBack::standard_64_back))]
+    #[tactic(auto, using(crate::proofs::OptionalFieldsRoundTrip::standard_64_back))]
     pub fn try_into_ctx(self, bytes: &mut [u8], endian: Endian) -> Result<usize>
         ensures size { IfOk result (λ n. n ≡ 24) }
         ensures written { Writes result (overwritten bytes.old 0 (encoding endian (standard_64_fields self))) bytes.old bytes.new (IsSliceFault bytes.old 0 24) }

@@ -1,9 +1,8 @@
 //! The Windows fields of an optional header, for either width.
 
 ghost use Rattle.std.specs.Prelude.{◌≡◌, length, IfOk};
-ghost use Rattle.goblin_base.specs.Answers.{Answers, Writes};
+ghost use Rattle.goblin_base.specs.Answers.{Answers, Writes, IsSliceFault};
 ghost use Rattle.goblin_base.specs.Bytes.{overwritten};
-ghost use Rattle.goblin_base.specs.Faults.{IsSliceFault};
 ghost use Rattle.goblin_base.specs.Record.{ReadsBack, WritesBack, encoding, record_in};
 ghost use Rattle.goblin_base.proofs.RecordLaws.{record_in-within, slice_fault-no_memory};
 ghost use Rattle.goblin_pe_head.specs.declared.optional_header.windows_fields.WindowsFields32.{WindowsFields32};
@@ -107,7 +106,7 @@ impl WindowsFields32 {
     }
 
     // The record's bytes.
-    #[tactic(auto, unfolding(crate::specs::OptionalHeader::windows_32_fields), using(crate::proofs::OptionalRead::windows_32_again))]
+    #[tactic(auto, unfolding(crate::specs::OptionalHeader::windows_32_fields), using(crate::proofs::OptionalFieldsRoundTrip::windows_32_again))]
     pub(super) fn to_bytes(self, endian: Endian) -> [u8; SIZEOF_WINDOWS_FIELDS_32]
         ensures made { result ≡ encoding endian (windows_32_fields self) }
         ensures again { ReadsBack 68 windows_32_record windows_32_fields self }
@@ -144,7 +143,7 @@ impl WindowsFields32 {
     ///
     /// # Errors
     /// [`Error::Read`] where there is no room for 68 bytes; `bytes` are then as they were.
-    #[tactic(auto, using(crate::proofs::OptionalBack::windows_32_back))]
+    #[tactic(auto, using(crate::proofs::OptionalFieldsRoundTrip::windows_32_back))]
     pub fn try_into_ctx(self, bytes: &mut [u8], endian: Endian) -> Result<usize>
         ensures size { IfOk result (λ n. n ≡ 68) }
         ensures written { Writes result (overwritten bytes.old 0 (encoding endian (windows_32_fields self))) bytes.old bytes.new (IsSliceFault bytes.old 0 68) }
@@ -272,7 +271,7 @@ impl WindowsFields64 {
     }
 
     // The record's bytes.
-    #[tactic(auto, unfolding(crate::specs::OptionalHeader::windows_64_fields), using(crate::proofs::OptionalRead::windows_64_again))]
+    #[tactic(auto, unfolding(crate::specs::OptionalHeader::windows_64_fields), using(crate::proofs::OptionalFieldsRoundTrip::windows_64_again))]
     pub(super) fn to_bytes(self, endian: Endian) -> [u8; SIZEOF_WINDOWS_FIELDS_64]
         ensures made { result ≡ encoding endian (windows_64_fields self) }
         ensures again { ReadsBack 88 windows_64_record windows_64_fields self }
@@ -309,7 +308,7 @@ impl WindowsFields64 {
     ///
     /// # Errors
     /// [`Error::Read`] where there is no room for 88 bytes; `bytes` are then as they were.
-    #[tactic(auto, using(crate::proofs::OptionalBack::windows_64_back))]
+    #[tactic(auto, using(crate::proofs::OptionalFieldsRoundTrip::windows_64_back))]
     pub fn try_into_ctx(self, bytes: &mut [u8], endian: Endian) -> Result<usize>
         ensures size { IfOk result (λ n. n ≡ 88) }
         ensures written { Writes result (overwritten bytes.old 0 (encoding endian (windows_64_fields self))) bytes.old bytes.new (IsSliceFault bytes.old 0 88) }

@@ -3,9 +3,8 @@
 ghost use Rattle.std.specs.Prelude.{◌≡◌, ◌+◌, ◌-◌, ◌/◌, ◌%◌, ◌<◌, Some, length, IfOk, IfSome};
 ghost use Rattle.std.specs.Iterator.{UpTo, YieldsFirst, YieldsFirstBy, at_most, item_count};
 ghost use Rattle.std.specs.Iterator.SizeHint.{IsWithinCount};
-ghost use Rattle.goblin_base.specs.Answers.{Answers, Writes};
+ghost use Rattle.goblin_base.specs.Answers.{Answers, Writes, IsSliceFault};
 ghost use Rattle.goblin_base.specs.Bytes.{overwritten};
-ghost use Rattle.goblin_base.specs.Faults.{IsSliceFault};
 ghost use Rattle.goblin_base.specs.Record.{ReadsBack, WritesBack, encoding, record_in};
 ghost use Rattle.goblin_base.proofs.RecordLaws.{record_in-within, slice_fault-no_memory};
 ghost use Rattle.goblin_pe_sect.specs.declared.relocation.base.RelocationWord.{RelocationWord};
@@ -224,7 +223,7 @@ impl RelocationWord {
     }
 
     // The record's bytes.
-    #[tactic(auto, unfolding(crate::specs::BaseRelocations::word_fields), using(crate::proofs::RecordRead::word_again))]
+    #[tactic(auto, unfolding(crate::specs::BaseRelocations::word_fields), using(crate::proofs::RelocationsRoundTrip::word_again))]
     fn to_bytes(self, endian: Endian) -> [u8; RELOCATION_WORD_SIZE]
         ensures made { result ≡ encoding endian (word_fields self) }
         ensures again { ReadsBack 2 word_record word_fields self }
@@ -239,7 +238,7 @@ impl RelocationWord {
     /// # Errors
     /// [`Error::Read`] where there is no room for 2 bytes; `bytes` are
     /// then as they were.
-    #[tactic(auto, using(crate::proofs::RelocationRecords::word_back))]
+    #[tactic(auto, using(crate::proofs::RelocationsRoundTrip::word_back))]
     pub fn try_into_ctx(self, bytes: &mut [u8], endian: Endian) -> Result<usize>
         ensures size { IfOk result (λ n. n ≡ 2) }
         ensures written { Writes result (overwritten bytes.old 0 (encoding endian (word_fields self))) bytes.old bytes.new (IsSliceFault bytes.old 0 2) }

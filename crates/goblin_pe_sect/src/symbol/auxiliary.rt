@@ -1,9 +1,8 @@
 //! The auxiliary records of a symbol table, which stand behind the symbols that they describe.
 
 ghost use Rattle.std.specs.Prelude.{◌≡◌, length, IfOk};
-ghost use Rattle.goblin_base.specs.Answers.{Writes};
+ghost use Rattle.goblin_base.specs.Answers.{Writes, IsSliceFault};
 ghost use Rattle.goblin_base.specs.Bytes.{overwritten};
-ghost use Rattle.goblin_base.specs.Faults.{IsSliceFault};
 ghost use Rattle.goblin_base.specs.Record.{ReadsBack, WritesBack, encoding, record_in};
 ghost use Rattle.goblin_base.proofs.RecordLaws.{record_in-within, slice_fault-no_memory};
 ghost use Rattle.goblin_pe_sect.specs.declared.symbol.auxiliary.AuxBeginAndEndFunction.{AuxBeginAndEndFunction};
@@ -54,7 +53,7 @@ impl AuxFunctionDefinition {
     }
 
     // The record's bytes.
-    #[tactic(auto, unfolding(crate::specs::AuxiliarySymbols::function_definition_fields), using(crate::proofs::RecordRead::function_definition_again))]
+    #[tactic(auto, unfolding(crate::specs::AuxiliarySymbols::function_definition_fields), using(crate::proofs::AuxiliarySymbolsRoundTrip::function_definition_again))]
     fn to_bytes(self, endian: Endian) -> [u8; COFF_SYMBOL_SIZE]
         ensures made { result ≡ encoding endian (function_definition_fields self) }
         ensures again { ReadsBack 18 function_definition_record function_definition_fields self }
@@ -75,7 +74,7 @@ impl AuxFunctionDefinition {
     /// # Errors
     /// [`Error::Read`](goblin_base::Error::Read) where there is no room for 18 bytes; `bytes` are
     /// then as they were.
-    #[tactic(auto, using(crate::proofs::AuxiliaryBack::function_definition_back))]
+    #[tactic(auto, using(crate::proofs::AuxiliarySymbolsRoundTrip::function_definition_back))]
     pub fn try_into_ctx(self, bytes: &mut [u8], endian: Endian) -> Result<usize>
         ensures size { IfOk result (λ n. n ≡ 18) }
         ensures written { Writes result (overwritten bytes.old 0 (encoding endian (function_definition_fields self))) bytes.old bytes.new (IsSliceFault bytes.old 0 18) }
@@ -157,7 +156,7 @@ impl AuxBeginAndEndFunction {
     }
 
     // The record's bytes.
-    #[tactic(auto, unfolding(crate::specs::AuxiliarySymbols::begin_and_end_function_fields), using(crate::proofs::RecordRead::begin_and_end_function_again))]
+    #[tactic(auto, unfolding(crate::specs::AuxiliarySymbols::begin_and_end_function_fields), using(crate::proofs::AuxiliarySymbolsRoundTrip::begin_and_end_function_again))]
     fn to_bytes(self, endian: Endian) -> [u8; COFF_SYMBOL_SIZE]
         ensures made { result ≡ encoding endian (begin_and_end_function_fields self) }
         ensures again { ReadsBack 18 begin_and_end_function_record begin_and_end_function_fields self }
@@ -178,7 +177,7 @@ impl AuxBeginAndEndFunction {
     /// # Errors
     /// [`Error::Read`](goblin_base::Error::Read) where there is no room for 18 bytes; `bytes` are
     /// then as they were.
-    #[tactic(auto, using(crate::proofs::AuxiliaryBack::begin_and_end_function_back))]
+    #[tactic(auto, using(crate::proofs::AuxiliarySymbolsRoundTrip::begin_and_end_function_back))]
     pub fn try_into_ctx(self, bytes: &mut [u8], endian: Endian) -> Result<usize>
         ensures size { IfOk result (λ n. n ≡ 18) }
         ensures written { Writes result (overwritten bytes.old 0 (encoding endian (begin_and_end_function_fields self))) bytes.old bytes.new (IsSliceFault bytes.old 0 18) }
@@ -253,7 +252,7 @@ impl AuxWeakExternal {
     }
 
     // The record's bytes.
-    #[tactic(auto, unfolding(crate::specs::AuxiliarySymbols::weak_external_fields), using(crate::proofs::RecordRead::weak_external_again))]
+    #[tactic(auto, unfolding(crate::specs::AuxiliarySymbols::weak_external_fields), using(crate::proofs::AuxiliarySymbolsRoundTrip::weak_external_again))]
     fn to_bytes(self, endian: Endian) -> [u8; COFF_SYMBOL_SIZE]
         ensures made { result ≡ encoding endian (weak_external_fields self) }
         ensures again { ReadsBack 18 weak_external_record weak_external_fields self }
@@ -272,7 +271,7 @@ impl AuxWeakExternal {
     /// # Errors
     /// [`Error::Read`](goblin_base::Error::Read) where there is no room for 18 bytes; `bytes` are
     /// then as they were.
-    #[tactic(auto, using(crate::proofs::AuxiliaryBack::weak_external_back))]
+    #[tactic(auto, using(crate::proofs::AuxiliarySymbolsRoundTrip::weak_external_back))]
     pub fn try_into_ctx(self, bytes: &mut [u8], endian: Endian) -> Result<usize>
         ensures size { IfOk result (λ n. n ≡ 18) }
         ensures written { Writes result (overwritten bytes.old 0 (encoding endian (weak_external_fields self))) bytes.old bytes.new (IsSliceFault bytes.old 0 18) }
@@ -357,7 +356,7 @@ impl AuxSectionDefinition {
     }
 
     // The record's bytes.
-    #[tactic(auto, unfolding(crate::specs::AuxiliarySymbols::section_definition_fields), using(crate::proofs::RecordRead::section_definition_again))]
+    #[tactic(auto, unfolding(crate::specs::AuxiliarySymbols::section_definition_fields), using(crate::proofs::AuxiliarySymbolsRoundTrip::section_definition_again))]
     fn to_bytes(self, endian: Endian) -> [u8; COFF_SYMBOL_SIZE]
         ensures made { result ≡ encoding endian (section_definition_fields self) }
         ensures again { ReadsBack 18 section_definition_record section_definition_fields self }
@@ -380,7 +379,7 @@ impl AuxSectionDefinition {
     /// # Errors
     /// [`Error::Read`](goblin_base::Error::Read) where there is no room for 18 bytes; `bytes` are
     /// then as they were.
-    #[tactic(auto, using(crate::proofs::AuxiliaryBack::section_definition_back))]
+    #[tactic(auto, using(crate::proofs::AuxiliarySymbolsRoundTrip::section_definition_back))]
     pub fn try_into_ctx(self, bytes: &mut [u8], endian: Endian) -> Result<usize>
         ensures size { IfOk result (λ n. n ≡ 18) }
         ensures written { Writes result (overwritten bytes.old 0 (encoding endian (section_definition_fields self))) bytes.old bytes.new (IsSliceFault bytes.old 0 18) }

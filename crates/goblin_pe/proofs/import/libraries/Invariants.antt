@@ -1,5 +1,5 @@
 use Rattle.std.proofs.Common.{length, ◌-◌}
-use Rattle.goblin_base.specs.SlotTables.{or_left_out}
+use Rattle.goblin_base.specs.Tables.{or_left_out}
 use Rattle.goblin_base.proofs.SlotTables.{AtSlot}
 use Rattle.goblin_pe_sect.specs.Mapping.{file_offset}
 use Rattle.goblin_pe_sect.specs.Options.{is_strict}

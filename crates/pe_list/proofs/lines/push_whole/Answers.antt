@@ -1,7 +1,6 @@
 use Rattle.std.proofs.Common.{◌++◌, ap, ◌∙◌}
-use Rattle.std.specs.Prelude.{codes, List, string_bytes}
+use Rattle.std.specs.Prelude.{codes, List, string_bytes, length}
 use Rattle.goblin_pe_sect.specs.SectionTable.{Section}
-use Rattle.std.specs.Prelude.{length}
 use Rattle.std.specs.List.{flat_map}
 use Rattle.goblin_pe_head.specs.PeHeader.{header_value}
 use Rattle.goblin_pe_sect.specs.BaseRelocations.{relocation_bytes}

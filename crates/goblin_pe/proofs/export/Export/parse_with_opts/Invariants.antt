@@ -1,6 +1,6 @@
 use Rattle.std.proofs.Common.{◌≡◌}
 use Rattle.std.specs.Option.{option_to_list}
-use Rattle.goblin_base.specs.Below.{concat_below}
+use Rattle.goblin_base.specs.Tables.{concat_below}
 use Rattle.goblin_pe_sect.specs.Mapping.{file_offset}
 use Rattle.goblin_pe.specs.Exports.{export_row}
 use Rattle.goblin_pe.proofs.export.Export.parse_with_opts.Given as goal

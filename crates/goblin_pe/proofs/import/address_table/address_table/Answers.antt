@@ -1,6 +1,6 @@
 use Rattle.std.proofs.Common.{◌≤◌, sym, ◌∙◌, arith, refl}
 use Rattle.std.proofs.lemmas.Result.{err_from_is_err_and}
-use Rattle.goblin_base.specs.Faults.{IsSliceFault}
+use Rattle.goblin_base.specs.Answers.{IsSliceFault}
 use Rattle.goblin_base.proofs.SlotTables.{at-start, at-next, at-last, at-missing, at-missing_cause}
 use Rattle.goblin_pe.proofs.import.address_table.address_table.Goals as goal
 

@@ -1,5 +1,5 @@
 use Rattle.std.proofs.Common.{◌≡◌, Some}
-use Rattle.goblin_base.specs.Below.{each_below}
+use Rattle.goblin_base.specs.Tables.{each_below}
 use Rattle.goblin_pe.proofs.Imports.{imported_at}
 use Rattle.goblin_pe.proofs.import.listed.imports_of.Given as goal
 

@@ -1,7 +1,7 @@
 use Rattle.std.proofs.Common.{Some, sym, ap, arith}
 use Rattle.std.proofs.lemmas.List.{length-map}
 use Rattle.std.proofs.lemmas.Result.{err_from_is_err_and}
-use Rattle.goblin_pe.specs.ImportViews.{entry_view}
+use Rattle.goblin_pe.specs.ImportLookup.{entry_view}
 use Rattle.goblin_pe.proofs.Imports.{entry-start, entry-next, entry-read, entry-refused, entry-end}
 use Rattle.goblin_pe.proofs.import.listed.push_entries.Goals as goal
 

@@ -1,5 +1,5 @@
 use Rattle.std.proofs.Common.{map}
-use Rattle.goblin_pe.specs.ImportViews.{entry_view}
+use Rattle.goblin_pe.specs.ImportLookup.{entry_view}
 use Rattle.goblin_pe.proofs.Imports.{AtEntry}
 use Rattle.goblin_pe.proofs.import.listed.push_entries.Given as goal
 

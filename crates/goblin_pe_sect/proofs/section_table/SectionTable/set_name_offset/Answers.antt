@@ -1,5 +1,5 @@
 use Rattle.std.proofs.Common.{sym}
-use Rattle.goblin_pe_sect.proofs.NameLaw.{name_back}
+use Rattle.goblin_pe_sect.proofs.SectionNameRoundTrip.{name_back}
 use Rattle.goblin_pe_sect.proofs.section_table.SectionTable.set_name_offset.Goals as goal
 
 pub returns-clause-says : goal.returns-clause-says

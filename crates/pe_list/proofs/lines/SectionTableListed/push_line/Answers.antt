@@ -1,6 +1,5 @@
-use Rattle.std.proofs.Common.{◌++◌, ap, ◌∙◌}
+use Rattle.std.proofs.Common.{◌++◌, ap, ◌∙◌, sym}
 use Rattle.std.specs.Prelude.{codes, List, ℕ, string_bytes}
-use Rattle.std.proofs.Common.{sym}
 use Rattle.pe_list.specs.Lines.{section_line, shown_name}
 use Rattle.pe_list.specs.Text.{hex_field, name_field}
 use Rattle.pe_list.proofs.Pushed.{pushed, pushed_last}

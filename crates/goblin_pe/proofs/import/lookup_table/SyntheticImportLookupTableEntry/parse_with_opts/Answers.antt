@@ -5,8 +5,7 @@ use Rattle.goblin_pe_sect.specs.Mapping.{file_offset}
 use Rattle.goblin_base.specs.declared.error.ErrorOf.TheVariants.{Malformed}
 use Rattle.goblin_base.specs.declared.error.CauseOf.TheVariants.{LookupEnd}
 use Rattle.goblin_base.proofs.SlotTables.{at-start, at-next, at-last, at-end, at-missing, at-missing_cause, at-refused, at-refused_cause}
-use Rattle.goblin_pe.specs.ImportLookup.{IsKeptEntryFault, IsLookupEnd}
-use Rattle.goblin_pe.specs.ImportViews.{entry_view, kept_view}
+use Rattle.goblin_pe.specs.ImportLookup.{IsKeptEntryFault, IsLookupEnd, entry_view, kept_view}
 use Rattle.goblin_pe.proofs.Modes.{strict, permissive}
 use Rattle.goblin_pe.proofs.import.lookup_table.SyntheticImportLookupTableEntry.parse_with_opts.Goals as goal
 use Rattle.goblin_pe.proofs.import.lookup_table.SyntheticImportLookupTableEntry.parse_with_opts.Goals.{in_default+then-is_permissive, in-Ok+then-is_zero, in-Some+in_ok-push, in_default-kept}

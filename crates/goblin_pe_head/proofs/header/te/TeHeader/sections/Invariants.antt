@@ -1,7 +1,7 @@
 -- The sections so far are those that stand there, adjusted.
 use Rattle.std.proofs.Common.{◌≡◌, ◌+◌, ◌*◌}
 use Rattle.std.specs.Prelude.{Some}
-use Rattle.goblin_base.specs.Steps.{all_at}
+use Rattle.goblin_base.specs.Answers.{all_at}
 use Rattle.goblin_pe_head.specs.TeHeader.{te_section_at}
 use Rattle.goblin_pe_head.proofs.header.te.TeHeader.sections.Given as goal
 

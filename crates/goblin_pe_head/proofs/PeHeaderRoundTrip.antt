@@ -1,0 +1,309 @@
+-- A header that was read is written as its bytes stand, with the missing directories behind them, and is read again.
+use Rattle.std.proofs.Common.{◌≡◌, ℕ, ◌+◌, ◌-◌, ◌≤◌, ◌&&◌, Bool, true, false, cond, nat_le, List, [], ◌∷◌, ◌++◌, take, drop, length, Option, Some, None, refl, sym, ap, ◌∙◌, subst, arith, ◌*◌, nat_eq, nat_lt, append_assoc, inl, inr}
+use Rattle.std.specs.Prelude.{◌==◌, IsSomeAnd, option_map, slice_range, if◌then◌else◌, option_and_then}
+use Rattle.std.proofs.lemmas.Bool.{and_parts, eqb-true, leb-true, le-leb}
+use Rattle.std.proofs.lemmas.List.{append-nil, length-drop}
+use Rattle.std.proofs.lemmas.Option.{cond_some}
+use Rattle.goblin_base.specs.declared.endian.Endian.TheVariants.{Little}
+use Rattle.goblin_base.specs.Bytes.{IsBytes, number_at, number_bytes, overwritten, replaced, slice_at}
+use Rattle.goblin_base.specs.Record.{encoding, record_at, uint}
+use Rattle.goblin_base.proofs.RecordRoundTrip.{front_more, number_bytes-number, slice-is}
+use Rattle.goblin_base.proofs.Numbers.{number_at-some, slice_at-some}
+use Rattle.goblin_base.proofs.Steps.{mapped, same_value, step}
+use Rattle.goblin_pe_head.specs.declared.header.dos.DosHeader.{DosHeader}
+use Rattle.goblin_pe_head.specs.declared.optional_header.OptionalHeader.{OptionalHeader}
+use Rattle.goblin_pe_head.specs.DosStub.{stub_at}
+use Rattle.goblin_pe_head.specs.CoffHeader.{coff_fields, coff_header}
+use Rattle.goblin_pe_head.specs.DosHeader.{dos_fields, dos_header, dos_record}
+use Rattle.goblin_pe_head.specs.HeaderLaws.{DosWritesBack, HeaderWritesBack, end_behind, filling, filling_behind, optional_size, HeaderReadsBack, header_end}
+use Rattle.goblin_pe_head.specs.OptionalHeader.{optional_header, fields_32, fields_64, fixed_fields, standard_32_record, standard_64_record, windows_32_record, windows_64_record}
+use Rattle.goblin_pe_head.specs.PeHeader.{PeHeader, header_at, header_bytes, header_parts, optional_at, optional_part, pe_header, stub_in}
+use Rattle.goblin_pe_head.specs.RichHeader.{rich_at, rich_in}
+use Rattle.goblin_pe_head.proofs.CoffHeaderRoundTrip.{coff_back}
+use Rattle.goblin_pe_head.proofs.DosHeaderRoundTrip.{dos_back}
+use Rattle.goblin_pe_head.proofs.OptionalHeaderRoundTrip.{bytes_behind, read_optional, pick}
+use Rattle.goblin_base.proofs.Fronts.{HaveFront, front-drop, front_then, number-front, record-front, slice-front}
+use Rattle.goblin_pe_sect.specs.DataDirectories.{directories_at}
+use Rattle.goblin_pe_sect.proofs.EntriesFront.{directories-front}
+use Rattle.goblin_pe_head.specs.declared.optional_header.FixedFields.{FixedFields}
+
+-- the parts of a header that was read in strict mode
+pub record IsHeaderOf (bytes : List ℕ) (h : PeHeader) : Type 0 where
+  pub dos : dos_header bytes ≡ Some h.dos_header
+  pub stub : stub_at bytes h.dos_header.pe_pointer ≡ Some h.dos_stub
+  pub rich : rich_at bytes h.dos_header.pe_pointer ≡ Some h.rich_header
+  pub signature : number_at Little 4 bytes h.dos_header.pe_pointer ≡ Some h.signature
+  pub coff : record_at 20 (coff_header Little) bytes (h.dos_header.pe_pointer + 4) ≡ Some h.coff_header
+  pub optional : optional_at h.coff_header.size_of_optional_header bytes (h.dos_header.pe_pointer + 24) ≡ Some h.optional_header
+
+pub parts_of : (bytes : List ℕ) (h : PeHeader) → pe_header true bytes ≡ Some h → IsHeaderOf bytes h
+unfolding pe_header stub_in header_at
+parts_of bytes h e =
+    let s1 = step (dos_header bytes) _ h e in
+    let p = s1.value.pe_pointer in
+    let s2 = step (stub_at bytes p) _ h s1.then in
+    let s3 = step (rich_at bytes p) _ h s2.then in
+    let s4 = step (number_at Little 4 bytes p) _ h s3.then in
+    let s5 = step (record_at 20 (coff_header Little) bytes (p + 4)) _ h s4.then in
+    let s6 = step (optional_at s5.value.size_of_optional_header bytes (p + 24)) _ h s5.then in
+    let whole : PeHeader = record { dos_header = s1.value; dos_stub = s2.value; rich_header = s3.value; signature = s4.value; coff_header = s5.value; optional_header = s6.value } in
+    let parts : IsHeaderOf bytes whole = record { dos = s1.is; stub = s2.is; rich = s3.is; signature = s4.is; coff = s5.is; optional = s6.is } in
+    subst (IsHeaderOf bytes) (same_value whole h s6.then) parts
+
+pub of_parts : (bytes : List ℕ) (h : PeHeader) → IsHeaderOf bytes h → pe_header true bytes ≡ Some h
+unfolding pe_header stub_in header_at
+of_parts bytes h is = rw (is.dos, is.stub, is.rich, is.signature, is.coff, is.optional) refl
+
+-- what a DOS header that was read is made of
+pub record IsDosOf (bytes : List ℕ) (h : DosHeader) : Type 0 where
+  pub magic : number_at Little 2 bytes 0 ≡ Some 0x5A4D
+  pub own : record_at 64 (dos_record Little) bytes 0 ≡ Some h
+  pub signature : number_at Little 4 bytes h.pe_pointer ≡ Some 0x4550
+
+pub dos_of : (bytes : List ℕ) (h : DosHeader) → dos_header bytes ≡ Some h → IsDosOf bytes h
+unfolding dos_header
+dos_of bytes h e =
+    let s1 = step (number_at Little 2 bytes 0) _ h e in
+    let s2 = step (record_at 64 (dos_record Little) bytes 0) _ h s1.then in
+    let s3 = step (number_at Little 4 bytes s2.value.pe_pointer) _ h s2.then in
+    let found = cond_some ((s1.value == 0x5A4D) && (s3.value == 0x4550)) s2.value h s3.then in
+    let tests = and_parts (s1.value == 0x5A4D) (s3.value == 0x4550) found.0 in
+    let magic : s1.value ≡ 0x5A4D = eqb-true _ _ tests.0 in
+    let signature : s3.value ≡ 0x4550 = eqb-true _ _ tests.1 in
+    let same = found.1 in
+    record {
+      magic = s1.is ∙ ap (λ (x : ℕ). Some x) magic;
+      own = s2.is ∙ ap (λ (x : DosHeader). Some x) same;
+      signature = ap (λ (x : DosHeader). number_at Little 4 bytes x.pe_pointer) (sym same) ∙ s3.is ∙ ap (λ (x : ℕ). Some x) signature;
+    }
+
+pub of_dos : (bytes : List ℕ) (h : DosHeader) → IsDosOf bytes h → dos_header bytes ≡ Some h
+unfolding dos_header
+of_dos bytes h is = rw (is.magic, is.own, is.signature) refl
+
+-- an optional header that is there ends within the file, and is written as it stands
+record IsPart (bytes : List ℕ) (p : ℕ) (optional : Option OptionalHeader) : Type 0 where
+  pub end : end_behind p optional ≤ length bytes
+  pub written : IsSomeAnd (optional_part Little optional) (λ xs. take (p + 24) bytes ++ (xs ++ []) ≡ take (end_behind p optional) bytes ++ filling_behind optional)
+
+part : (bytes : List ℕ) (p : ℕ) (none : Bool) (optional : Option OptionalHeader) → IsBytes bytes → p + 24 ≤ length bytes
+    → cond none (Some None) (option_map (λ (header : OptionalHeader × ℕ). Some header.0) (optional_header (drop (p + 24) bytes))) ≡ Some optional
+    → IsPart bytes p optional
+part bytes p true optional h room e = subst (IsPart bytes p) (same_value None optional e) (record { end = room; written = refl })
+part bytes p false optional h room e =
+    let at = p + 24 in
+    let found = mapped (optional_header (drop at bytes)) (λ (header : OptionalHeader × ℕ). Some header.0) optional e in
+    let header = found.value.0 in
+    let n = found.value.1 in
+    let back = read_optional (drop at bytes) header n (bytes_behind bytes at h) found.is in
+    let long = length-drop at bytes in
+    let place : at + n ≡ at + optional_size header = ap (λ (k : ℕ). at + k) back.0 in
+    let here : IsPart bytes p (Some header) = record {
+      end = omega (arith, back.0, back.1, long, room);
+      written = rw back.2 (
+          ap (λ (xs : List ℕ). take at bytes ++ xs) (append-nil (take n (drop at bytes) ++ filling header))
+          ∙ front_more bytes at n (take n (drop at bytes)) (filling header) refl
+          ∙ ap (λ (k : ℕ). take k bytes ++ filling header) place);
+    } in
+    subst (IsPart bytes p) found.made here
+
+-- a value that is there, and what holds of it
+record IsThere {A : Type 0} (o : Option A) (P : A → Type 0) : Type 0 where
+  pub value : A
+  pub is : o ≡ Some value
+  pub holds : P value
+
+there : {A : Type 0} (o : Option A) (P : A → Type 0) → IsSomeAnd o P → IsThere o P
+there None P h = absurd h
+there (Some x) P h = record { value = x; is = refl; holds = h }
+
+pub dos_file : DosWritesBack
+unfolding DosWritesBack
+dos_file file h fits e = dos_back Little file 0 h fits (dos_of file h e).own
+
+-- how the parts in front of the optional header lie in the file
+pub record IsLaid (bytes : List ℕ) (h : PeHeader) : Type 0 where
+  pub stub_end : 64 ≤ h.dos_header.pe_pointer
+  pub end : h.dos_header.pe_pointer + 24 ≤ length bytes
+  pub dos : encoding Little (dos_fields h.dos_header) ≡ take 64 bytes
+  pub stub : h.dos_stub ≡ take (h.dos_header.pe_pointer - 64) (drop 64 bytes)
+  pub signature : encoding Little (uint 4 h.signature ∷ []) ≡ take 4 (drop h.dos_header.pe_pointer bytes)
+  pub coff : encoding Little (coff_fields h.coff_header) ≡ take 20 (drop (h.dos_header.pe_pointer + 4) bytes)
+
+pub laid : (bytes : List ℕ) (h : PeHeader) → IsBytes bytes → IsHeaderOf bytes h → IsLaid bytes h
+laid bytes h fits is =
+    let p = h.dos_header.pe_pointer in
+    let dos = slice_at-some bytes 0 64 (encoding Little (dos_fields h.dos_header)) (dos_back Little bytes 0 h.dos_header fits (dos_of bytes h.dos_header is.dos).own) in
+    let stub = cond_some (nat_le 64 p && nat_le p (length bytes)) (slice_range bytes 64 p) h.dos_stub is.stub in
+    let tests = and_parts (nat_le 64 p) (nat_le p (length bytes)) stub.0 in
+    let signature = number_at-some Little 4 bytes p h.signature is.signature in
+    let coff = slice_at-some bytes (p + 4) 20 (encoding Little (coff_fields h.coff_header)) (coff_back Little bytes (p + 4) h.coff_header fits is.coff) in
+    record {
+      stub_end = leb-true 64 p tests.0;
+      end = omega (arith, coff.end);
+      dos = dos.value ∙ slice-is bytes 0 64;
+      stub = sym stub.1;
+      signature = append-nil (number_bytes Little 4 h.signature) ∙ ap (number_bytes Little 4) signature.value ∙ number_bytes-number Little 4 bytes p fits signature.end ∙ slice-is bytes p 4;
+      coff = coff.value ∙ slice-is bytes (p + 4) 20;
+    }
+
+in_front : (bytes : List ℕ) (h : PeHeader) (optional : List ℕ) → IsLaid bytes h → header_parts Little h optional ≡ take (h.dos_header.pe_pointer + 24) bytes ++ (optional ++ [])
+unfolding header_parts
+in_front bytes h optional is =
+    let p = h.dos_header.pe_pointer in
+    let dos = encoding Little (dos_fields h.dos_header) in
+    let signature = encoding Little (uint 4 h.signature ∷ []) in
+    let coff = encoding Little (coff_fields h.coff_header) in
+    let rest = optional ++ [] in
+    let at_signature : 64 + (p - 64) ≡ p = omega (arith, is.stub_end) in
+    let at_coff : p + 4 + 20 ≡ p + 24 = omega arith in
+    ap (λ (xs : List ℕ). xs ++ (h.dos_stub ++ (signature ++ (coff ++ rest)))) is.dos
+    ∙ front_more bytes 64 (p - 64) h.dos_stub (signature ++ (coff ++ rest)) is.stub
+    ∙ ap (λ (k : ℕ). take k bytes ++ (signature ++ (coff ++ rest))) at_signature
+    ∙ front_more bytes p 4 signature (coff ++ rest) is.signature
+    ∙ front_more bytes (p + 4) 20 coff rest is.coff
+    ∙ ap (λ (k : ℕ). take k bytes ++ rest) at_coff
+
+pub header_back : HeaderWritesBack
+unfolding HeaderWritesBack header_bytes optional_at
+header_back file h fits e =
+    let is = parts_of file h e in
+    let lies = laid file h fits is in
+    let p = h.dos_header.pe_pointer in
+    let last = part file p (h.coff_header.size_of_optional_header == 0) h.optional_header fits lies.end is.optional in
+    let bytes = there (optional_part Little h.optional_header) (λ xs. take (p + 24) file ++ (xs ++ []) ≡ take (end_behind p h.optional_header) file ++ filling_behind h.optional_header) last.written in
+    (last.end, ap (option_map (header_parts Little h)) bytes.is ∙ ap (λ (xs : List ℕ). Some xs) (in_front file h bytes.value lies ∙ bytes.holds))
+
+-- ---- a header depends on the bytes up to its end alone, so it is read again
+
+dos-front : (n : ℕ) (h : DosHeader) (a b : List ℕ) → HaveFront n a b → 64 ≤ n → h.pe_pointer + 4 ≤ n → dos_header a ≡ Some h → dos_header b ≡ Some h
+dos-front n h a b front low high e =
+    let is = dos_of a h e in
+    of_dos b h (record {
+      magic = number-front n Little 2 0 0x5A4D a b front (omega (arith, low)) is.magic;
+      own = record-front n 64 (dos_record Little) 0 h a b front (omega arith) low is.own;
+      signature = number-front n Little 4 h.pe_pointer 0x4550 a b front high is.signature;
+    })
+
+stretch-front : (n p : ℕ) (a b : List ℕ) → HaveFront n a b → 64 ≤ p → p ≤ n → slice_range a 64 p ≡ slice_range b 64 p
+stretch-front n p a b front low high =
+    let place : 64 + (p - 64) ≡ p = omega (arith, low) in
+    subst (λ (k : ℕ). slice_range a 64 k ≡ slice_range b 64 k) place (slice-front n 64 (p - 64) a b front (omega (arith, low, high)))
+
+stub-front : (n p : ℕ) (stub : List ℕ) (a b : List ℕ) → HaveFront n a b → p ≤ n → stub_at a p ≡ Some stub → stub_at b p ≡ Some stub
+stub-front n p stub a b front high e =
+    let found = cond_some (nat_le 64 p && nat_le p (length a)) (slice_range a 64 p) stub e in
+    let tests = and_parts (nat_le 64 p) (nat_le p (length a)) found.0 in
+    let room : nat_le p (length b) ≡ true = le-leb _ _ (omega (arith, high, front.in_b)) in
+    let same = stretch-front n p a b front (leb-true 64 p tests.0) high in
+    rw (tests.0, room) (ap (λ (xs : List ℕ). Some xs) (sym same ∙ found.1))
+
+rich-front : (n p : ℕ) (a b : List ℕ) → HaveFront n a b → 64 ≤ p → p ≤ n → rich_at a p ≡ rich_at b p
+rich-front n p a b front low high = ap (λ (xs : List ℕ). if nat_lt p 68 then Some None else rich_in xs) (stretch-front n p a b front low high)
+
+-- fields that are there, also in another list of bytes with the same front
+record AreFields (magic : ℕ) (bytes : List ℕ) (f : FixedFields) : Type 0 where
+  pub least : 96 ≤ f.size
+  pub same : (n : ℕ) (b : List ℕ) → HaveFront n bytes b → f.size ≤ n → fixed_fields magic b ≡ Some f
+
+fields_32-front : (bytes : List ℕ) (f : FixedFields) → fields_32 bytes ≡ Some f → AreFields 0x10B bytes f
+unfolding fixed_fields
+fields_32-front bytes f e =
+    let first = step (record_at 28 (standard_32_record Little) bytes 0) _ f e in
+    let second = step (record_at 68 (windows_32_record Little) bytes 28) _ f first.then in
+    let size : 96 ≡ f.size = ap (λ (x : FixedFields). x.size) (same_value _ f second.then) in
+    record {
+      least = omega (arith, size);
+      same = λ n b front le.
+          let one = record-front n 28 (standard_32_record Little) 0 first.value bytes b front (omega arith) (omega (arith, size, le)) first.is in
+          let two = record-front n 68 (windows_32_record Little) 28 second.value bytes b front (omega arith) (omega (arith, size, le)) second.is in
+          rw (one, two) second.then;
+    }
+
+fields_64-front : (bytes : List ℕ) (f : FixedFields) → fields_64 bytes ≡ Some f → AreFields 0x20B bytes f
+unfolding fixed_fields
+fields_64-front bytes f e =
+    let first = step (record_at 24 (standard_64_record Little) bytes 0) _ f e in
+    let second = step (record_at 88 (windows_64_record Little) bytes 24) _ f first.then in
+    let size : 112 ≡ f.size = ap (λ (x : FixedFields). x.size) (same_value _ f second.then) in
+    record {
+      least = omega (arith, size);
+      same = λ n b front le.
+          let one = record-front n 24 (standard_64_record Little) 0 first.value bytes b front (omega arith) (omega (arith, size, le)) first.is in
+          let two = record-front n 88 (windows_64_record Little) 24 second.value bytes b front (omega arith) (omega (arith, size, le)) second.is in
+          rw (one, two) second.then;
+    }
+
+fixed-front : (magic : ℕ) (bytes : List ℕ) (f : FixedFields) → fixed_fields magic bytes ≡ Some f → AreFields magic bytes f
+unfolding fixed_fields
+fixed-front magic bytes f e =
+    elim (pick (nat_eq magic 0x10B) (nat_eq magic 0x20B) (fields_32 bytes) (fields_64 bytes) f e) [
+      | inl narrow ↦ subst (λ (m : ℕ). AreFields m bytes f) (sym (eqb-true magic 0x10B narrow.0)) (fields_32-front bytes f narrow.1)
+      | inr wide ↦ subst (λ (m : ℕ). AreFields m bytes f) (sym (eqb-true magic 0x20B wide.0)) (fields_64-front bytes f wide.1)
+    ]
+
+optional_header-front : (n k : ℕ) (h : OptionalHeader) (a b : List ℕ) → HaveFront n a b → k ≤ n → optional_header a ≡ Some (h, k) → optional_header b ≡ Some (h, k)
+unfolding optional_header
+optional_header-front n k h a b front le e =
+    let first = step (number_at Little 2 a 0) _ (h, k) e in
+    let second = step (fixed_fields first.value a) _ (h, k) first.then in
+    let f = second.value in
+    let count = f.windows_fields.number_of_rva_and_sizes in
+    let third = step (directories_at count a f.size) _ (h, k) second.then in
+    let end : f.size + 8 * count ≡ k = ap (λ (x : OptionalHeader × ℕ). x.1) (same_value _ (h, k) third.then) in
+    let fields = fixed-front first.value a f second.is in
+    let one = number-front n Little 2 0 first.value a b front (omega (arith, end, le, fields.least)) first.is in
+    let two = fields.same n b front (omega (arith, end, le)) in
+    let three = directories-front n count f.size third.value a b front (omega (arith, end, le)) third.is in
+    rw (one, two, three) third.then
+
+optional-front : (n p : ℕ) (none : Bool) (optional : Option OptionalHeader) (a b : List ℕ) → IsBytes a → HaveFront n a b → end_behind p optional ≤ n
+    → cond none (Some None) (option_map (λ (header : OptionalHeader × ℕ). Some header.0) (optional_header (drop (p + 24) a))) ≡ Some optional
+    → cond none (Some None) (option_map (λ (header : OptionalHeader × ℕ). Some header.0) (optional_header (drop (p + 24) b))) ≡ Some optional
+optional-front n p true optional a b fits front le e = e
+optional-front n p false optional a b fits front le e =
+    let at = p + 24 in
+    let found = mapped (optional_header (drop at a)) (λ (header : OptionalHeader × ℕ). Some header.0) optional e in
+    let h = found.value.0 in
+    let k = found.value.1 in
+    let size = (read_optional (drop at a) h k (bytes_behind a at fits) found.is).0 in
+    let end : end_behind p (Some h) ≤ n = subst (λ (o : Option OptionalHeader). end_behind p o ≤ n) (sym found.made) le in
+    let behind = front-drop n at a b front (omega (arith, end)) in
+    let there = optional_header-front (n - at) k h (drop at a) (drop at b) behind (omega (arith, size, end)) found.is in
+    rw there (ap (λ (o : Option OptionalHeader). Some o) found.made)
+
+least_end : (p : ℕ) (optional : Option OptionalHeader) → p + 24 ≤ end_behind p optional
+least_end p None = omega arith
+least_end p (Some h) = omega arith
+
+-- a header depends on the bytes up to its end alone
+pub header-front : (a b : List ℕ) (h : PeHeader) → IsBytes a → pe_header true a ≡ Some h → HaveFront (header_end h) a b → pe_header true b ≡ Some h
+unfolding optional_at
+header-front a b h fits e front =
+    let is = parts_of a h e in
+    let lies = laid a h fits is in
+    let n = header_end h in
+    let p = h.dos_header.pe_pointer in
+    let low = lies.stub_end in
+    let high : p + 24 ≤ n = least_end p h.optional_header in
+    of_parts b h (record {
+      dos = dos-front n h.dos_header a b front (omega (arith, low, high)) (omega (arith, high)) is.dos;
+      stub = stub-front n p h.dos_stub a b front (omega (arith, high)) is.stub;
+      rich = sym (rich-front n p a b front low (omega (arith, high))) ∙ is.rich;
+      signature = number-front n Little 4 p h.signature a b front (omega (arith, high)) is.signature;
+      coff = record-front n 20 (coff_header Little) (p + 4) h.coff_header a b front (omega arith) (omega (arith, high)) is.coff;
+      optional = optional-front n p (h.coff_header.size_of_optional_header == 0) h.optional_header a b fits front (omega arith) is.optional;
+    })
+
+pub header_again : HeaderReadsBack
+unfolding HeaderReadsBack HeaderWritesBack
+header_again file old new h fits e written =
+    let back = header_back file h fits e in
+    let n = header_end h in
+    let zeros = filling_behind h.optional_header in
+    let xs = take n file ++ zeros in
+    let over : overwritten old 0 xs ≡ Some new = sym (ap (option_and_then (overwritten old 0)) back.1) ∙ written in
+    let made = mapped (slice_at old 0 (length xs)) (λ _. replaced old 0 xs) new over in
+    let rest = drop (0 + length xs) old in
+    let is : take n file ++ (zeros ++ rest) ≡ new = sym (append_assoc (take n file) zeros rest) ∙ made.made in
+    subst (λ (bytes : List ℕ). pe_header true bytes ≡ Some h) is (header-front file (take n file ++ (zeros ++ rest)) h fits e (front_then n file (zeros ++ rest) back.0))

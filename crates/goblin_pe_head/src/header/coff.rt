@@ -1,0 +1,246 @@
+//! The COFF header, and the tables that it leads to: the section table, the symbol table and the
+//! string table.
+
+ghost use Rattle.std.specs.Prelude.{◌≡◌, ◌+◌, ◌*◌, ◌/◌, ◌<◌, length, option_map, true, IfOk, OnOk, OnErr, IsErrAnd};
+ghost use Rattle.goblin_base.specs.Answers.{Answers, AnswersOrMemory, Writes, IsSliceFault};
+ghost use Rattle.goblin_base.specs.Bytes.{overwritten};
+ghost use Rattle.goblin_base.specs.Record.{ReadsBack, WritesBack, encoding, record_at, record_in};
+ghost use Rattle.goblin_base.proofs.RecordLaws.{record_in-within, slice_fault-no_memory};
+ghost use Rattle.goblin_pe_sect.specs.Options.{is_strict};
+ghost use Rattle.goblin_pe_sect.specs.Symbols.{table_bytes};
+ghost use Rattle.goblin_pe_head.specs.declared.header.coff.CoffHeader.{CoffHeader};
+ghost use Rattle.goblin_pe_head.specs.CoffHeader.{IsNoStrings, IsNoSymbols, strings_of, symbols_of, coff_fields, coff_header, string_table_offset, sections_at, IsSectionsFault, IsTooManySections};
+
+use goblin_base::{
+    Cause, Endian, Error, Field, Result, Strtab, TryFromCtx, field_u16, field_u32, gread_slice,
+    pread_slice, pread_u32, pwrite_slice, record_bytes,
+};
+use goblin_pe_sect::options::ParseOptions;
+use goblin_pe_sect::section_table::{SIZEOF_SECTION_TABLE, SectionTable};
+use goblin_pe_sect::symbol::{COFF_SYMBOL_SIZE, SymbolTable};
+use std::alloc::Global;
+
+/// The size of a COFF header, in bytes.
+pub const SIZEOF_COFF_HEADER: usize = 20;
+
+// The size of the length in front of a string table, in bytes.
+const LENGTH_FIELD_SIZE: usize = 4;
+
+/// The header of a COFF file, or of the COFF part of an image.
+///
+/// Source: PE Format, "COFF File Header (Object and Image)". Numbers are as stored; the record has
+/// 20 bytes. In an image it stands behind the PE signature.
+#[derive(Debug, PartialEq, Copy, Clone, Default)]
+pub struct CoffHeader {
+    /// The machine that the file is for, a `COFF_MACHINE_*`.
+    pub machine: u16,
+    /// How many section records follow the optional header.
+    pub number_of_sections: u16,
+    /// When the file was made, in seconds since the start of 1970, or what its maker put there.
+    pub time_date_stamp: u32,
+    /// The file offset of the symbol table, 0 where there is none.
+    pub pointer_to_symbol_table: u32,
+    /// How many records the symbol table has.
+    pub number_of_symbol_table: u32,
+    /// The size of the optional header, in bytes, 0 where there is none.
+    pub size_of_optional_header: u16,
+    /// What kind of file it is, as bits `IMAGE_FILE_*`.
+    pub characteristics: u16,
+}
+
+impl CoffHeader {
+    // The COFF header in a record's bytes.
+    #[tactic(auto, unfolding(crate::specs::CoffHeader::coff_header))]
+    fn in_record(bytes: &[u8], endian: Endian) -> CoffHeader
+        requires { length bytes.now ≡ 20 }
+        ensures { result ≡ coff_header endian bytes.now }
+    {
+        CoffHeader {
+            machine: field_u16(bytes, 0, endian),
+            number_of_sections: field_u16(bytes, 2, endian),
+            time_date_stamp: field_u32(bytes, 4, endian),
+            pointer_to_symbol_table: field_u32(bytes, 8, endian),
+            number_of_symbol_table: field_u32(bytes, 12, endian),
+            size_of_optional_header: field_u16(bytes, 16, endian),
+            characteristics: field_u16(bytes, 18, endian),
+        }
+    }
+
+    // The record's bytes.
+    #[tactic(auto, unfolding(crate::specs::CoffHeader::coff_fields), using(crate::proofs::CoffHeaderRoundTrip::coff_again))]
+    pub(crate) fn to_bytes(&self, endian: Endian) -> [u8; SIZEOF_COFF_HEADER]
+        ensures made { result ≡ encoding endian (coff_fields self.now) }
+        ensures again { ReadsBack 20 coff_header coff_fields self.now }
+    {
+        let fields = [
+            Field::U16(self.machine),
+            Field::U16(self.number_of_sections),
+            Field::U32(self.time_date_stamp),
+            Field::U32(self.pointer_to_symbol_table),
+            Field::U32(self.number_of_symbol_table),
+            Field::U16(self.size_of_optional_header),
+            Field::U16(self.characteristics),
+        ];
+        record_bytes(&fields, endian)
+    }
+
+    /// Writes the record at the front of `bytes` and answers its size, 20. A header that was read is
+    /// written as it stood, and any header is read again from what was written, by the same order of
+    /// bytes.
+    ///
+    /// # Errors
+    /// [`Error::Read`] where there is no room for 20 bytes; `bytes` are then as they were.
+    #[tactic(auto, using(crate::proofs::CoffHeaderRoundTrip::coff_back))]
+    pub fn try_into_ctx(self, bytes: &mut [u8], endian: Endian) -> Result<usize>
+        ensures size { IfOk result (λ n. n ≡ 20) }
+        ensures written { Writes result (overwritten bytes.old 0 (encoding endian (coff_fields self))) bytes.old bytes.new (IsSliceFault bytes.old 0 20) }
+        ensures back { WritesBack 20 coff_header coff_fields }
+        ensures again { ReadsBack 20 coff_header coff_fields self }
+    {
+        pwrite_slice(bytes, 0, &self.to_bytes(endian))?;
+        Ok(SIZEOF_COFF_HEADER)
+    }
+
+    /// The size of the record in bytes, the same in either order: 20.
+    pub fn size_with(_endian: &Endian) -> usize
+        ensures { result ≡ 20 }
+    {
+        SIZEOF_COFF_HEADER
+    }
+
+    /// Reads the record at `offset` and moves `offset` past it.
+    ///
+    /// # Errors
+    /// [`Error::Read`] where the file has no 20 bytes there; `offset` then stays.
+    pub fn parse(bytes: &[u8], offset: &mut usize) -> Result<CoffHeader>
+        ensures value { Answers (λ h. h) result (record_at 20 (coff_header Endian.Little) bytes.now offset.old) (IsSliceFault bytes.now offset.old 20) }
+        ensures ok { OnOk result (offset.new ≡ offset.old + 20) }
+        ensures err { OnErr result (offset.new ≡ offset.old) }
+    {
+        let record = gread_slice(bytes, offset, SIZEOF_COFF_HEADER)?;
+        Ok(CoffHeader::in_record(record, Endian::Little))
+    }
+
+    /// Reads the section table, as [`CoffHeader::sections_with_opts`] with the default options.
+    ///
+    /// # Errors
+    /// As [`CoffHeader::sections_with_opts`] in strict mode.
+    pub fn sections(
+        &self,
+        alloc: Global,
+        bytes: &[u8],
+        offset: &mut usize,
+    ) -> Result<Vec<SectionTable>>
+        ensures value { AnswersOrMemory (λ v. v.items) result (sections_at true (string_table_offset self.now) self.now.number_of_sections bytes.now offset.old) (IsSectionsFault true self.now.number_of_sections bytes.now offset.old) }
+        ensures first { length bytes.now / 40 < self.now.number_of_sections → IsErrAnd result (IsTooManySections self.now.number_of_sections bytes.now) }
+        ensures ok { OnOk result (offset.new ≡ offset.old + 40 * self.now.number_of_sections) }
+        ensures err { OnErr result (offset.new ≡ offset.old) }
+    {
+        self.sections_with_opts(alloc, bytes, offset, &ParseOptions::default())
+    }
+
+    /// Reads the section table, whose records stand one after the other from `offset` on, and moves
+    /// `offset` past it. In an image it stands behind the optional header. Indirect names are looked
+    /// up in the string table behind the symbol table.
+    ///
+    /// # Errors
+    /// [`Error::BufferTooShort`] of the number of sections where the whole file has no room for so
+    /// many, tested first; as [`SectionTable::parse_with_opts`] where a record is not all there or
+    /// its name is refused; [`Error::Memory`] where memory is refused. `offset` then stays.
+    pub fn sections_with_opts(
+        &self,
+        alloc: Global,
+        bytes: &[u8],
+        offset: &mut usize,
+        opts: &ParseOptions,
+    ) -> Result<Vec<SectionTable>>
+        ensures value { AnswersOrMemory (λ v. v.items) result (sections_at (is_strict opts.now.parse_mode) (string_table_offset self.now) self.now.number_of_sections bytes.now offset.old) (IsSectionsFault (is_strict opts.now.parse_mode) self.now.number_of_sections bytes.now offset.old) }
+        ensures first { length bytes.now / 40 < self.now.number_of_sections → IsErrAnd result (IsTooManySections self.now.number_of_sections bytes.now) }
+        ensures ok { OnOk result (offset.new ≡ offset.old + 40 * self.now.number_of_sections) }
+        ensures err { OnErr result (offset.new ≡ offset.old) }
+    {
+        let count = self.number_of_sections as usize;
+        if bytes.len() / SIZEOF_SECTION_TABLE < count {
+            return Err(Error::BufferTooShort(count, "sections"));
+        }
+        let table = self.string_table_offset();
+        let mut sections = Vec::with_capacity(alloc, count)?;
+        let mut end = *offset;
+        'records: for _ in 0..count {
+            let section = SectionTable::parse_with_opts(alloc, bytes, &mut end, table, opts)?;
+            sections.push(section)?;
+        }
+        *offset = end;
+        Ok(sections)
+    }
+
+    /// The symbol table, `None` where its pointer is 0.
+    ///
+    /// # Errors
+    /// [`Error::Read`] where its records are not all there, or begin at the end, also where there are
+    /// none.
+    pub fn symbols<'a>(&self, bytes: &'a [u8]) -> Result<Option<SymbolTable<'a>>>
+        ensures { Answers (option_map table_bytes) result (symbols_of self.now bytes.now) (IsNoSymbols self.now bytes.now) }
+    {
+        if self.pointer_to_symbol_table == 0 {
+            return Ok(None);
+        }
+        let offset = self.pointer_to_symbol_table as usize;
+        let symbols = SymbolTable::parse(bytes, offset, self.number_of_symbol_table as usize)?;
+        Ok(Some(symbols))
+    }
+
+    /// The string table, which stands behind the symbol table; `None` where the pointer to that is 0.
+    /// Its first four bytes say its length with themselves. They are no part of what is answered, so
+    /// offsets count from behind them. It stays where it stands in the file, so no memory is taken.
+    ///
+    /// # Errors
+    /// [`Error::Read`] where the four bytes are not all there; [`Error::Malformed`] with
+    /// [`Cause::CoffLength`] where the length is below 4; and as [`Strtab::parse`].
+    pub fn strings<'a>(&self, alloc: Global, bytes: &'a [u8]) -> Result<Option<Strtab<'a>>>
+        ensures { Answers (λ t. t) result (strings_of self.now bytes.now) (IsNoStrings self.now bytes.now) }
+    {
+        if self.pointer_to_symbol_table == 0 {
+            return Ok(None);
+        }
+        let offset = self.string_table_offset();
+        let length = pread_u32(bytes, offset, Endian::Little)? as usize;
+        if length < LENGTH_FIELD_SIZE {
+            return Err(Error::Malformed(Cause::CoffLength));
+        }
+        let begin = offset + LENGTH_FIELD_SIZE;
+        let strings = Strtab::parse(alloc, bytes, begin, length - LENGTH_FIELD_SIZE, 0)?;
+        Ok(Some(strings))
+    }
+
+    // The file offset of the string table, which stands behind the symbol table.
+    fn string_table_offset(&self) -> usize
+        ensures { result ≡ string_table_offset self.now }
+    {
+        let symbols = self.number_of_symbol_table as usize;
+        self.pointer_to_symbol_table as usize + COFF_SYMBOL_SIZE * symbols
+    }
+}
+
+impl TryFromCtx<'_> for CoffHeader {
+    ghost Plain = { CoffHeader };
+
+    ghost plain = { λ header. header };
+
+    ghost value_of = { record_in 20 coff_header };
+
+    ghost refusal = { λ _ bytes e. IsSliceFault bytes 0 20 e };
+
+    ghost within = { record_in-within 20 coff_header };
+
+    ghost no_memory = { λ _ bytes e. slice_fault-no_memory bytes 0 20 e };
+
+    /// Reads the record at the front of `bytes`, which takes 20 bytes.
+    ///
+    /// # Errors
+    /// [`Error::Read`] where there are no 20 bytes.
+    fn try_from_ctx(bytes: &[u8], endian: Endian) -> Result<(CoffHeader, usize)> {
+        let record = pread_slice(bytes, 0, SIZEOF_COFF_HEADER)?;
+        Ok((CoffHeader::in_record(record, endian), SIZEOF_COFF_HEADER))
+    }
+}

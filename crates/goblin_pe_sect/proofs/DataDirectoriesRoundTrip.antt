@@ -1,0 +1,144 @@
+-- Directories that were read are written as they stood, with zeros behind the last, and one that was written is read again.
+use Rattle.std.proofs.Common.{◌≡◌, ℕ, zero, suc, ◌+◌, ◌-◌, ◌*◌, ◌≤◌, true, false, nat_le, List, [], ◌∷◌, ◌++◌, length, drop, map, Option, Some, None, refl, sym, ap, ◌∙◌, inl, inr, arith, Bool, cond, nat_lt, take, replicate, ◌⊎◌}
+use Rattle.std.specs.List.{range_with_len}
+use Rattle.std.specs.Prelude.{◌==◌, ◌&&◌, ◌||◌, slice_range, flat_map}
+use Rattle.std.proofs.lemmas.Bool.{le-leb, lt-ltb, and_parts, eqb-true, leb-true}
+use Rattle.std.proofs.lemmas.Option.{cond_some}
+use Rattle.std.proofs.lemmas.List.{drop-drop, map-append, replicate-append-replicate}
+use Rattle.std.proofs.lemmas.List.Concat.{flat_map-append}
+use Rattle.goblin_base.specs.declared.endian.Endian.TheVariants.{Little}
+use Rattle.goblin_base.specs.Bytes.{IsBytes, number_bytes, slice_at}
+use Rattle.goblin_base.specs.Record.{FieldValue, WritesBack, encoding, record_at, FieldsFit, ReadsBack}
+use Rattle.goblin_base.proofs.RecordRoundTrip.{uint_slot, writes_back, number_of, reads_back}
+use Rattle.goblin_base.proofs.Writing.{encoding_append}
+use Rattle.goblin_pe_sect.specs.declared.data_directories.DataDirectory.{DataDirectory}
+use Rattle.goblin_pe_sect.specs.DataDirectories.{directories_at, directory_fields, directory_or_zeros, directory_record, entries_fields, entry_at, entry_ending, EntriesWriteBack, no_directory}
+use Rattle.std.proofs.Math.Seq.{take-add}
+use Rattle.goblin_pe_sect.proofs.Entries.{entry_at-below, entry_at-past}
+
+-- a directory that was read is written as it stood
+pub directory_back : WritesBack 8 directory_record directory_fields
+unfolding directory_record directory_fields
+directory_back = writes_back 8 directory_record directory_fields (uint_slot 4 ∷ uint_slot 4 ∷ []) refl (λ endian own h. refl)
+
+abbrev directory_of : List FieldValue → DataDirectory
+directory_of fields = record { virtual_address = number_of fields 0; size = number_of fields 1 }
+
+pub directory_again : (d : DataDirectory) → FieldsFit (directory_fields d) → ReadsBack 8 directory_record directory_fields d
+unfolding directory_record directory_fields
+directory_again d fit = reads_back 8 directory_record directory_fields directory_of d refl (omega arith) fit (λ endian own. refl) (λ endian own. refl) refl
+
+zeros : encoding Little (directory_fields no_directory) ≡ replicate 8 0
+unfolding directory_fields number_bytes
+zeros = refl
+
+abbrev directory : ℕ → ℕ → DataDirectory
+directory address size = record { virtual_address = address; size = size }
+
+by_test : (b c : Bool) (end : ℕ) (d : DataDirectory) → (b ≡ true → d.virtual_address ≡ 0) → (c ≡ true → d.size ≡ 0) → directory_or_zeros (cond (b && c) None (Some (end, d))) ≡ d
+by_test true true end d address size = ap (λ (x : ℕ). directory x 0) (sym (address refl)) ∙ ap (directory d.virtual_address) (sym (size refl))
+by_test true false end d address size = refl
+by_test false c end d address size = refl
+
+-- an entry stands for its directory, also for one of zeros
+directory_or_zeros-entry_ending : (end : ℕ) (d : DataDirectory) → directory_or_zeros (entry_ending end d) ≡ d
+directory_or_zeros-entry_ending end d = by_test (d.virtual_address == 0) (d.size == 0) end d (eqb-true d.virtual_address 0) (eqb-true d.size 0)
+
+own_bytes : (bytes : List ℕ) (p : ℕ) → IsBytes bytes → p + 8 ≤ length bytes → encoding Little (directory_fields (directory_record Little (slice_range bytes p (p + 8)))) ≡ slice_range bytes p (p + 8)
+own_bytes bytes p h room =
+    let own = slice_range bytes p (p + 8) in
+    let start : nat_lt p (length bytes) ≡ true = lt-ltb _ _ (omega arith) in
+    let end : nat_le (p + 8) (length bytes) ≡ true = le-leb _ _ room in
+    let here : slice_at bytes p 8 ≡ Some own = rw (start, end) refl in
+    let there : record_at 8 (directory_record Little) bytes p ≡ Some (directory_record Little own) = rw (start, end) refl in
+    let back : slice_at bytes p 8 ≡ Some (encoding Little (directory_fields (directory_record Little own))) = directory_back Little bytes p (directory_record Little own) h there in
+    cc (here, back)
+
+-- the bytes of n entries from index a on
+abbrev bytes_of : ℕ → List ℕ → ℕ → ℕ → ℕ → List ℕ
+bytes_of count bytes p a n = encoding Little (entries_fields (map (entry_at count bytes p) (range_with_len a n)))
+
+bytes_of-more : (count : ℕ) (bytes : List ℕ) (p a n : ℕ) → bytes_of count bytes p a (suc n) ≡ encoding Little (directory_fields (directory_or_zeros (entry_at count bytes p a))) ++ bytes_of count bytes p (a + 1) n
+unfolding entries_fields
+bytes_of-more count bytes p a n =
+    encoding_append Little (directory_fields (directory_or_zeros (entry_at count bytes p a))) (entries_fields (map (entry_at count bytes p) (range_with_len (a + 1) n)))
+
+-- those below the count are written as they stand
+below : (count : ℕ) (bytes : List ℕ) (p a n : ℕ) → IsBytes bytes → a + n ≤ count → p + 8 * (a + n) ≤ length bytes → bytes_of count bytes p a n ≡ take (8 * n) (drop (p + 8 * a) bytes)
+unfolding entries_fields
+below count bytes p a zero h most room = refl
+below count bytes p a (suc n) h most room =
+    let at = p + 8 * a in
+    let width : at + 8 - at ≡ 8 = omega arith in
+    let first : encoding Little (directory_fields (directory_or_zeros (entry_at count bytes p a))) ≡ take 8 (drop at bytes) =
+    ap (λ e. encoding Little (directory_fields (directory_or_zeros e))) (entry_at-below count bytes p a (omega arith))
+    ∙ ap (λ d. encoding Little (directory_fields d)) (directory_or_zeros-entry_ending (at + 8) (directory_record Little (slice_range bytes at (at + 8))))
+    ∙ own_bytes bytes at h (omega arith) ∙ ap (λ (k : ℕ). take k (drop at bytes)) width in
+    let rest = below count bytes p (a + 1) n h (omega arith) (omega arith) in
+    let next : p + 8 * (a + 1) ≡ at + 8 = omega arith in
+    let long : 8 * suc n ≡ 8 + 8 * n = omega arith in
+    bytes_of-more count bytes p a n ∙ ap (λ (xs : List ℕ). xs ++ bytes_of count bytes p (a + 1) n) first
+    ∙ ap (λ (xs : List ℕ). take 8 (drop at bytes) ++ xs) (rest ∙ ap (λ (k : ℕ). take (8 * n) (drop k bytes)) next ∙ ap (take (8 * n)) (sym (drop-drop 8 at bytes)))
+    ∙ sym (take-add 8 (8 * n) (drop at bytes)) ∙ ap (λ (k : ℕ). take k (drop at bytes)) (sym long)
+
+-- the others are zeros
+past : (count : ℕ) (bytes : List ℕ) (p a n : ℕ) → count ≤ a → bytes_of count bytes p a n ≡ replicate (8 * n) 0
+unfolding entries_fields
+past count bytes p a zero most = refl
+past count bytes p a (suc n) most =
+    let first : encoding Little (directory_fields (directory_or_zeros (entry_at count bytes p a))) ≡ replicate 8 0 =
+    ap (λ e. encoding Little (directory_fields (directory_or_zeros e))) (entry_at-past count bytes p a most) ∙ zeros in
+    let rest = past count bytes p (a + 1) n (omega arith) in
+    let long : 8 * suc n ≡ 8 + 8 * n = omega arith in
+    bytes_of-more count bytes p a n ∙ ap (λ (xs : List ℕ). xs ++ bytes_of count bytes p (a + 1) n) first ∙ ap (λ (xs : List ℕ). replicate 8 0 ++ xs) rest
+    ∙ replicate-append-replicate 8 (8 * n) 0 ∙ ap (λ (k : ℕ). replicate k 0) (sym long)
+
+zero_plus : (n : ℕ) → zero + n ≡ n
+zero_plus n = omega arith
+
+plus_zero : (n : ℕ) → n + zero ≡ n
+plus_zero n = omega arith
+
+range_with_len-split : (a n m : ℕ) → range_with_len a (n + m) ≡ range_with_len a n ++ range_with_len (a + n) m
+range_with_len-split a zero m = rw (zero_plus m, plus_zero a) refl
+range_with_len-split a (suc n) m =
+    let e : suc n + m ≡ suc (n + m) = omega arith in
+    let f : a + suc n ≡ a + 1 + n = omega arith in
+    rw (e, f) (ap (λ (xs : List ℕ). a ∷ xs) (range_with_len-split (a + 1) n m))
+
+split : (count : ℕ) (bytes : List ℕ) (p n m : ℕ) → bytes_of count bytes p 0 (n + m) ≡ bytes_of count bytes p 0 n ++ bytes_of count bytes p n m
+unfolding entries_fields
+split count bytes p n m =
+    let f = entry_at count bytes p in
+    let g : Option (ℕ × DataDirectory) → List FieldValue = λ e. directory_fields (directory_or_zeros e) in
+    ap (λ (r : List ℕ). encoding Little (flat_map g (map f r))) (range_with_len-split 0 n m ∙ ap (λ (k : ℕ). range_with_len 0 n ++ range_with_len k m) (zero_plus n))
+    ∙ ap (λ (es : List (Option (ℕ × DataDirectory))). encoding Little (flat_map g es)) (map-append f (range_with_len 0 n) (range_with_len n m))
+    ∙ ap (encoding Little) (flat_map-append g (map f (range_with_len 0 n)) (map f (range_with_len n m)))
+    ∙ encoding_append Little (flat_map g (map f (range_with_len 0 n))) (flat_map g (map f (range_with_len n m)))
+
+none_read : (count n : ℕ) (bytes : List ℕ) (p : ℕ) → n ≡ 0 → bytes_of count bytes p 0 n ≡ take (8 * n) (drop p bytes)
+unfolding entries_fields
+none_read count n bytes p none = rw none refl
+
+either : (a b : Bool) → (a || b) ≡ true → (a ≡ true) ⊎ (b ≡ true)
+either true b h = inl refl
+either false b h = inr h
+
+pub entries_back : EntriesWriteBack
+unfolding directories_at
+entries_back count bytes p entries h e =
+    let found = cond_some (nat_le count 16 && (count == 0 || nat_le (p + 8 * count) (length bytes))) (map (entry_at count bytes p) (range_with_len 0 16)) entries e in
+    let tests = and_parts (nat_le count 16) (count == 0 || nat_le (p + 8 * count) (length bytes)) found.0 in
+    let most : count ≤ 16 = leb-true count 16 tests.0 in
+    let all : 16 ≡ count + (16 - count) = omega (arith, most) in
+    let start : p + 8 * 0 ≡ p = omega arith in
+    let width : p + 8 * count - p ≡ 8 * count = omega arith in
+    let front : bytes_of count bytes p 0 count ≡ slice_range bytes p (p + 8 * count) =
+    elim (either (count == 0) (nat_le (p + 8 * count) (length bytes)) tests.1) [
+      | inl none ↦ none_read count count bytes p (eqb-true count 0 none) ∙ ap (λ (k : ℕ). take k (drop p bytes)) (sym width)
+      | inr room ↦
+          let fits = leb-true (p + 8 * count) (length bytes) room in
+          below count bytes p 0 count h (omega arith) (omega arith) ∙ ap (λ (k : ℕ). take (8 * count) (drop k bytes)) start ∙ ap (λ (k : ℕ). take k (drop p bytes)) (sym width)
+    ] in
+    ap (λ (es : List (Option (ℕ × DataDirectory))). encoding Little (entries_fields es)) (sym found.1) ∙ ap (bytes_of count bytes p 0) all ∙ split count bytes p count (16 - count)
+    ∙ ap (λ (xs : List ℕ). xs ++ bytes_of count bytes p count (16 - count)) front ∙ ap (λ (xs : List ℕ). slice_range bytes p (p + 8 * count) ++ xs) (past count bytes p count (16 - count) (omega arith))

@@ -1,0 +1,163 @@
+-- A name that was written says what it was written for.
+use Rattle.std.proofs.Common.{◌≡◌, ℕ, zero, suc, ◌+◌, ◌==◌, ◌&&◌, Bool, true, false, nat_lt, nat_eq, List, [], ◌∷◌, ◌++◌, take, length, refl, ap, sym, ◌∙◌, arith, take_all, nat_le, ◌-◌, if◌then◌else◌, ◌<◌, ◌≤◌, ◌/◌, ◌%◌, ◌^◌, not, map}
+use Rattle.std.specs.Prelude.{Some, replicate, Option, None}
+use Rattle.std.specs.List.{list_all, position_or_len}
+use Rattle.std.specs.Str.{is_utf8, IsAscii}
+use Rattle.std.proofs.lemmas.Str.{is_utf8-from_IsUtf8, IsUtf8-from_ascii}
+use Rattle.std.proofs.lemmas.Str.Ascii.{IsAscii-cons, IsAscii-nil}
+use Rattle.std.proofs.lemmas.Bool.{and_parts, ltb-true, eqb-true, leb-true}
+use Rattle.std.proofs.lemmas.List.{length-append, length-replicate, append-nil, length-map}
+use Rattle.std.proofs.Math.Seq.{take-append_seam}
+use Rattle.goblin_base.specs.Bytes.{before_nul, bounded_text_at}
+use Rattle.std.proofs.lemmas.Option.{cond_some}
+use Rattle.std.specs.Option.{option_map}
+use Rattle.goblin_pe_sect.specs.declared.digits.Digits.{Digits}
+use Rattle.goblin_pe_sect.specs.declared.digits.Digits.TheVariants.{Decimal, Base64}
+use Rattle.goblin_pe_sect.specs.SectionName.{alphabet, last_digits, digit_byte, radix, numeral, name_value, text_value, decimal_number, decimal_width, indirect_name}
+use Rattle.goblin_pe_sect.proofs.DigitsRoundTrip.{below, below-at, last_digits-below, numeral-written}
+
+-- a byte that is ASCII and no NUL
+abbrev pub is_plain : ℕ → Bool
+is_plain b = nat_lt 0 b && nat_lt b 128
+
+ascii : (text : List ℕ) → list_all is_plain text ≡ true → IsAscii text
+ascii [] h = IsAscii-nil
+ascii (b ∷ bs) h =
+    let parts = and_parts (is_plain b) (list_all is_plain bs) h in
+    IsAscii-cons b bs (ltb-true b 128 (and_parts (nat_lt 0 b) (nat_lt b 128) parts.0).1) (ascii bs parts.1)
+
+pub utf8 : (text : List ℕ) → list_all is_plain text ≡ true → is_utf8 text ≡ true
+utf8 text h = is_utf8-from_IsUtf8 text (IsUtf8-from_ascii text (ascii text h))
+
+pub by_test : (b : Bool) → (b ≡ true → ⊥) → b ≡ false
+by_test true h = absurd (h refl)
+by_test false h = refl
+
+nonzero : (b : ℕ) → nat_lt 0 b ≡ true → nat_eq b 0 ≡ false
+nonzero b h = by_test (nat_eq b 0) (λ e. omega (arith, eqb-true b 0 e, ltb-true 0 b h))
+
+first_nul : (text : List ℕ) (k : ℕ) → list_all is_plain text ≡ true → position_or_len (λ b. b == 0) (text ++ replicate k 0) ≡ length text
+first_nul [] zero h = refl
+first_nul [] (suc k) h = refl
+first_nul (b ∷ bs) k h =
+    let parts = and_parts (is_plain b) (list_all is_plain bs) h in
+    let other = nonzero b (and_parts (nat_lt 0 b) (nat_lt b 128) parts.0).0 in
+    let rest = first_nul bs k parts.1 in
+    let next : 1 + length bs ≡ suc (length bs) = omega arith in
+    rw (other, rest) next
+
+-- a text without NULs, with NULs behind it
+pub before_nul-padded : (text : List ℕ) (k : ℕ) → list_all is_plain text ≡ true → before_nul (text ++ replicate k 0) ≡ text
+before_nul-padded text k h = ap (λ (n : ℕ). take n (text ++ replicate k 0)) (first_nul text k h) ∙ take-append_seam text (replicate k 0)
+
+-- the text behind two slashes
+pub behind_two : (text : List ℕ) → list_all is_plain text ≡ true → length text ≡ 6 → bounded_text_at (47 ∷ 47 ∷ text) 2 6 ≡ Some text
+behind_two text h len =
+    let all : length (47 ∷ 47 ∷ text) ≡ 8 = omega (arith, len) in
+    let whole : take 6 text ≡ text = take_all 6 text (omega (arith, len)) in
+    let nul : before_nul text ≡ text = ap before_nul (sym (append-nil text)) ∙ before_nul-padded text 0 h in
+    let good = utf8 text h in
+    rw (all, whole, nul, good) refl
+
+-- the text behind one slash, with NULs behind it
+pub behind_one : (text : List ℕ) (k : ℕ) → list_all is_plain text ≡ true → length text + k ≡ 7 → bounded_text_at (47 ∷ (text ++ replicate k 0)) 1 7 ≡ Some text
+behind_one text k h len =
+    let padded : length (text ++ replicate k 0) ≡ 7 = length-append text (replicate k 0) ∙ ap (λ (n : ℕ). length text + n) (length-replicate k 0) ∙ len in
+    let all : length (47 ∷ (text ++ replicate k 0)) ≡ 8 = omega (arith, padded) in
+    let whole : take 7 (text ++ replicate k 0) ≡ text ++ replicate k 0 = take_all 7 (text ++ replicate k 0) (omega (arith, padded)) in
+    let nul = before_nul-padded text k h in
+    let good = utf8 text h in
+    rw (all, whole, nul, good) refl
+
+-- ---- what `name_offset` says after `set_name_offset`
+
+length-last_digits : (r k n : ℕ) → length (last_digits r k n) ≡ k
+unfolding last_digits
+length-last_digits r zero n = refl
+length-last_digits r (suc k) n =
+    let front = length-last_digits r k (n / r) in
+    length-append (last_digits r k (n / r)) (n % r ∷ []) ∙ rw front (omega arith)
+
+plain : (s : Digits) (d : ℕ) → d < radix s → is_plain (digit_byte s d) ≡ true
+unfolding below alphabet
+plain Decimal d small = below-at (λ d. is_plain (digit_byte Decimal d)) 10 d refl small
+plain Base64 d small = below-at (λ d. is_plain (digit_byte Base64 d)) 64 d refl small
+
+all_plain : (s : Digits) (ds : List ℕ) → list_all (λ d. nat_lt d (radix s)) ds ≡ true → list_all is_plain (map (digit_byte s) ds) ≡ true
+all_plain s [] h = refl
+all_plain s (d ∷ ds) h =
+    let parts = and_parts (nat_lt d (radix s)) (list_all (λ d. nat_lt d (radix s)) ds) h in
+    let one = plain s d (ltb-true d (radix s) parts.0) in
+    let rest = all_plain s ds parts.1 in
+    ap (λ (b : Bool). b && list_all is_plain (map (digit_byte s) ds)) one ∙ rest
+
+-- a number of six digits of base 64 is read from the name that was written for it
+pub base64_back : (strict : Bool) (n : ℕ) → n < 64 ^ 6 → name_value strict (47 ∷ 47 ∷ map (digit_byte Base64) (last_digits 64 6 n)) ≡ Some (Some n)
+unfolding alphabet name_value
+base64_back strict n h =
+    let text = map (digit_byte Base64) (last_digits 64 6 n) in
+    let there = behind_two text (all_plain Base64 (last_digits 64 6 n) (last_digits-below 64 6 n (omega arith))) (length-map (last_digits 64 6 n) (digit_byte Base64) ∙ length-last_digits 64 6 n) in
+    ap (λ (o : Option (List ℕ)). text_value strict o (numeral Base64)) there ∙ ap (option_map (λ (m : ℕ). Some m)) (numeral-written Base64 6 n h)
+
+-- a digit is no slash and no plus
+digit_apart : (d : ℕ) → d < 10 → (nat_eq (digit_byte Decimal d) 47 ≡ false) × (nat_eq (digit_byte Decimal d) 43 ≡ false)
+unfolding alphabet below
+digit_apart d small =
+    let apart = below-at (λ (d : ℕ). not (nat_eq (digit_byte Decimal d) 47) && not (nat_eq (digit_byte Decimal d) 43)) 10 d refl small in
+    let parts = and_parts (not (nat_eq (digit_byte Decimal d) 47)) (not (nat_eq (digit_byte Decimal d) 43)) apart in
+    (not_true _ parts.0, not_true _ parts.1)
+  where
+    not_true : (b : Bool) → not b ≡ true → b ≡ false
+    not_true true h = absurd cc
+    not_true false h = refl
+
+-- decimal digits with NULs behind them are read
+decimal_read : (strict : Bool) (ds : List ℕ) (k n : ℕ) → list_all (λ d. nat_lt d 10) ds ≡ true → 0 < length ds → length ds + k ≡ 7 → numeral Decimal (map (digit_byte Decimal) ds) ≡ Some n
+    → name_value strict (47 ∷ map (digit_byte Decimal) ds ++ replicate k 0) ≡ Some (Some n)
+unfolding alphabet name_value
+decimal_read strict [] k n digits some len value = absurd (omega (arith, some))
+decimal_read strict (d ∷ ds) k n digits some len value =
+    let text = map (digit_byte Decimal) (d ∷ ds) in
+    let apart = digit_apart d (ltb-true d 10 (and_parts (nat_lt d 10) (list_all (λ d. nat_lt d 10) ds) digits).0) in
+    let there = behind_one text k (all_plain Decimal (d ∷ ds) digits) (ap (λ (m : ℕ). m + k) (length-map (d ∷ ds) (digit_byte Decimal)) ∙ len) in
+    let nonempty : nat_eq (length text) 0 ≡ false = by_test (nat_eq (length text) 0) (λ e. omega (arith, eqb-true (length text) 0 e)) in
+    let read : decimal_number text ≡ Some n = rw (apart.1, nonempty) value in
+    let here : name_value strict (47 ∷ text ++ replicate k 0) ≡ text_value strict (bounded_text_at (47 ∷ (text ++ replicate k 0)) 1 7) decimal_number = rw apart.0 refl in
+    here ∙ ap (λ (o : Option (List ℕ)). text_value strict o decimal_number) there ∙ ap (option_map (λ (m : ℕ). Some m)) read
+
+-- the width of a number has room for it
+fits_width : (n : ℕ) → n ≤ 9999999 → (n < 10 ^ decimal_width n) × (0 < decimal_width n) × (decimal_width n ≤ 7)
+fits_width n most = at (nat_lt n 10) (nat_lt n 100) (nat_lt n 1000) (nat_lt n 10000) (nat_lt n 100000) (nat_lt n 1000000) refl refl refl refl refl refl
+  where
+    width : Bool → Bool → Bool → Bool → Bool → Bool → ℕ
+    width a b c d e f = if a then 1 else if b then 2 else if c then 3 else if d then 4 else if e then 5 else if f then 6 else 7
+
+    at : (a b c d e f : Bool) → nat_lt n 10 ≡ a → nat_lt n 100 ≡ b → nat_lt n 1000 ≡ c → nat_lt n 10000 ≡ d → nat_lt n 100000 ≡ e → nat_lt n 1000000 ≡ f
+        → (n < 10 ^ width a b c d e f) × (0 < width a b c d e f) × (width a b c d e f ≤ 7)
+    at true b c d e f h1 h2 h3 h4 h5 h6 = (ltb-true n 10 h1, omega arith, omega arith)
+    at false true c d e f h1 h2 h3 h4 h5 h6 = (ltb-true n 100 h2, omega arith, omega arith)
+    at false false true d e f h1 h2 h3 h4 h5 h6 = (ltb-true n 1000 h3, omega arith, omega arith)
+    at false false false true e f h1 h2 h3 h4 h5 h6 = (ltb-true n 10000 h4, omega arith, omega arith)
+    at false false false false true f h1 h2 h3 h4 h5 h6 = (ltb-true n 100000 h5, omega arith, omega arith)
+    at false false false false false true h1 h2 h3 h4 h5 h6 = (ltb-true n 1000000 h6, omega arith, omega arith)
+    at false false false false false false h1 h2 h3 h4 h5 h6 = (omega (arith, most), omega arith, omega arith)
+
+pub decimal_back : (strict : Bool) (n : ℕ) → n ≤ 9999999
+    → name_value strict (47 ∷ map (digit_byte Decimal) (last_digits 10 (decimal_width n) n) ++ replicate (7 - decimal_width n) 0) ≡ Some (Some n)
+unfolding alphabet
+decimal_back strict n most =
+    let fits = fits_width n most in
+    let long = length-last_digits 10 (decimal_width n) n in
+    decimal_read strict (last_digits 10 (decimal_width n) n) (7 - decimal_width n) n (last_digits-below 10 (decimal_width n) n (omega arith)) (omega (arith, long, fits.1)) (omega (arith, long, fits.2)) (numeral-written Decimal (decimal_width n) n fits.0)
+
+by_range : (strict : Bool) (n : ℕ) (name : List ℕ) (decimal wide : Bool) → nat_le n 9999999 ≡ decimal → nat_lt n (64 ^ 6) ≡ wide
+    → (if decimal then Some (47 ∷ map (digit_byte Decimal) (last_digits 10 (decimal_width n) n) ++ replicate (7 - decimal_width n) 0) else if wide then Some (47 ∷ 47 ∷ map (digit_byte Base64) (last_digits 64 6 n)) else None) ≡ Some name
+    → name_value strict name ≡ Some (Some n)
+by_range strict n name true wide e f is = ap (name_value strict) (sym (cond_some true _ name is).1) ∙ decimal_back strict n (leb-true n 9999999 e)
+by_range strict n name false true e f is = ap (name_value strict) (sym (cond_some true _ name is).1) ∙ base64_back strict n (ltb-true n (64 ^ 6) f)
+by_range strict n name false false e f is = absurd (cc)
+
+-- a name that says n is read as n
+pub name_back : (strict : Bool) (n : ℕ) (name : List ℕ) → indirect_name n ≡ Some name → name_value strict name ≡ Some (Some n)
+unfolding indirect_name
+name_back strict n name is = by_range strict n name (nat_le n 9999999) (nat_lt n (64 ^ 6)) refl refl is

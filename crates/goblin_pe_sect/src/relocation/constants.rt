@@ -1,0 +1,221 @@
+//! The types of relocations, by the machine, and those of base relocations.
+
+/// x86: nothing is changed.
+pub const IMAGE_REL_I386_ABSOLUTE: u16 = 0x00;
+/// x86: the target's address, 16 bits; not supported.
+pub const IMAGE_REL_I386_DIR16: u16 = 0x01;
+/// x86: the distance to the target, 16 bits; not supported.
+pub const IMAGE_REL_I386_REL16: u16 = 0x02;
+/// x86: the target's address, 32 bits.
+pub const IMAGE_REL_I386_DIR32: u16 = 0x06;
+/// x86: the target's address relative to the image's base, 32 bits.
+pub const IMAGE_REL_I386_DIR32NB: u16 = 0x07;
+/// x86: a segment's selector; not supported.
+pub const IMAGE_REL_I386_SEG12: u16 = 0x09;
+/// x86: the index of the target's section, 16 bits.
+pub const IMAGE_REL_I386_SECTION: u16 = 0x0A;
+/// x86: the target's offset from its section's start, 32 bits.
+pub const IMAGE_REL_I386_SECREL: u16 = 0x0B;
+/// x86: a token of the common language runtime.
+pub const IMAGE_REL_I386_TOKEN: u16 = 0x0C;
+/// x86: the target's offset from its section's start, 7 bits.
+pub const IMAGE_REL_I386_SECREL7: u16 = 0x0D;
+/// x86: the distance to the target, 32 bits.
+pub const IMAGE_REL_I386_REL32: u16 = 0x14;
+
+/// x86-64: nothing is changed.
+pub const IMAGE_REL_AMD64_ABSOLUTE: u16 = 0x00;
+/// x86-64: the target's address, 64 bits.
+pub const IMAGE_REL_AMD64_ADDR64: u16 = 0x01;
+/// x86-64: the target's address, 32 bits.
+pub const IMAGE_REL_AMD64_ADDR32: u16 = 0x02;
+/// x86-64: the target's address relative to the image's base, 32 bits.
+pub const IMAGE_REL_AMD64_ADDR32NB: u16 = 0x03;
+/// x86-64: the distance to the target from the byte behind the field, 32 bits.
+pub const IMAGE_REL_AMD64_REL32: u16 = 0x04;
+/// x86-64: as [`IMAGE_REL_AMD64_REL32`], from 1 byte farther behind.
+pub const IMAGE_REL_AMD64_REL32_1: u16 = 0x05;
+/// x86-64: as [`IMAGE_REL_AMD64_REL32`], from 2 bytes farther behind.
+pub const IMAGE_REL_AMD64_REL32_2: u16 = 0x06;
+/// x86-64: as [`IMAGE_REL_AMD64_REL32`], from 3 bytes farther behind.
+pub const IMAGE_REL_AMD64_REL32_3: u16 = 0x07;
+/// x86-64: as [`IMAGE_REL_AMD64_REL32`], from 4 bytes farther behind.
+pub const IMAGE_REL_AMD64_REL32_4: u16 = 0x08;
+/// x86-64: as [`IMAGE_REL_AMD64_REL32`], from 5 bytes farther behind.
+pub const IMAGE_REL_AMD64_REL32_5: u16 = 0x09;
+/// x86-64: the index of the target's section, 16 bits.
+pub const IMAGE_REL_AMD64_SECTION: u16 = 0x0A;
+/// x86-64: the target's offset from its section's start, 32 bits.
+pub const IMAGE_REL_AMD64_SECREL: u16 = 0x0B;
+/// x86-64: the target's offset from its section's start, 7 bits.
+pub const IMAGE_REL_AMD64_SECREL7: u16 = 0x0C;
+/// x86-64: a token of the common language runtime.
+pub const IMAGE_REL_AMD64_TOKEN: u16 = 0x0D;
+/// x86-64: a signed value that depends on a span, 32 bits.
+pub const IMAGE_REL_AMD64_SREL32: u16 = 0x0E;
+/// x86-64: the second half of a value that depends on a span, right behind it.
+pub const IMAGE_REL_AMD64_PAIR: u16 = 0x0F;
+/// x86-64: a signed value that depends on a span and is applied by the linker, 32 bits.
+pub const IMAGE_REL_AMD64_SSPAN32: u16 = 0x10;
+
+/// ARM: nothing is changed.
+pub const IMAGE_REL_ARM_ABSOLUTE: u16 = 0x00;
+/// ARM: the target's address, 32 bits.
+pub const IMAGE_REL_ARM_ADDR: u16 = 0x01;
+/// ARM: the target's address relative to the image's base, 32 bits.
+pub const IMAGE_REL_ARM_ADDR32NB: u16 = 0x02;
+/// ARM: the distance of a branch, 24 bits.
+pub const IMAGE_REL_ARM_BRANCH24: u16 = 0x03;
+/// ARM: the distance of a branch in two instructions, 11 bits each.
+pub const IMAGE_REL_ARM_BRANCH11: u16 = 0x04;
+/// ARM: a token of the common language runtime.
+pub const IMAGE_REL_ARM_TOKEN: u16 = 0x05;
+/// ARM: an offset from the global pointer, 12 bits.
+pub const IMAGE_REL_ARM_GPREL12: u16 = 0x06;
+/// ARM: an offset from the global pointer, 7 bits.
+pub const IMAGE_REL_ARM_GPREL7: u16 = 0x07;
+/// ARM: the distance of a branch that may switch to Thumb, 24 bits.
+pub const IMAGE_REL_ARM_BLX24: u16 = 0x08;
+/// ARM: the distance of a branch that may switch from Thumb, 11 bits.
+pub const IMAGE_REL_ARM_BLX11: u16 = 0x09;
+/// ARM: the index of the target's section, 16 bits.
+pub const IMAGE_REL_ARM_SECTION: u16 = 0x0E;
+/// ARM: the target's offset from its section's start, 32 bits.
+pub const IMAGE_REL_ARM_SECREL: u16 = 0x0F;
+/// ARM: the target's address in two moves of 16 bits.
+pub const IMAGE_REL_ARM_MOV32A: u16 = 0x10;
+/// ARM: the target's address in two Thumb moves of 16 bits.
+pub const IMAGE_REL_ARM_MOV32T: u16 = 0x11;
+/// ARM: the distance of a conditional Thumb branch, 20 bits.
+pub const IMAGE_REL_ARM_BRANCH20T: u16 = 0x12;
+/// ARM: the distance of a Thumb branch, 24 bits.
+pub const IMAGE_REL_ARM_BRANCH24T: u16 = 0x14;
+/// ARM: the distance of a Thumb call, 23 bits.
+pub const IMAGE_REL_ARM_BLX23T: u16 = 0x15;
+
+/// ARM64: nothing is changed.
+pub const IMAGE_REL_ARM64_ABSOLUTE: u16 = 0x00;
+/// ARM64: the target's address, 32 bits.
+pub const IMAGE_REL_ARM64_ADDR32: u16 = 0x01;
+/// ARM64: the target's address relative to the image's base, 32 bits.
+pub const IMAGE_REL_ARM64_ADDR32NB: u16 = 0x02;
+/// ARM64: the distance of a branch, 26 bits.
+pub const IMAGE_REL_ARM64_BRANCH26: u16 = 0x03;
+/// ARM64: the distance to the target's page, 21 bits.
+pub const IMAGE_REL_ARM64_PAGEBASE_REL21: u16 = 0x04;
+/// ARM64: the distance to the target, 21 bits.
+pub const IMAGE_REL_ARM64_REL21: u16 = 0x05;
+/// ARM64: the target's offset in its page, 12 bits of an addition.
+pub const IMAGE_REL_ARM64_PAGEOFFSET_12A: u16 = 0x06;
+/// ARM64: the target's offset in its page, 12 bits of a load or a store.
+pub const IMAGE_REL_ARM64_PAGEOFFSET_12L: u16 = 0x07;
+/// ARM64: the target's offset from its section's start, 32 bits.
+pub const IMAGE_REL_ARM64_SECREL: u16 = 0x08;
+/// ARM64: the low 12 bits of the target's offset from its section's start, of an addition.
+pub const IMAGE_REL_ARM64_SECREL_LOW12A: u16 = 0x09;
+/// ARM64: bits 12 to 23 of the target's offset from its section's start, of an addition.
+pub const IMAGE_REL_ARM64_SECREL_HIGH12A: u16 = 0x0A;
+/// ARM64: the low 12 bits of the target's offset from its section's start, of a load or a store.
+pub const IMAGE_REL_ARM64_SECREL_LOW12L: u16 = 0x0B;
+/// ARM64: a token of the common language runtime.
+pub const IMAGE_REL_ARM64_TOKEN: u16 = 0x0C;
+/// ARM64: the index of the target's section, 16 bits.
+pub const IMAGE_REL_ARM64_SECTION: u16 = 0x0D;
+/// ARM64: the target's address, 64 bits.
+pub const IMAGE_REL_ARM64_ADDR64: u16 = 0x0E;
+/// ARM64: the distance of a conditional branch, 19 bits.
+pub const IMAGE_REL_ARM64_BRANCH19: u16 = 0x0F;
+
+/// Itanium: nothing is changed.
+pub const IMAGE_REL_IA64_ABSOLUTE: u16 = 0x00;
+/// Itanium: an immediate of 14 bits.
+pub const IMAGE_REL_IA64_IMM14: u16 = 0x01;
+/// Itanium: an immediate of 22 bits.
+pub const IMAGE_REL_IA64_IMM22: u16 = 0x02;
+/// Itanium: an immediate of 64 bits.
+pub const IMAGE_REL_IA64_IMM64: u16 = 0x03;
+/// Itanium: the target's address, 32 bits.
+pub const IMAGE_REL_IA64_DIR: u16 = 0x04;
+/// Itanium: the target's address, 64 bits.
+pub const IMAGE_REL_IA64_DIR64: u16 = 0x05;
+/// Itanium: the distance of a branch in a bundle, 21 bits.
+pub const IMAGE_REL_IA64_PCREL21B: u16 = 0x06;
+/// Itanium: the distance of a branch in a memory instruction, 21 bits.
+pub const IMAGE_REL_IA64_PCREL21M: u16 = 0x07;
+/// Itanium: the distance of a branch in a floating-point instruction, 21 bits.
+pub const IMAGE_REL_IA64_PCREL21F: u16 = 0x08;
+/// Itanium: an offset from the global pointer, 22 bits.
+pub const IMAGE_REL_IA64_GPREL22: u16 = 0x09;
+/// Itanium: the offset of the target's linkage table entry from the global pointer, 22 bits.
+pub const IMAGE_REL_IA64_LTOFF22: u16 = 0x0A;
+/// Itanium: the index of the target's section, 16 bits.
+pub const IMAGE_REL_IA64_SECTION: u16 = 0x0B;
+/// Itanium: the target's offset from its section's start, 22 bits.
+pub const IMAGE_REL_IA64_SECREL22: u16 = 0x0C;
+/// Itanium: the target's offset from its section's start, an immediate of 64 bits.
+pub const IMAGE_REL_IA64_SECREL64I: u16 = 0x0D;
+/// Itanium: the target's offset from its section's start, 32 bits.
+pub const IMAGE_REL_IA64_SECREL: u16 = 0x0E;
+/// Itanium: the offset of the target's linkage table entry from the global pointer, 64 bits.
+pub const IMAGE_REL_IA64_LTOFF64: u16 = 0x0F;
+/// Itanium: the target's address relative to the image's base, 32 bits.
+pub const IMAGE_REL_IA64_DIR32NB: u16 = 0x10;
+/// Itanium: a signed immediate of 14 bits, the difference of two targets.
+pub const IMAGE_REL_IA64_SREL14: u16 = 0x11;
+/// Itanium: a signed immediate of 22 bits, the difference of two targets.
+pub const IMAGE_REL_IA64_SREL22: u16 = 0x12;
+/// Itanium: a signed value of 32 bits, the difference of two targets.
+pub const IMAGE_REL_IA64_SREL32: u16 = 0x13;
+/// Itanium: an unsigned value of 32 bits, the difference of two targets.
+pub const IMAGE_REL_IA64_UREL32: u16 = 0x14;
+/// Itanium: the distance of a branch of 60 bits, kept long.
+pub const IMAGE_REL_IA64_PCREL60X: u16 = 0x15;
+/// Itanium: the distance of a branch of 60 bits; a short one becomes one of 25 in a branch slot.
+pub const IMAGE_REL_IA64_PCREL60B: u16 = 0x16;
+/// Itanium: the same, a short one in a floating-point slot.
+pub const IMAGE_REL_IA64_PCREL60F: u16 = 0x17;
+/// Itanium: the same, a short one in an integer slot.
+pub const IMAGE_REL_IA64_PCREL60I: u16 = 0x18;
+/// Itanium: the same, a short one in a memory slot.
+pub const IMAGE_REL_IA64_PCREL60M: u16 = 0x19;
+/// Itanium: an offset from the global pointer, an immediate of 64 bits.
+pub const IMAGE_REL_IA64_IMMGPREL64: u16 = 0x1A;
+/// Itanium: a token of the common language runtime.
+pub const IMAGE_REL_IA64_TOKEN: u16 = 0x1B;
+/// Itanium: an offset from the global pointer, 32 bits.
+pub const IMAGE_REL_IA64_GPREL32: u16 = 0x1C;
+/// Itanium: a number to be added to the relocation before it.
+pub const IMAGE_REL_IA64_ADDEND: u16 = 0x1F;
+
+/// Base relocation: nothing is changed; it fills a block up to a multiple of four bytes.
+pub const IMAGE_REL_BASED_ABSOLUTE: u16 = 0x00;
+/// Base relocation: the high half of a 32-bit address.
+pub const IMAGE_REL_BASED_HIGH: u16 = 0x01;
+/// Base relocation: the low half of a 32-bit address.
+pub const IMAGE_REL_BASED_LOW: u16 = 0x02;
+/// Base relocation: a 32-bit address.
+pub const IMAGE_REL_BASED_HIGHLOW: u16 = 0x03;
+/// Base relocation: the high half of a 32-bit address whose low half stands in the next word.
+pub const IMAGE_REL_BASED_HIGHADJ: u16 = 0x04;
+/// Base relocation: a MIPS jump.
+pub const IMAGE_REL_BASED_MIPS_JMPADDR: u16 = 0x05;
+/// Base relocation: a 32-bit address in two ARM moves.
+pub const IMAGE_REL_BASED_ARM_MOV32A: u16 = 0x05;
+/// Base relocation: a 32-bit address in two ARM moves.
+pub const IMAGE_REL_BASED_ARM_MOV32: u16 = 0x05;
+/// Base relocation: the index of a section; reserved.
+pub const IMAGE_REL_BASED_SECTION: u16 = 0x06;
+/// Base relocation: a relative address; reserved.
+pub const IMAGE_REL_BASED_REL: u16 = 0x07;
+/// Base relocation: a 32-bit address in two Thumb moves.
+pub const IMAGE_REL_BASED_ARM_MOV32T: u16 = 0x07;
+/// Base relocation: a 32-bit address in two Thumb moves.
+pub const IMAGE_REL_BASED_THUMB_MOV32: u16 = 0x07;
+/// Base relocation: a MIPS16 jump.
+pub const IMAGE_REL_BASED_MIPS_JMPADDR16: u16 = 0x09;
+/// Base relocation: a 64-bit immediate of Itanium.
+pub const IMAGE_REL_BASED_IA64_IMM64: u16 = 0x09;
+/// Base relocation: a 64-bit address.
+pub const IMAGE_REL_BASED_DIR64: u16 = 0x0A;
+/// Base relocation: the top 16 bits of a 48-bit address.
+pub const IMAGE_REL_BASED_HIGH3ADJ: u16 = 0x0B;

@@ -1,0 +1,130 @@
+//! The values of the fields of symbols and of their auxiliary records.
+
+/// A symbol's section: none; it is defined elsewhere, or is common where its value is not 0.
+pub const IMAGE_SYM_UNDEFINED: i16 = 0;
+/// A symbol's section: none; the value is no address.
+pub const IMAGE_SYM_ABSOLUTE: i16 = -1;
+/// A symbol's section: none; the symbol is for debuggers.
+pub const IMAGE_SYM_DEBUG: i16 = -2;
+
+/// A symbol's base type: none, or not known.
+pub const IMAGE_SYM_TYPE_NULL: u16 = 0;
+/// A symbol's base type: no valid type, as of a function that answers nothing.
+pub const IMAGE_SYM_TYPE_VOID: u16 = 1;
+/// A symbol's base type: a character, a signed byte.
+pub const IMAGE_SYM_TYPE_CHAR: u16 = 2;
+/// A symbol's base type: a signed number of 2 bytes.
+pub const IMAGE_SYM_TYPE_SHORT: u16 = 3;
+/// A symbol's base type: a number of the machine's natural size.
+pub const IMAGE_SYM_TYPE_INT: u16 = 4;
+/// A symbol's base type: a signed number of 4 bytes.
+pub const IMAGE_SYM_TYPE_LONG: u16 = 5;
+/// A symbol's base type: a floating-point number of 4 bytes.
+pub const IMAGE_SYM_TYPE_FLOAT: u16 = 6;
+/// A symbol's base type: a floating-point number of 8 bytes.
+pub const IMAGE_SYM_TYPE_DOUBLE: u16 = 7;
+/// A symbol's base type: a structure.
+pub const IMAGE_SYM_TYPE_STRUCT: u16 = 8;
+/// A symbol's base type: a union.
+pub const IMAGE_SYM_TYPE_UNION: u16 = 9;
+/// A symbol's base type: an enumeration.
+pub const IMAGE_SYM_TYPE_ENUM: u16 = 10;
+/// A symbol's base type: a member of an enumeration.
+pub const IMAGE_SYM_TYPE_MOE: u16 = 11;
+/// A symbol's base type: an unsigned byte.
+pub const IMAGE_SYM_TYPE_BYTE: u16 = 12;
+/// A symbol's base type: an unsigned number of 2 bytes.
+pub const IMAGE_SYM_TYPE_WORD: u16 = 13;
+/// A symbol's base type: an unsigned number of the machine's natural size.
+pub const IMAGE_SYM_TYPE_UINT: u16 = 14;
+/// A symbol's base type: an unsigned number of 4 bytes.
+pub const IMAGE_SYM_TYPE_DWORD: u16 = 15;
+
+/// The bits of a symbol's type that are its base type.
+pub const IMAGE_SYM_TYPE_MASK: u16 = 15;
+/// How many bits below a symbol's derived type stand in its type.
+pub const IMAGE_SYM_DTYPE_SHIFT: usize = 4;
+
+/// A symbol's derived type: none.
+pub const IMAGE_SYM_DTYPE_NULL: u16 = 0;
+/// A symbol's derived type: a pointer to the base type.
+pub const IMAGE_SYM_DTYPE_POINTER: u16 = 1;
+/// A symbol's derived type: a function that answers the base type.
+pub const IMAGE_SYM_DTYPE_FUNCTION: u16 = 2;
+/// A symbol's derived type: an array of the base type.
+pub const IMAGE_SYM_DTYPE_ARRAY: u16 = 3;
+
+/// A symbol's class: none.
+pub const IMAGE_SYM_CLASS_NULL: u8 = 0;
+/// A symbol's class: a variable on the stack.
+pub const IMAGE_SYM_CLASS_AUTOMATIC: u8 = 1;
+/// A symbol's class: seen by other files.
+pub const IMAGE_SYM_CLASS_EXTERNAL: u8 = 2;
+/// A symbol's class: seen by its file alone; of value 0 it may stand for a section.
+pub const IMAGE_SYM_CLASS_STATIC: u8 = 3;
+/// A symbol's class: a variable in a register.
+pub const IMAGE_SYM_CLASS_REGISTER: u8 = 4;
+/// A symbol's class: defined elsewhere.
+pub const IMAGE_SYM_CLASS_EXTERNAL_DEF: u8 = 5;
+/// A symbol's class: a label.
+pub const IMAGE_SYM_CLASS_LABEL: u8 = 6;
+/// A symbol's class: a label that is not defined.
+pub const IMAGE_SYM_CLASS_UNDEFINED_LABEL: u8 = 7;
+/// A symbol's class: a member of a structure.
+pub const IMAGE_SYM_CLASS_MEMBER_OF_STRUCT: u8 = 8;
+/// A symbol's class: a function's argument.
+pub const IMAGE_SYM_CLASS_ARGUMENT: u8 = 9;
+/// A symbol's class: a structure's name.
+pub const IMAGE_SYM_CLASS_STRUCT_TAG: u8 = 10;
+/// A symbol's class: a member of a union.
+pub const IMAGE_SYM_CLASS_MEMBER_OF_UNION: u8 = 11;
+/// A symbol's class: a union's name.
+pub const IMAGE_SYM_CLASS_UNION_TAG: u8 = 12;
+/// A symbol's class: a type's name.
+pub const IMAGE_SYM_CLASS_TYPE_DEFINITION: u8 = 13;
+/// A symbol's class: static data that is not defined.
+pub const IMAGE_SYM_CLASS_UNDEFINED_STATIC: u8 = 14;
+/// A symbol's class: an enumeration's name.
+pub const IMAGE_SYM_CLASS_ENUM_TAG: u8 = 15;
+/// A symbol's class: a member of an enumeration.
+pub const IMAGE_SYM_CLASS_MEMBER_OF_ENUM: u8 = 16;
+/// A symbol's class: an argument in a register.
+pub const IMAGE_SYM_CLASS_REGISTER_PARAM: u8 = 17;
+/// A symbol's class: a field of bits.
+pub const IMAGE_SYM_CLASS_BIT_FIELD: u8 = 18;
+/// A symbol's class: the begin or the end of a block.
+pub const IMAGE_SYM_CLASS_BLOCK: u8 = 100;
+/// A symbol's class: the begin or the end of a function, or its lines.
+pub const IMAGE_SYM_CLASS_FUNCTION: u8 = 101;
+/// A symbol's class: the end of a structure.
+pub const IMAGE_SYM_CLASS_END_OF_STRUCT: u8 = 102;
+/// A symbol's class: a source file, whose name stands in the records behind it.
+pub const IMAGE_SYM_CLASS_FILE: u8 = 103;
+/// A symbol's class: a section.
+pub const IMAGE_SYM_CLASS_SECTION: u8 = 104;
+/// A symbol's class: defined elsewhere, or else by another symbol.
+pub const IMAGE_SYM_CLASS_WEAK_EXTERNAL: u8 = 105;
+/// A symbol's class: a token of the common language runtime.
+pub const IMAGE_SYM_CLASS_CLR_TOKEN: u8 = 107;
+/// A symbol's class: the end of a function.
+pub const IMAGE_SYM_CLASS_END_OF_FUNCTION: u8 = 255;
+
+/// Where a weak symbol is looked for: not in libraries.
+pub const IMAGE_WEAK_EXTERN_SEARCH_NOLIBRARY: u32 = 1;
+/// Where a weak symbol is looked for: in libraries too.
+pub const IMAGE_WEAK_EXTERN_SEARCH_LIBRARY: u32 = 2;
+/// Where a weak symbol is looked for: nowhere; it is another name of the other symbol.
+pub const IMAGE_WEAK_EXTERN_SEARCH_ALIAS: u32 = 3;
+
+/// Which of several COMDAT sections is taken: there may be one alone.
+pub const IMAGE_COMDAT_SELECT_NODUPLICATES: u8 = 1;
+/// Which of several COMDAT sections is taken: any.
+pub const IMAGE_COMDAT_SELECT_ANY: u8 = 2;
+/// Which of several COMDAT sections is taken: any, and all must have one size.
+pub const IMAGE_COMDAT_SELECT_SAME_SIZE: u8 = 3;
+/// Which of several COMDAT sections is taken: any, and all must be equal.
+pub const IMAGE_COMDAT_SELECT_EXACT_MATCH: u8 = 4;
+/// Which of several COMDAT sections is taken: this one where another section is taken.
+pub const IMAGE_COMDAT_SELECT_ASSOCIATIVE: u8 = 5;
+/// Which of several COMDAT sections is taken: the largest.
+pub const IMAGE_COMDAT_SELECT_LARGEST: u8 = 6;
