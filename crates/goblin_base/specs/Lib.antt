@@ -1,5 +1,6 @@
 pub mod Answers
 pub mod Bytes
+pub mod ErrorText
 pub mod Record
 pub mod Strtab
 pub mod Tables

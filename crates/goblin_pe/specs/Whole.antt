@@ -179,7 +179,7 @@ IsRelocationsPartFault opts sections bytes tables = IsPartAtFault (is_strict opt
 unfoldable pub IsWholeFault : ParseOptions → List ℕ → ErrorOf → Type 0
 IsWholeFault opts bytes =
     FirstFault (pe_header (is_strict opts.parse_mode) bytes) (IsHeaderFault (is_strict opts.parse_mode) bytes) (λ header.
-    FirstFault (file_sections (is_strict opts.parse_mode) bytes header) (IsSectionsFault (is_strict opts.parse_mode) header.coff_header.number_of_sections bytes (section_table_offset header)) (λ sections.
+    FirstFault (file_sections (is_strict opts.parse_mode) bytes header) (IsSectionsFault (is_strict opts.parse_mode) (string_table_offset header.coff_header) header.coff_header.number_of_sections bytes (section_table_offset header)) (λ sections.
     FirstFault (import_data_part opts sections bytes (places_in header.optional_header)) (IsImportPartFault opts sections bytes (places_in header.optional_header)) (λ import_data.
     FirstFault (imports_part opts (places_in header.optional_header) import_data) (IsPartThenFault (is_strict opts.parse_mode) IsOverflow import_data) (λ imports.
     FirstFault (export_data_part opts sections bytes (places_in header.optional_header)) (IsExportPartFault opts sections bytes (places_in header.optional_header)) (λ export_data.

@@ -1,6 +1,6 @@
 //! The exports of an image: what its export directory leads to, and the forwarders among them.
 
-ghost use Rattle.std.specs.Prelude.{◌≡◌, ◌++◌, IfErr, IsOk, OnOk, length, option_and_then, option_map, option_to_list};
+ghost use Rattle.std.specs.Prelude.{◌≡◌, ◌++◌, IfErr, IsOk, IsSome, OnOk, length, option_and_then, option_map, option_to_list};
 ghost use Rattle.goblin_base.specs.Answers.{AnswersOrMemory, GivesOrMemory, IsMemory};
 ghost use Rattle.goblin_base.specs.Bytes.{text_at};
 ghost use Rattle.goblin_pe_sect.specs.Mapping.{file_offset};
@@ -83,8 +83,9 @@ impl<'a> ExportData<'a> {
         sections: &[SectionTable],
         file_alignment: u32,
     ) -> Result<ExportData<'a>>
-        ensures { let offset_of = file_offset default_options sections.now file_alignment in
+        ensures value { let offset_of = file_offset default_options sections.now file_alignment in
             AnswersOrMemory (λ x. x) result (export_data offset_of directory bytes.now) (IsExportDataFault offset_of directory bytes.now) }
+        ensures grown { IfErr result (λ e. IsMemory e → IsSome (export_data (file_offset default_options sections.now file_alignment) directory bytes.now)) }
     {
         let opts = ParseOptions::default();
         ExportData::parse_with_opts(alloc, bytes, directory, sections, file_alignment, &opts)
@@ -109,8 +110,9 @@ impl<'a> ExportData<'a> {
         file_alignment: u32,
         opts: &ParseOptions,
     ) -> Result<ExportData<'a>>
-        ensures { let offset_of = file_offset opts.now sections.now file_alignment in
+        ensures value { let offset_of = file_offset opts.now sections.now file_alignment in
             AnswersOrMemory (λ x. x) result (export_data offset_of directory bytes.now) (IsExportDataFault offset_of directory bytes.now) }
+        ensures grown { IfErr result (λ e. IsMemory e → IsSome (export_data (file_offset opts.now sections.now file_alignment) directory bytes.now)) }
     {
         let offset_of = |rva: u32| find_offset(rva as usize, sections, file_alignment, opts);
         let Some(offset) = offset_of(directory.virtual_address) else {

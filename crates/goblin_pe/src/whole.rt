@@ -1,11 +1,11 @@
 //! A whole file: its header, its sections, and the tables to which its directories lead.
 
 ghost use Rattle.std.specs.Prelude.{◌≡◌, ◌<◌, ◌/◌, IfSome, IsErrAnd, length};
-ghost use Rattle.goblin_base.specs.Answers.{AnswersOrMemory, GivesOrMemory};
+ghost use Rattle.goblin_base.specs.Answers.{Answers, AnswersOrMemory, GivesOrMemory};
 ghost use Rattle.goblin_pe_sect.specs.BaseRelocations.{relocation_bytes};
 ghost use Rattle.goblin_pe_sect.specs.Options.{is_strict};
 ghost use Rattle.goblin_pe_head.specs.PeHeader.{header_value, pe_header};
-ghost use Rattle.goblin_pe_head.specs.CoffHeader.{IsSectionsFault, IsTooManySections};
+ghost use Rattle.goblin_pe_head.specs.CoffHeader.{IsSectionsFault, IsTooManySections, string_table_offset};
 ghost use Rattle.goblin_pe.specs.ImportDirectory.{IsImportDataFault, import_data};
 ghost use Rattle.goblin_pe.specs.Imports.{IsOverflow, imports_of};
 ghost use Rattle.goblin_pe.specs.Whole.{BecomesPart, IsExportPartFault, IsImportPartFault, IsPartThenFault, IsRelocationsPartFault, IsWholeFault, entry_format, export_data_part, exports_part, file_sections, import_data_part, imports_part, items_part, offset_by, part_map, relocations_part, section_table_offset, table_places, places_in, whole_file};
@@ -244,14 +244,14 @@ impl Tables {
     }
 
     // The base relocations.
-    #[tactic(auto, unfolding(crate::specs::Whole::relocations_part, crate::specs::Whole::part_at, crate::specs::Whole::part_map), using(crate::proofs::Parts::becomes_always))]
+    #[tactic(auto, unfolding(crate::specs::Whole::relocations_part, crate::specs::Whole::part_at, crate::specs::Whole::part_map))]
     fn relocations<'a>(
         &self,
         bytes: &'a [u8],
         sections: &[SectionTable],
         opts: &ParseOptions,
     ) -> Result<Part<RelocationData<'a>>>
-        ensures { AnswersOrMemory (part_map relocation_bytes) result (relocations_part opts.now sections.now bytes.now (table_places self.now)) (IsRelocationsPartFault opts.now sections.now bytes.now (table_places self.now)) }
+        ensures { Answers (part_map relocation_bytes) result (relocations_part opts.now sections.now bytes.now (table_places self.now)) (IsRelocationsPartFault opts.now sections.now bytes.now (table_places self.now)) }
     {
         let Some(directory) = self.relocations else {
             return Ok(Part::Absent);
@@ -272,7 +272,7 @@ fn sections_of(
     header: &Header,
     opts: &ParseOptions,
 ) -> Result<Vec<SectionTable>>
-    ensures value { AnswersOrMemory (λ v. v.items) result (file_sections (is_strict opts.now.parse_mode) bytes.now (header_value header.now)) (IsSectionsFault (is_strict opts.now.parse_mode) header.now.coff_header.number_of_sections bytes.now (section_table_offset (header_value header.now))) }
+    ensures value { AnswersOrMemory (λ v. v.items) result (file_sections (is_strict opts.now.parse_mode) bytes.now (header_value header.now)) (IsSectionsFault (is_strict opts.now.parse_mode) (string_table_offset header.now.coff_header) header.now.coff_header.number_of_sections bytes.now (section_table_offset (header_value header.now))) }
     ensures first { length bytes.now / 40 < header.now.coff_header.number_of_sections → IsErrAnd result (IsTooManySections header.now.coff_header.number_of_sections bytes.now) }
 {
     let coff_header = &header.coff_header;

@@ -6,6 +6,7 @@ pub mod PeHeaderRoundTrip
 pub mod RichEntries
 pub mod RichLaw
 pub mod RichMetadataRoundTrip
+pub mod RichPlaces
 pub mod Sections
 pub mod TeHeaderRoundTrip
 pub mod WrittenForm

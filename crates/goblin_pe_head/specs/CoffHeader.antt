@@ -7,7 +7,7 @@ use Rattle.goblin_base.specs.declared.error.ErrorOf.TheVariants.{Malformed}
 use Rattle.goblin_base.specs.declared.error.CauseOf.TheVariants.{CoffLength}
 use Rattle.goblin_base.specs.Bytes.{number, number_at, slice_at}
 use Rattle.goblin_base.specs.Record.{FieldValue, uint}
-use Rattle.goblin_base.specs.Answers.{◌>>=◌, all_at, FirstFault, IsTooShort, IsSliceFault}
+use Rattle.goblin_base.specs.Answers.{◌>>=◌, all_at, FirstFault, IsFirstMissing, IsTooShort, IsSliceFault}
 use Rattle.goblin_pe_head.specs.declared.header.coff.CoffHeader.{CoffHeader}
 use Rattle.goblin_pe_sect.specs.SectionTable.{Section, section_at, IsSectionFault}
 use Rattle.goblin_base.specs.Strtab.{IsStringTableFault, string_table}
@@ -44,9 +44,10 @@ sections_at strict table n bytes p = all_at (λ i. section_at strict table bytes
 abbrev pub IsTooManySections : ℕ → List ℕ → ErrorOf → Type 0
 IsTooManySections n bytes = IsTooShort n (codes "sections") (length bytes / 40)
 
--- which cause is true of a file that has no n sections at p: it is too short for so many, or that of one of the sections
-abbrev pub IsSectionsFault : Bool → ℕ → List ℕ → ℕ → ErrorOf → Type 0
-IsSectionsFault strict n bytes p e = IsTooManySections n bytes e ⊎ ((i : ℕ) × (i < n) × IsSectionFault strict bytes (p + 40 * i) e)
+-- which cause is true of a file that has no n sections at p: it is too short for so many, or that of the first section that is missing
+abbrev pub IsSectionsFault : Bool → ℕ → ℕ → List ℕ → ℕ → ErrorOf → Type 0
+IsSectionsFault strict table n bytes p e =
+    IsTooManySections n bytes e ⊎ IsFirstMissing (λ i. section_at strict table bytes (p + 40 * i)) n (λ i. IsSectionFault strict bytes (p + 40 * i)) e
 
 -- ---- the symbol table and the string table
 

@@ -1,5 +1,5 @@
 -- The DOS header: its record, and where it stands in a file.
-use Rattle.std.specs.Prelude.{IsSomeAnd, ◌≡◌, ◌≢◌, ◌<◌, ◌+◌, ℕ, ◌==◌, if◌then◌else◌, ◌&&◌, List, [], ◌∷◌, ◌++◌, length, map, slice_index, Option, Some, None}
+use Rattle.std.specs.Prelude.{◌≡◌, ◌≢◌, ◌<◌, ◌+◌, ℕ, ◌==◌, if◌then◌else◌, ◌&&◌, List, [], ◌∷◌, ◌++◌, length, map, slice_index, Option, Some, None}
 use Rattle.std.specs.List.{range_with_len}
 use Rattle.goblin_base.specs.declared.endian.Endian.{Endian}
 use Rattle.goblin_base.specs.declared.endian.Endian.TheVariants.{Little}
@@ -8,7 +8,7 @@ use Rattle.goblin_base.specs.declared.error.ErrorOf.TheVariants.{Malformed}
 use Rattle.goblin_base.specs.declared.error.CauseOf.TheVariants.{NoDosSignature, DosMagic, NoPePointer, NoPeSignature, PeMagic}
 use Rattle.goblin_base.specs.Bytes.{number, number_at}
 use Rattle.goblin_base.specs.Record.{FieldValue, uint, numbers, record_at}
-use Rattle.goblin_base.specs.Answers.{◌>>=◌}
+use Rattle.goblin_base.specs.Answers.{◌>>=◌, FirstFault}
 use Rattle.goblin_pe_head.specs.declared.header.dos.DosHeader.{DosHeader}
 
 -- the DOS header in a record's 64 bytes
@@ -57,11 +57,39 @@ dos_header bytes = do
   signature ← number_at Little 4 bytes header.pe_pointer
   if (magic == 0x5A4D) && (signature == 0x4550) then Some header else None
 
--- which cause is true of a file that has no DOS header
+-- the number, where it is the one that is wanted
+abbrev pub that_is : ℕ → ℕ → Option ℕ
+that_is wanted n = if n == wanted then Some n else None
+
+-- the refusal is that the file has no two bytes
+abbrev pub IsNoDosSignature : List ℕ → ErrorOf → Type 0
+IsNoDosSignature bytes (Malformed NoDosSignature) = length bytes < 2
+IsNoDosSignature bytes e = ⊥
+
+-- the refusal is that the file begins with this number
+abbrev pub IsDosMagic : ℕ → ErrorOf → Type 0
+IsDosMagic n (Malformed (DosMagic magic)) = (magic ≡ n) × (n ≢ 0x5A4D)
+IsDosMagic n e = ⊥
+
+-- the refusal is that the file is shorter than the record
+abbrev pub IsNoPePointer : List ℕ → ErrorOf → Type 0
+IsNoPePointer bytes (Malformed NoPePointer) = length bytes < 64
+IsNoPePointer bytes e = ⊥
+
+-- the refusal is that there are no four bytes at p
+abbrev pub IsNoSignature : List ℕ → ℕ → ErrorOf → Type 0
+IsNoSignature bytes p (Malformed (NoPeSignature pointer)) = (pointer ≡ p) × (length bytes < p + 4)
+IsNoSignature bytes p e = ⊥
+
+-- the refusal is that this number stands in the place of the PE signature
+abbrev pub IsPeMagic : ℕ → ErrorOf → Type 0
+IsPeMagic n (Malformed (PeMagic magic)) = (magic ≡ n) × (n ≢ 0x4550)
+IsPeMagic n e = ⊥
+
+-- which cause is true of a file that has no DOS header: that of the first step
 unfoldable pub IsDosFault : List ℕ → ErrorOf → Type 0
-IsDosFault bytes (Malformed NoDosSignature) = length bytes < 2
-IsDosFault bytes (Malformed (DosMagic magic)) = (number_at Little 2 bytes 0 ≡ Some magic) × (magic ≢ 0x5A4D)
-IsDosFault bytes (Malformed NoPePointer) = length bytes < 64
-IsDosFault bytes (Malformed (NoPeSignature pointer)) = IsSomeAnd (record_at 64 (dos_record Little) bytes 0) (λ h. (h.pe_pointer ≡ pointer) × (length bytes < pointer + 4))
-IsDosFault bytes (Malformed (PeMagic magic)) = IsSomeAnd (record_at 64 (dos_record Little) bytes 0) (λ h. (number_at Little 4 bytes h.pe_pointer ≡ Some magic) × (magic ≢ 0x4550))
-IsDosFault bytes e = ⊥
+IsDosFault bytes =
+    FirstFault (number_at Little 2 bytes 0) (IsNoDosSignature bytes) (λ magic.
+    FirstFault (that_is 0x5A4D magic) (IsDosMagic magic) (λ _.
+    FirstFault (record_at 64 (dos_record Little) bytes 0) (IsNoPePointer bytes) (λ header.
+    FirstFault (number_at Little 4 bytes header.pe_pointer) (IsNoSignature bytes header.pe_pointer) IsPeMagic)))

@@ -15,7 +15,7 @@ use Rattle.goblin_pe_head.specs.declared.header.pe_header.Header.{Header}
 use Rattle.goblin_pe_head.specs.declared.optional_header.OptionalHeader.{OptionalHeader}
 use Rattle.goblin_pe_head.specs.DosStub.{default_stub, stub_at, stub_bytes, IsStubFault}
 use Rattle.goblin_pe_head.specs.CoffHeader.{coff_fields, coff_header}
-use Rattle.goblin_pe_head.specs.DosHeader.{dos_fields, dos_header, IsDosFault}
+use Rattle.goblin_pe_head.specs.DosHeader.{dos_fields, dos_header, IsDosFault, IsNoSignature}
 use Rattle.goblin_pe_head.specs.OptionalHeader.{optional_bytes, optional_header, IsOptionalFault, IsUnwritten}
 use Rattle.goblin_pe_head.specs.RichHeader.{Rich, rich_value, rich_at, IsRichAtFault}
 
@@ -109,11 +109,6 @@ default_header = record {
 -- the header of bytes that begin with a signature, whatever it is, behind a DOS header of zeros and the default stub
 unfoldable pub header_without_dos : List ℕ → Option PeHeader
 header_without_dos bytes = header_at zero_dos_header default_stub None bytes 0
-
--- the refusal is that there are no four bytes at p
-abbrev pub IsNoSignature : List ℕ → ℕ → ErrorOf → Type 0
-IsNoSignature bytes p (Malformed (NoPeSignature pointer)) = (pointer ≡ p) × (length bytes < p + 4)
-IsNoSignature bytes p e = ⊥
 
 -- which cause is true where the parts from the signature at p on are not all there
 unfoldable pub IsHeaderAtFault : List ℕ → ℕ → ErrorOf → Type 0

@@ -108,3 +108,36 @@ IsRichAtFault bytes p = IsStretchFault (slice_range bytes 64 p)
 -- which cause is true of a file whose Rich header is refused
 unfoldable pub IsRichFault : List ℕ → ErrorOf → Type 0
 IsRichFault bytes = FirstFault (dos_header bytes) (IsDosFault bytes) (λ dos. IsRichAtFault bytes dos.pe_pointer)
+
+-- ---- the places of the markers in words
+
+-- the marker `Rich` stands here, with a key of four bytes behind it
+abbrev pub IsMarkerAt : List ℕ → ℕ → Type 0
+IsMarkerAt stretch i = (i + 8 ≤ length stretch) × (word_at stretch i ≡ 0x68636952)
+
+-- a word that is `DanS` under the key stands here
+abbrev pub IsDansAt : ℕ → List ℕ → ℕ → Type 0
+IsDansAt key stretch j = (j + 4 ≤ length stretch) × (bit_xor (word_at stretch j) key ≡ 0x536E6144)
+
+-- it holds here, and nowhere before
+pub record IsLeast (P : ℕ → Type 0) (i : ℕ) : Type 0 where
+  pub holds : P i
+  pub least : (k : ℕ) → k < i → ¬ P k
+
+-- The markers of a Rich header in front of a PE signature at p: each stands at the least place of the stretch where it can, and the key behind the one is that of the other.
+pub record IsMarked (bytes : List ℕ) (p : ℕ) (r : Rich) : Type 0 where
+  pub end : ℕ
+  pub start : ℕ
+  pub end_offset : r.end_offset ≡ 64 + end
+  pub start_offset : r.start_offset ≡ 64 + start
+  pub marker : IsLeast (IsMarkerAt (slice_range bytes 64 p)) end
+  pub key : r.key ≡ word_at (slice_range bytes 64 p) (end + 4)
+  pub dans : IsLeast (IsDansAt r.key (slice_range bytes 64 p)) start
+
+-- A file whose Rich header is read has a DOS header, and its markers so.
+unfoldable pub RichIsMarked : Type 0
+RichIsMarked = (bytes : List ℕ) (r : Rich) → rich_header bytes ≡ Some (Some r) → IsSomeAnd (dos_header bytes) (λ dos. IsMarked bytes dos.pe_pointer r)
+
+-- A file that has none has no marker with a key behind it.
+unfoldable pub RichIsUnmarked : Type 0
+RichIsUnmarked = (bytes : List ℕ) → rich_header bytes ≡ Some None → IsSomeAnd (dos_header bytes) (λ dos. (i : ℕ) → ¬ IsMarkerAt (slice_range bytes 64 dos.pe_pointer) i)

@@ -6,7 +6,7 @@ use Rattle.goblin_base.specs.declared.error.ErrorOf.{ErrorOf}
 use Rattle.goblin_base.specs.declared.error.ErrorOf.TheVariants.{Malformed}
 use Rattle.goblin_base.specs.declared.error.CauseOf.TheVariants.{StrippedSize}
 use Rattle.goblin_base.specs.Bytes.{number}
-use Rattle.goblin_base.specs.Answers.{IsSliceFault, ◌>>=◌, FirstFault, all_at}
+use Rattle.goblin_base.specs.Answers.{IsFirstMissing, IsSliceFault, ◌>>=◌, FirstFault, all_at}
 use Rattle.goblin_base.specs.Record.{FieldValue, record_at, uint}
 use Rattle.goblin_pe_sect.specs.SectionTable.{Section, section_at, IsSectionFault}
 use Rattle.goblin_pe_head.specs.declared.header.te.TeHeader.{TeHeader}
@@ -90,8 +90,8 @@ te_section_at d bytes p = option_map (section_adjusted d) (section_at true 0 byt
 unfoldable pub te_sections_at : TeHeader → List ℕ → ℕ → Option (List Section)
 te_sections_at h bytes p = displacement h >>= λ d. all_at (λ i. te_section_at d bytes (p + 40 * i)) h.number_of_sections
 
--- which cause is true of sections that are refused: the file is too short for so many; or less was stripped than stands in its place, and else that of one of them
+-- which cause is true of sections that are refused: the file is too short for so many; or less was stripped than stands in its place, and else that of the first that is missing
 abbrev pub IsTeSectionsFault : TeHeader → List ℕ → ℕ → ErrorOf → Type 0
 IsTeSectionsFault h bytes p e =
     IsTooManySections h.number_of_sections bytes e
-    ⊎ FirstFault (displacement h) (IsStrippedFault h) (λ d e. (i : ℕ) × (i < h.number_of_sections) × IsSectionFault true bytes (p + 40 * i) e) e
+    ⊎ FirstFault (displacement h) (IsStrippedFault h) (λ d. IsFirstMissing (λ i. te_section_at d bytes (p + 40 * i)) h.number_of_sections (λ i. IsSectionFault true bytes (p + 40 * i))) e

@@ -1,20 +1,20 @@
 -- The entries of the data directories: read and written one after the other, and walked by their kinds.
-use Rattle.std.proofs.Common.{◌≡◌, ℕ, zero, suc, ◌+◌, ◌-◌, ◌*◌, ◌<◌, ◌≤◌, true, false, nat_le, List, [], ◌∷◌, ◌++◌, length, drop, get_or, set, map, Option, Some, None, refl, sym, ap, ◌∙◌, inl, inr, add-one, arith}
+use Rattle.std.proofs.Common.{◌≡◌, ◌≢◌, ℕ, zero, suc, ◌+◌, ◌-◌, ◌*◌, ◌<◌, ◌≤◌, true, false, nat_le, nat_lt, List, [], ◌∷◌, ◌++◌, length, drop, get_or, set, map, Option, Some, None, refl, sym, ap, ◌∙◌, inl, inr, add-one, arith}
 use Rattle.std.specs.List.{cons_option, range_with_len}
 use Rattle.std.specs.Prelude.{◌==◌, ◌&&◌, ◌||◌, if◌then◌else◌, slice_range, zip, filter_map}
-use Rattle.std.proofs.lemmas.Bool.{le-leb, lt-leb, lt-ltb, le-ltb, ne_eqb, cases_lt}
+use Rattle.std.proofs.lemmas.Bool.{and_parts, eqb-true, leb-true, or_cases, le-leb, lt-leb, lt-ltb, le-ltb, ne_eqb, cases_lt}
 use Rattle.std.proofs.lemmas.Option.{cond_some}
 use Rattle.std.proofs.lemmas.Slice.Zip.{length-zip}
 use Rattle.std.proofs.lemmas.List.{append-nil, at_drop_more, drop_all, length-drop, take_all, get_or-set_same, get_or-set_other, length-set}
 use Rattle.std.proofs.lemmas.List.Concat.{flat_map-cons}
 use Rattle.std.proofs.lemmas.List.FromFn.{fill_by_all, get_or-map-range_with_len, length-map-range_with_len}
-use Rattle.std.proofs.Math.Bool.{or-true}
+use Rattle.std.proofs.Math.Bool.{and-false, or-true}
 use Rattle.goblin_base.specs.declared.endian.Endian.{Endian}
 use Rattle.goblin_base.specs.declared.endian.Endian.TheVariants.{Little}
 use Rattle.goblin_base.specs.declared.error.ErrorOf.{ErrorOf}
 use Rattle.goblin_base.specs.declared.error.ErrorOf.TheVariants.{Read}
 use Rattle.goblin_base.specs.declared.error.ReadFault.TheVariants.{BadOffset, TooBig}
-use Rattle.goblin_base.specs.Bytes.{replaced}
+use Rattle.goblin_base.specs.Bytes.{replaced, slice_at}
 use Rattle.goblin_base.specs.Answers.{IsSliceFault}
 use Rattle.goblin_base.specs.Record.{FieldValue, encoding, record_at, total_width}
 use Rattle.goblin_base.proofs.Records.{record_at-some}
@@ -39,12 +39,32 @@ past_end count bytes p some past =
       | false ↦ refl
     ]
 
--- one that is not there refuses them all
-pub one_missing : (count i : ℕ) (bytes : List ℕ) (p at : ℕ) (e : ErrorOf) → i < count → count ≤ 16 → at ≡ p + 8 * i → IsSliceFault bytes at 8 e
-    → (directories_at count bytes p ≡ None) × IsDirectoriesFault count bytes p e
-one_missing count i bytes p at (Read BadOffset) lt most is h = (past_end count bytes p (omega arith) (omega arith), (most, (i, lt, omega arith)))
-one_missing count i bytes p at (Read TooBig) lt most is h = (past_end count bytes p (omega arith) (omega arith), (most, (i, lt, omega arith)))
-one_missing count i bytes p at e lt most is h = absurd h
+-- entries that were read are there
+there : (i : ℕ) (bytes : List ℕ) (p : ℕ) (entries : List (Option (ℕ × DataDirectory))) → directories_at i bytes p ≡ Some entries → (k : ℕ) → k < i → slice_at bytes (p + 8 * k) 8 ≢ None
+unfolding directories_at
+there i bytes p entries h k lt none =
+    let test = (cond_some (nat_le i 16 && (i == 0 || nat_le (p + 8 * i) (length bytes))) (map (entry_at i bytes p) (range_with_len 0 16)) entries h).0 in
+    let room : p + 8 * i ≤ length bytes = elim (or_cases (i == 0) (nat_le (p + 8 * i) (length bytes)) (and_parts (nat_le i 16) (i == 0 || nat_le (p + 8 * i) (length bytes)) test).1) [
+      | inl nothing ↦ absurd (omega (arith, lt, eqb-true i 0 nothing))
+      | inr le ↦ leb-true _ _ le
+    ] in
+    let begins : nat_lt (p + 8 * k) (length bytes) ≡ true = lt-ltb _ _ (omega (arith, room, lt)) in
+    let ends : nat_le (p + 8 * k + 8) (length bytes) ≡ true = le-leb _ _ (omega (arith, room, lt)) in
+    let is : slice_at bytes (p + 8 * k) 8 ≡ Some (slice_range bytes (p + 8 * k) (p + 8 * k + 8)) = rw (begins, ends) refl in
+    absurd (cc (is, none))
+
+-- nor is one that passes the end
+not_there : (bytes : List ℕ) (p : ℕ) → length bytes < p + 8 → slice_at bytes p 8 ≡ None
+not_there bytes p past = rw (lt-leb _ _ past, and-false) refl
+
+-- the first that is not there refuses them all
+pub one_missing : (count i : ℕ) (bytes : List ℕ) (p at : ℕ) (entries : List (Option (ℕ × DataDirectory))) (e : ErrorOf) → i < count → count ≤ 16 → at ≡ p + 8 * i
+    → directories_at i bytes p ≡ Some entries → IsSliceFault bytes at 8 e → (directories_at count bytes p ≡ None) × IsDirectoriesFault count bytes p e
+one_missing count i bytes p at entries (Read BadOffset) lt most is so_far h =
+    (past_end count bytes p (omega arith) (omega arith), (most, (i, lt, there i bytes p entries so_far, not_there bytes (p + 8 * i) (omega arith), omega arith)))
+one_missing count i bytes p at entries (Read TooBig) lt most is so_far h =
+    (past_end count bytes p (omega arith) (omega arith), (most, (i, lt, there i bytes p entries so_far, not_there bytes (p + 8 * i) (omega arith), omega arith)))
+one_missing count i bytes p at entries e lt most is so_far h = absurd h
 
 -- what entries that were read are
 record AreEntries (count : ℕ) (bytes : List ℕ) (p : ℕ) (entries : List (Option (ℕ × DataDirectory))) : Type 0 where

@@ -1,6 +1,6 @@
 //! The whole header of a PE file.
 
-ghost use Rattle.std.specs.Prelude.{◌≡◌, ◌+◌, ◌≤◌, IfOk, IfSome, IsSomeAnd, drop, length, option_and_then, option_map, true};
+ghost use Rattle.std.specs.Prelude.{◌≡◌, ◌+◌, ◌≤◌, IfOk, IfSome, IsSomeAnd, Some, drop, length, option_and_then, option_map, true};
 ghost use Rattle.goblin_base.specs.declared.endian.Endian.{Endian};
 ghost use Rattle.goblin_base.specs.Answers.{Answers, Writes, IsSliceFault, FirstFault};
 ghost use Rattle.goblin_base.specs.Bytes.{overwritten, replaced};
@@ -9,7 +9,7 @@ ghost use Rattle.goblin_pe_head.specs.HeaderLaws.{HeaderReadsBack, HeaderWritesB
 ghost use Rattle.goblin_pe_head.specs.DosStub.{stub_bytes, IsStubFault};
 ghost use Rattle.goblin_pe_head.specs.OptionalHeader.{IsOptionalFault, written_bytes};
 ghost use Rattle.goblin_pe_head.specs.PeHeader.{default_header, header_at, header_bytes, header_parts, header_value, header_without_dos, optional_at, optional_part, pe_header, stub_in, IsHeaderAtFault, IsHeaderFault, IsUnwrittenPart};
-ghost use Rattle.goblin_pe_head.specs.RichHeader.{PaddingFits, rich_value};
+ghost use Rattle.goblin_pe_head.specs.RichHeader.{PaddingFits, rich_header, rich_value};
 
 use crate::header::{
     CoffHeader, DosHeader, DosStub, RichHeader, SIZEOF_COFF_HEADER, SIZEOF_DOS_HEADER,
@@ -91,6 +91,7 @@ impl<'a> Header<'a> {
     pub fn parse(bytes: &'a [u8]) -> Result<Self>
         ensures value { Answers header_value result (pe_header true bytes.now) (IsHeaderFault true bytes.now) }
         ensures padding { IfOk result (λ header. IfSome header.rich_header PaddingFits) }
+        ensures rich { IfOk result (λ header. rich_header bytes.now ≡ Some (option_map rich_value header.rich_header)) }
     {
         Header::parse_with_opts(bytes, &ParseOptions::default())
     }
@@ -101,10 +102,11 @@ impl<'a> Header<'a> {
     /// # Errors
     /// As [`DosHeader::parse`]; in strict mode as [`DosStub::parse`]; as [`RichHeader::parse`];
     /// [`Error::Read`] where the COFF header is not all there; as the reader of [`OptionalHeader`].
-    #[tactic(auto, unfolding(crate::specs::PeHeader::pe_header, crate::specs::PeHeader::IsHeaderFault))]
+    #[tactic(auto, unfolding(crate::specs::PeHeader::pe_header, crate::specs::PeHeader::IsHeaderFault, crate::specs::RichHeader::rich_header))]
     pub fn parse_with_opts(bytes: &'a [u8], opts: &ParseOptions) -> Result<Self>
         ensures value { Answers header_value result (pe_header (is_strict opts.now.parse_mode) bytes.now) (IsHeaderFault (is_strict opts.now.parse_mode) bytes.now) }
         ensures padding { IfOk result (λ header. IfSome header.rich_header PaddingFits) }
+        ensures rich { IfOk result (λ header. rich_header bytes.now ≡ Some (option_map rich_value header.rich_header)) }
     {
         let dos_header = DosHeader::parse(bytes)?;
         let dos_stub = stub_in(bytes, dos_header.pe_pointer, opts)?;

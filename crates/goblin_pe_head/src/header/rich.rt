@@ -8,7 +8,7 @@ ghost use Rattle.goblin_base.specs.Bytes.{IsBytes, overwritten};
 ghost use Rattle.goblin_base.specs.Record.{ReadsBack, WritesBack, encoding, record_in};
 ghost use Rattle.goblin_base.proofs.RecordLaws.{record_in-within, slice_fault-no_memory};
 ghost use Rattle.goblin_pe_head.specs.declared.header.rich.RichMetadata.{RichMetadata};
-ghost use Rattle.goblin_pe_head.specs.RichHeader.{PaddingFits, marker_place, dans_place, other_place, leading_words, rich_in, rich_at, rich_header, IsRichAtFault, rich_value, IsStretchFault, IsRichFault};
+ghost use Rattle.goblin_pe_head.specs.RichHeader.{PaddingFits, RichIsMarked, RichIsUnmarked, marker_place, dans_place, other_place, leading_words, rich_in, rich_at, rich_header, IsRichAtFault, rich_value, IsStretchFault, IsRichFault};
 ghost use Rattle.goblin_pe_head.specs.RichMetadata.{AreEntriesOf, metadata_at, metadata_fields, metadata_items, metadata_left, metadata_record};
 
 use crate::header::{DOS_STUB_OFFSET, DosHeader};
@@ -66,6 +66,10 @@ impl<'a> RichHeader<'a> {
     pub fn parse(bytes: &'a [u8]) -> Result<Option<Self>>
         ensures value { Answers (option_map rich_value) result (rich_header bytes.now) (IsRichFault bytes.now) }
         ensures padding { IfOk result (λ rich. IfSome rich PaddingFits) }
+
+        // Each marker stands at the least place where it can.
+        ensures marked { RichIsMarked }
+        ensures unmarked { RichIsUnmarked }
     {
         RichHeader::parse_with_opts(bytes, &ParseOptions::default())
     }
@@ -74,10 +78,14 @@ impl<'a> RichHeader<'a> {
     ///
     /// # Errors
     /// As [`RichHeader::parse`], in both modes.
-    #[tactic(auto, unfolding(crate::specs::RichHeader::rich_header, crate::specs::RichHeader::IsRichFault))]
+    #[tactic(auto, unfolding(crate::specs::RichHeader::rich_header, crate::specs::RichHeader::IsRichFault), using(crate::proofs::RichPlaces::rich_marked, crate::proofs::RichPlaces::rich_unmarked))]
     pub fn parse_with_opts(bytes: &'a [u8], _opts: &ParseOptions) -> Result<Option<Self>>
         ensures value { Answers (option_map rich_value) result (rich_header bytes.now) (IsRichFault bytes.now) }
         ensures padding { IfOk result (λ rich. IfSome rich PaddingFits) }
+
+        // Each marker stands at the least place where it can.
+        ensures marked { RichIsMarked }
+        ensures unmarked { RichIsUnmarked }
     {
         let dos = DosHeader::parse(bytes)?;
         RichHeader::parse_at(bytes, dos.pe_pointer)

@@ -1,8 +1,8 @@
 //! The header of a Terse Executable, an image of firmware whose PE headers are stripped, and its
 //! sections.
 
-ghost use Rattle.std.specs.Prelude.{◌≡◌, ◌+◌, ◌*◌, ◌/◌, ◌<◌, length, IfOk, IsErrAnd, OnOk, OnErr};
-ghost use Rattle.goblin_base.specs.Answers.{Answers, AnswersOrMemory, Writes, IsSliceFault};
+ghost use Rattle.std.specs.Prelude.{◌≡◌, ◌+◌, ◌*◌, ◌/◌, ◌<◌, ◌≤◌, length, IfErr, IfOk, IsErrAnd, OnOk, OnErr};
+ghost use Rattle.goblin_base.specs.Answers.{Answers, AnswersOrMemory, IsMemory, Writes, IsSliceFault};
 ghost use Rattle.goblin_base.specs.Bytes.{overwritten};
 ghost use Rattle.goblin_base.specs.Record.{ReadsBack, WritesBack, encoding, record_in};
 ghost use Rattle.goblin_base.proofs.RecordLaws.{record_in-within, slice_fault-no_memory};
@@ -182,6 +182,8 @@ impl TeHeader {
     ) -> Result<Vec<SectionTable>>
         ensures value { AnswersOrMemory (λ v. v.items) result (te_sections_at self.now bytes.now offset.old) (IsTeSectionsFault self.now bytes.now offset.old) }
         ensures first { length bytes.now / 40 < self.now.number_of_sections → IsErrAnd result (IsTooManySections self.now.number_of_sections bytes.now) }
+        ensures grown { IfErr result (λ e. IsMemory e → 0 < self.now.number_of_sections) }
+        ensures stripped { IfErr result (λ e. IsMemory e → 40 ≤ self.now.stripped_size) }
         ensures ok { OnOk result (offset.new ≡ offset.old + 40 * self.now.number_of_sections) }
         ensures err { OnErr result (offset.new ≡ offset.old) }
     {

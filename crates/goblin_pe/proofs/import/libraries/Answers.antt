@@ -4,7 +4,7 @@ use Rattle.std.proofs.lemmas.List.{append-nil}
 use Rattle.std.proofs.lemmas.Result.{err_from_is_err_and}
 use Rattle.goblin_base.specs.declared.error.ErrorOf.TheVariants.{Malformed}
 use Rattle.goblin_base.specs.declared.error.CauseOf.TheVariants.{ImportRecordEnd}
-use Rattle.goblin_base.proofs.SlotTables.{at-start, at-next, at-last, at-end, at-missing, at-missing_cause, at-refused, at-refused_cause}
+use Rattle.goblin_base.proofs.SlotTables.{at-start, at-next, at-last, at-end, at-missing, at-missing_first, at-refused, at-refused_cause}
 use Rattle.goblin_pe_sect.specs.Mapping.{file_offset}
 use Rattle.goblin_pe_sect.specs.Options.{is_strict}
 use Rattle.goblin_pe.specs.ImportDirectory.{IsImportRecordEnd, IsLibraryFault}
@@ -26,7 +26,7 @@ pub returns-in_default : goal.returns-in_default
 returns-in_default g c = λ _.
     let mode = strict _ _ c.is_permissive.ensures c.if-is_permissive.false in (
       at-missing _ _ _ _ _ _ _ (lit≤ tt) c.records.invariant c.in_default.ensures.0 mode,
-      inl (at-missing_cause _ _ _ IsImportRecordEnd _ _ c.records.place _ (Malformed (ImportRecordEnd c.records.place)) (lit≤ tt) c.records.invariant c.in_default.ensures.0 mode refl),
+      inl (at-missing_first _ _ _ IsImportRecordEnd _ _ c.records.place _ (Malformed (ImportRecordEnd c.records.place)) (lit≤ tt) c.records.invariant c.in_default.ensures.0 mode refl),
     )
 
 pub returns-in_err-kept : goal.returns-in_err-kept

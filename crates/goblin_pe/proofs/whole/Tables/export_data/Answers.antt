@@ -10,4 +10,4 @@ returns c =
     let offset_of = offset_by c.args.opts.now c.args.sections.now (table_places c.args.self.now) in
     let directory = c.in-Some.directory in
     let bytes = c.args.bytes.now in
-    rw (c.in-Some.is) (becomes_same (is_strict c.args.opts.now.parse_mode) c.parse_with_opts.result c.part_of.result (export_data offset_of directory bytes) (IsExportDataFault offset_of directory bytes) c.parse_with_opts.ensures c.part_of.ensures)
+    rw (c.in-Some.is) (becomes_same (is_strict c.args.opts.now.parse_mode) c.parse_with_opts.result c.part_of.result (export_data offset_of directory bytes) (IsExportDataFault offset_of directory bytes) c.parse_with_opts.ensures.value c.part_of.ensures)

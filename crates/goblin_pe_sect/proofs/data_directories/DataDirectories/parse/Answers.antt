@@ -10,7 +10,7 @@ entries-init c = record { end = omega arith; read = refl }
 
 pub returns-in_err-directory-clause-value : goal.returns-in_err-directory-clause-value
 returns-in_err-directory-clause-value c =
-    let refused = one_missing c.args.count c.entries.i c.args.bytes.now c.args.offset.now c.entries.end c.in_err-directory.field-0.0 c.entries-test.true (omega arith) c.entries.invariant.end c.in_err-directory.ensures.value.1 in
+    let refused = one_missing c.args.count c.entries.i c.args.bytes.now c.args.offset.now c.entries.end c.entries.data_directories c.in_err-directory.field-0.0 c.entries-test.true (omega arith) c.entries.invariant.end c.entries.invariant.read c.in_err-directory.ensures.value.1 in
     let is = err_from_is_err_and c.from_residual.result c.from_residual.ensures.1 in
     rw (is.1, is.2) refused
 

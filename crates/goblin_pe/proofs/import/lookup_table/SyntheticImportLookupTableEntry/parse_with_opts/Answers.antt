@@ -4,7 +4,7 @@ use Rattle.std.proofs.lemmas.Result.{err_from_is_err_and}
 use Rattle.goblin_pe_sect.specs.Mapping.{file_offset}
 use Rattle.goblin_base.specs.declared.error.ErrorOf.TheVariants.{Malformed}
 use Rattle.goblin_base.specs.declared.error.CauseOf.TheVariants.{LookupEnd}
-use Rattle.goblin_base.proofs.SlotTables.{at-start, at-next, at-last, at-end, at-missing, at-missing_cause, at-refused, at-refused_cause}
+use Rattle.goblin_base.proofs.SlotTables.{at-start, at-next, at-last, at-end, at-missing, at-missing_first, at-refused, at-refused_cause}
 use Rattle.goblin_pe.specs.ImportLookup.{IsKeptEntryFault, IsLookupEnd, entry_view, kept_view}
 use Rattle.goblin_pe.proofs.Modes.{strict, permissive}
 use Rattle.goblin_pe.proofs.import.lookup_table.SyntheticImportLookupTableEntry.parse_with_opts.Goals as goal
@@ -17,7 +17,7 @@ pub returns-in_default : goal.returns-in_default
 returns-in_default g c = λ _.
     let mode = strict _ _ c.is_permissive.ensures c.if-is_permissive.false in
     let width : 1 ≤ g.T.Bitfield.format.width = omega (arith, c.size_of-size.ensures.width, c.size_of-size.ensures.positive) in
-    (at-missing _ _ _ _ _ _ _ width c.slots.invariant c.in_default.ensures.0 mode, inl (at-missing_cause _ _ _ IsLookupEnd _ _ c.slots.place _ (Malformed (LookupEnd c.slots.place)) width c.slots.invariant c.in_default.ensures.0 mode refl))
+    (at-missing _ _ _ _ _ _ _ width c.slots.invariant c.in_default.ensures.0 mode, inl (at-missing_first _ _ _ IsLookupEnd _ _ c.slots.place _ (Malformed (LookupEnd c.slots.place)) width c.slots.invariant c.in_default.ensures.0 mode refl))
 
 pub returns-in_err-kept : goal.returns-in_err-kept
 returns-in_err-kept g c =

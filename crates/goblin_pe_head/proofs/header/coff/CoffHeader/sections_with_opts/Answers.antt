@@ -1,7 +1,7 @@
 use Rattle.std.proofs.Common.{◌+◌, ◌*◌, List, ap, arith, inl, inr, refl, subst, sym, ◌∙◌, ℕ}
 use Rattle.std.specs.Prelude.{Some}
 use Rattle.std.proofs.lemmas.Result.{err_from_is_err_and}
-use Rattle.goblin_base.proofs.Steps.{all_at-more, all_at-none, all_at-zero}
+use Rattle.goblin_base.proofs.Steps.{all_at-each, all_at-more, all_at-none, all_at-zero}
 use Rattle.goblin_pe_sect.specs.Options.{is_strict}
 use Rattle.goblin_pe_sect.specs.SectionTable.{Section, section_at, IsSectionFault}
 use Rattle.goblin_pe_head.specs.CoffHeader.{string_table_offset}
@@ -45,5 +45,5 @@ returns-in_err-section-clause-value c =
     let fault = c.in_err-section.ensures.value no_memory in
     let none = sym (ap (λ (k : ℕ). section_at strict k bytes c.records.end) c.string_table_offset-table.ensures ∙ ap (section_at strict table bytes) at) ∙ fault.0 in (
       all_at-none (λ i. section_at strict table bytes (c.args.offset.now + 40 * i)) c.args.self.now.number_of_sections i c.records-test.true none,
-      inr (i, c.records-test.true, subst (λ (p : ℕ). IsSectionFault strict bytes p c.in_err-section.field-0.0) at fault.1),
+      inr (i, c.records-test.true, all_at-each (λ i. section_at strict table bytes (c.args.offset.now + 40 * i)) i c.records.sections.items c.records.invariant.read, none, subst (λ (p : ℕ). IsSectionFault strict bytes p c.in_err-section.field-0.0) at fault.1),
     ))

@@ -1,7 +1,7 @@
 use Rattle.std.proofs.Common.{◌+◌, ◌*◌, ℕ, List, ap, arith, inl, inr, refl, subst, sym, ◌∙◌, true}
 use Rattle.std.specs.Prelude.{Some, option_map}
 use Rattle.std.proofs.lemmas.Result.{err_from_is_err_and}
-use Rattle.goblin_base.proofs.Steps.{all_at-more, all_at-zero}
+use Rattle.goblin_base.proofs.Steps.{all_at-each, all_at-more, all_at-zero}
 use Rattle.goblin_pe_sect.specs.SectionTable.{Section, section_at, IsSectionFault}
 use Rattle.goblin_pe_head.specs.TeHeader.{section_adjusted, te_section_at}
 use Rattle.goblin_pe_head.proofs.Sections.{te_sections_at-missing, te_sections_at-too_short}
@@ -40,5 +40,5 @@ returns-in_err-section-clause-value c =
     let fault = c.in_err-section.ensures.value no_memory in
     let none = sym (ap (section_at true 0 bytes) at) ∙ fault.0 in (
       te_sections_at-missing c.args.self.now c.in_ok-displacement.displacement i bytes c.args.offset.now c.in_ok-displacement.ensures c.records-test.true none,
-      inr (rw c.in_ok-displacement.ensures (i, c.records-test.true, subst (λ (p : ℕ). IsSectionFault true bytes p c.in_err-section.field-0.0) at fault.1)),
+      inr (rw c.in_ok-displacement.ensures (i, c.records-test.true, all_at-each (λ i. te_section_at c.in_ok-displacement.displacement bytes (c.args.offset.now + 40 * i)) i c.records.sections.items c.records.invariant.read, ap (option_map (section_adjusted c.in_ok-displacement.displacement)) none, subst (λ (p : ℕ). IsSectionFault true bytes p c.in_err-section.field-0.0) at fault.1)),
     ))

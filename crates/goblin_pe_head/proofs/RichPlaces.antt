@@ -1,0 +1,166 @@
+-- The least places of the words of a Rich header.
+use Rattle.std.proofs.Common.{◌≡◌, ℕ, Bool, true, false, cond, zero, suc, ◌+◌, ◌-◌, ◌*◌, ◌%◌, ◌<◌, ◌≤◌, ◌⊎◌, ◌&&◌, nat_lt, List, length, drop, refl, subst, ap, sym, ◌∙◌, inl, inr, arith}
+use Rattle.std.specs.Prelude.{◌==◌, Option, Some, None, IsSomeAnd, slice_range}
+use Rattle.std.specs.List.{find, range_with_len}
+use Rattle.std.specs.Int.Bits.{bit_xor}
+use Rattle.std.proofs.lemmas.Bool.{cases_eq, eqb-true, eq-eqb, ltb-true}
+use Rattle.std.proofs.lemmas.List.{length-take}
+use Rattle.goblin_base.proofs.Steps.{step}
+use Rattle.goblin_pe_head.specs.declared.header.dos.DosHeader.{DosHeader}
+use Rattle.goblin_pe_head.specs.DosHeader.{dos_header}
+use Rattle.goblin_pe_head.specs.RichHeader.{IsDansAt, IsLeast, IsMarked, IsMarkerAt, Rich, RichIsMarked, RichIsUnmarked, dans_place, leading_words, least_below, marker_place, rich_before, rich_between, rich_header, rich_in, word_at}
+
+-- the first of n numbers from a on that passes the test passes, and none before it does
+pub record IsFound (test : ℕ → Bool) (a n i : ℕ) : Type 0 where
+  pub low : a ≤ i
+  pub high : i < a + n
+  pub passes : test i ≡ true
+  pub least : (k : ℕ) → a ≤ k → k < i → test k ≡ false
+
+found : (passes : Bool) (a i : ℕ) (later : Option ℕ) → cond passes (Some a) later ≡ Some i → ((passes ≡ true) × (a ≡ i)) ⊎ ((passes ≡ false) × (later ≡ Some i))
+found true a i later e = inl (refl, cc)
+found false a i later e = inr (refl, e)
+
+find_is : (test : ℕ → Bool) (n a i : ℕ) → find test (range_with_len a n) ≡ Some i → IsFound test a n i
+find_is test zero a i e = absurd cc
+find_is test (suc n) a i e =
+    elim (found (test a) a i (find test (range_with_len (a + 1) n)) e) [
+      | inl here ↦ record {
+        low = omega (arith, here.1);
+        high = omega (arith, here.1);
+        passes = ap test (sym here.1) ∙ here.0;
+        least = λ k low lt. absurd (omega (arith, low, lt, here.1));
+      }
+      | inr later ↦
+          let rest = find_is test n (a + 1) i later.1 in
+          record {
+            low = omega (arith, rest.low);
+            high = omega (arith, rest.high);
+            passes = rest.passes;
+            least = λ k low lt. elim (cases_eq k a) [
+              | inl at ↦ ap test at ∙ later.0
+              | inr other ↦ rest.least k (omega (arith, low, other)) lt
+            ];
+          }
+    ]
+
+fails : (passes : Bool) (a : ℕ) (later : Option ℕ) → cond passes (Some a) later ≡ None → (passes ≡ false) × (later ≡ None)
+fails true a later e = absurd cc
+fails false a later e = (refl, e)
+
+find_none : (test : ℕ → Bool) (n a k : ℕ) → find test (range_with_len a n) ≡ None → a ≤ k → k < a + n → test k ≡ false
+find_none test zero a k e low high = absurd (omega (arith, low, high))
+find_none test (suc n) a k e low high =
+    let here = fails (test a) a (find test (range_with_len (a + 1) n)) e in
+    elim (cases_eq k a) [
+      | inl at ↦ ap test at ∙ here.0
+      | inr other ↦ find_none test n (a + 1) k here.1 (omega (arith, low, other)) (omega (arith, high))
+    ]
+
+-- the least number that passes a test is the least place where P holds, if the test is that of P
+least_is : (P : ℕ → Type 0) (test : ℕ → Bool) (n i : ℕ) → ((k : ℕ) → k < n → test k ≡ true → P k) → ((k : ℕ) → P k → (k < n) × (test k ≡ true)) → least_below n test ≡ Some i → IsLeast P i
+least_is P test n i to from e =
+    let is = find_is test n 0 i e in
+    record {
+      holds = to i (omega (arith, is.high)) is.passes;
+      least = λ k lt holds. let here = from k holds in absurd (cc (here.1, is.least k (omega arith) lt));
+    }
+
+is_marker : (stretch : List ℕ) (k : ℕ) → IsMarkerAt stretch k → (k < length stretch - 7) × ((word_at stretch k == 0x68636952) ≡ true)
+is_marker stretch k holds = (omega (arith, holds.0), eq-eqb (word_at stretch k) 0x68636952 holds.1)
+
+first_marker : (stretch : List ℕ) (i : ℕ) → marker_place stretch ≡ Some i → IsLeast (IsMarkerAt stretch) i
+unfolding marker_place
+first_marker stretch i e =
+    least_is (IsMarkerAt stretch) (λ i. word_at stretch i == 0x68636952) (length stretch - 7) i
+    (λ k lt passes. (omega (arith, lt), eqb-true (word_at stretch k) 0x68636952 passes)) (is_marker stretch) e
+
+no_marker : (stretch : List ℕ) → marker_place stretch ≡ None → (k : ℕ) → ¬ IsMarkerAt stretch k
+unfolding marker_place
+no_marker stretch e k holds =
+    let is = is_marker stretch k holds in
+    absurd (cc (is.1, find_none (λ i. word_at stretch i == 0x68636952) (length stretch - 7) 0 k e (omega arith) (omega (arith, is.0))))
+
+first_dans : (key : ℕ) (stretch : List ℕ) (j : ℕ) → dans_place key stretch ≡ Some j → IsLeast (IsDansAt key stretch) j
+unfolding dans_place
+first_dans key stretch j e =
+    least_is (IsDansAt key stretch) (λ j. bit_xor (word_at stretch j) key == 0x536E6144) (length stretch - 3) j
+    (λ k lt passes. (omega (arith, lt), eqb-true (bit_xor (word_at stretch k) key) 0x536E6144 passes))
+    (λ k holds. (omega (arith, holds.0), eq-eqb (bit_xor (word_at stretch k) key) 0x536E6144 holds.1)) e
+
+-- what is known of the markers of a Rich header that was read from a stretch
+record IsMarkedIn (stretch : List ℕ) (r : Rich) : Type 0 where
+  end : ℕ
+  start : ℕ
+  end_offset : r.end_offset ≡ 64 + end
+  start_offset : r.start_offset ≡ 64 + start
+  marker : marker_place stretch ≡ Some end
+  key : r.key ≡ word_at stretch (end + 4)
+  dans : dans_place r.key stretch ≡ Some start
+
+made : (test : Bool) (r s : Rich) → cond test (Some (Some r)) None ≡ Some (Some s) → r ≡ s
+made true r s e = cc
+made false r s e = absurd cc
+
+marked_before : (stretch : List ℕ) (marker : Option ℕ) (r : Rich) → marker_place stretch ≡ marker → rich_before stretch marker ≡ Some (Some r) → IsMarkedIn stretch r
+marked_before stretch None r is e = absurd cc
+marked_before stretch (Some i) r is e =
+    let key = word_at stretch (i + 4) in
+    let s = step (dans_place key stretch) (λ j. rich_between stretch key j i) (Some r) e in
+    let j = s.value in
+    let own = slice_range stretch (j + 4) i in
+    let header : Rich = record { key = key; bytes = own; padding_size = 4 * leading_words key own; start_offset = 64 + j; end_offset = 64 + i } in
+    subst (IsMarkedIn stretch) (made (nat_lt (j + 4) i && ((i - j - 4) % 4 == 0)) header r s.then)
+    (record { end = i; start = j; end_offset = refl; start_offset = refl; marker = is; key = refl; dans = s.is })
+
+never_none : (test : Bool) (r : Rich) → cond test (Some (Some r)) None ≡ Some None → ⊥
+never_none true r e = absurd cc
+never_none false r e = absurd cc
+
+none_before : (stretch : List ℕ) (marker : Option ℕ) → rich_before stretch marker ≡ Some None → marker ≡ None
+none_before stretch None e = refl
+none_before stretch (Some i) e =
+    let key = word_at stretch (i + 4) in
+    let s = step (dans_place key stretch) (λ j. rich_between stretch key j i) None e in
+    let j = s.value in
+    let own = slice_range stretch (j + 4) i in
+    let header : Rich = record { key = key; bytes = own; padding_size = 4 * leading_words key own; start_offset = 64 + j; end_offset = 64 + i } in
+    absurd (never_none (nat_lt (j + 4) i && ((i - j - 4) % 4 == 0)) header s.then)
+
+long_enough : (short : Bool) (found : Option (Option Rich)) (r : Rich) → cond short (Some None) found ≡ Some (Some r) → found ≡ Some (Some r)
+long_enough true found r e = absurd cc
+long_enough false found r e = e
+
+short_or_none : (short : Bool) (found : Option (Option Rich)) → cond short (Some None) found ≡ Some None → (short ≡ true) ⊎ (found ≡ Some None)
+short_or_none true found e = inl refl
+short_or_none false found e = inr e
+
+pub rich_marked : RichIsMarked
+unfolding RichIsMarked rich_header rich_in
+rich_marked bytes r e =
+    let s = step (dos_header bytes) (λ dos. cond (nat_lt dos.pe_pointer 68) (Some None) (rich_before (slice_range bytes 64 dos.pe_pointer) (marker_place (slice_range bytes 64 dos.pe_pointer)))) (Some r) e in
+    let p = s.value.pe_pointer in
+    let stretch = slice_range bytes 64 p in
+    let is = marked_before stretch (marker_place stretch) r refl (long_enough (nat_lt p 68) (rich_before stretch (marker_place stretch)) r s.then) in
+    let marked : IsMarked bytes p r = record {
+      end = is.end;
+      start = is.start;
+      end_offset = is.end_offset;
+      start_offset = is.start_offset;
+      marker = first_marker stretch is.end is.marker;
+      key = is.key;
+      dans = first_dans r.key stretch is.start is.dans;
+    } in
+    subst (λ (o : Option DosHeader). IsSomeAnd o (λ dos. IsMarked bytes dos.pe_pointer r)) (sym s.is) marked
+
+pub rich_unmarked : RichIsUnmarked
+unfolding RichIsUnmarked rich_header rich_in
+rich_unmarked bytes e =
+    let s = step (dos_header bytes) (λ dos. cond (nat_lt dos.pe_pointer 68) (Some None) (rich_before (slice_range bytes 64 dos.pe_pointer) (marker_place (slice_range bytes 64 dos.pe_pointer)))) None e in
+    let p = s.value.pe_pointer in
+    let stretch = slice_range bytes 64 p in
+    let none : (i : ℕ) → ¬ IsMarkerAt stretch i = elim (short_or_none (nat_lt p 68) (rich_before stretch (marker_place stretch)) s.then) [
+      | inl short ↦ λ i holds. absurd (omega (arith, ltb-true p 68 short, length-take (p - 64) (drop 64 bytes), holds.0))
+      | inr found ↦ no_marker stretch (none_before stretch (marker_place stretch) found)
+    ] in
+    subst (λ (o : Option DosHeader). IsSomeAnd o (λ dos. (i : ℕ) → ¬ IsMarkerAt (slice_range bytes 64 dos.pe_pointer) i)) (sym s.is) none
