@@ -7,6 +7,8 @@ ghost use Rattle.goblin_pe_head.specs.PeHeader.{header_bytes, pe_header};
 
 use goblin_base::Endian;
 use goblin_pe_head::{CoffHeader, Header, TeHeader};
+use goblin_pe_sect::utils::find_offset;
+use goblin_pe_sect::{ParseOptions, WindowIndex};
 use std::io::{Read, Write};
 use std::process::ExitCode;
 use std::{env, io};
@@ -44,6 +46,8 @@ fn replay(rt: &HostRuntime) -> Result<(), Refused> {
         Some(word) if word.as_str() == "header" => show_header(rt, &file),
         Some(word) if word.as_str() == "te" => show_te(rt, &file),
         Some(word) if word.as_str() == "symbols" => show_symbols(rt, &file),
+        Some(word) if word.as_str() == "walk" => show_offsets(rt, &file, words.next(), false),
+        Some(word) if word.as_str() == "index" => show_offsets(rt, &file, words.next(), true),
         _ => Err(Refused),
     }
 }
@@ -126,5 +130,43 @@ fn show_symbols(rt: &HostRuntime, file: &[u8]) -> Result<(), Refused> {
             println!(rt; "relocations {} {count}", section.name()?)?;
         }
     }
+    Ok(())
+}
+
+// How far the addresses lie apart that are looked up, all below `SPAN`.
+const STEP: usize = 0x9E37_79B1;
+
+const SPAN: usize = 1 << 28;
+
+// The file offsets of many addresses of an object, as many as the word says, added up: by a walk over
+// its sections for each, or by an index of them.
+fn show_offsets(
+    rt: &HostRuntime,
+    file: &[u8],
+    word: Option<String>,
+    is_by_index: bool,
+) -> Result<(), Refused> {
+    let count = match word {
+        Some(word) => word.parse::<u32>().map_err(|_| Refused)?,
+        None => return Err(Refused),
+    };
+    let mut offset = 0;
+    let header = CoffHeader::parse(file, &mut offset)?;
+    let sections = header.sections(rt.alloc(), file, &mut offset)?;
+    let opts = ParseOptions::default();
+    let mut sum = 0usize;
+    if is_by_index {
+        let index = WindowIndex::prepare(rt.alloc(), &sections, 0x200, &opts)?;
+        for i in 0..count as usize {
+            let found = index.find(i.wrapping_mul(STEP) % SPAN);
+            sum = sum.wrapping_add(found.unwrap_or(0));
+        }
+    } else {
+        for i in 0..count as usize {
+            let found = find_offset(i.wrapping_mul(STEP) % SPAN, &sections, 0x200, &opts);
+            sum = sum.wrapping_add(found.unwrap_or(0));
+        }
+    }
+    println!(rt; "{sum:#x}")?;
     Ok(())
 }
