@@ -3,7 +3,6 @@
 
 mod addresses;
 mod bytes;
-mod constants;
 mod directories;
 mod exports;
 mod header;
@@ -20,7 +19,6 @@ mod sample;
 mod sections;
 mod streams;
 mod string_tables;
-mod symbol_constants;
 mod symbols;
 mod te;
 mod whole;
