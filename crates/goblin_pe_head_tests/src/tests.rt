@@ -1,6 +1,5 @@
 //! Worked values of headers, and what is read through a header.
 
-mod constants;
 mod header;
 mod headers;
 mod memory;

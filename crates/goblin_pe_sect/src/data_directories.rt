@@ -18,6 +18,8 @@ use goblin_base::{
 /// The size of a directory's record, in bytes.
 pub const SIZEOF_DATA_DIRECTORY: usize = 8;
 
+const _: () = prove!(SIZEOF_DATA_DIRECTORY == 8);
+
 // How many entries the table has.
 const NUM_DATA_DIRECTORIES: usize = 16;
 

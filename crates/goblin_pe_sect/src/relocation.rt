@@ -136,6 +136,8 @@ pub use constants::IMAGE_REL_IA64_UREL32;
 /// The size of a relocation of a COFF object, in bytes.
 pub const COFF_RELOCATION_SIZE: usize = 10;
 
+const _: () = prove!(COFF_RELOCATION_SIZE == 10);
+
 /// A relocation of a COFF object: a place in a section that a linker changes.
 ///
 /// Source: PE Format, "COFF Relocations (Object Only)". Numbers are as stored; the record has 10

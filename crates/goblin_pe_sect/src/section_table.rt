@@ -44,6 +44,8 @@ pub use constants::{
 /// The size of a section record, in bytes.
 pub const SIZEOF_SECTION_TABLE: usize = 40;
 
+const _: () = prove!(SIZEOF_SECTION_TABLE == 40);
+
 /// A section, as its record describes it.
 ///
 /// Source: PE Format, "Section Table (Section Headers)". Numbers are as stored; a record has 40

@@ -47,6 +47,8 @@ pub use constants::{
 /// The size of a record of the symbol table, in bytes.
 pub const COFF_SYMBOL_SIZE: usize = 18;
 
+const _: () = prove!(COFF_SYMBOL_SIZE == 18);
+
 // How many bytes in front of a string table say its length. The offsets that symbols store count
 // them.
 const LENGTH_FIELD_SIZE: u32 = 4;

@@ -7,5 +7,4 @@ mod names;
 mod options;
 mod relocations;
 mod sections;
-mod symbol_constants;
 mod windows;

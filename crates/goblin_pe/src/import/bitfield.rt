@@ -18,6 +18,13 @@ pub const IMPORT_BY_ORDINAL_64: u64 = 0x8000_0000_0000_0000;
 /// The bits of an entry of 64 bits that are the address of a hint and a name.
 pub const IMPORT_RVA_MASK_64: u64 = 0x0000_0000_7FFF_FFFF;
 
+const _: () = prove!(
+    IMPORT_BY_ORDINAL_32 == 0x8000_0000
+        && IMPORT_RVA_MASK_32 == 0x7FFF_FFFF
+        && IMPORT_BY_ORDINAL_64 == 0x8000_0000_0000_0000
+        && IMPORT_RVA_MASK_64 == 0x7FFF_FFFF
+);
+
 /// The type of the entries of lookup and address tables: `u32` in an image for 32 bits, `u64` in one
 /// for 64 bits.
 ///

@@ -15,6 +15,8 @@ use goblin_base::{
 /// The size of an import directory record, in bytes.
 pub const SIZEOF_IMPORT_DIRECTORY_ENTRY: usize = 20;
 
+const _: () = prove!(SIZEOF_IMPORT_DIRECTORY_ENTRY == 20);
+
 /// A record of an import directory: where the imports from a library stand.
 ///
 /// Source: PE Format, "Import Directory Table". Numbers are as stored; the record has 20 bytes.
