@@ -1,5 +1,6 @@
 pub mod Answers
 pub mod Bytes
 pub mod Record
+pub mod RecordLaws
 pub mod Strtab
 pub mod Tables

@@ -11,7 +11,7 @@ use crate::data_directories::DataDirectory;
 use crate::options::ParseOptions;
 use crate::section_table::SectionTable;
 use crate::utils::find_offset;
-use goblin_base::{Cause, Error, ErrorOf, ResultOf};
+use goblin_base::{Cause, Endian, Error, ErrorOf, Record, ResultOf};
 use std::alloc::Global;
 use std::marker::Model;
 
@@ -99,7 +99,7 @@ fn libraries<'a, 'e, T: Bitfield<'a>>(
     let mut import_data = Vec::new(alloc);
     let mut place = offset;
     'records: loop {
-        let Ok(record) = ImportDirectoryEntry::read(bytes, place) else {
+        let Ok(record) = ImportDirectoryEntry::read_at(bytes, place, Endian::Little) else {
             if opts.parse_mode.is_permissive() {
                 break 'records;
             }

@@ -17,8 +17,8 @@ use crate::header::{
 };
 use crate::optional_header::{OptionalHeader, WrittenHeader};
 use goblin_base::{
-    Cause, Endian, Error, Field, Permissive, Result, TryFromCtx, pread_slice, pread_u32, put_bytes,
-    record_bytes,
+    Cause, Endian, Error, Field, Permissive, Result, TryFromCtx, encode, pread_slice, pread_u32,
+    put_bytes, record_bytes,
 };
 use goblin_pe_sect::ParseOptions;
 
@@ -203,11 +203,12 @@ impl<'a> Header<'a> {
             &[Field::U32(self.signature)],
             Endian::Little,
         );
+        let coff: [u8; SIZEOF_COFF_HEADER] = encode(self.coff_header, endian);
         let pe_header = SIZEOF_DOS_HEADER + stub.len();
         put_bytes(bytes, 0, &self.dos_header.to_bytes(endian));
         put_bytes(bytes, SIZEOF_DOS_HEADER, stub);
         put_bytes(bytes, pe_header, &signature);
-        put_bytes(bytes, pe_header + 4, &self.coff_header.to_bytes(endian));
+        put_bytes(bytes, pe_header + 4, &coff);
         put_bytes(bytes, pe_header + 24, optional);
     }
 }

@@ -1,7 +1,7 @@
 //! Headers written back, and headers that are not written.
 
 use super::sample::{SAMPLE_LEN, TABLE, put, sample, sample_coff};
-use goblin_base::{Cause, Endian, Error, TryFromCtx};
+use goblin_base::{Cause, Endian, Error, Record, TryFromCtx};
 use goblin_pe_head::header::SIZEOF_COFF_HEADER;
 use goblin_pe_head::optional_header::{StandardFields, WindowsFields};
 use goblin_pe_head::{CoffHeader, DosStub, Header, OptionalHeader};
