@@ -70,7 +70,7 @@ IsBytes-slice bytes k n h i =
       | inr le ↦ rw (get_or_past (take m (drop k bytes)) i 0 (omega (arith, length-take m (drop k bytes)))) (omega arith)
     ]
 
-length-slice : (bytes : List ℕ) (k n : ℕ) → k + n ≤ length bytes → length (slice_range bytes k (k + n)) ≡ n
+pub length-slice : (bytes : List ℕ) (k n : ℕ) → k + n ≤ length bytes → length (slice_range bytes k (k + n)) ≡ n
 length-slice bytes k n h = omega (arith, length-take (k + n - k) (drop k bytes), length-drop k bytes)
 
 read_back : (endian : Endian) (n : ℕ) (s : List ℕ) → IsBytes s → length s ≡ n → number_bytes endian n (read_number endian n s) ≡ s

@@ -14,7 +14,7 @@ pub mod write;
 pub use container::Container;
 pub use endian::Endian;
 pub use error::{Cause, CauseOf, Error, ErrorOf, ReadFault, Result, ResultOf};
-pub use permissive::{ParseMode, Permissive};
+pub use permissive::{ParseMode, Permissive, is_passed_over};
 pub use read::{
     before_nul, gread_slice, gread_str, gread_str_until, gread_u8, gread_u16, gread_u32, gread_u64,
     pread_slice, pread_str, pread_str_until, pread_u8, pread_u16, pread_u32, pread_u64,

@@ -243,7 +243,9 @@ impl OptionalHeader {
     #[tactic(auto, using(crate::proofs::OptionalHeaderRoundTrip::optional_back))]
     pub fn try_into_ctx(self, bytes: &mut [u8], endian: Endian) -> Result<usize>
         ensures size { IfOk result (λ n. IsSomeAnd (optional_bytes endian self) (λ written. n ≡ length written)) }
-        ensures written { Writes result (option_and_then (overwritten bytes.old 0) (optional_bytes endian self)) bytes.old bytes.new (FirstFault (optional_bytes endian self) (IsUnwritten self) (λ written. IsSliceFault bytes.old 0 (length written))) }
+        ensures written { let made = optional_bytes endian self in
+            let IsFault = FirstFault made (IsUnwritten self) (λ written. IsSliceFault bytes.old 0 (length written)) in
+            Writes result (option_and_then (overwritten bytes.old 0) made) bytes.old bytes.new IsFault }
         ensures back { OptionalWritesBack }
     {
         let written = self.to_bytes(endian)?;

@@ -169,7 +169,8 @@ fn counted_table<V: Drop, F: Fn(&[u8]) -> V>(
     value_of: F,
 ) -> Result<Table<V>>
     requires { (entry : _) → length entry.now ≡ width → F.pre value_of entry }
-    ensures { (value : List ℕ → V) → ((entry : _) (v : V) → length entry.now ≡ width → F.post value_of entry v → v ≡ value entry.now) → GivesOrMemory (λ t. t) result (counted_table_if (record { width = width; value_of = value }) count bytes.now offset) }
+    ensures { (value : List ℕ → V) → ((entry : _) (v : V) → length entry.now ≡ width → F.post value_of entry v → v ≡ value entry.now)
+        → GivesOrMemory (λ t. t) result (counted_table_if (record { width = width; value_of = value }) count bytes.now offset) }
 {
     let mut entries = Vec::new(alloc);
     let Some(begin) = offset else {

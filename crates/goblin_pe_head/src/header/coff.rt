@@ -109,7 +109,9 @@ impl CoffHeader {
         bytes: &[u8],
         offset: &mut usize,
     ) -> Result<Vec<SectionTable>>
-        ensures value { AnswersOrMemory (λ v. v.items) result (sections_at true (string_table_offset self.now) self.now.number_of_sections bytes.now offset.old) (IsSectionsFault true self.now.number_of_sections bytes.now offset.old) }
+        ensures value { let table = string_table_offset self.now in
+            let count = self.now.number_of_sections in
+            AnswersOrMemory (λ v. v.items) result (sections_at true table count bytes.now offset.old) (IsSectionsFault true count bytes.now offset.old) }
         ensures first { length bytes.now / 40 < self.now.number_of_sections → IsErrAnd result (IsTooManySections self.now.number_of_sections bytes.now) }
         ensures ok { OnOk result (offset.new ≡ offset.old + 40 * self.now.number_of_sections) }
         ensures err { OnErr result (offset.new ≡ offset.old) }
@@ -132,7 +134,10 @@ impl CoffHeader {
         offset: &mut usize,
         opts: &ParseOptions,
     ) -> Result<Vec<SectionTable>>
-        ensures value { AnswersOrMemory (λ v. v.items) result (sections_at (is_strict opts.now.parse_mode) (string_table_offset self.now) self.now.number_of_sections bytes.now offset.old) (IsSectionsFault (is_strict opts.now.parse_mode) self.now.number_of_sections bytes.now offset.old) }
+        ensures value { let strict = is_strict opts.now.parse_mode in
+            let table = string_table_offset self.now in
+            let count = self.now.number_of_sections in
+            AnswersOrMemory (λ v. v.items) result (sections_at strict table count bytes.now offset.old) (IsSectionsFault strict count bytes.now offset.old) }
         ensures first { length bytes.now / 40 < self.now.number_of_sections → IsErrAnd result (IsTooManySections self.now.number_of_sections bytes.now) }
         ensures ok { OnOk result (offset.new ≡ offset.old + 40 * self.now.number_of_sections) }
         ensures err { OnErr result (offset.new ≡ offset.old) }

@@ -135,7 +135,9 @@ impl<'a> Header<'a> {
         dos_stub: DosStub<'a>,
         rich_header: Option<RichHeader<'a>>,
     ) -> Result<Self>
-        ensures value { Answers header_value result (header_at dos_header (stub_bytes dos_stub.entry) (option_map rich_value rich_header.entry) bytes.now offset) (IsHeaderAtFault bytes.now offset) }
+        ensures value { let stub = stub_bytes dos_stub.entry in
+            let rich = option_map rich_value rich_header.entry in
+            Answers header_value result (header_at dos_header stub rich bytes.now offset) (IsHeaderAtFault bytes.now offset) }
         ensures rich { IfOk result (λ header. header.rich_header ≡ rich_header.entry) }
     {
         let Ok(signature) = pread_u32(bytes, offset, Endian::Little) else {
@@ -169,7 +171,9 @@ impl<'a> Header<'a> {
     #[tactic(auto, unfolding(crate::specs::PeHeader::header_bytes), using(crate::proofs::PeHeaderRoundTrip::header_back, crate::proofs::PeHeaderRoundTrip::header_again))]
     pub fn try_into_ctx(self, bytes: &mut [u8], endian: Endian) -> Result<usize>
         ensures size { IfOk result (λ n. IsSomeAnd (header_bytes endian (header_value self.entry)) (λ written. n ≡ length written)) }
-        ensures written { Writes result (option_and_then (overwritten bytes.old 0) (header_bytes endian (header_value self.entry))) bytes.old bytes.new (FirstFault (header_bytes endian (header_value self.entry)) (IsUnwrittenPart self.entry.optional_header) (λ written. IsSliceFault bytes.old 0 (length written))) }
+        ensures written { let made = header_bytes endian (header_value self.entry) in
+            let IsFault = FirstFault made (IsUnwrittenPart self.entry.optional_header) (λ written. IsSliceFault bytes.old 0 (length written)) in
+            Writes result (option_and_then (overwritten bytes.old 0) made) bytes.old bytes.new IsFault }
         ensures back { HeaderWritesBack }
         ensures again { HeaderReadsBack }
     {

@@ -102,7 +102,8 @@ impl<'a> RichHeader<'a> {
         ensures entries { metadata_left result ≡ metadata_items self.now.key (drop self.now.padding_size self.now.bytes.now) }
 
         // The entries of a Rich header that was read are its data.
-        ensures law { (bytes : List ℕ) → IsBytes bytes → rich_header bytes ≡ Some (Some (rich_value self.now)) → AreEntriesOf self.now.key (drop self.now.padding_size self.now.bytes.now) (metadata_left result) }
+        ensures law { (bytes : List ℕ) → IsBytes bytes → rich_header bytes ≡ Some (Some (rich_value self.now))
+            → AreEntriesOf self.now.key (drop self.now.padding_size self.now.bytes.now) (metadata_left result) }
     {
         RichMetadataIterator {
             key: self.key,
@@ -157,9 +158,9 @@ impl Record for RichMetadata {
 }
 
 impl RichMetadata {
-    // The entry at the front of bytes that are stored under a key.
+    // The entry that these bytes are, which are stored under a key.
     fn under_key(bytes: &[u8], key: u32) -> RichMetadata
-        requires { 8 ≤ length bytes.now }
+        requires { length bytes.now ≡ 8 }
         ensures { result ≡ metadata_at key bytes.now 0 }
     {
         let tool = field_u32(bytes, 0, Endian::Little) ^ key;
@@ -196,9 +197,9 @@ impl Iterator for RichMetadataIterator<'_> {
             self.bytes = &[];
             return Some(Err(Error::Read(ReadFault::TooBig)));
         }
-        let entry = RichMetadata::under_key(self.bytes, self.key);
-        self.bytes = &self.bytes[RICH_METADATA_SIZE..];
-        Some(Ok(entry))
+        let (entry, rest) = self.bytes.split_at(RICH_METADATA_SIZE);
+        self.bytes = rest;
+        Some(Ok(RichMetadata::under_key(entry, self.key)))
     }
 
     #[tactic(auto, using(crate::proofs::RichEntries::length_items))]

@@ -46,7 +46,8 @@ impl<'a> RelocationData<'a> {
         sections: &[SectionTable],
         file_alignment: u32,
     ) -> Result<Self>
-        ensures { Answers relocation_bytes result (relocation_data (file_offset default_options sections.now file_alignment) bytes.now dd) (IsRelocationDataFault (file_offset default_options sections.now file_alignment) bytes.now dd) }
+        ensures { let offset_of = file_offset default_options sections.now file_alignment in
+            Answers relocation_bytes result (relocation_data offset_of bytes.now dd) (IsRelocationDataFault offset_of bytes.now dd) }
     {
         let opts = ParseOptions::default();
         RelocationData::parse_with_opts(bytes, dd, sections, file_alignment, &opts)
@@ -64,7 +65,8 @@ impl<'a> RelocationData<'a> {
         file_alignment: u32,
         opts: &ParseOptions,
     ) -> Result<Self>
-        ensures { Answers relocation_bytes result (relocation_data (file_offset opts.now sections.now file_alignment) bytes.now dd) (IsRelocationDataFault (file_offset opts.now sections.now file_alignment) bytes.now dd) }
+        ensures { let offset_of = file_offset opts.now sections.now file_alignment in
+            Answers relocation_bytes result (relocation_data offset_of bytes.now dd) (IsRelocationDataFault offset_of bytes.now dd) }
     {
         let rva = dd.virtual_address as usize;
         let Some(offset) = find_offset(rva, sections, file_alignment, opts) else {
