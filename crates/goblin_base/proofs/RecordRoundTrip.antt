@@ -1,5 +1,5 @@
 -- What was read from bytes is written as those bytes; and what was written of numbers that fit their widths is read again.
-use Rattle.std.proofs.Common.{◌≡◌, ℕ, true, nat_lt, nat_le, zero, suc, ◌+◌, ◌-◌, ◌*◌, ◌/◌, ◌%◌, ◌^◌, ◌<◌, ◌≤◌, List, [], ◌∷◌, ◌++◌, length, take, take_all, drop, slice_index, refl, sym, ap, ◌∙◌, append_assoc, inl, inr, arith, map, get_or}
+use Rattle.std.proofs.Common.{replicate, ◌≡◌, ℕ, true, nat_lt, nat_le, zero, suc, ◌+◌, ◌-◌, ◌*◌, ◌/◌, ◌%◌, ◌^◌, ◌<◌, ◌≤◌, List, [], ◌∷◌, ◌++◌, length, take, take_all, drop, slice_index, refl, sym, ap, ◌∙◌, append_assoc, inl, inr, arith, map, get_or}
 use Rattle.std.specs.Prelude.{slice_range, Some}
 use Rattle.std.specs.Int.{byte_at, bytes_high_first, bytes_low_first}
 use Rattle.std.proofs.Math.Nat.{add-mul-div_left, add-mul-mod_self_left, div-div-eq-div-mul, div-eq_of_lt, mod-eq_of_lt, mul-add-div, mul-add-div_right, mul-add-mod_self_right, one-le-pow, pow-succ', div-one}
@@ -70,7 +70,7 @@ IsBytes-slice bytes k n h i =
       | inr le ↦ rw (get_or_past (take m (drop k bytes)) i 0 (omega (arith, length-take m (drop k bytes)))) (omega arith)
     ]
 
-length-slice : (bytes : List ℕ) (k n : ℕ) → k + n ≤ length bytes → length (slice_range bytes k (k + n)) ≡ n
+pub length-slice : (bytes : List ℕ) (k n : ℕ) → k + n ≤ length bytes → length (slice_range bytes k (k + n)) ≡ n
 length-slice bytes k n h = omega (arith, length-take (k + n - k) (drop k bytes), length-drop k bytes)
 
 read_back : (endian : Endian) (n : ℕ) (s : List ℕ) → IsBytes s → length s ≡ n → number_bytes endian n (read_number endian n s) ≡ s
@@ -134,11 +134,24 @@ encoding-fields_from endian (slot ∷ slots) bytes k h le =
     let rest = encoding-fields_from endian slots bytes (k + w) h (omega arith) in
     rw (first, rest) (slice_then bytes k w (slots_width slots))
 
--- a record whose fields lie in these slots is written as it stands
-pub writes_back : {R : Type 0} (size : ℕ) (value : Endian → List ℕ → R) (fields : R → List FieldValue) (slots : List Slot) → slots_width slots ≡ size
-    → ((endian : Endian) (own : List ℕ) → IsBytes own → fields (value endian own) ≡ fields_from endian slots own 0)
+abbrev slot_of : FieldValue → Slot
+slot_of (uint n x) = uint_slot n
+slot_of (octets xs) = octets_slot (length xs)
+
+-- how fields lie in a record
+abbrev pub slots_of : List FieldValue → List Slot
+slots_of fields = map slot_of fields
+
+-- how the fields of a record of `size` bytes lie, as those of a record of zeros show
+abbrev pub slots_in : {R : Type 0} → ℕ → (Endian → List ℕ → R) → (R → List FieldValue) → List Slot
+slots_in size value fields = slots_of (fields (value Little (replicate size 0)))
+
+-- a record whose fields are those of its bytes, one after the other, is written as it stands
+pub writes_back : {R : Type 0} (size : ℕ) (value : Endian → List ℕ → R) (fields : R → List FieldValue) → slots_width (slots_in size value fields) ≡ size
+    → ((endian : Endian) (own : List ℕ) → IsBytes own → fields (value endian own) ≡ fields_from endian (slots_in size value fields) own 0)
     → WritesBack size value fields
-writes_back {R} size value fields slots width lie endian bytes p r h e =
+writes_back {R} size value fields width lie endian bytes p r h e =
+    let slots = slots_in size value fields in
     let is = record_at-some size (value endian) bytes p r e in
     let own = slice_range bytes p (p + size) in
     let fits = IsBytes-slice bytes p size h in
@@ -164,14 +177,6 @@ read_again Little n x fits =
 read_again Big n x fits =
     ap (big_from 0 n) (number_bytes_big n x ∙ sym (append-nil (bytes_high_first n x))) ∙ big_from-bytes n x [] ∙ mod-eq_of_lt fits
 
-abbrev slot_of : FieldValue → Slot
-slot_of (uint n x) = uint_slot n
-slot_of (octets xs) = octets_slot (length xs)
-
--- how fields lie in a record
-abbrev pub slots_of : List FieldValue → List Slot
-slots_of fields = map slot_of fields
-
 same_fields : (a b : FieldValue) (xs ys : List FieldValue) → a ≡ b → xs ≡ ys → a ∷ xs ≡ b ∷ ys
 same_fields a b xs ys e f = cc
 
@@ -194,33 +199,16 @@ fields_again endian (octets xs ∷ fields) bytes k fit is =
     same_fields _ _ _ _ (ap octets there) (fields_again endian fields bytes (k + n) fit.1 behind)
 
 -- a record that its fields determine is read again from its encoding
-pub reads_back : {R : Type 0} (size : ℕ) (value : Endian → List ℕ → R) (fields : R → List FieldValue) (of_fields : List FieldValue → R) (r : R)
-    → total_width (fields r) ≡ size → 0 < size → FieldsFit (fields r)
+pub reads_back : {R : Type 0} (size : ℕ) (value : Endian → List ℕ → R) (fields : R → List FieldValue) (r : R) → total_width (fields r) ≡ size → 0 < size → FieldsFit (fields r)
     → ((endian : Endian) (own : List ℕ) → fields (value endian own) ≡ fields_from endian (slots_of (fields r)) own 0)
-    → ((endian : Endian) (own : List ℕ) → of_fields (fields (value endian own)) ≡ value endian own) → of_fields (fields r) ≡ r
+    → ((endian : Endian) (own : List ℕ) → fields (value endian own) ≡ fields r → value endian own ≡ r)
     → ReadsBack size value fields r
 unfolding ReadsBack
-reads_back {R} size value fields of_fields r width some fit lie read_is r_is endian =
+reads_back {R} size value fields r width some fit lie same endian =
     let own = encoding endian (fields r) in
     let long : length own ≡ size = length_encoding endian (fields r) ∙ width in
     let start : nat_lt 0 (length own) ≡ true = lt-ltb _ _ (omega arith) in
     let end : nat_le (0 + size) (length own) ≡ true = le-leb _ _ (omega arith) in
     let all : slice_range own 0 (0 + size) ≡ own = let e : 0 + size - 0 ≡ size = omega arith in rw e (take_all size own (omega arith)) in
-    let again : value endian own ≡ r = sym (read_is endian own) ∙ ap of_fields (lie endian own ∙ fields_again endian (fields r) own 0 fit refl) ∙ r_is in
+    let again : value endian own ≡ r = same endian own (lie endian own ∙ fields_again endian (fields r) own 0 fit refl) in
     rw (start, end) (ap (λ (xs : List ℕ). Some (value endian xs)) all ∙ ap (λ (x : R). Some x) again)
-
-abbrev pub number_in : FieldValue → ℕ
-number_in (uint n x) = x
-number_in (octets xs) = 0
-
--- the number of the field at index i, by which a record is made of its fields
-abbrev pub number_of : List FieldValue → ℕ → ℕ
-number_of fields i = number_in (get_or fields i (uint 0 0))
-
-abbrev pub octets_in : FieldValue → List ℕ
-octets_in (uint n x) = []
-octets_in (octets xs) = xs
-
--- the bytes of the field at index i, by which a record is made of its fields
-abbrev pub octets_of : List FieldValue → ℕ → List ℕ
-octets_of fields i = octets_in (get_or fields i (uint 0 0))

@@ -1,16 +1,18 @@
-//! What is read from the front of bytes, and the fields of a record: read from bytes that are known
-//! to be there, and written.
+//! What is read from the front of bytes; records of a fixed size, whose readers and writers are written
+//! once; and the fields of a record: read from bytes that are known to be there, and written.
 
-ghost use Rattle.std.specs.Prelude.{◌≡◌, ◌+◌, ◌≤◌, ℕ, List, length, slice_range, Option, IfSome};
+ghost use Rattle.std.specs.Prelude.{◌≡◌, ◌+◌, ◌≤◌, ℕ, List, length, slice_range, Option, IfOk, IfSome};
 ghost use Rattle.std.specs.Int.{w16, cast_signed};
-ghost use Rattle.goblin_base.specs.Answers.{Answers, IsMemory};
+ghost use Rattle.goblin_base.specs.Answers.{Answers, IsMemory, IsSliceFault, Writes};
 ghost use Rattle.goblin_base.specs.Bytes.{number, replaced};
-ghost use Rattle.goblin_base.specs.Record.{FieldFits, FieldsFit, encoding, field_bytes, field_value, field_values, total_width, width_of};
+ghost use Rattle.goblin_base.specs.Record.{FieldFits, FieldsFit, FieldValue, ReadsBack, WritesBack, encoding, field_bytes, field_value, field_values, record_at, record_in, record_over, total_width, width_of};
+ghost use Rattle.goblin_base.specs.RecordLaws.{record_in-within, slice_fault-no_memory};
 ghost use Rattle.goblin_base.specs.declared.endian.Endian.{Endian};
 ghost use Rattle.goblin_base.specs.declared.error.ErrorOf.{ErrorOf};
 
 use crate::endian::Endian;
 use crate::error::Result;
+use crate::read::pread_slice;
 use crate::write::{put_bytes, u16_bytes, u32_bytes, u64_bytes};
 use byteorder::{BigEndian, ByteOrder, LittleEndian};
 
@@ -43,6 +45,98 @@ pub trait TryFromCtx<'a>: Sized {
 
     /// It is never refused for want of memory.
     ghost no_memory: { (endian : Endian) (bytes : List ℕ) (e : ErrorOf) → IsMemory e → refusal endian bytes e → ⊥ };
+}
+
+/// A record of a fixed number of bytes, whose fields stand one after the other.
+///
+/// A type says how many bytes it has, which of them each field is, and what is written of it. Readers
+/// and writers are then the trait's, as is its [`TryFromCtx`]; a caller imports the trait. A record
+/// that was read is written as it stood, and any record is read again from what was written of it,
+/// by the same order of bytes.
+pub trait Record: Copy {
+    /// How many bytes the record has.
+    ghost width: { ℕ };
+
+    /// The record that its bytes are.
+    ghost value: { Endian → List ℕ → Self };
+
+    /// The fields of a record, in order.
+    ghost fields: { Self → List FieldValue };
+
+    /// The size of the record, in bytes.
+    fn size() -> usize
+        ensures { result ≡ width };
+
+    /// The record that `bytes` are, which are as many as its size.
+    fn in_record(bytes: &[u8], endian: Endian) -> Self
+        requires { length bytes.now ≡ width }
+        ensures { result ≡ value endian bytes.now };
+
+    /// Puts the record to the front of `bytes`, where there is room for it.
+    fn put(self, bytes: &mut [u8], endian: Endian)
+        requires { width ≤ length bytes.old }
+        ensures long { length (encoding endian (fields self)) ≡ width }
+        ensures put { bytes.new ≡ replaced bytes.old 0 (encoding endian (fields self)) }
+        ensures back { WritesBack width value fields }
+        ensures again { ReadsBack width value fields self };
+
+    /// Reads the record at `offset`.
+    ///
+    /// # Errors
+    /// [`Error::Read`](crate::Error::Read) where the record is not all there.
+    fn read_at(bytes: &[u8], offset: usize, endian: Endian) -> Result<Self>
+        ensures { Answers (λ r. r) result (record_at width (value endian) bytes.now offset) (IsSliceFault bytes.now offset width) }
+    {
+        let record = pread_slice(bytes, offset, Self::size())?;
+        Ok(Self::in_record(record, endian))
+    }
+
+    /// Writes the record to the front of `bytes`, and answers its size.
+    ///
+    /// # Errors
+    /// [`Error::Read`](crate::Error::Read) where there is no room for it; `bytes` are then as they
+    /// were.
+    fn try_into_ctx(self, bytes: &mut [u8], endian: Endian) -> Result<usize>
+        ensures size { IfOk result (λ n. n ≡ width) }
+        ensures written { Writes result (record_over width (encoding endian (fields self)) bytes.old) bytes.old bytes.new (IsSliceFault bytes.old 0 width) }
+        ensures long { IfOk result (λ n. length (encoding endian (fields self)) ≡ width) }
+        ensures back { IfOk result (λ n. WritesBack width value fields) }
+        ensures again { IfOk result (λ n. ReadsBack width value fields self) }
+    {
+        pread_slice(bytes, 0, Self::size())?;
+        self.put(bytes, endian);
+        Ok(Self::size())
+    }
+
+    /// The size of the record in bytes, the same in either order.
+    fn size_with(_endian: &Endian) -> usize
+        ensures { result ≡ width }
+    {
+        Self::size()
+    }
+}
+
+impl<R: Record> TryFromCtx<'_> for R {
+    ghost Plain = { R };
+
+    ghost plain = { λ r. r };
+
+    ghost value_of = { record_in R.width R.value };
+
+    ghost refusal = { λ _ bytes e. IsSliceFault bytes 0 R.width e };
+
+    ghost within = { record_in-within R.width R.value };
+
+    ghost no_memory = { λ _ bytes e. slice_fault-no_memory bytes 0 R.width e };
+
+    /// Reads the record at the front of `bytes`.
+    ///
+    /// # Errors
+    /// [`Error::Read`](crate::Error::Read) where the record is not all there.
+    fn try_from_ctx(bytes: &[u8], endian: Endian) -> Result<(R, usize)> {
+        let record = R::read_at(bytes, 0, endian)?;
+        Ok((record, R::size()))
+    }
 }
 
 /// A field of a record that is written.
@@ -187,5 +281,31 @@ pub fn record_bytes<const N: usize>(fields: &[Field], endian: Endian) -> [u8; N]
 {
     let mut bytes = [0; N];
     put_record(&mut bytes, 0, N, fields, endian);
+    bytes
+}
+
+/// Puts the fields of a record, which take `size` bytes, one after the other to the front of `bytes`,
+/// where there is room for them. Each number fits its width, by its type.
+#[tactic(auto, using(crate::proofs::Writing::length_encoding))]
+pub fn put_fields(bytes: &mut [u8], size: usize, fields: &[Field], endian: Endian)
+    requires size_is { size ≡ total_width (field_values fields.now) }
+    requires room { size ≤ length bytes.old }
+    ensures long { length (encoding endian (field_values fields.now)) ≡ size }
+    ensures written { bytes.new ≡ replaced bytes.old 0 (encoding endian (field_values fields.now)) }
+    ensures fit { FieldsFit (field_values fields.now) }
+{
+    put_record(bytes, 0, size, fields, endian);
+}
+
+/// The `N` bytes of a record.
+#[tactic(auto, using(crate::proofs::Writing::replaced_all))]
+pub fn encode<const N: usize, R: Record>(value: R, endian: Endian) -> [u8; N]
+    requires { N ≡ R.width }
+    ensures made { result ≡ encoding endian (R.fields value) }
+    ensures back { WritesBack R.width R.value R.fields }
+    ensures again { ReadsBack R.width R.value R.fields value }
+{
+    let mut bytes = [0; N];
+    value.put(&mut bytes, endian);
     bytes
 }

@@ -1,5 +1,7 @@
 -- The lookup tables and the address tables of imports, over a map of addresses to file offsets.
 use Rattle.std.specs.Prelude.{◌≡◌, ℕ, ◌+◌, ◌%◌, ◌^◌, ◌==◌, nat_le, Bool, true, false, if◌then◌else◌, List, [], ◌∷◌, Option, Some, None, option_map, map, option_to_list}
+use Rattle.std.specs.declared.borrow.CowStr.{CowStr}
+use Rattle.std.specs.declared.borrow.CowStr.TheVariants.{Borrowed, Owned}
 use Rattle.goblin_base.specs.declared.endian.Endian.TheVariants.{Little}
 use Rattle.goblin_base.specs.declared.error.ErrorOf.{ErrorOf}
 use Rattle.goblin_base.specs.declared.error.ErrorOf.TheVariants.{Malformed}
@@ -7,8 +9,6 @@ use Rattle.goblin_base.specs.declared.error.CauseOf.TheVariants.{HintEntry, Look
 use Rattle.goblin_base.specs.Bytes.{number, number_at, text_at}
 use Rattle.goblin_base.specs.Answers.{IsSliceFault, IsTextFault, ◌>>=◌, FirstFault}
 use Rattle.goblin_base.specs.Tables.{SlotFormat, slot_table, or_left_out, IsTableFault, IsEndFault, Format}
-use Rattle.std.specs.declared.borrow.CowStr.{CowStr}
-use Rattle.std.specs.declared.borrow.CowStr.TheVariants.{Borrowed, Owned}
 use Rattle.goblin_pe.specs.declared.import.lookup_table.HintNameTableEntry.{HintNameTableEntry}
 use Rattle.goblin_pe.specs.declared.import.lookup_table.SyntheticImportLookupTableEntry.{SyntheticImportLookupTableEntry}
 use Rattle.goblin_pe.specs.declared.import.lookup_table.SyntheticImportLookupTableEntry.TheVariants.{OrdinalNumber, HintNameTableRVA}

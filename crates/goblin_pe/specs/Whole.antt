@@ -143,23 +143,43 @@ section_table_offset h = h.dos_header.pe_pointer + 24 + h.coff_header.size_of_op
 unfoldable pub file_sections : Bool → List ℕ → PeHeader → Option (List Section)
 file_sections strict bytes h = sections_at strict (string_table_offset h.coff_header) h.coff_header.number_of_sections bytes (section_table_offset h)
 
+-- the tables of a file, and the lists that are made from them
+pub record FileTables : Type 0 where
+  pub import_data : Part (List ImportedLibrary)
+  pub imports : Part (List ImportValue)
+  pub export_data : Part ExportTables
+  pub exports : Part (List ExportRow)
+  pub relocations : Part (List ℕ)
+
+-- the tables of a file with these sections, which lie in these places
+unfoldable pub tables_of : ParseOptions → List Section → List ℕ → TablePlaces → Option FileTables
+tables_of opts sections bytes places = do
+  import_data ← import_data_part opts sections bytes places
+  imports ← imports_part opts places import_data
+  export_data ← export_data_part opts sections bytes places
+  relocations ← relocations_part opts sections bytes places
+  Some (record {
+    import_data = import_data;
+    imports = imports;
+    export_data = export_data;
+    exports = exports_part opts sections bytes places export_data;
+    relocations = relocations;
+  })
+
 -- a whole file: its header and its sections, which have to be there in both modes, and its tables
 unfoldable pub whole_file : ParseOptions → List ℕ → Option WholeFile
 whole_file opts bytes = do
   header ← pe_header (is_strict opts.parse_mode) bytes
   sections ← file_sections (is_strict opts.parse_mode) bytes header
-  import_data ← import_data_part opts sections bytes (places_in header.optional_header)
-  imports ← imports_part opts (places_in header.optional_header) import_data
-  export_data ← export_data_part opts sections bytes (places_in header.optional_header)
-  relocations ← relocations_part opts sections bytes (places_in header.optional_header)
+  tables ← tables_of opts sections bytes (places_in header.optional_header)
   Some (record {
     header = header;
     sections = sections;
-    import_data = import_data;
-    imports = imports;
-    export_data = export_data;
-    exports = exports_part opts sections bytes (places_in header.optional_header) export_data;
-    relocations = relocations;
+    import_data = tables.import_data;
+    imports = tables.imports;
+    export_data = tables.export_data;
+    exports = tables.exports;
+    relocations = tables.relocations;
   })
 
 -- which cause is true of import data that refuses all
@@ -175,15 +195,24 @@ IsExportPartFault opts sections bytes tables = IsPartAtFault (is_strict opts.par
 abbrev pub IsRelocationsPartFault : ParseOptions → List Section → List ℕ → TablePlaces → ErrorOf → Type 0
 IsRelocationsPartFault opts sections bytes tables = IsPartAtFault (is_strict opts.parse_mode) (IsRelocationDataFault (offset_by opts sections tables) bytes) tables.relocations
 
+-- which cause is true of tables that refuse all: that of the first
+unfoldable pub IsTablesFault : ParseOptions → List Section → List ℕ → TablePlaces → ErrorOf → Type 0
+IsTablesFault opts sections bytes places =
+    FirstFault (import_data_part opts sections bytes places) (IsImportPartFault opts sections bytes places) (λ import_data.
+    FirstFault (imports_part opts places import_data) (IsPartThenFault (is_strict opts.parse_mode) IsOverflow import_data) (λ imports.
+    FirstFault (export_data_part opts sections bytes places) (IsExportPartFault opts sections bytes places) (λ export_data.
+    FirstFault (relocations_part opts sections bytes places) (IsRelocationsPartFault opts sections bytes places) (λ relocations e. ⊥))))
+
+-- which cause is true of sections that are refused
+abbrev pub IsFileSectionsFault : Bool → List ℕ → PeHeader → ErrorOf → Type 0
+IsFileSectionsFault strict bytes h = IsSectionsFault strict (string_table_offset h.coff_header) h.coff_header.number_of_sections bytes (section_table_offset h)
+
 -- which cause is true of a file that is refused: that of the first part that is not there
 unfoldable pub IsWholeFault : ParseOptions → List ℕ → ErrorOf → Type 0
 IsWholeFault opts bytes =
     FirstFault (pe_header (is_strict opts.parse_mode) bytes) (IsHeaderFault (is_strict opts.parse_mode) bytes) (λ header.
-    FirstFault (file_sections (is_strict opts.parse_mode) bytes header) (IsSectionsFault (is_strict opts.parse_mode) (string_table_offset header.coff_header) header.coff_header.number_of_sections bytes (section_table_offset header)) (λ sections.
-    FirstFault (import_data_part opts sections bytes (places_in header.optional_header)) (IsImportPartFault opts sections bytes (places_in header.optional_header)) (λ import_data.
-    FirstFault (imports_part opts (places_in header.optional_header) import_data) (IsPartThenFault (is_strict opts.parse_mode) IsOverflow import_data) (λ imports.
-    FirstFault (export_data_part opts sections bytes (places_in header.optional_header)) (IsExportPartFault opts sections bytes (places_in header.optional_header)) (λ export_data.
-    FirstFault (relocations_part opts sections bytes (places_in header.optional_header)) (IsRelocationsPartFault opts sections bytes (places_in header.optional_header)) (λ relocations e. ⊥))))))
+    FirstFault (file_sections (is_strict opts.parse_mode) bytes header) (IsFileSectionsFault (is_strict opts.parse_mode) bytes header) (λ sections.
+    FirstFault (tables_of opts sections bytes (places_in header.optional_header)) (IsTablesFault opts sections bytes (places_in header.optional_header)) (λ tables e. ⊥)))
 
 -- a list that a part owns, as its items
 abbrev pub items_part : {A : Type 0} → Part (Vec A Global) → Part (List A)

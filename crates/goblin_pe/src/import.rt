@@ -1,6 +1,6 @@
 //! The imports of an image: what it takes from which libraries.
 
-ghost use Rattle.std.specs.Prelude.{◌≡◌, ◌↔◌, IfErr, IsTrue, false, option_to_list, true};
+ghost use Rattle.std.specs.Prelude.{◌≡◌, IfErr, false, option_to_list, true};
 ghost use Rattle.goblin_base.specs.Answers.{AnswersOrMemory, IsMemory};
 ghost use Rattle.goblin_base.specs.Tables.{or_left_out};
 ghost use Rattle.goblin_pe_sect.specs.Mapping.{file_offset};
@@ -11,7 +11,7 @@ use crate::data_directories::DataDirectory;
 use crate::options::ParseOptions;
 use crate::section_table::SectionTable;
 use crate::utils::find_offset;
-use goblin_base::{Cause, Error, ErrorOf, ResultOf};
+use goblin_base::{Cause, Endian, Error, Record, ResultOf, is_passed_over};
 use std::alloc::Global;
 use std::marker::Model;
 
@@ -49,13 +49,6 @@ impl<'a> Model for ImportData<'a> {
     ghost view = { λ imports. imports.import_data.items };
 }
 
-// Whether a refusal is passed over: in permissive mode each that is not for want of memory.
-fn is_passed_over(error: &ErrorOf, opts: &ParseOptions) -> bool
-    ensures { IsTrue result ↔ ((is_strict opts.now.parse_mode ≡ false) × ¬ (IsMemory error.now)) }
-{
-    opts.parse_mode.is_permissive() && !matches!(error, ErrorOf::Memory(_))
-}
-
 // The library of a record; in permissive mode `None` where there is none.
 fn kept_library<'a, 'e, T: Bitfield<'a>>(
     alloc: Global,
@@ -78,7 +71,7 @@ fn kept_library<'a, 'e, T: Bitfield<'a>>(
         opts,
     ) {
         Ok(library) => Ok(Some(library)),
-        Err(error) if is_passed_over(&error, opts) => Ok(None),
+        Err(error) if is_passed_over(&error, opts.parse_mode.is_permissive()) => Ok(None),
         Err(error) => Err(error),
     }
 }
@@ -99,7 +92,7 @@ fn libraries<'a, 'e, T: Bitfield<'a>>(
     let mut import_data = Vec::new(alloc);
     let mut place = offset;
     'records: loop {
-        let Ok(record) = ImportDirectoryEntry::read(bytes, place) else {
+        let Ok(record) = ImportDirectoryEntry::read_at(bytes, place, Endian::Little) else {
             if opts.parse_mode.is_permissive() {
                 break 'records;
             }

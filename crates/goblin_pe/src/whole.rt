@@ -5,14 +5,14 @@ ghost use Rattle.goblin_base.specs.Answers.{Answers, AnswersOrMemory, GivesOrMem
 ghost use Rattle.goblin_pe_sect.specs.BaseRelocations.{relocation_bytes};
 ghost use Rattle.goblin_pe_sect.specs.Options.{is_strict};
 ghost use Rattle.goblin_pe_head.specs.PeHeader.{header_value, pe_header};
-ghost use Rattle.goblin_pe_head.specs.CoffHeader.{IsSectionsFault, IsTooManySections, string_table_offset};
+ghost use Rattle.goblin_pe_head.specs.CoffHeader.{IsTooManySections};
 ghost use Rattle.goblin_pe.specs.ImportDirectory.{IsImportDataFault, import_data};
 ghost use Rattle.goblin_pe.specs.Imports.{IsOverflow, imports_of};
-ghost use Rattle.goblin_pe.specs.Whole.{BecomesPart, IsExportPartFault, IsImportPartFault, IsPartThenFault, IsRelocationsPartFault, IsWholeFault, entry_format, export_data_part, exports_part, file_sections, import_data_part, imports_part, items_part, offset_by, part_map, relocations_part, section_table_offset, table_places, places_in, whole_file};
+ghost use Rattle.goblin_pe.specs.Whole.{BecomesPart, IsExportPartFault, IsFileSectionsFault, IsImportPartFault, IsPartThenFault, IsRelocationsPartFault, IsWholeFault, entry_format, export_data_part, exports_part, file_sections, import_data_part, imports_part, items_part, offset_by, part_map, relocations_part, table_places, places_in, whole_file};
 
 use crate::export::{Export, ExportData};
 use crate::import::{Import, ImportData};
-use goblin_base::{Error, Result};
+use goblin_base::{Result, is_passed_over};
 use goblin_pe_head::header::{Header, SIZEOF_COFF_HEADER, SIZEOF_PE_MAGIC};
 use goblin_pe_head::optional_header::{MAGIC_32, OptionalHeader};
 use goblin_pe_sect::relocation::RelocationData;
@@ -77,8 +77,7 @@ fn part_of<T: Drop>(table: Result<T>, opts: &ParseOptions) -> Result<Part<T>>
 {
     match table {
         Ok(table) => Ok(Part::Read(table)),
-        Err(Error::Memory(error)) => Err(Error::Memory(error)),
-        Err(_) if opts.parse_mode.is_permissive() => Ok(Part::Refused),
+        Err(error) if is_passed_over(&error, opts.parse_mode.is_permissive()) => Ok(Part::Refused),
         Err(error) => Err(error),
     }
 }
@@ -130,7 +129,9 @@ impl Tables {
     ) -> Result<ImportData<'a>>
         ensures { let strict = is_strict opts.now.parse_mode in
             let offset_of = offset_by opts.now sections.now (table_places self.now) in
-            AnswersOrMemory (λ x. x) result (import_data strict (entry_format self.now.magic) offset_of bytes.now directory.virtual_address) (IsImportDataFault strict (entry_format self.now.magic) offset_of bytes.now directory.virtual_address) }
+            let format = entry_format self.now.magic in
+            let rva = directory.virtual_address in
+            AnswersOrMemory (λ x. x) result (import_data strict format offset_of bytes.now rva) (IsImportDataFault strict format offset_of bytes.now rva) }
     {
         let alignment = self.file_alignment;
         if self.magic == MAGIC_32 {
@@ -149,7 +150,8 @@ impl Tables {
         sections: &[SectionTable],
         opts: &ParseOptions,
     ) -> Result<Part<ImportData<'a>>>
-        ensures { AnswersOrMemory (λ x. x) result (import_data_part opts.now sections.now bytes.now (table_places self.now)) (IsImportPartFault opts.now sections.now bytes.now (table_places self.now)) }
+        ensures { let places = table_places self.now in
+            AnswersOrMemory (λ x. x) result (import_data_part opts.now sections.now bytes.now places) (IsImportPartFault opts.now sections.now bytes.now places) }
     {
         match self.imports {
             Some(directory) if opts.parse_imports => part_of(
@@ -188,7 +190,8 @@ impl Tables {
         sections: &[SectionTable],
         opts: &ParseOptions,
     ) -> Result<Part<Vec<Import<'a>>>>
-        ensures { AnswersOrMemory items_part result (imports_part opts.now (table_places self.now) import_data.now) (IsPartThenFault (is_strict opts.now.parse_mode) IsOverflow import_data.now) }
+        ensures { let strict = is_strict opts.now.parse_mode in
+            AnswersOrMemory items_part result (imports_part opts.now (table_places self.now) import_data.now) (IsPartThenFault strict IsOverflow import_data.now) }
     {
         match import_data {
             Part::Absent => Ok(Part::Absent),
@@ -206,7 +209,8 @@ impl Tables {
         sections: &[SectionTable],
         opts: &ParseOptions,
     ) -> Result<Part<ExportData<'a>>>
-        ensures { AnswersOrMemory (λ x. x) result (export_data_part opts.now sections.now bytes.now (table_places self.now)) (IsExportPartFault opts.now sections.now bytes.now (table_places self.now)) }
+        ensures { let places = table_places self.now in
+            AnswersOrMemory (λ x. x) result (export_data_part opts.now sections.now bytes.now places) (IsExportPartFault opts.now sections.now bytes.now places) }
     {
         let Some(directory) = self.exports else {
             return Ok(Part::Absent);
@@ -251,7 +255,8 @@ impl Tables {
         sections: &[SectionTable],
         opts: &ParseOptions,
     ) -> Result<Part<RelocationData<'a>>>
-        ensures { Answers (part_map relocation_bytes) result (relocations_part opts.now sections.now bytes.now (table_places self.now)) (IsRelocationsPartFault opts.now sections.now bytes.now (table_places self.now)) }
+        ensures { let places = table_places self.now in
+            Answers (part_map relocation_bytes) result (relocations_part opts.now sections.now bytes.now places) (IsRelocationsPartFault opts.now sections.now bytes.now places) }
     {
         let Some(directory) = self.relocations else {
             return Ok(Part::Absent);
@@ -272,8 +277,11 @@ fn sections_of(
     header: &Header,
     opts: &ParseOptions,
 ) -> Result<Vec<SectionTable>>
-    ensures value { AnswersOrMemory (λ v. v.items) result (file_sections (is_strict opts.now.parse_mode) bytes.now (header_value header.now)) (IsSectionsFault (is_strict opts.now.parse_mode) (string_table_offset header.now.coff_header) header.now.coff_header.number_of_sections bytes.now (section_table_offset (header_value header.now))) }
-    ensures first { length bytes.now / 40 < header.now.coff_header.number_of_sections → IsErrAnd result (IsTooManySections header.now.coff_header.number_of_sections bytes.now) }
+    ensures value { let strict = is_strict opts.now.parse_mode in
+        let h = header_value header.now in
+        AnswersOrMemory (λ v. v.items) result (file_sections strict bytes.now h) (IsFileSectionsFault strict bytes.now h) }
+    ensures first { let count = header.now.coff_header.number_of_sections in
+        length bytes.now / 40 < count → IsErrAnd result (IsTooManySections count bytes.now) }
 {
     let coff_header = &header.coff_header;
     let mut offset = header.dos_header.pe_pointer as usize + SIZEOF_PE_MAGIC + SIZEOF_COFF_HEADER;
@@ -294,11 +302,12 @@ impl<'a> Whole<'a> {
     /// As [`Header::parse_with_opts`]; as
     /// [`CoffHeader::sections_with_opts`](goblin_pe_head::CoffHeader::sections_with_opts); in strict
     /// mode as the readers of the tables; [`Error::Memory`] where memory is refused, in both modes.
-    #[tactic(auto, unfolding(crate::specs::Whole::whole_file, crate::specs::Whole::IsWholeFault))]
+    #[tactic(auto, unfolding(crate::specs::Whole::whole_file, crate::specs::Whole::tables_of, crate::specs::Whole::IsWholeFault, crate::specs::Whole::IsTablesFault))]
     pub fn read(alloc: Global, bytes: &'a [u8], opts: &ParseOptions) -> Result<Whole<'a>>
         ensures value { AnswersOrMemory (λ x. x) result (whole_file opts.now bytes.now) (IsWholeFault opts.now bytes.now) }
         ensures first { IfSome (pe_header (is_strict opts.now.parse_mode) bytes.now) (λ header.
-            length bytes.now / 40 < header.coff_header.number_of_sections → IsErrAnd result (IsTooManySections header.coff_header.number_of_sections bytes.now)) }
+            let count = header.coff_header.number_of_sections in
+            length bytes.now / 40 < count → IsErrAnd result (IsTooManySections count bytes.now)) }
     {
         let header = Header::parse_with_opts(bytes, opts)?;
         let sections = sections_of(alloc, bytes, &header, opts)?;

@@ -10,8 +10,12 @@ use Rattle.goblin_base.specs.Record.{encoding, record_at, uint}
 use Rattle.goblin_base.proofs.RecordRoundTrip.{front_more, number_bytes-number, slice-is}
 use Rattle.goblin_base.proofs.Numbers.{number_at-some, slice_at-some}
 use Rattle.goblin_base.proofs.Steps.{mapped, same_value, step}
+use Rattle.goblin_base.proofs.Fronts.{HaveFront, front-drop, front_then, number-front, record-front, slice-front}
+use Rattle.goblin_pe_sect.specs.DataDirectories.{directories_at}
+use Rattle.goblin_pe_sect.proofs.EntriesFront.{directories-front}
 use Rattle.goblin_pe_head.specs.declared.header.dos.DosHeader.{DosHeader}
 use Rattle.goblin_pe_head.specs.declared.optional_header.OptionalHeader.{OptionalHeader}
+use Rattle.goblin_pe_head.specs.declared.optional_header.FixedFields.{FixedFields}
 use Rattle.goblin_pe_head.specs.DosStub.{stub_at}
 use Rattle.goblin_pe_head.specs.CoffHeader.{coff_fields, coff_header}
 use Rattle.goblin_pe_head.specs.DosHeader.{dos_fields, dos_header, dos_record}
@@ -22,10 +26,6 @@ use Rattle.goblin_pe_head.specs.RichHeader.{rich_at, rich_in}
 use Rattle.goblin_pe_head.proofs.CoffHeaderRoundTrip.{coff_back}
 use Rattle.goblin_pe_head.proofs.DosHeaderRoundTrip.{dos_back}
 use Rattle.goblin_pe_head.proofs.OptionalHeaderRoundTrip.{bytes_behind, read_optional, pick}
-use Rattle.goblin_base.proofs.Fronts.{HaveFront, front-drop, front_then, number-front, record-front, slice-front}
-use Rattle.goblin_pe_sect.specs.DataDirectories.{directories_at}
-use Rattle.goblin_pe_sect.proofs.EntriesFront.{directories-front}
-use Rattle.goblin_pe_head.specs.declared.optional_header.FixedFields.{FixedFields}
 
 -- the parts of a header that was read in strict mode
 pub record IsHeaderOf (bytes : List ℕ) (h : PeHeader) : Type 0 where

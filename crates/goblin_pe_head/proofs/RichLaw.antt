@@ -13,7 +13,8 @@ use Rattle.std.proofs.lemmas.Simd.{map-map}
 use Rattle.goblin_base.specs.declared.endian.Endian.TheVariants.{Little}
 use Rattle.goblin_base.specs.declared.error.ErrorOf.{ErrorOf}
 use Rattle.goblin_base.specs.Bytes.{IsBytes, number_bytes}
-use Rattle.goblin_base.proofs.RecordRoundTrip.{number_bytes-number}
+use Rattle.goblin_base.specs.Tables.{record_items, records_in}
+use Rattle.goblin_base.proofs.RecordRoundTrip.{IsBytes-slice, length-slice, slice-is, number_bytes-number}
 use Rattle.goblin_base.proofs.Steps.{same_value, step}
 use Rattle.goblin_pe_head.specs.DosHeader.{dos_header}
 use Rattle.goblin_pe_head.specs.RichHeader.{Rich, dans_place, leading_words, least_below, marker_place, other_place, rich_before, rich_between, rich_header, rich_in, rich_value, word_at}
@@ -38,13 +39,20 @@ stored_entry-metadata_at key bytes p h le =
     let e2 : p + 4 + 4 - (p + 4) ≡ 4 = omega arith in
     rw (first, second, e1, e2) (sym (take-add 4 4 (drop p bytes) ∙ ap (λ (xs : List ℕ). take 4 (drop p bytes) ++ take 4 xs) (drop-drop 4 p bytes)))
 
+-- the same of the entry in a slice of its own
+stored_entry-in : (key : ℕ) (bytes : List ℕ) (p : ℕ) → IsBytes bytes → p + 8 ≤ length bytes → stored_entry key (metadata_at key (slice_range bytes p (p + 8)) 0) ≡ take 8 (drop p bytes)
+stored_entry-in key bytes p h le =
+    let own = slice_range bytes p (p + 8) in
+    let long : length own ≡ 8 = length-slice bytes p 8 le in
+    stored_entry-metadata_at key own 0 (IsBytes-slice bytes p 8 h) (omega (arith, long)) ∙ take_all 8 own (omega (arith, long)) ∙ slice-is bytes p 8
+
 -- n entries from the a-th on are stored as the bytes that they were read from
 stored_entries : (key : ℕ) (bytes : List ℕ) (n a : ℕ) → IsBytes bytes → 8 * (a + n) ≤ length bytes
-    → flat_map (stored_entry key) (map (λ i. metadata_at key bytes (8 * i)) (range_with_len a n)) ≡ take (8 * n) (drop (8 * a) bytes)
+    → flat_map (stored_entry key) (map (λ i. metadata_at key (slice_range bytes (8 * i) (8 * i + 8)) 0) (range_with_len a n)) ≡ take (8 * n) (drop (8 * a) bytes)
 stored_entries key bytes zero a h le = refl
 stored_entries key bytes (suc n) a h le =
-    let f : ℕ → RichMetadata = λ (i : ℕ). metadata_at key bytes (8 * i) in
-    let first = stored_entry-metadata_at key bytes (8 * a) h (omega arith) in
+    let f : ℕ → RichMetadata = λ (i : ℕ). metadata_at key (slice_range bytes (8 * i) (8 * i + 8)) 0 in
+    let first = stored_entry-in key bytes (8 * a) h (omega arith) in
     let rest = stored_entries key bytes n (a + 1) h (omega arith) in
     let next : 8 * (a + 1) ≡ 8 * a + 8 = omega arith in
     let size : 8 * suc n ≡ 8 + 8 * n = omega arith in
@@ -54,16 +62,14 @@ stored_entries key bytes (suc n) a h le =
 
 -- whole words are entries up to a rest of one word
 are_entries : (key : ℕ) (bytes : List ℕ) → IsBytes bytes → length bytes % 4 ≡ 0 → AreEntriesOf key bytes (metadata_items key bytes)
-unfolding metadata_items
+unfolding metadata_items record_items records_in
 are_entries key bytes h words =
     let n = length bytes / 8 in
-    let f : ℕ → RichMetadata = λ (i : ℕ). metadata_at key bytes (8 * i) in
     let left : length (drop (8 * n) bytes) ≡ length bytes % 8 = omega (arith, length-drop (8 * n) bytes) in
-    let made : map (λ i. Ok (f i)) (range_with_len 0 n) ≡ map {A = RichMetadata} {B = Result RichMetadata ErrorOf} Ok (map f (range_with_len 0 n)) = sym (map-map Ok f (range_with_len 0 n)) in
     record {
-      entries = map f (range_with_len 0 n);
+      entries = records_in 8 (λ entry. metadata_at key entry 0) bytes;
       rest = drop (8 * n) bytes;
-      are = rw (left, made) refl;
+      are = rw left refl;
       joined = sym (ap (λ (xs : List ℕ). xs ++ drop (8 * n) bytes) (stored_entries key bytes n 0 h (omega arith)) ∙ take-append-drop (8 * n) bytes);
       short = elim (cases_lt (length bytes % 8) 1) [
         | inl none ↦ inl (omega (arith, left, none))

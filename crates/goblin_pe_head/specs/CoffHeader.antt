@@ -8,9 +8,9 @@ use Rattle.goblin_base.specs.declared.error.CauseOf.TheVariants.{CoffLength}
 use Rattle.goblin_base.specs.Bytes.{number, number_at, slice_at}
 use Rattle.goblin_base.specs.Record.{FieldValue, uint}
 use Rattle.goblin_base.specs.Answers.{◌>>=◌, all_at, FirstFault, IsFirstMissing, IsTooShort, IsSliceFault}
-use Rattle.goblin_pe_head.specs.declared.header.coff.CoffHeader.{CoffHeader}
-use Rattle.goblin_pe_sect.specs.SectionTable.{Section, section_at, IsSectionFault}
 use Rattle.goblin_base.specs.Strtab.{IsStringTableFault, string_table}
+use Rattle.goblin_pe_sect.specs.SectionTable.{Section, section_at, IsSectionFault}
+use Rattle.goblin_pe_head.specs.declared.header.coff.CoffHeader.{CoffHeader}
 
 -- the COFF header in a record's 20 bytes
 unfoldable pub coff_header : Endian → List ℕ → CoffHeader

@@ -1,14 +1,12 @@
 -- The entries of a Rich header, and what is read and written of an entry.
-use Rattle.std.specs.Prelude.{◌≡◌, ◌⊎◌, ◌+◌, ◌*◌, ◌/◌, ◌%◌, ◌++◌, ℕ, map, flat_map, ◌==◌, if◌then◌else◌, List, [], ◌∷◌, length, Result, Ok, Err}
-use Rattle.std.specs.List.{range_with_len}
+use Rattle.std.specs.Prelude.{◌≡◌, ◌⊎◌, ◌+◌, ◌*◌, ◌/◌, ◌%◌, ◌++◌, ℕ, map, flat_map, List, [], ◌∷◌, length, Result, Ok}
 use Rattle.std.specs.Int.Bits.{bit_xor}
 use Rattle.goblin_base.specs.declared.endian.Endian.{Endian}
 use Rattle.goblin_base.specs.declared.endian.Endian.TheVariants.{Little}
 use Rattle.goblin_base.specs.declared.error.ErrorOf.{ErrorOf}
-use Rattle.goblin_base.specs.declared.error.ErrorOf.TheVariants.{Read}
-use Rattle.goblin_base.specs.declared.error.ReadFault.TheVariants.{TooBig}
 use Rattle.goblin_base.specs.Bytes.{number, number_bytes}
 use Rattle.goblin_base.specs.Record.{FieldValue, uint}
+use Rattle.goblin_base.specs.Tables.{record_items, rest_item}
 use Rattle.goblin_pe_head.specs.declared.header.rich.RichMetadata.{RichMetadata}
 use Rattle.goblin_pe_head.specs.declared.header.rich.RichMetadataIterator.{RichMetadataIterator}
 use Rattle.goblin_pe_head.specs.RichHeader.{word_at}
@@ -37,13 +35,9 @@ metadata_at key bytes p = record {
   use_count = word_under key bytes (p + 4);
 }
 
--- one refusal where n bytes are left, and nothing where none are
-abbrev pub rest_item : ℕ → List (Result RichMetadata ErrorOf)
-rest_item n = if n == 0 then [] else Err (Read TooBig) ∷ []
-
 -- the entries of these bytes, one after the other, and one refusal where a rest is left that is no whole entry
 unfoldable pub metadata_items : ℕ → List ℕ → List (Result RichMetadata ErrorOf)
-metadata_items key bytes = map (λ i. Ok (metadata_at key bytes (8 * i))) (range_with_len 0 (length bytes / 8)) ++ rest_item (length bytes % 8)
+metadata_items key bytes = record_items 8 (λ entry. metadata_at key entry 0) bytes
 
 -- what an iterator over the entries has left
 abbrev pub metadata_left : RichMetadataIterator → List (Result RichMetadata ErrorOf)

@@ -3,7 +3,7 @@
 //! Its standard fields and Windows fields have two widths, for images of 32 and of 64 bits; its magic
 //! says which. The data directories follow.
 
-ghost use Rattle.std.specs.Prelude.{◌≡◌, ◌≢◌, ◌≤◌, length, IfOk, IsSomeAnd, None, option_and_then};
+ghost use Rattle.std.specs.Prelude.{◌≡◌, ◌≤◌, length, IfOk, IsSomeAnd, None, option_and_then};
 ghost use Rattle.goblin_base.specs.Answers.{Answers, Writes, IsSliceFault, FirstFault};
 ghost use Rattle.goblin_base.specs.Bytes.{overwritten};
 ghost use Rattle.goblin_pe_head.specs.declared.optional_header.OptionalHeader.{OptionalHeader};
@@ -12,8 +12,8 @@ ghost use Rattle.goblin_pe_head.specs.HeaderLaws.{OptionalWritesBack};
 ghost use Rattle.goblin_pe_head.specs.OptionalHeaderLaws.{optional_header-within, optional_fault-no_memory};
 
 use goblin_base::{
-    Container, Endian, Error, Field, Result, TryFromCtx, pread_slice, pread_u16, pwrite_slice,
-    record_bytes,
+    Container, Endian, Error, Field, Record, Result, TryFromCtx, encode, pread_slice, pread_u16,
+    pwrite_slice, record_bytes,
 };
 use goblin_pe_sect::DataDirectories;
 
@@ -194,8 +194,10 @@ impl OptionalHeader {
     fn bytes_32(&self, endian: Endian) -> Result<[u8; 224]>
         ensures { Answers (λ bytes. bytes) result (bytes_32 endian self.now) (λ e. (windows_to_32 self.now.windows_fields ≡ None) × IsTooWide e) }
     {
-        let windows = WindowsFields32::try_from(self.windows_fields)?.to_bytes(endian);
-        let standard = StandardFields32::from(self.standard_fields).to_bytes(endian);
+        let windows = WindowsFields32::try_from(self.windows_fields)?;
+        let windows: [u8; SIZEOF_WINDOWS_FIELDS_32] = encode(windows, endian);
+        let standard = StandardFields32::from(self.standard_fields);
+        let standard: [u8; SIZEOF_STANDARD_FIELDS_32] = encode(standard, endian);
         let directories = self.data_directories.to_bytes(endian);
         let parts = [
             Field::Bytes(&standard),
@@ -209,8 +211,9 @@ impl OptionalHeader {
     fn bytes_64(&self, endian: Endian) -> [u8; 240]
         ensures { result ≡ bytes_64 endian self.now }
     {
-        let standard = StandardFields64::from(self.standard_fields).to_bytes(endian);
-        let windows = self.windows_fields.to_bytes(endian);
+        let standard = StandardFields64::from(self.standard_fields);
+        let standard: [u8; SIZEOF_STANDARD_FIELDS_64] = encode(standard, endian);
+        let windows: [u8; SIZEOF_WINDOWS_FIELDS_64] = encode(self.windows_fields, endian);
         let directories = self.data_directories.to_bytes(endian);
         let parts = [
             Field::Bytes(&standard),
@@ -248,7 +251,9 @@ impl OptionalHeader {
     #[tactic(auto, using(crate::proofs::OptionalHeaderRoundTrip::optional_back))]
     pub fn try_into_ctx(self, bytes: &mut [u8], endian: Endian) -> Result<usize>
         ensures size { IfOk result (λ n. IsSomeAnd (optional_bytes endian self) (λ written. n ≡ length written)) }
-        ensures written { Writes result (option_and_then (overwritten bytes.old 0) (optional_bytes endian self)) bytes.old bytes.new (FirstFault (optional_bytes endian self) (IsUnwritten self) (λ written. IsSliceFault bytes.old 0 (length written))) }
+        ensures written { let made = optional_bytes endian self in
+            let IsFault = FirstFault made (IsUnwritten self) (λ written. IsSliceFault bytes.old 0 (length written)) in
+            Writes result (option_and_then (overwritten bytes.old 0) made) bytes.old bytes.new IsFault }
         ensures back { OptionalWritesBack }
     {
         let written = self.to_bytes(endian)?;

@@ -1,32 +1,29 @@
 -- Directories that were read are written as they stood, with zeros behind the last, and one that was written is read again.
-use Rattle.std.proofs.Common.{◌≡◌, ℕ, zero, suc, ◌+◌, ◌-◌, ◌*◌, ◌≤◌, true, false, nat_le, List, [], ◌∷◌, ◌++◌, length, drop, map, Option, Some, None, refl, sym, ap, ◌∙◌, inl, inr, arith, Bool, cond, nat_lt, take, replicate, ◌⊎◌}
-use Rattle.std.specs.List.{range_with_len}
+use Rattle.std.proofs.Common.{◌≡◌, ℕ, zero, suc, ◌+◌, ◌-◌, ◌*◌, ◌≤◌, true, false, nat_le, List, ◌∷◌, ◌++◌, length, drop, map, Option, Some, None, refl, sym, ap, ◌∙◌, inl, inr, arith, Bool, cond, nat_lt, take, replicate, ◌⊎◌}
 use Rattle.std.specs.Prelude.{◌==◌, ◌&&◌, ◌||◌, slice_range, flat_map}
+use Rattle.std.specs.List.{range_with_len}
 use Rattle.std.proofs.lemmas.Bool.{le-leb, lt-ltb, and_parts, eqb-true, leb-true}
 use Rattle.std.proofs.lemmas.Option.{cond_some}
 use Rattle.std.proofs.lemmas.List.{drop-drop, map-append, replicate-append-replicate}
 use Rattle.std.proofs.lemmas.List.Concat.{flat_map-append}
+use Rattle.std.proofs.Math.Seq.{take-add}
 use Rattle.goblin_base.specs.declared.endian.Endian.TheVariants.{Little}
 use Rattle.goblin_base.specs.Bytes.{IsBytes, number_bytes, slice_at}
 use Rattle.goblin_base.specs.Record.{FieldValue, WritesBack, encoding, record_at, FieldsFit, ReadsBack}
-use Rattle.goblin_base.proofs.RecordRoundTrip.{uint_slot, writes_back, number_of, reads_back}
+use Rattle.goblin_base.proofs.RecordRoundTrip.{writes_back, reads_back}
 use Rattle.goblin_base.proofs.Writing.{encoding_append}
 use Rattle.goblin_pe_sect.specs.declared.data_directories.DataDirectory.{DataDirectory}
 use Rattle.goblin_pe_sect.specs.DataDirectories.{directories_at, directory_fields, directory_or_zeros, directory_record, entries_fields, entry_at, entry_ending, EntriesWriteBack, no_directory}
-use Rattle.std.proofs.Math.Seq.{take-add}
 use Rattle.goblin_pe_sect.proofs.Entries.{entry_at-below, entry_at-past}
 
 -- a directory that was read is written as it stood
 pub directory_back : WritesBack 8 directory_record directory_fields
 unfolding directory_record directory_fields
-directory_back = writes_back 8 directory_record directory_fields (uint_slot 4 ∷ uint_slot 4 ∷ []) refl (λ endian own h. refl)
-
-abbrev directory_of : List FieldValue → DataDirectory
-directory_of fields = record { virtual_address = number_of fields 0; size = number_of fields 1 }
+directory_back = writes_back 8 directory_record directory_fields refl (λ endian own h. refl)
 
 pub directory_again : (d : DataDirectory) → FieldsFit (directory_fields d) → ReadsBack 8 directory_record directory_fields d
 unfolding directory_record directory_fields
-directory_again d fit = reads_back 8 directory_record directory_fields directory_of d refl (omega arith) fit (λ endian own. refl) (λ endian own. refl) refl
+directory_again d fit = reads_back 8 directory_record directory_fields d refl (omega arith) fit (λ endian own. refl) (λ endian own e. grind (arith, e))
 
 zeros : encoding Little (directory_fields no_directory) ≡ replicate 8 0
 unfolding directory_fields number_bytes

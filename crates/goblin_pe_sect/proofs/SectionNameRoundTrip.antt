@@ -8,9 +8,9 @@ use Rattle.std.proofs.lemmas.Str.Ascii.{IsAscii-cons, IsAscii-nil}
 use Rattle.std.proofs.lemmas.Bool.{and_parts, ltb-true, eqb-true, leb-true}
 use Rattle.std.proofs.lemmas.List.{length-append, length-replicate, append-nil, length-map}
 use Rattle.std.proofs.Math.Seq.{take-append_seam}
-use Rattle.goblin_base.specs.Bytes.{before_nul, bounded_text_at}
 use Rattle.std.proofs.lemmas.Option.{cond_some}
 use Rattle.std.specs.Option.{option_map}
+use Rattle.goblin_base.specs.Bytes.{before_nul, bounded_text_at}
 use Rattle.goblin_pe_sect.specs.declared.digits.Digits.{Digits}
 use Rattle.goblin_pe_sect.specs.declared.digits.Digits.TheVariants.{Decimal, Base64}
 use Rattle.goblin_pe_sect.specs.SectionName.{alphabet, last_digits, digit_byte, radix, numeral, name_value, text_value, decimal_number, decimal_width, indirect_name}

@@ -1,28 +1,17 @@
 -- A section that was read is written as its record stands, and one that was written is read again.
-use Rattle.std.proofs.Common.{◌≡◌, ℕ, [], ◌∷◌, List, ap, refl, sym, ◌∙◌, length, arith}
+use Rattle.std.proofs.Common.{◌≡◌, ℕ, List, ap, refl, sym, ◌∙◌, length, arith}
 use Rattle.std.specs.Prelude.{Option, Some, None}
-use Rattle.goblin_base.specs.declared.endian.Endian.{Endian}
 use Rattle.goblin_base.specs.declared.endian.Endian.TheVariants.{Little}
-use Rattle.goblin_base.specs.Bytes.{IsBytes}
 use Rattle.goblin_base.specs.Record.{FieldValue, WritesBack, encoding, record_at, FieldsFit, ReadsBack}
 use Rattle.goblin_base.specs.Answers.{◌>>=◌}
-use Rattle.goblin_base.proofs.RecordRoundTrip.{Slot, fields_from, writes_back, number_of, reads_back, octets_of}
-use Rattle.goblin_base.proofs.RecordRoundTrip.Slot.{octets_slot, uint_slot}
+use Rattle.goblin_base.proofs.RecordRoundTrip.{writes_back, reads_back}
 use Rattle.goblin_base.proofs.Steps.{same_value, step}
 use Rattle.goblin_pe_sect.specs.SectionName.{name_value, real_name_at}
 use Rattle.goblin_pe_sect.specs.SectionTable.{Section, SectionWritesBack, section_at, section_fields, section_record, SectionReadsBack}
 
--- where the fields of a section record lie
-abbrev slots : List Slot
-slots =
-    octets_slot 8 ∷ uint_slot 4 ∷ uint_slot 4 ∷ uint_slot 4 ∷ uint_slot 4 ∷ uint_slot 4 ∷ uint_slot 4 ∷ uint_slot 2 ∷ uint_slot 2 ∷ uint_slot 4 ∷ []
-
-section_lies : (endian : Endian) (own : List ℕ) → IsBytes own → section_fields (section_record endian own) ≡ fields_from endian slots own 0
-unfolding section_fields section_record
-section_lies endian own bytes = refl
-
 pub record_back : WritesBack 40 section_record section_fields
-record_back = writes_back 40 section_record section_fields slots refl section_lies
+unfolding section_record section_fields
+record_back = writes_back 40 section_record section_fields refl (λ endian own h. refl)
 
 -- the real name is no field of the record
 same_fields : (section : Section) (real_name : Option (List ℕ)) → section_fields (record section { real_name = real_name }) ≡ section_fields section
@@ -38,22 +27,7 @@ section_back strict table bytes p section h is =
     let same : section_fields first.value ≡ section_fields section = sym (same_fields first.value (real_name_at bytes table second.value)) ∙ ap section_fields (same_value named section second.then) in
     record_back Little bytes p first.value h first.is ∙ ap (λ (fields : List FieldValue). Some (encoding Little fields)) same
 
-abbrev section_of : List FieldValue → Section
-section_of fields = record {
-  name = octets_of fields 0;
-  real_name = None;
-  virtual_size = number_of fields 1;
-  virtual_address = number_of fields 2;
-  size_of_raw_data = number_of fields 3;
-  pointer_to_raw_data = number_of fields 4;
-  pointer_to_relocations = number_of fields 5;
-  pointer_to_linenumbers = number_of fields 6;
-  number_of_relocations = number_of fields 7;
-  number_of_linenumbers = number_of fields 8;
-  characteristics = number_of fields 9;
-}
-
 pub section_again : (s : Section) → length s.name ≡ 8 → FieldsFit (section_fields s) → SectionReadsBack s
 unfolding ReadsBack SectionReadsBack section_record section_fields
 section_again s eight fit =
-    reads_back 40 section_record section_fields section_of (record s { real_name = None }) (rw eight refl) (omega arith) fit (λ endian own. rw eight refl) (λ endian own. refl) refl
+    reads_back 40 section_record section_fields (record s { real_name = None }) (rw eight refl) (omega arith) fit (λ endian own. rw eight refl) (λ endian own e. grind (arith, e))

@@ -1,5 +1,5 @@
 -- The base relocations of an image: the bytes of their directory, its blocks, and the words of a block.
-use Rattle.std.specs.Prelude.{◌≡◌, ◌≤◌, ◌<◌, ℕ, zero, suc, ◌+◌, ◌-◌, ◌%◌, ◌==◌, min, nat_lt, if◌then◌else◌, List, [], ◌∷◌, ◌++◌, length, map, flat_map, slice_range, Option, Some, None, Result, Ok, Err}
+use Rattle.std.specs.Prelude.{◌≡◌, ◌≤◌, ◌<◌, ℕ, zero, suc, ◌+◌, ◌-◌, min, nat_lt, if◌then◌else◌, List, [], ◌∷◌, ◌++◌, length, map, flat_map, slice_range, Option, Some, None, Result, Ok, Err}
 use Rattle.goblin_base.specs.declared.endian.Endian.{Endian}
 use Rattle.goblin_base.specs.declared.endian.Endian.TheVariants.{Little}
 use Rattle.goblin_base.specs.declared.error.CauseOf.TheVariants.{BlockRange, BlockSize, RelocRange}
@@ -10,6 +10,7 @@ use Rattle.goblin_base.specs.Bytes.{IsBytes, number, slice_at}
 use Rattle.goblin_base.specs.Record.{FieldValue, encoding}
 use Rattle.goblin_base.specs.Record.FieldValue.{octets, uint}
 use Rattle.goblin_base.specs.Answers.{◌>>=◌, FirstFault}
+use Rattle.goblin_base.specs.Tables.{record_items}
 use Rattle.goblin_pe_sect.specs.declared.data_directories.DataDirectory.{DataDirectory}
 use Rattle.goblin_pe_sect.specs.declared.relocation.base.RelocationBlock.{RelocationBlock}
 use Rattle.goblin_pe_sect.specs.declared.relocation.base.RelocationBlockIterator.{RelocationBlockIterator}
@@ -17,7 +18,6 @@ use Rattle.goblin_pe_sect.specs.declared.relocation.base.RelocationData.{Relocat
 use Rattle.goblin_pe_sect.specs.declared.relocation.base.RelocationWord.{RelocationWord}
 use Rattle.goblin_pe_sect.specs.declared.relocation.base.RelocationWordIterator.{RelocationWordIterator}
 use Rattle.goblin_pe_sect.specs.Mapping.{IsUnmapped}
-use Rattle.goblin_pe_sect.specs.Relocations.{records_in}
 
 -- the bytes of a directory that was read
 abbrev pub relocation_bytes : RelocationData → List ℕ
@@ -128,13 +128,9 @@ word_record endian bytes = record {
 unfoldable pub word_fields : RelocationWord → List FieldValue
 word_fields r = uint 2 r.value ∷ []
 
--- one error where n bytes are left, and none where none are
-abbrev pub rest_item : ℕ → List (Result RelocationWord ErrorOf)
-rest_item n = if n == 0 then [] else Err (Read TooBig) ∷ []
-
 -- the words of a block: the whole pairs of its bytes, and one error where a byte is left
 unfoldable pub word_items : List ℕ → List (Result RelocationWord ErrorOf)
-word_items bytes = map (λ w. Ok w) (records_in 2 (word_record Little) bytes) ++ rest_item (length bytes % 2)
+word_items bytes = record_items 2 (word_record Little) bytes
 
 -- what an iterator over words has left
 abbrev pub words_left : RelocationWordIterator → List (Result RelocationWord ErrorOf)

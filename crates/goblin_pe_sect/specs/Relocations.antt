@@ -1,6 +1,5 @@
 -- The relocations of a section of an object.
-use Rattle.std.specs.Prelude.{◌<◌, ◌≤◌, ℕ, ◌+◌, ◌*◌, ◌/◌, ◌^◌, List, [], ◌∷◌, length, map, slice_range, Option, option_map}
-use Rattle.std.specs.List.{range_with_len}
+use Rattle.std.specs.Prelude.{◌<◌, ◌≤◌, ℕ, ◌*◌, ◌^◌, List, [], ◌∷◌, Option, option_map}
 use Rattle.goblin_base.specs.declared.endian.Endian.{Endian}
 use Rattle.goblin_base.specs.declared.endian.Endian.TheVariants.{Little}
 use Rattle.goblin_base.specs.declared.error.CauseOf.TheVariants.{Overflow}
@@ -10,6 +9,7 @@ use Rattle.goblin_base.specs.Bytes.{number, slice_at}
 use Rattle.goblin_base.specs.Answers.{IsSliceFault}
 use Rattle.goblin_base.specs.Record.{FieldValue}
 use Rattle.goblin_base.specs.Record.FieldValue.{uint}
+use Rattle.goblin_base.specs.Tables.{records_in}
 use Rattle.goblin_pe_sect.specs.declared.relocation.Relocation.{Relocation}
 use Rattle.goblin_pe_sect.specs.declared.relocation.Relocations.{Relocations}
 
@@ -24,10 +24,6 @@ relocation_record endian bytes = record {
 -- the fields of a relocation, in order
 unfoldable pub relocation_fields : Relocation → List FieldValue
 relocation_fields r = uint 4 r.virtual_address ∷ uint 4 r.symbol_table_index ∷ uint 2 r.typ ∷ []
-
--- the records of these bytes, each of `width` of them, one behind the other; a rest that is no whole record is left out
-unfoldable pub records_in : {V : Type 0} → ℕ → (List ℕ → V) → List ℕ → List V
-records_in width value bytes = map (λ i. value (slice_range bytes (width * i) (width * i + width))) (range_with_len 0 (length bytes / width))
 
 -- the relocations of these bytes
 abbrev pub relocations_in : List ℕ → List Relocation

@@ -5,14 +5,13 @@ ghost use Rattle.std.specs.Iterator.{UpTo, YieldsFirst, at_most, item_count};
 ghost use Rattle.std.specs.Iterator.SizeHint.{IsWithinCount};
 ghost use Rattle.goblin_base.specs.Answers.{Answers, Writes, IsSliceFault};
 ghost use Rattle.goblin_base.specs.Bytes.{overwritten};
-ghost use Rattle.goblin_base.specs.Record.{ReadsBack, WritesBack, encoding, record_at, record_in};
-ghost use Rattle.goblin_base.proofs.RecordLaws.{record_in-within, slice_fault-no_memory};
+ghost use Rattle.goblin_base.specs.Record.{encoding, record_at};
 ghost use Rattle.goblin_pe_sect.specs.declared.data_directories.DataDirectory.{DataDirectory};
 ghost use Rattle.goblin_pe_sect.specs.DataDirectories.{EntriesWriteBack, IsDirectoriesFault, IsNoKind, dirs_left, directories_at, directory_fields, directory_in, directory_or_zeros, directory_record, entries_fields, entry_ending, kinds, present_from};
 
 use goblin_base::{
-    Cause, Endian, Error, Field, Result, TryFromCtx, field_u32, gread_slice, pread_slice,
-    put_bytes, pwrite_slice, record_bytes,
+    Cause, Endian, Error, Field, Record, Result, encode, field_u32, gread_slice, put_bytes,
+    put_fields, pwrite_slice,
 };
 
 /// The size of a directory's record, in bytes.
@@ -55,19 +54,33 @@ pub struct DataDirectory {
     pub size: u32,
 }
 
-impl DataDirectory {
-    // The directory in a record's bytes.
+impl Record for DataDirectory {
+    ghost width = { 8 };
+
+    ghost value = { directory_record };
+
+    ghost fields = { directory_fields };
+
+    fn size() -> usize {
+        SIZEOF_DATA_DIRECTORY
+    }
+
     #[tactic(auto, unfolding(crate::specs::DataDirectories::directory_record))]
-    fn in_record(bytes: &[u8], endian: Endian) -> DataDirectory
-        requires { length bytes.now ≡ 8 }
-        ensures { result ≡ directory_record endian bytes.now }
-    {
+    fn in_record(bytes: &[u8], endian: Endian) -> DataDirectory {
         DataDirectory {
             virtual_address: field_u32(bytes, 0, endian),
             size: field_u32(bytes, 4, endian),
         }
     }
 
+    #[tactic(auto, unfolding(crate::specs::DataDirectories::directory_fields), using(crate::proofs::DataDirectoriesRoundTrip::directory_back, crate::proofs::DataDirectoriesRoundTrip::directory_again))]
+    fn put(self, bytes: &mut [u8], endian: Endian) {
+        let fields = [Field::U32(self.virtual_address), Field::U32(self.size)];
+        put_fields(bytes, SIZEOF_DATA_DIRECTORY, &fields, endian);
+    }
+}
+
+impl DataDirectory {
     /// Reads the record at `offset` and moves `offset` past it.
     ///
     /// # Errors
@@ -79,65 +92,6 @@ impl DataDirectory {
     {
         let record = gread_slice(bytes, offset, SIZEOF_DATA_DIRECTORY)?;
         Ok(DataDirectory::in_record(record, Endian::Little))
-    }
-
-    // The record's bytes.
-    #[tactic(auto, unfolding(crate::specs::DataDirectories::directory_fields), using(crate::proofs::DataDirectoriesRoundTrip::directory_again))]
-    fn to_bytes(self, endian: Endian) -> [u8; SIZEOF_DATA_DIRECTORY]
-        ensures made { result ≡ encoding endian (directory_fields self) }
-        ensures again { ReadsBack 8 directory_record directory_fields self }
-    {
-        let fields = [Field::U32(self.virtual_address), Field::U32(self.size)];
-        record_bytes(&fields, endian)
-    }
-
-    /// Writes the record to the front of `bytes`, and answers its size. A directory that was read is
-    /// written as it stood, and any directory is read again from what was written, by the same order
-    /// of bytes.
-    ///
-    /// # Errors
-    /// [`Error::Read`] where there is no room for 8 bytes; `bytes` are then as they were.
-    #[tactic(auto, using(crate::proofs::DataDirectoriesRoundTrip::directory_back))]
-    pub fn try_into_ctx(self, bytes: &mut [u8], endian: Endian) -> Result<usize>
-        ensures size { IfOk result (λ n. n ≡ 8) }
-        ensures written { Writes result (overwritten bytes.old 0 (encoding endian (directory_fields self))) bytes.old bytes.new (IsSliceFault bytes.old 0 8) }
-        ensures back { WritesBack 8 directory_record directory_fields }
-        ensures again { ReadsBack 8 directory_record directory_fields self }
-    {
-        let record = self.to_bytes(endian);
-        pwrite_slice(bytes, 0, &record)?;
-        Ok(SIZEOF_DATA_DIRECTORY)
-    }
-
-    /// The size of the record, in bytes, in either order.
-    pub fn size_with(_endian: &Endian) -> usize
-        ensures { result ≡ 8 }
-    {
-        SIZEOF_DATA_DIRECTORY
-    }
-}
-
-impl TryFromCtx<'_> for DataDirectory {
-    ghost Plain = { DataDirectory };
-
-    ghost plain = { λ d. d };
-
-    ghost value_of = { record_in 8 directory_record };
-
-    ghost refusal = { λ _ bytes e. IsSliceFault bytes 0 8 e };
-
-    ghost within = { record_in-within 8 directory_record };
-
-    ghost no_memory = { λ _ bytes e. slice_fault-no_memory bytes 0 8 e };
-
-    /// Reads the record at the front of `bytes`, which takes 8 bytes.
-    ///
-    /// # Errors
-    /// [`Error::Read`] where there are no 8 bytes.
-    fn try_from_ctx(bytes: &[u8], endian: Endian) -> Result<(DataDirectory, usize)> {
-        let record = pread_slice(bytes, 0, SIZEOF_DATA_DIRECTORY)?;
-        let directory = DataDirectory::in_record(record, endian);
-        Ok((directory, SIZEOF_DATA_DIRECTORY))
     }
 }
 
@@ -263,7 +217,10 @@ impl DataDirectories {
     {
         let mut table = [0; 128];
         'entries: for i in 0..NUM_DATA_DIRECTORIES {
-            let record = directory(self.data_directories[i]).to_bytes(endian);
+            let record: [u8; SIZEOF_DATA_DIRECTORY] = encode(
+                directory(self.data_directories[i]),
+                endian,
+            );
             put_bytes(&mut table, SIZEOF_DATA_DIRECTORY * i, &record);
         }
         table

@@ -1,19 +1,15 @@
 //! The relocations of a PE file: those of an object's sections, for linkers, and the base relocations
 //! of an image, for loaders.
 
-ghost use Rattle.std.specs.Prelude.{◌≡◌, ◌*◌, Some, length, IfOk, IfSome};
+ghost use Rattle.std.specs.Prelude.{◌≡◌, Some, length, IfSome};
 ghost use Rattle.std.specs.Iterator.{UpTo, YieldsFirst, at_most, item_count};
 ghost use Rattle.std.specs.Iterator.SizeHint.{IsWithinCount};
-ghost use Rattle.goblin_base.specs.Answers.{Answers, Writes, IsSliceFault};
-ghost use Rattle.goblin_base.specs.Bytes.{overwritten};
-ghost use Rattle.goblin_base.specs.Record.{ReadsBack, WritesBack, encoding, record_in};
-ghost use Rattle.goblin_base.proofs.RecordLaws.{record_in-within, slice_fault-no_memory};
+ghost use Rattle.goblin_base.specs.Answers.{Answers};
 ghost use Rattle.goblin_pe_sect.specs.declared.relocation.Relocation.{Relocation};
 ghost use Rattle.goblin_pe_sect.specs.Relocations.{IsRelocationsFault, relocation_fields, relocation_record, relocations_at, relocations_left};
 
 use goblin_base::{
-    Cause, Endian, Error, Field, Result, TryFromCtx, field_u16, field_u32, pread_slice,
-    pwrite_slice, record_bytes,
+    Cause, Endian, Error, Field, Record, Result, field_u16, field_u32, pread_slice, put_fields,
 };
 
 mod base;
@@ -153,13 +149,19 @@ pub struct Relocation {
     pub typ: u16,
 }
 
-impl Relocation {
-    // The relocation in a record's bytes.
+impl Record for Relocation {
+    ghost width = { 10 };
+
+    ghost value = { relocation_record };
+
+    ghost fields = { relocation_fields };
+
+    fn size() -> usize {
+        COFF_RELOCATION_SIZE
+    }
+
     #[tactic(auto, unfolding(crate::specs::Relocations::relocation_record))]
-    fn in_record(bytes: &[u8], endian: Endian) -> Relocation
-        requires { length bytes.now ≡ 10 }
-        ensures { result ≡ relocation_record endian bytes.now }
-    {
+    fn in_record(bytes: &[u8], endian: Endian) -> Relocation {
         Relocation {
             virtual_address: field_u32(bytes, 0, endian),
             symbol_table_index: field_u32(bytes, 4, endian),
@@ -167,66 +169,14 @@ impl Relocation {
         }
     }
 
-    // The record's bytes.
-    #[tactic(auto, unfolding(crate::specs::Relocations::relocation_fields), using(crate::proofs::RelocationsRoundTrip::relocation_again))]
-    fn to_bytes(self, endian: Endian) -> [u8; COFF_RELOCATION_SIZE]
-        ensures made { result ≡ encoding endian (relocation_fields self) }
-        ensures again { ReadsBack 10 relocation_record relocation_fields self }
-    {
+    #[tactic(auto, unfolding(crate::specs::Relocations::relocation_fields), using(crate::proofs::RelocationsRoundTrip::relocation_back, crate::proofs::RelocationsRoundTrip::relocation_again))]
+    fn put(self, bytes: &mut [u8], endian: Endian) {
         let fields = [
             Field::U32(self.virtual_address),
             Field::U32(self.symbol_table_index),
             Field::U16(self.typ),
         ];
-        record_bytes(&fields, endian)
-    }
-
-    /// Writes the record to the front of `bytes`, and answers its size. One that was read is written
-    /// as it stood, and any is read again from what was written, by the same order of bytes.
-    ///
-    /// # Errors
-    /// [`Error::Read`] where there is no room for 10 bytes; `bytes` are
-    /// then as they were.
-    #[tactic(auto, using(crate::proofs::RelocationsRoundTrip::relocation_back))]
-    pub fn try_into_ctx(self, bytes: &mut [u8], endian: Endian) -> Result<usize>
-        ensures size { IfOk result (λ n. n ≡ 10) }
-        ensures written { Writes result (overwritten bytes.old 0 (encoding endian (relocation_fields self))) bytes.old bytes.new (IsSliceFault bytes.old 0 10) }
-        ensures back { WritesBack 10 relocation_record relocation_fields }
-        ensures again { ReadsBack 10 relocation_record relocation_fields self }
-    {
-        let record = self.to_bytes(endian);
-        pwrite_slice(bytes, 0, &record)?;
-        Ok(COFF_RELOCATION_SIZE)
-    }
-
-    /// The size of the record, in bytes, in either order.
-    pub fn size_with(_endian: &Endian) -> usize
-        ensures { result ≡ 10 }
-    {
-        COFF_RELOCATION_SIZE
-    }
-}
-
-impl TryFromCtx<'_> for Relocation {
-    ghost Plain = { Relocation };
-
-    ghost plain = { λ r. r };
-
-    ghost value_of = { record_in 10 relocation_record };
-
-    ghost refusal = { λ _ bytes e. IsSliceFault bytes 0 10 e };
-
-    ghost within = { record_in-within 10 relocation_record };
-
-    ghost no_memory = { λ _ bytes e. slice_fault-no_memory bytes 0 10 e };
-
-    /// Reads the record at the front of `bytes`, which takes 10 bytes.
-    ///
-    /// # Errors
-    /// [`Error::Read`] where there are no 10 bytes.
-    fn try_from_ctx(bytes: &[u8], endian: Endian) -> Result<(Relocation, usize)> {
-        let record = pread_slice(bytes, 0, COFF_RELOCATION_SIZE)?;
-        Ok((Relocation::in_record(record, endian), COFF_RELOCATION_SIZE))
+        put_fields(bytes, COFF_RELOCATION_SIZE, &fields, endian);
     }
 }
 

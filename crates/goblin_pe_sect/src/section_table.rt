@@ -183,8 +183,10 @@ impl SectionTable {
         string_table_offset: usize,
         opts: &ParseOptions,
     ) -> Result<SectionTable>
-        ensures value { AnswersOrMemory (λ s. s) result (section_at (is_strict opts.now.parse_mode) string_table_offset bytes.now offset.old) (IsSectionFault (is_strict opts.now.parse_mode) bytes.now offset.old) }
-        ensures grown { IfErr result (λ e. IsMemory e → IsSomeAnd (section_at (is_strict opts.now.parse_mode) string_table_offset bytes.now offset.old) (λ s. IsSome s.real_name)) }
+        ensures value { let strict = is_strict opts.now.parse_mode in
+            AnswersOrMemory (λ s. s) result (section_at strict string_table_offset bytes.now offset.old) (IsSectionFault strict bytes.now offset.old) }
+        ensures grown { let section = section_at (is_strict opts.now.parse_mode) string_table_offset bytes.now offset.old in
+            IfErr result (λ e. IsMemory e → IsSomeAnd section (λ s. IsSome s.real_name)) }
         ensures ok { OnOk result (offset.new ≡ offset.old + 40) }
         ensures err { OnErr result (offset.new ≡ offset.old) }
     {
@@ -277,7 +279,8 @@ impl SectionTable {
     /// stands there. Where the bytes behind the slashes are not UTF-8, [`Cause::NameText`] in strict
     /// mode; in permissive mode the name is then direct.
     pub fn name_offset_with_opts(&self, opts: &ParseOptions) -> Result<Option<usize>>
-        ensures { Answers (λ v. v) result (name_value (is_strict opts.now.parse_mode) self.now.name) (IsNameFault (is_strict opts.now.parse_mode) self.now.name) }
+        ensures { let strict = is_strict opts.now.parse_mode in
+            Answers (λ v. v) result (name_value strict self.now.name) (IsNameFault strict self.now.name) }
     {
         name_value(&self.name, opts.parse_mode)
     }
@@ -322,7 +325,9 @@ impl SectionTable {
     /// # Errors
     /// [`Error::Read`] where they are not all there, or begin at the end, also where there are none.
     pub fn relocations<'b>(&self, bytes: &'b [u8]) -> Result<Relocations<'b>>
-        ensures { Answers relocations_left result (relocations_at bytes.now self.now.pointer_to_relocations self.now.number_of_relocations) (IsSliceFault bytes.now self.now.pointer_to_relocations (10 * self.now.number_of_relocations)) }
+        ensures { let place = self.now.pointer_to_relocations in
+            let count = self.now.number_of_relocations in
+            Answers relocations_left result (relocations_at bytes.now place count) (IsSliceFault bytes.now place (10 * count)) }
     {
         let offset = self.pointer_to_relocations as usize;
         Relocations::parse(bytes, offset, self.number_of_relocations as usize)

@@ -1,19 +1,18 @@
 //! The symbols of a COFF file: their records and names, and the table of them.
 
-ghost use Rattle.std.specs.Prelude.{◌≡◌, ◌↔◌, ◌+◌, ◌-◌, ◌*◌, ◌/◌, ◌%◌, ◌^◌, ◌<◌, ◌≤◌, ◌<ℤ◌, pos, Some, IfOk, IfSome, IsTrue, length, option_map};
+ghost use Rattle.std.specs.Prelude.{◌≡◌, ◌↔◌, ◌+◌, ◌-◌, ◌*◌, ◌/◌, ◌%◌, ◌^◌, ◌<◌, ◌<ℤ◌, pos, Some, IfOk, IfSome, IsTrue, length, option_map};
 ghost use Rattle.std.specs.Iterator.{UpTo, YieldsFirstBy, at_most, item_count};
 ghost use Rattle.std.specs.Iterator.SizeHint.{IsWithinCount};
 ghost use Rattle.goblin_base.specs.Answers.{Answers, Writes, IsSliceFault};
 ghost use Rattle.goblin_base.specs.Bytes.{overwritten, slice_at};
-ghost use Rattle.goblin_base.specs.Record.{ReadsBack, WritesBack, encoding, record_at, record_in};
-ghost use Rattle.goblin_base.proofs.RecordLaws.{record_in-within, slice_fault-no_memory};
+ghost use Rattle.goblin_base.specs.Record.{record_at};
 ghost use Rattle.goblin_pe_sect.specs.declared.symbol.Symbol.{Symbol};
 ghost use Rattle.goblin_pe_sect.specs.AuxiliarySymbols.{begin_and_end_function_record, function_definition_record, section_definition_record, weak_external_record};
 ghost use Rattle.goblin_pe_sect.specs.Symbols.{AreSymbolsOf, IsNoSymbolName, IsSymbolsFault, file_name_at, inline_name, name_offset_of, named_symbol, named_value, offset_name, stored_number, stored_offset, symbol_fields, symbol_item, symbol_name, symbol_record, symbols_in, symbols_left, table_bytes};
 
 use goblin_base::{
-    Cause, Endian, Error, Field, Result, Strtab, TryFromCtx, field_array, field_i16, field_u8,
-    field_u16, field_u32, pread_slice, pread_str_until, pwrite_slice, record_bytes,
+    Cause, Endian, Error, Field, Record, Result, Strtab, field_array, field_i16, field_u8,
+    field_u16, field_u32, pread_slice, pread_str_until, put_fields, pwrite_slice, record_bytes,
 };
 
 mod auxiliary;
@@ -75,13 +74,19 @@ pub struct Symbol {
     pub number_of_aux_symbols: u8,
 }
 
-impl Symbol {
-    // The symbol in a record's bytes.
+impl Record for Symbol {
+    ghost width = { 18 };
+
+    ghost value = { symbol_record };
+
+    ghost fields = { symbol_fields };
+
+    fn size() -> usize {
+        COFF_SYMBOL_SIZE
+    }
+
     #[tactic(auto, unfolding(crate::specs::Symbols::symbol_record))]
-    fn in_record(bytes: &[u8], endian: Endian) -> Symbol
-        requires { length bytes.now ≡ 18 }
-        ensures { result ≡ symbol_record endian bytes.now }
-    {
+    fn in_record(bytes: &[u8], endian: Endian) -> Symbol {
         Symbol {
             name: field_array(bytes, 0),
             value: field_u32(bytes, 8, endian),
@@ -92,6 +97,21 @@ impl Symbol {
         }
     }
 
+    #[tactic(auto, unfolding(crate::specs::Symbols::symbol_fields), using(crate::proofs::SymbolsRoundTrip::symbol_back, crate::proofs::SymbolsRoundTrip::symbol_again))]
+    fn put(self, bytes: &mut [u8], endian: Endian) {
+        let fields = [
+            Field::Bytes(&self.name),
+            Field::U32(self.value),
+            Field::I16(self.section_number),
+            Field::U16(self.typ),
+            Field::U8(self.storage_class),
+            Field::U8(self.number_of_aux_symbols),
+        ];
+        put_fields(bytes, COFF_SYMBOL_SIZE, &fields, endian);
+    }
+}
+
+impl Symbol {
     /// The symbol of the record at `offset`, and the name that stands in it: the text of its first
     /// eight bytes, `None` where the first byte is 0 or they are not UTF-8 up to a NUL.
     ///
@@ -198,70 +218,6 @@ impl Symbol {
         ensures { IsTrue result ↔ ((self.now.storage_class ≡ 3) × (0 < self.now.number_of_aux_symbols)) }
     {
         self.storage_class == IMAGE_SYM_CLASS_STATIC && self.number_of_aux_symbols > 0
-    }
-
-    // The record's bytes.
-    #[tactic(auto, unfolding(crate::specs::Symbols::symbol_fields), using(crate::proofs::SymbolsRoundTrip::symbol_again))]
-    fn to_bytes(self, endian: Endian) -> [u8; COFF_SYMBOL_SIZE]
-        ensures made { result ≡ encoding endian (symbol_fields self) }
-        ensures again { ReadsBack 18 symbol_record symbol_fields self }
-    {
-        let fields = [
-            Field::Bytes(&self.name),
-            Field::U32(self.value),
-            Field::I16(self.section_number),
-            Field::U16(self.typ),
-            Field::U8(self.storage_class),
-            Field::U8(self.number_of_aux_symbols),
-        ];
-        record_bytes(&fields, endian)
-    }
-
-    /// Writes the record to the front of `bytes`, and answers its size. One that was read is written
-    /// as it stood, and any is read again from what was written, by the same order of bytes.
-    ///
-    /// # Errors
-    /// [`Error::Read`] where there is no room for 18 bytes; `bytes` are then as they were.
-    #[tactic(auto, using(crate::proofs::SymbolsRoundTrip::symbol_back))]
-    pub fn try_into_ctx(self, bytes: &mut [u8], endian: Endian) -> Result<usize>
-        ensures size { IfOk result (λ n. n ≡ 18) }
-        ensures written { Writes result (overwritten bytes.old 0 (encoding endian (symbol_fields self))) bytes.old bytes.new (IsSliceFault bytes.old 0 18) }
-        ensures back { WritesBack 18 symbol_record symbol_fields }
-        ensures again { ReadsBack 18 symbol_record symbol_fields self }
-    {
-        let record = self.to_bytes(endian);
-        pwrite_slice(bytes, 0, &record)?;
-        Ok(COFF_SYMBOL_SIZE)
-    }
-
-    /// The size of the record, in bytes, in either order.
-    pub fn size_with(_endian: &Endian) -> usize
-        ensures { result ≡ 18 }
-    {
-        COFF_SYMBOL_SIZE
-    }
-}
-
-impl TryFromCtx<'_> for Symbol {
-    ghost Plain = { Symbol };
-
-    ghost plain = { λ r. r };
-
-    ghost value_of = { record_in 18 symbol_record };
-
-    ghost refusal = { λ _ bytes e. IsSliceFault bytes 0 18 e };
-
-    ghost within = { record_in-within 18 symbol_record };
-
-    ghost no_memory = { λ _ bytes e. slice_fault-no_memory bytes 0 18 e };
-
-    /// Reads the record at the front of `bytes`, which takes 18 bytes.
-    ///
-    /// # Errors
-    /// [`Error::Read`] where there are no 18 bytes.
-    fn try_from_ctx(bytes: &[u8], endian: Endian) -> Result<(Symbol, usize)> {
-        let record = pread_slice(bytes, 0, COFF_SYMBOL_SIZE)?;
-        Ok((Symbol::in_record(record, endian), COFF_SYMBOL_SIZE))
     }
 }
 

@@ -1,18 +1,14 @@
 //! The export directory's record, and the three tables that it leads to.
 
-ghost use Rattle.std.specs.Prelude.{◌≡◌, true, false, List, ℕ, IfErr, IfOk, OnErr, OnOk, length};
-ghost use Rattle.goblin_base.specs.Answers.{Answers, GivesOrMemory, Writes, IsSliceFault};
-ghost use Rattle.goblin_base.specs.Bytes.{overwritten};
+ghost use Rattle.std.specs.Prelude.{◌≡◌, true, false, List, ℕ, IfErr, OnErr, OnOk, length};
+ghost use Rattle.goblin_base.specs.Answers.{Answers, GivesOrMemory};
 ghost use Rattle.goblin_base.specs.Tables.{counted_table_if};
-ghost use Rattle.goblin_base.specs.Record.{ReadsBack, WritesBack, encoding, record_in};
-ghost use Rattle.goblin_base.proofs.RecordLaws.{record_in-within, slice_fault-no_memory};
 ghost use Rattle.goblin_pe.specs.declared.export.tables.ExportDirectoryTable.{ExportDirectoryTable};
 ghost use Rattle.goblin_pe.specs.Exports.{IsCountFault, IsNoExportTable, address_entry, addresses, counts_fit, export_directory_at, export_directory_fields, export_directory_record, name_pointers, ordinals};
 
 use crate::table::Table;
 use goblin_base::{
-    Cause, Endian, Error, Field, Result, TryFromCtx, field_u16, field_u32, pread_slice,
-    pwrite_slice, record_bytes,
+    Cause, Endian, Error, Field, Record, Result, field_u16, field_u32, pread_slice, put_fields,
 };
 use goblin_pe_sect::DataDirectory;
 use goblin_pe_sect::utils::is_in_range;
@@ -62,13 +58,19 @@ pub struct ExportDirectoryTable {
     pub ordinal_table_rva: u32,
 }
 
-impl ExportDirectoryTable {
-    // The directory in a record's bytes.
+impl Record for ExportDirectoryTable {
+    ghost width = { 40 };
+
+    ghost value = { export_directory_record };
+
+    ghost fields = { export_directory_fields };
+
+    fn size() -> usize {
+        SIZEOF_EXPORT_DIRECTORY_TABLE
+    }
+
     #[tactic(auto, unfolding(crate::specs::Exports::export_directory_record))]
-    fn in_record(bytes: &[u8], endian: Endian) -> ExportDirectoryTable
-        requires { length bytes.now ≡ 40 }
-        ensures { result ≡ export_directory_record endian bytes.now }
-    {
+    fn in_record(bytes: &[u8], endian: Endian) -> ExportDirectoryTable {
         ExportDirectoryTable {
             export_flags: field_u32(bytes, 0, endian),
             time_date_stamp: field_u32(bytes, 4, endian),
@@ -84,25 +86,8 @@ impl ExportDirectoryTable {
         }
     }
 
-    /// Reads the record at `offset`.
-    ///
-    /// # Errors
-    /// [`Error::Malformed`] with [`Cause::ExportTable`] where the file has no 40 bytes there.
-    pub fn parse(bytes: &[u8], offset: usize) -> Result<ExportDirectoryTable>
-        ensures { Answers (λ t. t) result (export_directory_at bytes.now offset) (IsNoExportTable offset) }
-    {
-        match pread_slice(bytes, offset, SIZEOF_EXPORT_DIRECTORY_TABLE) {
-            Ok(record) => Ok(ExportDirectoryTable::in_record(record, Endian::Little)),
-            Err(_) => Err(Error::Malformed(Cause::ExportTable(offset))),
-        }
-    }
-
-    // The record's bytes.
-    #[tactic(auto, unfolding(crate::specs::Exports::export_directory_fields), using(crate::proofs::ExportDirectoryRoundTrip::export_directory_again))]
-    fn to_bytes(self, endian: Endian) -> [u8; SIZEOF_EXPORT_DIRECTORY_TABLE]
-        ensures made { result ≡ encoding endian (export_directory_fields self) }
-        ensures again { ReadsBack 40 export_directory_record export_directory_fields self }
-    {
+    #[tactic(auto, unfolding(crate::specs::Exports::export_directory_fields), using(crate::proofs::ExportDirectoryRoundTrip::export_directory_back, crate::proofs::ExportDirectoryRoundTrip::export_directory_again))]
+    fn put(self, bytes: &mut [u8], endian: Endian) {
         let fields = [
             Field::U32(self.export_flags),
             Field::U32(self.time_date_stamp),
@@ -116,56 +101,22 @@ impl ExportDirectoryTable {
             Field::U32(self.name_pointer_rva),
             Field::U32(self.ordinal_table_rva),
         ];
-        record_bytes(&fields, endian)
-    }
-
-    /// Writes the record to the front of `bytes`, and answers its size. A record that was read is
-    /// written as it stood, and any record is read again from what was written, by the same order of
-    /// bytes.
-    ///
-    /// # Errors
-    /// [`Error::Read`] where there is no room for 40 bytes; `bytes` are then as they were.
-    #[tactic(auto, using(crate::proofs::ExportDirectoryRoundTrip::export_directory_back))]
-    pub fn try_into_ctx(self, bytes: &mut [u8], endian: Endian) -> Result<usize>
-        ensures size { IfOk result (λ n. n ≡ 40) }
-        ensures written { Writes result (overwritten bytes.old 0 (encoding endian (export_directory_fields self))) bytes.old bytes.new (IsSliceFault bytes.old 0 40) }
-        ensures back { WritesBack 40 export_directory_record export_directory_fields }
-        ensures again { ReadsBack 40 export_directory_record export_directory_fields self }
-    {
-        let record = self.to_bytes(endian);
-        pwrite_slice(bytes, 0, &record)?;
-        Ok(SIZEOF_EXPORT_DIRECTORY_TABLE)
-    }
-
-    /// The size of the record, in bytes, in either order.
-    pub fn size_with(_endian: &Endian) -> usize
-        ensures { result ≡ 40 }
-    {
-        SIZEOF_EXPORT_DIRECTORY_TABLE
+        put_fields(bytes, SIZEOF_EXPORT_DIRECTORY_TABLE, &fields, endian);
     }
 }
 
-impl TryFromCtx<'_> for ExportDirectoryTable {
-    ghost Plain = { ExportDirectoryTable };
-
-    ghost plain = { λ t. t };
-
-    ghost value_of = { record_in 40 export_directory_record };
-
-    ghost refusal = { λ _ bytes e. IsSliceFault bytes 0 40 e };
-
-    ghost within = { record_in-within 40 export_directory_record };
-
-    ghost no_memory = { λ _ bytes e. slice_fault-no_memory bytes 0 40 e };
-
-    /// Reads the record at the front of `bytes`, which takes 40 bytes.
+impl ExportDirectoryTable {
+    /// Reads the record at `offset`.
     ///
     /// # Errors
-    /// [`Error::Read`] where there are no 40 bytes.
-    fn try_from_ctx(bytes: &[u8], endian: Endian) -> Result<(ExportDirectoryTable, usize)> {
-        let record = pread_slice(bytes, 0, SIZEOF_EXPORT_DIRECTORY_TABLE)?;
-        let table = ExportDirectoryTable::in_record(record, endian);
-        Ok((table, SIZEOF_EXPORT_DIRECTORY_TABLE))
+    /// [`Error::Malformed`] with [`Cause::ExportTable`] where the file has no 40 bytes there.
+    pub fn parse(bytes: &[u8], offset: usize) -> Result<ExportDirectoryTable>
+        ensures { Answers (λ t. t) result (export_directory_at bytes.now offset) (IsNoExportTable offset) }
+    {
+        match ExportDirectoryTable::read_at(bytes, offset, Endian::Little) {
+            Ok(table) => Ok(table),
+            Err(_) => Err(Error::Malformed(Cause::ExportTable(offset))),
+        }
     }
 }
 
@@ -222,7 +173,8 @@ fn counted_table<V: Drop, F: Fn(&[u8]) -> V>(
     value_of: F,
 ) -> Result<Table<V>>
     requires { (entry : _) → length entry.now ≡ width → F.pre value_of entry }
-    ensures { (value : List ℕ → V) → ((entry : _) (v : V) → length entry.now ≡ width → F.post value_of entry v → v ≡ value entry.now) → GivesOrMemory (λ t. t) result (counted_table_if (record { width = width; value_of = value }) count bytes.now offset) }
+    ensures { (value : List ℕ → V) → ((entry : _) (v : V) → length entry.now ≡ width → F.post value_of entry v → v ≡ value entry.now)
+        → GivesOrMemory (λ t. t) result (counted_table_if (record { width = width; value_of = value }) count bytes.now offset) }
 {
     let mut entries = Vec::new(alloc);
     let Some(begin) = offset else {

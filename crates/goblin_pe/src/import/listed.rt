@@ -155,7 +155,8 @@ fn push_entries<'a>(
     rva: u32,
     size: usize,
 ) -> Result<()>
-    ensures { AnswersOrMemory (λ _. imports.new.items) result (option_map (λ made. imports.old.items ++ made) (imports_by size dll.now rva (map entry_view entries.now))) IsOverflow }
+    ensures { let made = imports_by size dll.now rva (map entry_view entries.now) in
+        AnswersOrMemory (λ _. imports.new.items) result (option_map (λ more. imports.old.items ++ more) made) IsOverflow }
 {
     'entries: for (position, entry) in entries.iter().enumerate() {
         let Some(offset) = import_offset(rva, size, position) else {

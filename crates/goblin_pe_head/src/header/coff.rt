@@ -1,19 +1,17 @@
 //! The COFF header, and the tables that it leads to: the section table, the symbol table and the
 //! string table.
 
-ghost use Rattle.std.specs.Prelude.{◌≡◌, ◌+◌, ◌*◌, ◌/◌, ◌<◌, length, option_map, true, IfErr, IfOk, OnOk, OnErr, IsErrAnd};
-ghost use Rattle.goblin_base.specs.Answers.{Answers, AnswersOrMemory, IsMemory, Writes, IsSliceFault};
-ghost use Rattle.goblin_base.specs.Bytes.{overwritten};
-ghost use Rattle.goblin_base.specs.Record.{ReadsBack, WritesBack, encoding, record_at, record_in};
-ghost use Rattle.goblin_base.proofs.RecordLaws.{record_in-within, slice_fault-no_memory};
+ghost use Rattle.std.specs.Prelude.{◌≡◌, ◌+◌, ◌*◌, ◌/◌, ◌<◌, length, option_map, true, IfErr, OnOk, OnErr, IsErrAnd};
+ghost use Rattle.goblin_base.specs.Answers.{Answers, AnswersOrMemory, IsMemory, IsSliceFault};
+ghost use Rattle.goblin_base.specs.Record.{record_at};
 ghost use Rattle.goblin_pe_sect.specs.Options.{is_strict};
 ghost use Rattle.goblin_pe_sect.specs.Symbols.{table_bytes};
 ghost use Rattle.goblin_pe_head.specs.declared.header.coff.CoffHeader.{CoffHeader};
 ghost use Rattle.goblin_pe_head.specs.CoffHeader.{IsNoStrings, IsNoSymbols, strings_of, symbols_of, coff_fields, coff_header, string_table_offset, sections_at, IsSectionsFault, IsTooManySections};
 
 use goblin_base::{
-    Cause, Endian, Error, Field, Result, Strtab, TryFromCtx, field_u16, field_u32, gread_slice,
-    pread_slice, pread_u32, pwrite_slice, record_bytes,
+    Cause, Endian, Error, Field, Record, Result, Strtab, field_u16, field_u32, gread_slice,
+    pread_u32, put_fields,
 };
 use goblin_pe_sect::options::ParseOptions;
 use goblin_pe_sect::section_table::{SIZEOF_SECTION_TABLE, SectionTable};
@@ -50,13 +48,19 @@ pub struct CoffHeader {
     pub characteristics: u16,
 }
 
-impl CoffHeader {
-    // The COFF header in a record's bytes.
+impl Record for CoffHeader {
+    ghost width = { 20 };
+
+    ghost value = { coff_header };
+
+    ghost fields = { coff_fields };
+
+    fn size() -> usize {
+        SIZEOF_COFF_HEADER
+    }
+
     #[tactic(auto, unfolding(crate::specs::CoffHeader::coff_header))]
-    fn in_record(bytes: &[u8], endian: Endian) -> CoffHeader
-        requires { length bytes.now ≡ 20 }
-        ensures { result ≡ coff_header endian bytes.now }
-    {
+    fn in_record(bytes: &[u8], endian: Endian) -> CoffHeader {
         CoffHeader {
             machine: field_u16(bytes, 0, endian),
             number_of_sections: field_u16(bytes, 2, endian),
@@ -68,12 +72,8 @@ impl CoffHeader {
         }
     }
 
-    // The record's bytes.
-    #[tactic(auto, unfolding(crate::specs::CoffHeader::coff_fields), using(crate::proofs::CoffHeaderRoundTrip::coff_again))]
-    pub(crate) fn to_bytes(&self, endian: Endian) -> [u8; SIZEOF_COFF_HEADER]
-        ensures made { result ≡ encoding endian (coff_fields self.now) }
-        ensures again { ReadsBack 20 coff_header coff_fields self.now }
-    {
+    #[tactic(auto, unfolding(crate::specs::CoffHeader::coff_fields), using(crate::proofs::CoffHeaderRoundTrip::coff_back, crate::proofs::CoffHeaderRoundTrip::coff_again))]
+    fn put(self, bytes: &mut [u8], endian: Endian) {
         let fields = [
             Field::U16(self.machine),
             Field::U16(self.number_of_sections),
@@ -83,33 +83,11 @@ impl CoffHeader {
             Field::U16(self.size_of_optional_header),
             Field::U16(self.characteristics),
         ];
-        record_bytes(&fields, endian)
+        put_fields(bytes, SIZEOF_COFF_HEADER, &fields, endian);
     }
+}
 
-    /// Writes the record at the front of `bytes` and answers its size, 20. A header that was read is
-    /// written as it stood, and any header is read again from what was written, by the same order of
-    /// bytes.
-    ///
-    /// # Errors
-    /// [`Error::Read`] where there is no room for 20 bytes; `bytes` are then as they were.
-    #[tactic(auto, using(crate::proofs::CoffHeaderRoundTrip::coff_back))]
-    pub fn try_into_ctx(self, bytes: &mut [u8], endian: Endian) -> Result<usize>
-        ensures size { IfOk result (λ n. n ≡ 20) }
-        ensures written { Writes result (overwritten bytes.old 0 (encoding endian (coff_fields self))) bytes.old bytes.new (IsSliceFault bytes.old 0 20) }
-        ensures back { WritesBack 20 coff_header coff_fields }
-        ensures again { ReadsBack 20 coff_header coff_fields self }
-    {
-        pwrite_slice(bytes, 0, &self.to_bytes(endian))?;
-        Ok(SIZEOF_COFF_HEADER)
-    }
-
-    /// The size of the record in bytes, the same in either order: 20.
-    pub fn size_with(_endian: &Endian) -> usize
-        ensures { result ≡ 20 }
-    {
-        SIZEOF_COFF_HEADER
-    }
-
+impl CoffHeader {
     /// Reads the record at `offset` and moves `offset` past it.
     ///
     /// # Errors
@@ -133,7 +111,9 @@ impl CoffHeader {
         bytes: &[u8],
         offset: &mut usize,
     ) -> Result<Vec<SectionTable>>
-        ensures value { AnswersOrMemory (λ v. v.items) result (sections_at true (string_table_offset self.now) self.now.number_of_sections bytes.now offset.old) (IsSectionsFault true (string_table_offset self.now) self.now.number_of_sections bytes.now offset.old) }
+        ensures value { let table = string_table_offset self.now in
+            let count = self.now.number_of_sections in
+            AnswersOrMemory (λ v. v.items) result (sections_at true table count bytes.now offset.old) (IsSectionsFault true table count bytes.now offset.old) }
         ensures first { length bytes.now / 40 < self.now.number_of_sections → IsErrAnd result (IsTooManySections self.now.number_of_sections bytes.now) }
         ensures grown { IfErr result (λ e. IsMemory e → 0 < self.now.number_of_sections) }
         ensures ok { OnOk result (offset.new ≡ offset.old + 40 * self.now.number_of_sections) }
@@ -157,7 +137,10 @@ impl CoffHeader {
         offset: &mut usize,
         opts: &ParseOptions,
     ) -> Result<Vec<SectionTable>>
-        ensures value { AnswersOrMemory (λ v. v.items) result (sections_at (is_strict opts.now.parse_mode) (string_table_offset self.now) self.now.number_of_sections bytes.now offset.old) (IsSectionsFault (is_strict opts.now.parse_mode) (string_table_offset self.now) self.now.number_of_sections bytes.now offset.old) }
+        ensures value { let strict = is_strict opts.now.parse_mode in
+            let table = string_table_offset self.now in
+            let count = self.now.number_of_sections in
+            AnswersOrMemory (λ v. v.items) result (sections_at strict table count bytes.now offset.old) (IsSectionsFault strict table count bytes.now offset.old) }
         ensures first { length bytes.now / 40 < self.now.number_of_sections → IsErrAnd result (IsTooManySections self.now.number_of_sections bytes.now) }
         ensures grown { IfErr result (λ e. IsMemory e → 0 < self.now.number_of_sections) }
         ensures ok { OnOk result (offset.new ≡ offset.old + 40 * self.now.number_of_sections) }
@@ -223,28 +206,5 @@ impl CoffHeader {
     {
         let symbols = self.number_of_symbol_table as usize;
         self.pointer_to_symbol_table as usize + COFF_SYMBOL_SIZE * symbols
-    }
-}
-
-impl TryFromCtx<'_> for CoffHeader {
-    ghost Plain = { CoffHeader };
-
-    ghost plain = { λ header. header };
-
-    ghost value_of = { record_in 20 coff_header };
-
-    ghost refusal = { λ _ bytes e. IsSliceFault bytes 0 20 e };
-
-    ghost within = { record_in-within 20 coff_header };
-
-    ghost no_memory = { λ _ bytes e. slice_fault-no_memory bytes 0 20 e };
-
-    /// Reads the record at the front of `bytes`, which takes 20 bytes.
-    ///
-    /// # Errors
-    /// [`Error::Read`] where there are no 20 bytes.
-    fn try_from_ctx(bytes: &[u8], endian: Endian) -> Result<(CoffHeader, usize)> {
-        let record = pread_slice(bytes, 0, SIZEOF_COFF_HEADER)?;
-        Ok((CoffHeader::in_record(record, endian), SIZEOF_COFF_HEADER))
     }
 }

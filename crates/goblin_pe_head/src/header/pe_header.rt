@@ -17,8 +17,8 @@ use crate::header::{
 };
 use crate::optional_header::{OptionalHeader, WrittenHeader};
 use goblin_base::{
-    Cause, Endian, Error, Field, Permissive, Result, TryFromCtx, pread_slice, pread_u32, put_bytes,
-    record_bytes,
+    Cause, Endian, Error, Field, Permissive, Result, TryFromCtx, encode, pread_slice, pread_u32,
+    put_bytes, record_bytes,
 };
 use goblin_pe_sect::ParseOptions;
 
@@ -137,7 +137,9 @@ impl<'a> Header<'a> {
         dos_stub: DosStub<'a>,
         rich_header: Option<RichHeader<'a>>,
     ) -> Result<Self>
-        ensures value { Answers header_value result (header_at dos_header (stub_bytes dos_stub.entry) (option_map rich_value rich_header.entry) bytes.now offset) (IsHeaderAtFault bytes.now offset) }
+        ensures value { let stub = stub_bytes dos_stub.entry in
+            let rich = option_map rich_value rich_header.entry in
+            Answers header_value result (header_at dos_header stub rich bytes.now offset) (IsHeaderAtFault bytes.now offset) }
         ensures rich { IfOk result (λ header. header.rich_header ≡ rich_header.entry) }
     {
         let Ok(signature) = pread_u32(bytes, offset, Endian::Little) else {
@@ -171,7 +173,9 @@ impl<'a> Header<'a> {
     #[tactic(auto, unfolding(crate::specs::PeHeader::header_bytes), using(crate::proofs::PeHeaderRoundTrip::header_back, crate::proofs::PeHeaderRoundTrip::header_again))]
     pub fn try_into_ctx(self, bytes: &mut [u8], endian: Endian) -> Result<usize>
         ensures size { IfOk result (λ n. IsSomeAnd (header_bytes endian (header_value self.entry)) (λ written. n ≡ length written)) }
-        ensures written { Writes result (option_and_then (overwritten bytes.old 0) (header_bytes endian (header_value self.entry))) bytes.old bytes.new (FirstFault (header_bytes endian (header_value self.entry)) (IsUnwrittenPart self.entry.optional_header) (λ written. IsSliceFault bytes.old 0 (length written))) }
+        ensures written { let made = header_bytes endian (header_value self.entry) in
+            let IsFault = FirstFault made (IsUnwrittenPart self.entry.optional_header) (λ written. IsSliceFault bytes.old 0 (length written)) in
+            Writes result (option_and_then (overwritten bytes.old 0) made) bytes.old bytes.new IsFault }
         ensures back { HeaderWritesBack }
         ensures again { HeaderReadsBack }
     {
@@ -205,11 +209,12 @@ impl<'a> Header<'a> {
             &[Field::U32(self.signature)],
             Endian::Little,
         );
+        let coff: [u8; SIZEOF_COFF_HEADER] = encode(self.coff_header, endian);
         let pe_header = SIZEOF_DOS_HEADER + stub.len();
         put_bytes(bytes, 0, &self.dos_header.to_bytes(endian));
         put_bytes(bytes, SIZEOF_DOS_HEADER, stub);
         put_bytes(bytes, pe_header, &signature);
-        put_bytes(bytes, pe_header + 4, &self.coff_header.to_bytes(endian));
+        put_bytes(bytes, pe_header + 4, &coff);
         put_bytes(bytes, pe_header + 24, optional);
     }
 }

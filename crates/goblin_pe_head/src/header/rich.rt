@@ -3,18 +3,15 @@
 ghost use Rattle.std.specs.Prelude.{◌≡◌, ◌≤◌, ◌<◌, ◌+◌, ◌*◌, ◌^◌, List, ℕ, Some, length, drop, option_map, IfOk, IfSome};
 ghost use Rattle.std.specs.Iterator.{UpTo, YieldsFirst, at_most, item_count};
 ghost use Rattle.std.specs.Iterator.SizeHint.{IsWithinCount};
-ghost use Rattle.goblin_base.specs.Answers.{Answers, Writes, IsSliceFault};
-ghost use Rattle.goblin_base.specs.Bytes.{IsBytes, overwritten};
-ghost use Rattle.goblin_base.specs.Record.{ReadsBack, WritesBack, encoding, record_in};
-ghost use Rattle.goblin_base.proofs.RecordLaws.{record_in-within, slice_fault-no_memory};
+ghost use Rattle.goblin_base.specs.Answers.{Answers};
+ghost use Rattle.goblin_base.specs.Bytes.{IsBytes};
 ghost use Rattle.goblin_pe_head.specs.declared.header.rich.RichMetadata.{RichMetadata};
 ghost use Rattle.goblin_pe_head.specs.RichHeader.{PaddingFits, RichIsMarked, RichIsUnmarked, marker_place, dans_place, other_place, leading_words, rich_in, rich_at, rich_header, IsRichAtFault, rich_value, IsStretchFault, IsRichFault};
 ghost use Rattle.goblin_pe_head.specs.RichMetadata.{AreEntriesOf, metadata_at, metadata_fields, metadata_items, metadata_left, metadata_record};
 
 use crate::header::{DOS_STUB_OFFSET, DosHeader};
 use goblin_base::{
-    Cause, Endian, Error, Field, ReadFault, Result, TryFromCtx, field_u16, field_u32, pread_slice,
-    pwrite_slice, record_bytes,
+    Cause, Endian, Error, Field, ReadFault, Record, Result, field_u16, field_u32, put_fields,
 };
 use goblin_pe_sect::options::ParseOptions;
 use std::iter::FusedIterator;
@@ -120,7 +117,8 @@ impl<'a> RichHeader<'a> {
         ensures entries { metadata_left result ≡ metadata_items self.now.key (drop self.now.padding_size self.now.bytes.now) }
 
         // The entries of a Rich header that was read are its data.
-        ensures law { (bytes : List ℕ) → IsBytes bytes → rich_header bytes ≡ Some (Some (rich_value self.now)) → AreEntriesOf self.now.key (drop self.now.padding_size self.now.bytes.now) (metadata_left result) }
+        ensures law { (bytes : List ℕ) → IsBytes bytes → rich_header bytes ≡ Some (Some (rich_value self.now))
+            → AreEntriesOf self.now.key (drop self.now.padding_size self.now.bytes.now) (metadata_left result) }
     {
         RichMetadataIterator {
             key: self.key,
@@ -143,13 +141,19 @@ pub struct RichMetadata {
     pub use_count: u32,
 }
 
-impl RichMetadata {
-    // The entry in a record's bytes.
+impl Record for RichMetadata {
+    ghost width = { 8 };
+
+    ghost value = { metadata_record };
+
+    ghost fields = { metadata_fields };
+
+    fn size() -> usize {
+        RICH_METADATA_SIZE
+    }
+
     #[tactic(auto, unfolding(crate::specs::RichMetadata::metadata_record))]
-    fn in_record(bytes: &[u8], endian: Endian) -> RichMetadata
-        requires { length bytes.now ≡ 8 }
-        ensures { result ≡ metadata_record endian bytes.now }
-    {
+    fn in_record(bytes: &[u8], endian: Endian) -> RichMetadata {
         RichMetadata {
             build: field_u16(bytes, 0, endian),
             product: field_u16(bytes, 2, endian),
@@ -157,9 +161,21 @@ impl RichMetadata {
         }
     }
 
-    // The entry at the front of bytes that are stored under a key.
+    #[tactic(auto, unfolding(crate::specs::RichMetadata::metadata_fields), using(crate::proofs::RichMetadataRoundTrip::metadata_back, crate::proofs::RichMetadataRoundTrip::metadata_again))]
+    fn put(self, bytes: &mut [u8], endian: Endian) {
+        let fields = [
+            Field::U16(self.build),
+            Field::U16(self.product),
+            Field::U32(self.use_count),
+        ];
+        put_fields(bytes, RICH_METADATA_SIZE, &fields, endian);
+    }
+}
+
+impl RichMetadata {
+    // The entry that these bytes are, which are stored under a key.
     fn under_key(bytes: &[u8], key: u32) -> RichMetadata
-        requires { 8 ≤ length bytes.now }
+        requires { length bytes.now ≡ 8 }
         ensures { result ≡ metadata_at key bytes.now 0 }
     {
         let tool = field_u32(bytes, 0, Endian::Little) ^ key;
@@ -169,69 +185,6 @@ impl RichMetadata {
             product: (tool >> 16) as u16,
             use_count,
         }
-    }
-
-    // The record's bytes.
-    #[tactic(auto, unfolding(crate::specs::RichMetadata::metadata_fields), using(crate::proofs::RichMetadataRoundTrip::metadata_again))]
-    fn to_bytes(self, endian: Endian) -> [u8; RICH_METADATA_SIZE]
-        ensures made { result ≡ encoding endian (metadata_fields self) }
-        ensures again { ReadsBack 8 metadata_record metadata_fields self }
-    {
-        let fields = [
-            Field::U16(self.build),
-            Field::U16(self.product),
-            Field::U32(self.use_count),
-        ];
-        record_bytes(&fields, endian)
-    }
-
-    /// Writes the record to the front of `bytes`, and answers its size. An entry that was read by
-    /// [`TryFromCtx`] is written as it stood, and any entry is read again by it from what was
-    /// written, by the same order of bytes.
-    ///
-    /// # Errors
-    /// [`Error::Read`] where there is no room for 8 bytes; `bytes` are then as they were.
-    #[tactic(auto, using(crate::proofs::RichMetadataRoundTrip::metadata_back))]
-    pub fn try_into_ctx(self, bytes: &mut [u8], endian: Endian) -> Result<usize>
-        ensures size { IfOk result (λ n. n ≡ 8) }
-        ensures written { Writes result (overwritten bytes.old 0 (encoding endian (metadata_fields self))) bytes.old bytes.new (IsSliceFault bytes.old 0 8) }
-        ensures back { WritesBack 8 metadata_record metadata_fields }
-        ensures again { ReadsBack 8 metadata_record metadata_fields self }
-    {
-        let record = self.to_bytes(endian);
-        pwrite_slice(bytes, 0, &record)?;
-        Ok(RICH_METADATA_SIZE)
-    }
-
-    /// The size of the record, in bytes, in either order.
-    pub fn size_with(_endian: &Endian) -> usize
-        ensures { result ≡ 8 }
-    {
-        RICH_METADATA_SIZE
-    }
-}
-
-impl TryFromCtx<'_> for RichMetadata {
-    ghost Plain = { RichMetadata };
-
-    ghost plain = { λ m. m };
-
-    ghost value_of = { record_in 8 metadata_record };
-
-    ghost refusal = { λ _ bytes e. IsSliceFault bytes 0 8 e };
-
-    ghost within = { record_in-within 8 metadata_record };
-
-    ghost no_memory = { λ _ bytes e. slice_fault-no_memory bytes 0 8 e };
-
-    /// Reads the record at the front of `bytes`, which takes 8 bytes and is under no key.
-    ///
-    /// # Errors
-    /// [`Error::Read`] where there are no 8 bytes.
-    fn try_from_ctx(bytes: &[u8], endian: Endian) -> Result<(RichMetadata, usize)> {
-        let record = pread_slice(bytes, 0, RICH_METADATA_SIZE)?;
-        let metadata = RichMetadata::in_record(record, endian);
-        Ok((metadata, RICH_METADATA_SIZE))
     }
 }
 
@@ -259,9 +212,9 @@ impl Iterator for RichMetadataIterator<'_> {
             self.bytes = &[];
             return Some(Err(Error::Read(ReadFault::TooBig)));
         }
-        let entry = RichMetadata::under_key(self.bytes, self.key);
-        self.bytes = &self.bytes[RICH_METADATA_SIZE..];
-        Some(Ok(entry))
+        let (entry, rest) = self.bytes.split_at(RICH_METADATA_SIZE);
+        self.bytes = rest;
+        Some(Ok(RichMetadata::under_key(entry, self.key)))
     }
 
     #[tactic(auto, using(crate::proofs::RichEntries::length_items))]

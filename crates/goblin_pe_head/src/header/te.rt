@@ -1,18 +1,15 @@
 //! The header of a Terse Executable, an image of firmware whose PE headers are stripped, and its
 //! sections.
 
-ghost use Rattle.std.specs.Prelude.{◌≡◌, ◌+◌, ◌*◌, ◌/◌, ◌<◌, ◌≤◌, length, IfErr, IfOk, IsErrAnd, OnOk, OnErr};
-ghost use Rattle.goblin_base.specs.Answers.{Answers, AnswersOrMemory, IsMemory, Writes, IsSliceFault};
-ghost use Rattle.goblin_base.specs.Bytes.{overwritten};
-ghost use Rattle.goblin_base.specs.Record.{ReadsBack, WritesBack, encoding, record_in};
-ghost use Rattle.goblin_base.proofs.RecordLaws.{record_in-within, slice_fault-no_memory};
+ghost use Rattle.std.specs.Prelude.{◌≡◌, ◌+◌, ◌*◌, ◌/◌, ◌<◌, ◌≤◌, length, IfErr, IsErrAnd, OnOk, OnErr};
+ghost use Rattle.goblin_base.specs.Answers.{Answers, AnswersOrMemory, IsMemory};
 ghost use Rattle.goblin_pe_head.specs.declared.header.te.TeHeader.{TeHeader};
 ghost use Rattle.goblin_pe_head.specs.CoffHeader.{IsTooManySections};
 ghost use Rattle.goblin_pe_head.specs.TeHeader.{displacement, lessened, pointer_lessened, section_adjusted, te_adjusted, te_fields, te_header, te_record, te_sections_at, IsStrippedFault, IsTeFault, IsTeSectionsFault};
 
 use goblin_base::{
-    Cause, Endian, Error, Field, Result, TryFromCtx, field_u8, field_u16, field_u32, field_u64,
-    gread_slice, pread_slice, pwrite_slice, record_bytes,
+    Cause, Endian, Error, Field, Record, Result, field_u8, field_u16, field_u32, field_u64,
+    gread_slice, put_fields,
 };
 use goblin_pe_sect::data_directories::DataDirectory;
 use goblin_pe_sect::section_table::{SIZEOF_SECTION_TABLE, SectionTable};
@@ -55,13 +52,19 @@ pub struct TeHeader {
     pub debug_dir: DataDirectory,
 }
 
-impl TeHeader {
-    // The header in a record's bytes.
+impl Record for TeHeader {
+    ghost width = { 40 };
+
+    ghost value = { te_record };
+
+    ghost fields = { te_fields };
+
+    fn size() -> usize {
+        SIZEOF_TE_HEADER
+    }
+
     #[tactic(auto, unfolding(crate::specs::TeHeader::te_record))]
-    fn in_record(bytes: &[u8], endian: Endian) -> TeHeader
-        requires { length bytes.now ≡ 40 }
-        ensures { result ≡ te_record endian bytes.now }
-    {
+    fn in_record(bytes: &[u8], endian: Endian) -> TeHeader {
         TeHeader {
             signature: field_u16(bytes, 0, endian),
             machine: field_u16(bytes, 2, endian),
@@ -82,12 +85,8 @@ impl TeHeader {
         }
     }
 
-    // The record's bytes.
-    #[tactic(auto, unfolding(crate::specs::TeHeader::te_fields), using(crate::proofs::TeHeaderRoundTrip::te_again))]
-    fn to_bytes(self, endian: Endian) -> [u8; SIZEOF_TE_HEADER]
-        ensures made { result ≡ encoding endian (te_fields self) }
-        ensures again { ReadsBack 40 te_record te_fields self }
-    {
+    #[tactic(auto, unfolding(crate::specs::TeHeader::te_fields), using(crate::proofs::TeHeaderRoundTrip::te_back, crate::proofs::TeHeaderRoundTrip::te_again))]
+    fn put(self, bytes: &mut [u8], endian: Endian) {
         let fields = [
             Field::U16(self.signature),
             Field::U16(self.machine),
@@ -102,33 +101,11 @@ impl TeHeader {
             Field::U32(self.debug_dir.virtual_address),
             Field::U32(self.debug_dir.size),
         ];
-        record_bytes(&fields, endian)
+        put_fields(bytes, SIZEOF_TE_HEADER, &fields, endian);
     }
+}
 
-    /// Writes the record at the front of `bytes` and answers its size, 40. What the plain reader read
-    /// is written as it stood, and any header is read again by it from what was written, by the same
-    /// order of bytes; what [`TeHeader::parse`] adjusted is written adjusted.
-    ///
-    /// # Errors
-    /// [`Error::Read`] where there is no room for 40 bytes; `bytes` are then as they were.
-    #[tactic(auto, using(crate::proofs::TeHeaderRoundTrip::te_back))]
-    pub fn try_into_ctx(self, bytes: &mut [u8], endian: Endian) -> Result<usize>
-        ensures size { IfOk result (λ n. n ≡ 40) }
-        ensures written { Writes result (overwritten bytes.old 0 (encoding endian (te_fields self))) bytes.old bytes.new (IsSliceFault bytes.old 0 40) }
-        ensures back { WritesBack 40 te_record te_fields }
-        ensures again { ReadsBack 40 te_record te_fields self }
-    {
-        pwrite_slice(bytes, 0, &self.to_bytes(endian))?;
-        Ok(SIZEOF_TE_HEADER)
-    }
-
-    /// The size of the record in bytes, the same in either order: 40.
-    pub fn size_with(_endian: &Endian) -> usize
-        ensures { result ≡ 40 }
-    {
-        SIZEOF_TE_HEADER
-    }
-
+impl TeHeader {
     // By how much everything moved to the front when the headers were stripped.
     fn displacement(&self) -> Result<u32>
         ensures { Answers (λ d. d) result (displacement self.now) (IsStrippedFault self.now) }
@@ -203,29 +180,6 @@ impl TeHeader {
         }
         *offset = end;
         Ok(sections)
-    }
-}
-
-impl TryFromCtx<'_> for TeHeader {
-    ghost Plain = { TeHeader };
-
-    ghost plain = { λ header. header };
-
-    ghost value_of = { record_in 40 te_record };
-
-    ghost refusal = { λ _ bytes e. IsSliceFault bytes 0 40 e };
-
-    ghost within = { record_in-within 40 te_record };
-
-    ghost no_memory = { λ _ bytes e. slice_fault-no_memory bytes 0 40 e };
-
-    /// Reads the record at the front of `bytes` as it is stored, which takes 40 bytes.
-    ///
-    /// # Errors
-    /// [`Error::Read`] where there are no 40 bytes.
-    fn try_from_ctx(bytes: &[u8], endian: Endian) -> Result<(TeHeader, usize)> {
-        let record = pread_slice(bytes, 0, SIZEOF_TE_HEADER)?;
-        Ok((TeHeader::in_record(record, endian), SIZEOF_TE_HEADER))
     }
 }
 

@@ -1,18 +1,11 @@
 //! The standard fields of an optional header, for either width.
 
-ghost use Rattle.std.specs.Prelude.{◌%◌, ◌^◌, ◌≡◌, length, IfOk};
-ghost use Rattle.goblin_base.specs.Answers.{Writes, IsSliceFault};
-ghost use Rattle.goblin_base.specs.Bytes.{overwritten};
-ghost use Rattle.goblin_base.specs.Record.{ReadsBack, WritesBack, encoding, record_in};
-ghost use Rattle.goblin_base.proofs.RecordLaws.{record_in-within, slice_fault-no_memory};
+ghost use Rattle.std.specs.Prelude.{◌%◌, ◌^◌, ◌≡◌};
 ghost use Rattle.goblin_pe_head.specs.declared.optional_header.standard_fields.StandardFields32.{StandardFields32};
 ghost use Rattle.goblin_pe_head.specs.declared.optional_header.standard_fields.StandardFields64.{StandardFields64};
 ghost use Rattle.goblin_pe_head.specs.OptionalHeader.{standard_32_record, standard_32_fields, standard_64_record, standard_64_fields, standard_from_32, standard_from_64, standard_to_32, standard_to_64};
 
-use goblin_base::{
-    Endian, Field, Result, TryFromCtx, field_u8, field_u16, field_u32, pread_slice, pwrite_slice,
-    record_bytes,
-};
+use goblin_base::{Endian, Field, Record, field_u8, field_u16, field_u32, put_fields};
 
 /// The size of the standard fields for 32 bits, in bytes.
 pub const SIZEOF_STANDARD_FIELDS_32: usize = 28;
@@ -48,13 +41,19 @@ pub struct StandardFields32 {
     pub base_of_data: u32,
 }
 
-impl StandardFields32 {
-    // The fields in a record's bytes.
+impl Record for StandardFields32 {
+    ghost width = { 28 };
+
+    ghost value = { standard_32_record };
+
+    ghost fields = { standard_32_fields };
+
+    fn size() -> usize {
+        SIZEOF_STANDARD_FIELDS_32
+    }
+
     #[tactic(auto, unfolding(crate::specs::OptionalHeader::standard_32_record))]
-    pub(super) fn in_record(bytes: &[u8], endian: Endian) -> StandardFields32
-        requires { length bytes.now ≡ 28 }
-        ensures { result ≡ standard_32_record endian bytes.now }
-    {
+    fn in_record(bytes: &[u8], endian: Endian) -> StandardFields32 {
         StandardFields32 {
             magic: field_u16(bytes, 0, endian),
             major_linker_version: field_u8(bytes, 2),
@@ -68,12 +67,8 @@ impl StandardFields32 {
         }
     }
 
-    // The record's bytes.
-    #[tactic(auto, unfolding(crate::specs::OptionalHeader::standard_32_fields), using(crate::proofs::OptionalFieldsRoundTrip::standard_32_again))]
-    pub(super) fn to_bytes(self, endian: Endian) -> [u8; SIZEOF_STANDARD_FIELDS_32]
-        ensures made { result ≡ encoding endian (standard_32_fields self) }
-        ensures again { ReadsBack 28 standard_32_record standard_32_fields self }
-    {
+    #[tactic(auto, unfolding(crate::specs::OptionalHeader::standard_32_fields), using(crate::proofs::OptionalFieldsRoundTrip::standard_32_back, crate::proofs::OptionalFieldsRoundTrip::standard_32_again))]
+    fn put(self, bytes: &mut [u8], endian: Endian) {
         let fields = [
             Field::U16(self.magic),
             Field::U8(self.major_linker_version),
@@ -85,57 +80,7 @@ impl StandardFields32 {
             Field::U32(self.base_of_code),
             Field::U32(self.base_of_data),
         ];
-        record_bytes(&fields, endian)
-    }
-
-    /// Writes the record at the front of `bytes` and answers its size, 28. Fields that were read are
-    /// written as they stood, and any fields are read again from what was written, by the same order
-    /// of bytes.
-    ///
-    /// # Errors
-    /// [`Error::Read`] where there is no room for 28 bytes; `bytes` are then as they were.
-    #[tactic(auto, using(crate::proofs::OptionalFieldsRoundTrip::standard_32_back))]
-    pub fn try_into_ctx(self, bytes: &mut [u8], endian: Endian) -> Result<usize>
-        ensures size { IfOk result (λ n. n ≡ 28) }
-        ensures written { Writes result (overwritten bytes.old 0 (encoding endian (standard_32_fields self))) bytes.old bytes.new (IsSliceFault bytes.old 0 28) }
-        ensures back { WritesBack 28 standard_32_record standard_32_fields }
-        ensures again { ReadsBack 28 standard_32_record standard_32_fields self }
-    {
-        pwrite_slice(bytes, 0, &self.to_bytes(endian))?;
-        Ok(SIZEOF_STANDARD_FIELDS_32)
-    }
-
-    /// The size of the record in bytes, the same in either order: 28.
-    pub fn size_with(_endian: &Endian) -> usize
-        ensures { result ≡ 28 }
-    {
-        SIZEOF_STANDARD_FIELDS_32
-    }
-}
-
-impl TryFromCtx<'_> for StandardFields32 {
-    ghost Plain = { StandardFields32 };
-
-    ghost plain = { λ fields. fields };
-
-    ghost value_of = { record_in 28 standard_32_record };
-
-    ghost refusal = { λ _ bytes e. IsSliceFault bytes 0 28 e };
-
-    ghost within = { record_in-within 28 standard_32_record };
-
-    ghost no_memory = { λ _ bytes e. slice_fault-no_memory bytes 0 28 e };
-
-    /// Reads the record at the front of `bytes`, which takes 28 bytes.
-    ///
-    /// # Errors
-    /// [`Error::Read`] where there are no 28 bytes.
-    fn try_from_ctx(bytes: &[u8], endian: Endian) -> Result<(StandardFields32, usize)> {
-        let record = pread_slice(bytes, 0, SIZEOF_STANDARD_FIELDS_32)?;
-        Ok((
-            StandardFields32::in_record(record, endian),
-            SIZEOF_STANDARD_FIELDS_32,
-        ))
+        put_fields(bytes, SIZEOF_STANDARD_FIELDS_32, &fields, endian);
     }
 }
 
@@ -163,13 +108,19 @@ pub struct StandardFields64 {
     pub base_of_code: u32,
 }
 
-impl StandardFields64 {
-    // The fields in a record's bytes.
+impl Record for StandardFields64 {
+    ghost width = { 24 };
+
+    ghost value = { standard_64_record };
+
+    ghost fields = { standard_64_fields };
+
+    fn size() -> usize {
+        SIZEOF_STANDARD_FIELDS_64
+    }
+
     #[tactic(auto, unfolding(crate::specs::OptionalHeader::standard_64_record))]
-    pub(super) fn in_record(bytes: &[u8], endian: Endian) -> StandardFields64
-        requires { length bytes.now ≡ 24 }
-        ensures { result ≡ standard_64_record endian bytes.now }
-    {
+    fn in_record(bytes: &[u8], endian: Endian) -> StandardFields64 {
         StandardFields64 {
             magic: field_u16(bytes, 0, endian),
             major_linker_version: field_u8(bytes, 2),
@@ -182,12 +133,8 @@ impl StandardFields64 {
         }
     }
 
-    // The record's bytes.
-    #[tactic(auto, unfolding(crate::specs::OptionalHeader::standard_64_fields), using(crate::proofs::OptionalFieldsRoundTrip::standard_64_again))]
-    pub(super) fn to_bytes(self, endian: Endian) -> [u8; SIZEOF_STANDARD_FIELDS_64]
-        ensures made { result ≡ encoding endian (standard_64_fields self) }
-        ensures again { ReadsBack 24 standard_64_record standard_64_fields self }
-    {
+    #[tactic(auto, unfolding(crate::specs::OptionalHeader::standard_64_fields), using(crate::proofs::OptionalFieldsRoundTrip::standard_64_back, crate::proofs::OptionalFieldsRoundTrip::standard_64_again))]
+    fn put(self, bytes: &mut [u8], endian: Endian) {
         let fields = [
             Field::U16(self.magic),
             Field::U8(self.major_linker_version),
@@ -198,57 +145,7 @@ impl StandardFields64 {
             Field::U32(self.address_of_entry_point),
             Field::U32(self.base_of_code),
         ];
-        record_bytes(&fields, endian)
-    }
-
-    /// Writes the record at the front of `bytes` and answers its size, 24. Fields that were read are
-    /// written as they stood, and any fields are read again from what was written, by the same order
-    /// of bytes.
-    ///
-    /// # Errors
-    /// [`Error::Read`] where there is no room for 24 bytes; `bytes` are then as they were.
-    #[tactic(auto, using(crate::proofs::OptionalFieldsRoundTrip::standard_64_back))]
-    pub fn try_into_ctx(self, bytes: &mut [u8], endian: Endian) -> Result<usize>
-        ensures size { IfOk result (λ n. n ≡ 24) }
-        ensures written { Writes result (overwritten bytes.old 0 (encoding endian (standard_64_fields self))) bytes.old bytes.new (IsSliceFault bytes.old 0 24) }
-        ensures back { WritesBack 24 standard_64_record standard_64_fields }
-        ensures again { ReadsBack 24 standard_64_record standard_64_fields self }
-    {
-        pwrite_slice(bytes, 0, &self.to_bytes(endian))?;
-        Ok(SIZEOF_STANDARD_FIELDS_64)
-    }
-
-    /// The size of the record in bytes, the same in either order: 24.
-    pub fn size_with(_endian: &Endian) -> usize
-        ensures { result ≡ 24 }
-    {
-        SIZEOF_STANDARD_FIELDS_64
-    }
-}
-
-impl TryFromCtx<'_> for StandardFields64 {
-    ghost Plain = { StandardFields64 };
-
-    ghost plain = { λ fields. fields };
-
-    ghost value_of = { record_in 24 standard_64_record };
-
-    ghost refusal = { λ _ bytes e. IsSliceFault bytes 0 24 e };
-
-    ghost within = { record_in-within 24 standard_64_record };
-
-    ghost no_memory = { λ _ bytes e. slice_fault-no_memory bytes 0 24 e };
-
-    /// Reads the record at the front of `bytes`, which takes 24 bytes.
-    ///
-    /// # Errors
-    /// [`Error::Read`] where there are no 24 bytes.
-    fn try_from_ctx(bytes: &[u8], endian: Endian) -> Result<(StandardFields64, usize)> {
-        let record = pread_slice(bytes, 0, SIZEOF_STANDARD_FIELDS_64)?;
-        Ok((
-            StandardFields64::in_record(record, endian),
-            SIZEOF_STANDARD_FIELDS_64,
-        ))
+        put_fields(bytes, SIZEOF_STANDARD_FIELDS_64, &fields, endian);
     }
 }
 

@@ -1,17 +1,13 @@
 //! The Windows fields of an optional header, for either width.
 
-ghost use Rattle.std.specs.Prelude.{◌≡◌, length, IfOk};
-ghost use Rattle.goblin_base.specs.Answers.{Answers, Writes, IsSliceFault};
-ghost use Rattle.goblin_base.specs.Bytes.{overwritten};
-ghost use Rattle.goblin_base.specs.Record.{ReadsBack, WritesBack, encoding, record_in};
-ghost use Rattle.goblin_base.proofs.RecordLaws.{record_in-within, slice_fault-no_memory};
+ghost use Rattle.std.specs.Prelude.{◌≡◌};
+ghost use Rattle.goblin_base.specs.Answers.{Answers};
 ghost use Rattle.goblin_pe_head.specs.declared.optional_header.windows_fields.WindowsFields32.{WindowsFields32};
 ghost use Rattle.goblin_pe_head.specs.declared.optional_header.windows_fields.WindowsFields64.{WindowsFields64};
 ghost use Rattle.goblin_pe_head.specs.OptionalHeader.{windows_32_record, windows_32_fields, windows_64_record, windows_64_fields, windows_from_32, narrowed, IsTooWide, NarrowsWindows};
 
 use goblin_base::{
-    Cause, Endian, Error, Field, Result, TryFromCtx, field_u16, field_u32, field_u64, pread_slice,
-    pwrite_slice, record_bytes,
+    Cause, Endian, Error, Field, Record, Result, field_u16, field_u32, field_u64, put_fields,
 };
 
 /// The size of the Windows fields for 32 bits, in bytes.
@@ -80,13 +76,19 @@ pub struct WindowsFields32 {
     pub number_of_rva_and_sizes: u32,
 }
 
-impl WindowsFields32 {
-    // The fields in a record's bytes.
+impl Record for WindowsFields32 {
+    ghost width = { 68 };
+
+    ghost value = { windows_32_record };
+
+    ghost fields = { windows_32_fields };
+
+    fn size() -> usize {
+        SIZEOF_WINDOWS_FIELDS_32
+    }
+
     #[tactic(auto, unfolding(crate::specs::OptionalHeader::windows_32_record))]
-    pub(super) fn in_record(bytes: &[u8], endian: Endian) -> WindowsFields32
-        requires { length bytes.now ≡ 68 }
-        ensures { result ≡ windows_32_record endian bytes.now }
-    {
+    fn in_record(bytes: &[u8], endian: Endian) -> WindowsFields32 {
         WindowsFields32 {
             image_base: field_u32(bytes, 0, endian),
             section_alignment: field_u32(bytes, 4, endian),
@@ -112,12 +114,8 @@ impl WindowsFields32 {
         }
     }
 
-    // The record's bytes.
-    #[tactic(auto, unfolding(crate::specs::OptionalHeader::windows_32_fields), using(crate::proofs::OptionalFieldsRoundTrip::windows_32_again))]
-    pub(super) fn to_bytes(self, endian: Endian) -> [u8; SIZEOF_WINDOWS_FIELDS_32]
-        ensures made { result ≡ encoding endian (windows_32_fields self) }
-        ensures again { ReadsBack 68 windows_32_record windows_32_fields self }
-    {
+    #[tactic(auto, unfolding(crate::specs::OptionalHeader::windows_32_fields), using(crate::proofs::OptionalFieldsRoundTrip::windows_32_back, crate::proofs::OptionalFieldsRoundTrip::windows_32_again))]
+    fn put(self, bytes: &mut [u8], endian: Endian) {
         let fields = [
             Field::U32(self.image_base),
             Field::U32(self.section_alignment),
@@ -141,57 +139,7 @@ impl WindowsFields32 {
             Field::U32(self.loader_flags),
             Field::U32(self.number_of_rva_and_sizes),
         ];
-        record_bytes(&fields, endian)
-    }
-
-    /// Writes the record at the front of `bytes` and answers its size, 68. Fields that were read are
-    /// written as they stood, and any fields are read again from what was written, by the same order
-    /// of bytes.
-    ///
-    /// # Errors
-    /// [`Error::Read`] where there is no room for 68 bytes; `bytes` are then as they were.
-    #[tactic(auto, using(crate::proofs::OptionalFieldsRoundTrip::windows_32_back))]
-    pub fn try_into_ctx(self, bytes: &mut [u8], endian: Endian) -> Result<usize>
-        ensures size { IfOk result (λ n. n ≡ 68) }
-        ensures written { Writes result (overwritten bytes.old 0 (encoding endian (windows_32_fields self))) bytes.old bytes.new (IsSliceFault bytes.old 0 68) }
-        ensures back { WritesBack 68 windows_32_record windows_32_fields }
-        ensures again { ReadsBack 68 windows_32_record windows_32_fields self }
-    {
-        pwrite_slice(bytes, 0, &self.to_bytes(endian))?;
-        Ok(SIZEOF_WINDOWS_FIELDS_32)
-    }
-
-    /// The size of the record in bytes, the same in either order: 68.
-    pub fn size_with(_endian: &Endian) -> usize
-        ensures { result ≡ 68 }
-    {
-        SIZEOF_WINDOWS_FIELDS_32
-    }
-}
-
-impl TryFromCtx<'_> for WindowsFields32 {
-    ghost Plain = { WindowsFields32 };
-
-    ghost plain = { λ fields. fields };
-
-    ghost value_of = { record_in 68 windows_32_record };
-
-    ghost refusal = { λ _ bytes e. IsSliceFault bytes 0 68 e };
-
-    ghost within = { record_in-within 68 windows_32_record };
-
-    ghost no_memory = { λ _ bytes e. slice_fault-no_memory bytes 0 68 e };
-
-    /// Reads the record at the front of `bytes`, which takes 68 bytes.
-    ///
-    /// # Errors
-    /// [`Error::Read`] where there are no 68 bytes.
-    fn try_from_ctx(bytes: &[u8], endian: Endian) -> Result<(WindowsFields32, usize)> {
-        let record = pread_slice(bytes, 0, SIZEOF_WINDOWS_FIELDS_32)?;
-        Ok((
-            WindowsFields32::in_record(record, endian),
-            SIZEOF_WINDOWS_FIELDS_32,
-        ))
+        put_fields(bytes, SIZEOF_WINDOWS_FIELDS_32, &fields, endian);
     }
 }
 
@@ -245,13 +193,19 @@ pub struct WindowsFields64 {
     pub number_of_rva_and_sizes: u32,
 }
 
-impl WindowsFields64 {
-    // The fields in a record's bytes.
+impl Record for WindowsFields64 {
+    ghost width = { 88 };
+
+    ghost value = { windows_64_record };
+
+    ghost fields = { windows_64_fields };
+
+    fn size() -> usize {
+        SIZEOF_WINDOWS_FIELDS_64
+    }
+
     #[tactic(auto, unfolding(crate::specs::OptionalHeader::windows_64_record))]
-    pub(super) fn in_record(bytes: &[u8], endian: Endian) -> WindowsFields64
-        requires { length bytes.now ≡ 88 }
-        ensures { result ≡ windows_64_record endian bytes.now }
-    {
+    fn in_record(bytes: &[u8], endian: Endian) -> WindowsFields64 {
         WindowsFields64 {
             image_base: field_u64(bytes, 0, endian),
             section_alignment: field_u32(bytes, 8, endian),
@@ -277,12 +231,8 @@ impl WindowsFields64 {
         }
     }
 
-    // The record's bytes.
-    #[tactic(auto, unfolding(crate::specs::OptionalHeader::windows_64_fields), using(crate::proofs::OptionalFieldsRoundTrip::windows_64_again))]
-    pub(super) fn to_bytes(self, endian: Endian) -> [u8; SIZEOF_WINDOWS_FIELDS_64]
-        ensures made { result ≡ encoding endian (windows_64_fields self) }
-        ensures again { ReadsBack 88 windows_64_record windows_64_fields self }
-    {
+    #[tactic(auto, unfolding(crate::specs::OptionalHeader::windows_64_fields), using(crate::proofs::OptionalFieldsRoundTrip::windows_64_back, crate::proofs::OptionalFieldsRoundTrip::windows_64_again))]
+    fn put(self, bytes: &mut [u8], endian: Endian) {
         let fields = [
             Field::U64(self.image_base),
             Field::U32(self.section_alignment),
@@ -306,57 +256,7 @@ impl WindowsFields64 {
             Field::U32(self.loader_flags),
             Field::U32(self.number_of_rva_and_sizes),
         ];
-        record_bytes(&fields, endian)
-    }
-
-    /// Writes the record at the front of `bytes` and answers its size, 88. Fields that were read are
-    /// written as they stood, and any fields are read again from what was written, by the same order
-    /// of bytes.
-    ///
-    /// # Errors
-    /// [`Error::Read`] where there is no room for 88 bytes; `bytes` are then as they were.
-    #[tactic(auto, using(crate::proofs::OptionalFieldsRoundTrip::windows_64_back))]
-    pub fn try_into_ctx(self, bytes: &mut [u8], endian: Endian) -> Result<usize>
-        ensures size { IfOk result (λ n. n ≡ 88) }
-        ensures written { Writes result (overwritten bytes.old 0 (encoding endian (windows_64_fields self))) bytes.old bytes.new (IsSliceFault bytes.old 0 88) }
-        ensures back { WritesBack 88 windows_64_record windows_64_fields }
-        ensures again { ReadsBack 88 windows_64_record windows_64_fields self }
-    {
-        pwrite_slice(bytes, 0, &self.to_bytes(endian))?;
-        Ok(SIZEOF_WINDOWS_FIELDS_64)
-    }
-
-    /// The size of the record in bytes, the same in either order: 88.
-    pub fn size_with(_endian: &Endian) -> usize
-        ensures { result ≡ 88 }
-    {
-        SIZEOF_WINDOWS_FIELDS_64
-    }
-}
-
-impl TryFromCtx<'_> for WindowsFields64 {
-    ghost Plain = { WindowsFields64 };
-
-    ghost plain = { λ fields. fields };
-
-    ghost value_of = { record_in 88 windows_64_record };
-
-    ghost refusal = { λ _ bytes e. IsSliceFault bytes 0 88 e };
-
-    ghost within = { record_in-within 88 windows_64_record };
-
-    ghost no_memory = { λ _ bytes e. slice_fault-no_memory bytes 0 88 e };
-
-    /// Reads the record at the front of `bytes`, which takes 88 bytes.
-    ///
-    /// # Errors
-    /// [`Error::Read`] where there are no 88 bytes.
-    fn try_from_ctx(bytes: &[u8], endian: Endian) -> Result<(WindowsFields64, usize)> {
-        let record = pread_slice(bytes, 0, SIZEOF_WINDOWS_FIELDS_64)?;
-        Ok((
-            WindowsFields64::in_record(record, endian),
-            SIZEOF_WINDOWS_FIELDS_64,
-        ))
+        put_fields(bytes, SIZEOF_WINDOWS_FIELDS_64, &fields, endian);
     }
 }
 

@@ -1,7 +1,7 @@
 //! Symbols, their names, and the records behind them.
 
 use fixture::sample::put;
-use goblin_base::{Cause, Endian, Error, Strtab, TryFromCtx};
+use goblin_base::{Cause, Endian, Error, Record, Strtab, TryFromCtx};
 use goblin_pe_head::CoffHeader;
 use goblin_pe_sect::symbol::{
     AuxBeginAndEndFunction, AuxFunctionDefinition, AuxSectionDefinition, AuxWeakExternal, Symbol,

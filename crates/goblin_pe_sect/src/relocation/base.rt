@@ -1,12 +1,9 @@
 //! The base relocations of an image: blocks of words.
 
-ghost use Rattle.std.specs.Prelude.{◌≡◌, ◌+◌, ◌-◌, ◌/◌, ◌%◌, ◌<◌, Some, length, IfOk, IfSome};
+ghost use Rattle.std.specs.Prelude.{◌≡◌, ◌+◌, ◌-◌, ◌/◌, ◌%◌, ◌<◌, Some, length, IfSome};
 ghost use Rattle.std.specs.Iterator.{UpTo, YieldsFirst, YieldsFirstBy, at_most, item_count};
 ghost use Rattle.std.specs.Iterator.SizeHint.{IsWithinCount};
-ghost use Rattle.goblin_base.specs.Answers.{Answers, Writes, IsSliceFault};
-ghost use Rattle.goblin_base.specs.Bytes.{overwritten};
-ghost use Rattle.goblin_base.specs.Record.{ReadsBack, WritesBack, encoding, record_in};
-ghost use Rattle.goblin_base.proofs.RecordLaws.{record_in-within, slice_fault-no_memory};
+ghost use Rattle.goblin_base.specs.Answers.{Answers};
 ghost use Rattle.goblin_pe_sect.specs.declared.relocation.base.RelocationWord.{RelocationWord};
 ghost use Rattle.goblin_pe_sect.specs.BaseRelocations.{AreBlocksOf, IsRelocationDataFault, block_at, block_item, block_items, blocks_left, relocation_data, relocation_bytes, word_fields, word_items, word_record, words_left};
 ghost use Rattle.goblin_pe_sect.specs.Mapping.{file_offset};
@@ -17,8 +14,8 @@ use crate::options::ParseOptions;
 use crate::section_table::SectionTable;
 use crate::utils::find_offset;
 use goblin_base::{
-    Cause, Endian, Error, Field, ReadFault, Result, TryFromCtx, field_u16, field_u32, pread_slice,
-    pwrite_slice, record_bytes,
+    Cause, Endian, Error, Field, ReadFault, Record, Result, field_u16, field_u32, pread_slice,
+    put_fields,
 };
 use std::iter::FusedIterator;
 
@@ -51,7 +48,8 @@ impl<'a> RelocationData<'a> {
         sections: &[SectionTable],
         file_alignment: u32,
     ) -> Result<Self>
-        ensures { Answers relocation_bytes result (relocation_data (file_offset default_options sections.now file_alignment) bytes.now dd) (IsRelocationDataFault (file_offset default_options sections.now file_alignment) bytes.now dd) }
+        ensures { let offset_of = file_offset default_options sections.now file_alignment in
+            Answers relocation_bytes result (relocation_data offset_of bytes.now dd) (IsRelocationDataFault offset_of bytes.now dd) }
     {
         let opts = ParseOptions::default();
         RelocationData::parse_with_opts(bytes, dd, sections, file_alignment, &opts)
@@ -69,7 +67,8 @@ impl<'a> RelocationData<'a> {
         file_alignment: u32,
         opts: &ParseOptions,
     ) -> Result<Self>
-        ensures { Answers relocation_bytes result (relocation_data (file_offset opts.now sections.now file_alignment) bytes.now dd) (IsRelocationDataFault (file_offset opts.now sections.now file_alignment) bytes.now dd) }
+        ensures { let offset_of = file_offset opts.now sections.now file_alignment in
+            Answers relocation_bytes result (relocation_data offset_of bytes.now dd) (IsRelocationDataFault offset_of bytes.now dd) }
     {
         let rva = dd.virtual_address as usize;
         let Some(offset) = find_offset(rva, sections, file_alignment, opts) else {
@@ -198,18 +197,32 @@ pub struct RelocationWord {
     pub value: u16,
 }
 
-impl RelocationWord {
-    // The word in a record's bytes.
+impl Record for RelocationWord {
+    ghost width = { 2 };
+
+    ghost value = { word_record };
+
+    ghost fields = { word_fields };
+
+    fn size() -> usize {
+        RELOCATION_WORD_SIZE
+    }
+
     #[tactic(auto, unfolding(crate::specs::BaseRelocations::word_record))]
-    fn in_record(bytes: &[u8], endian: Endian) -> RelocationWord
-        requires { length bytes.now ≡ 2 }
-        ensures { result ≡ word_record endian bytes.now }
-    {
+    fn in_record(bytes: &[u8], endian: Endian) -> RelocationWord {
         RelocationWord {
             value: field_u16(bytes, 0, endian),
         }
     }
 
+    #[tactic(auto, unfolding(crate::specs::BaseRelocations::word_fields), using(crate::proofs::RelocationsRoundTrip::word_back, crate::proofs::RelocationsRoundTrip::word_again))]
+    fn put(self, bytes: &mut [u8], endian: Endian) {
+        let fields = [Field::U16(self.value)];
+        put_fields(bytes, RELOCATION_WORD_SIZE, &fields, endian);
+    }
+}
+
+impl RelocationWord {
     /// How the place is changed, an `IMAGE_REL_BASED_*`: the high four bits.
     pub fn reloc_type(&self) -> u8
         ensures { result ≡ self.now.value / 4096 }
@@ -222,67 +235,6 @@ impl RelocationWord {
         ensures { result ≡ self.now.value % 4096 }
     {
         self.value & 0xFFF
-    }
-
-    // The record's bytes.
-    #[tactic(auto, unfolding(crate::specs::BaseRelocations::word_fields), using(crate::proofs::RelocationsRoundTrip::word_again))]
-    fn to_bytes(self, endian: Endian) -> [u8; RELOCATION_WORD_SIZE]
-        ensures made { result ≡ encoding endian (word_fields self) }
-        ensures again { ReadsBack 2 word_record word_fields self }
-    {
-        let fields = [Field::U16(self.value)];
-        record_bytes(&fields, endian)
-    }
-
-    /// Writes the record to the front of `bytes`, and answers its size. One that was read is written
-    /// as it stood, and any is read again from what was written, by the same order of bytes.
-    ///
-    /// # Errors
-    /// [`Error::Read`] where there is no room for 2 bytes; `bytes` are
-    /// then as they were.
-    #[tactic(auto, using(crate::proofs::RelocationsRoundTrip::word_back))]
-    pub fn try_into_ctx(self, bytes: &mut [u8], endian: Endian) -> Result<usize>
-        ensures size { IfOk result (λ n. n ≡ 2) }
-        ensures written { Writes result (overwritten bytes.old 0 (encoding endian (word_fields self))) bytes.old bytes.new (IsSliceFault bytes.old 0 2) }
-        ensures back { WritesBack 2 word_record word_fields }
-        ensures again { ReadsBack 2 word_record word_fields self }
-    {
-        let record = self.to_bytes(endian);
-        pwrite_slice(bytes, 0, &record)?;
-        Ok(RELOCATION_WORD_SIZE)
-    }
-
-    /// The size of the record, in bytes, in either order.
-    pub fn size_with(_endian: &Endian) -> usize
-        ensures { result ≡ 2 }
-    {
-        RELOCATION_WORD_SIZE
-    }
-}
-
-impl TryFromCtx<'_> for RelocationWord {
-    ghost Plain = { RelocationWord };
-
-    ghost plain = { λ r. r };
-
-    ghost value_of = { record_in 2 word_record };
-
-    ghost refusal = { λ _ bytes e. IsSliceFault bytes 0 2 e };
-
-    ghost within = { record_in-within 2 word_record };
-
-    ghost no_memory = { λ _ bytes e. slice_fault-no_memory bytes 0 2 e };
-
-    /// Reads the record at the front of `bytes`, which takes 2 bytes.
-    ///
-    /// # Errors
-    /// [`Error::Read`] where there are no 2 bytes.
-    fn try_from_ctx(bytes: &[u8], endian: Endian) -> Result<(RelocationWord, usize)> {
-        let record = pread_slice(bytes, 0, RELOCATION_WORD_SIZE)?;
-        Ok((
-            RelocationWord::in_record(record, endian),
-            RELOCATION_WORD_SIZE,
-        ))
     }
 }
 

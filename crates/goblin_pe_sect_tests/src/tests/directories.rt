@@ -1,7 +1,7 @@
 //! The data directories of an optional header.
 
 use fixture::sample::put;
-use goblin_base::{Cause, Endian, Error, ReadFault, TryFromCtx, pwrite_u32};
+use goblin_base::{Cause, Endian, Error, ReadFault, Record, TryFromCtx, pwrite_u32};
 use goblin_pe_sect::{DataDirectories, DataDirectory, DataDirectoryType};
 use std::test::Fail;
 

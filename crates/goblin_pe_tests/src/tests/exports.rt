@@ -2,7 +2,7 @@
 
 use fixture::memory::{Outcome, is_refused_until_right};
 use fixture::sample::{put, sample, sample_section};
-use goblin_base::{Cause, Endian, Error};
+use goblin_base::{Cause, Endian, Error, Record};
 use goblin_pe::export::{
     Export, ExportAddressTableEntry, ExportData, ExportDirectoryTable, Reexport,
     SIZEOF_EXPORT_ADDRESS_TABLE_ENTRY, SIZEOF_EXPORT_DIRECTORY_TABLE,

@@ -55,7 +55,7 @@ records-preserved g c =
 
 pub returns : goal.returns
 returns g c =
-    elim c.match-read.branch [
+    elim c.match-read_at.branch [
       | in_default+then-is_permissive w ↦
           at-end _ _ _ _ _ _ _ (lit≤ tt) c.records.invariant w.in_default.ensures.0 (permissive _ _ w.is_permissive.ensures w.if-is_permissive.true)
       | in-Ok+then-not-is_possibly_valid w ↦

@@ -9,7 +9,7 @@ pub entries-preserved : goal.entries-preserved
 entries-preserved c =
     record {
       long = omega arith;
-      going = entries-going c.args.endian c.args.self.data_directories c.entries.i c.directory.result c.entries.table c.put_bytes.new.bytes _ (omega arith) c.directory.ensures (rw (← c.to_bytes-record.ensures.made) c.put_bytes.ensures) c.entries.invariant.going;
+      going = entries-going c.args.endian c.args.self.data_directories c.entries.i c.directory.result c.entries.table c.put_bytes.new.bytes _ (omega arith) c.directory.ensures (rw (← c.encode-record.ensures.made) c.put_bytes.ensures) c.entries.invariant.going;
     }
 
 pub returns-clause-bytes : goal.returns-clause-bytes

@@ -12,7 +12,7 @@ returns c =
     let stub = c.args.self.now.dos_stub.bytes.now in
     let dos = c.to_bytes.result in
     let signature = c.record_bytes-signature.result in
-    let coff = c.to_bytes-2.result in
+    let coff = c.encode-coff.result in
     let optional = c.args.optional.now in
     let at = 64 + length stub in
     let one = c.put_bytes.new.bytes in
@@ -28,4 +28,4 @@ returns c =
     let behind_2 = written_then two three five at (at + 4) signature (coff ++ (optional ++ [])) (omega arith) (omega (arith, c.requires, long_2)) c.put_bytes-3.ensures behind_3 in
     let behind_1 = written_then one two five 64 at stub (signature ++ (coff ++ (optional ++ []))) (omega arith) (omega (arith, c.requires, long_1)) c.put_bytes-2.ensures behind_2 in
     let all : five ≡ replaced old 0 (dos ++ (stub ++ (signature ++ (coff ++ (optional ++ []))))) = written_then old one five 0 64 dos (stub ++ (signature ++ (coff ++ (optional ++ [])))) (omega arith) (omega (arith, c.requires)) c.put_bytes.ensures behind_1 in
-    rw (sym c.to_bytes.ensures.made, sym c.record_bytes-signature.ensures.made, sym c.to_bytes-2.ensures.made) all
+    rw (sym c.to_bytes.ensures.made, sym c.record_bytes-signature.ensures.made, sym c.encode-coff.ensures.made) all
