@@ -1,5 +1,5 @@
 -- An index whose pieces are cut at the windows of a section table answers as the table does.
-use Rattle.std.proofs.Common.{◌≡◌, ℕ, zero, suc, ◌+◌, ◌-◌, ◌^◌, ◌<◌, ◌≤◌, Bool, true, false, cond, ◌&&◌, List, [], ◌∷◌, length, slice_index, slice_get, get_or, nat_le, nat_lt, Option, Some, None, find, map, refl, ap, sym, ◌∙◌, inl, inr, arith, tests, rules}
+use Rattle.std.proofs.Common.{◌≡◌, ℕ, zero, suc, ◌+◌, ◌-◌, ◌^◌, ◌<◌, ◌≤◌, Bool, true, false, cond, ◌&&◌, List, [], length, slice_index, slice_get, get_or, nat_le, nat_lt, Option, Some, None, find, map, refl, ap, sym, ◌∙◌, inl, inr, arith, tests, rules}
 use Rattle.std.specs.List.{slice_index_or, position, position_or_len, Contains}
 use Rattle.std.specs.List.Sorted.{IsStrictlyIncreasing}
 use Rattle.std.specs.Option.{option_map, option_and_then, option_map_or}
@@ -12,7 +12,7 @@ use Rattle.std.proofs.lemmas.Option.{slice_get_past, get_or_from_slice_get}
 use Rattle.std.proofs.lemmas.Bool.Decides.{nat_tests}
 use Rattle.std.specs.Int.{is_power_of_two}
 use Rattle.goblin_pe_sect.specs.Mapping.{read_size, window_end, is_in_window, offset_in, file_offset}
-use Rattle.goblin_pe_sect.specs.WindowIndex.{IsCut, IsIndex, Pieces, AreNear, reached, last_owner, located, offset_by, first_owner, owner_of_section}
+use Rattle.goblin_pe_sect.specs.WindowIndex.{IsCut, IsIndex, AreNear, reached, last_owner, located, offset_by, first_owner, owner_of_section}
 use Rattle.goblin_pe_sect.specs.declared.options.ParseOptions.{ParseOptions}
 use Rattle.goblin_pe_sect.specs.SectionTable.{Section}
 use Rattle.goblin_pe_sect.specs.declared.windows.owners.Owner.{Owner}
