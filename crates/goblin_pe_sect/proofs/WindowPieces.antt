@@ -12,7 +12,7 @@ use Rattle.std.proofs.lemmas.Option.{slice_get_past, get_or_from_slice_get}
 use Rattle.std.proofs.lemmas.Bool.Decides.{nat_tests}
 use Rattle.std.specs.Int.{is_power_of_two}
 use Rattle.goblin_pe_sect.specs.Mapping.{read_size, window_end, is_in_window, offset_in, file_offset}
-use Rattle.goblin_pe_sect.specs.WindowIndex.{IsCut, IsIndex, AreNear, reached, last_owner, located, offset_by, first_owner, owner_of_section}
+use Rattle.goblin_pe_sect.specs.WindowIndex.{IsCut, IsIndex, Pieces, AreNear, reached, last_owner, located, offset_by, first_owner, owner_of_section}
 use Rattle.goblin_pe_sect.specs.declared.options.ParseOptions.{ParseOptions}
 use Rattle.goblin_pe_sect.specs.SectionTable.{Section}
 use Rattle.goblin_pe_sect.specs.declared.windows.owners.Owner.{Owner}
@@ -207,6 +207,17 @@ last_owner_is owners (suc k) o some owned =
     let same : k ≡ suc k - 1 = omega arith in
     ap (λ (j : ℕ). slice_index_or owners j None) same ∙ owned
 
--- what an index answers where the last piece has an owner
-pub owner_answers_last : (owners : List (Option Owner)) (rva n : ℕ) (o : Owner) → 0 < n → slice_index_or owners (n - 1) None ≡ Some o → Some (offset_by rva o) ≡ option_map (offset_by rva) (last_owner owners n)
-owner_answers_last owners rva n o some owned = sym (ap (option_map (offset_by rva)) (last_owner_is owners n o some owned))
+-- the last piece that begins at or before an address has its place among the owners
+pub piece_within : (resolves : Bool) (begins : List ℕ) (owners : List (Option Owner)) (w : Pieces) → record { resolves = resolves; begins = begins; owners = owners } ≡ w → IsIndex resolves begins owners → (rva n : ℕ) → n ≡ reached w.begins rva → 0 < n → n - 1 < length owners
+piece_within resolves begins owners w seen h rva n is some =
+    let at : n ≡ reached begins rva = is ∙ ap (λ (v : Pieces). reached v.begins rva) (sym seen) in
+    omega (arith, at, h.one_each, prefix_len-le-length {X = ℕ})
+
+-- where it has an owner, the address lies within reach of the owner's, and has the offset that the index answers
+pub piece_answers : (resolves : Bool) (begins : List ℕ) (owners : List (Option Owner)) (w : Pieces) → record { resolves = resolves; begins = begins; owners = owners } ≡ w → IsIndex resolves begins owners → (rva n : ℕ) → n ≡ reached w.begins rva → 0 < n → (o : Owner) → (n - 1 < length owners → slice_index_or owners (n - 1) None ≡ Some o) → (o.address ≤ rva) × (rva < o.address + 2 ^ 33) × (Some (offset_by rva o) ≡ option_map (offset_by rva) (last_owner w.owners n))
+piece_answers resolves begins owners w seen h rva n is some o owned =
+    let at : n ≡ reached begins rva = is ∙ ap (λ (v : Pieces). reached v.begins rva) (sym seen) in
+    let here = owned (piece_within resolves begins owners w seen h rva n is some) in
+    let near = held resolves begins owners h rva n o at some here in
+    let answer : Some (offset_by rva o) ≡ option_map (offset_by rva) (last_owner owners n) = sym (ap (option_map (offset_by rva)) (last_owner_is owners n o some here)) in
+    (near.0, near.1, answer ∙ ap (λ (v : Pieces). option_map (offset_by rva) (last_owner v.owners n)) seen)
