@@ -1,5 +1,5 @@
 -- Bounds on what the windows of sections reach, and what the mapping of addresses means.
-use Rattle.std.proofs.Common.{◌≡◌, ℕ, zero, suc, ◌+◌, ◌-◌, ◌%◌, ◌<◌, ◌≤◌, Bool, true, false, cond, ◌==◌, min, IsTrue, List, Option, Some, None, find, MatchOption, refl, ap, sym, subst, arith, rules, tests}
+use Rattle.std.proofs.Common.{◌≡◌, ℕ, zero, suc, ◌+◌, ◌<◌, ◌≤◌, Bool, true, false, cond, ◌==◌, min, IsTrue, List, Option, Some, None, find, MatchOption, refl, ap, sym, subst, arith, rules, tests}
 use Rattle.std.specs.Int.{is_power_of_two}
 use Rattle.std.specs.Option.{option_map}
 use Rattle.std.specs.List.{position_or_len}

@@ -1,5 +1,5 @@
 -- An index whose pieces are cut at the windows of a section table answers as the table does.
-use Rattle.std.proofs.Common.{◌≡◌, ℕ, zero, suc, ◌+◌, ◌-◌, ◌^◌, ◌<◌, ◌≤◌, Bool, true, false, cond, ◌&&◌, List, [], ◌∷◌, length, slice_index, slice_get, get_or, nat_le, nat_lt, Option, Some, None, find, map, refl, ap, sym, ◌∙◌, inl, inr, arith, tests, rules}
+use Rattle.std.proofs.Common.{◌≡◌, ℕ, zero, suc, ◌+◌, ◌-◌, ◌^◌, ◌<◌, ◌≤◌, Bool, true, false, cond, ◌&&◌, List, [], length, slice_index, slice_get, get_or, nat_le, nat_lt, Option, Some, None, find, map, refl, ap, sym, ◌∙◌, inl, inr, arith, tests, rules}
 use Rattle.std.specs.List.{slice_index_or, position, position_or_len, Contains}
 use Rattle.std.specs.List.Sorted.{IsStrictlyIncreasing}
 use Rattle.std.specs.Option.{option_map, option_and_then, option_map_or}
@@ -207,6 +207,17 @@ last_owner_is owners (suc k) o some owned =
     let same : k ≡ suc k - 1 = omega arith in
     ap (λ (j : ℕ). slice_index_or owners j None) same ∙ owned
 
--- what an index answers where the last piece has an owner
-pub owner_answers_last : (owners : List (Option Owner)) (rva n : ℕ) (o : Owner) → 0 < n → slice_index_or owners (n - 1) None ≡ Some o → Some (offset_by rva o) ≡ option_map (offset_by rva) (last_owner owners n)
-owner_answers_last owners rva n o some owned = sym (ap (option_map (offset_by rva)) (last_owner_is owners n o some owned))
+-- the last piece that begins at or before an address has its place among the owners
+pub piece_within : (resolves : Bool) (begins : List ℕ) (owners : List (Option Owner)) (w : Pieces) → record { resolves = resolves; begins = begins; owners = owners } ≡ w → IsIndex resolves begins owners → (rva n : ℕ) → n ≡ reached w.begins rva → 0 < n → n - 1 < length owners
+piece_within resolves begins owners w seen h rva n is some =
+    let at : n ≡ reached begins rva = is ∙ ap (λ (v : Pieces). reached v.begins rva) (sym seen) in
+    omega (arith, at, h.one_each, prefix_len-le-length {X = ℕ})
+
+-- where it has an owner, the address lies within reach of the owner's, and has the offset that the index answers
+pub piece_answers : (resolves : Bool) (begins : List ℕ) (owners : List (Option Owner)) (w : Pieces) → record { resolves = resolves; begins = begins; owners = owners } ≡ w → IsIndex resolves begins owners → (rva n : ℕ) → n ≡ reached w.begins rva → 0 < n → (o : Owner) → (n - 1 < length owners → slice_index_or owners (n - 1) None ≡ Some o) → (o.address ≤ rva) × (rva < o.address + 2 ^ 33) × (Some (offset_by rva o) ≡ option_map (offset_by rva) (last_owner w.owners n))
+piece_answers resolves begins owners w seen h rva n is some o owned =
+    let at : n ≡ reached begins rva = is ∙ ap (λ (v : Pieces). reached v.begins rva) (sym seen) in
+    let here = owned (piece_within resolves begins owners w seen h rva n is some) in
+    let near = held resolves begins owners h rva n o at some here in
+    let answer : Some (offset_by rva o) ≡ option_map (offset_by rva) (last_owner owners n) = sym (ap (option_map (offset_by rva)) (last_owner_is owners n o some here)) in
+    (near.0, near.1, answer ∙ ap (λ (v : Pieces). option_map (offset_by rva) (last_owner v.owners n)) seen)
