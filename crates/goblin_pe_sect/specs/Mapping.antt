@@ -10,6 +10,8 @@ use Rattle.goblin_base.specs.declared.error.ReadFault.TheVariants.{BadOffset}
 use Rattle.goblin_base.specs.Bytes.{text_at}
 use Rattle.goblin_base.specs.Answers.{IsTextFault, ◌>>=◌, FirstFault}
 use Rattle.goblin_pe_sect.specs.declared.options.ParseOptions.{ParseOptions}
+use Rattle.goblin_pe_sect.specs.declared.options.RawPointerRule.{RawPointerRule}
+use Rattle.goblin_pe_sect.specs.declared.options.RawPointerRule.TheVariants.{AsStored, RoundedTo512}
 use Rattle.goblin_pe_sect.specs.Multiples.{greatest_multiple, least_multiple}
 use Rattle.goblin_pe_sect.specs.SectionTable.{Section}
 
@@ -34,9 +36,14 @@ window_of s alignment = if is_power_of_two alignment then Some (s.virtual_addres
 abbrev pub is_in_window : ℕ → ℕ → Section → Bool
 is_in_window alignment rva s = nat_le s.virtual_address rva && nat_lt rva (window_end s alignment)
 
--- where a section's raw data begins for the mapping of addresses: at its raw pointer, which is not rounded
+-- a raw pointer by a rule: as it is stored, or the greatest multiple of 512 that is at most it
+abbrev pub pointer_by : RawPointerRule → ℕ → ℕ
+pointer_by AsStored pointer = pointer
+pointer_by RoundedTo512 pointer = greatest_multiple 512 pointer
+
+-- where a section's raw data begins for the mapping of addresses: at its raw pointer by the rule of the options
 abbrev pub raw_begin : ParseOptions → Section → ℕ
-raw_begin opts s = s.pointer_to_raw_data
+raw_begin opts s = pointer_by opts.raw_pointer_rule s.pointer_to_raw_data
 
 -- where the file has what stands at an address of a section's window: as far behind the raw data's begin
 abbrev pub offset_in : ParseOptions → Section → ℕ → ℕ

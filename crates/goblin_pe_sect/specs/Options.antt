@@ -3,8 +3,9 @@ use Rattle.std.specs.Prelude.{Bool, true, false}
 use Rattle.goblin_base.specs.declared.permissive.ParseMode.{ParseMode}
 use Rattle.goblin_base.specs.declared.permissive.ParseMode.TheVariants.{Strict, Permissive}
 use Rattle.goblin_pe_sect.specs.declared.options.ParseOptions.{ParseOptions}
+use Rattle.goblin_pe_sect.specs.declared.options.RawPointerRule.TheVariants.{AsStored}
 
--- the options of a file on disk: everything is read, strictly, and addresses are mapped by the sections
+-- the options of a file on disk: everything is read, strictly, and addresses are mapped by the sections, from their raw pointers as stored
 abbrev pub default_options : ParseOptions
 default_options = record {
   resolve_rva = true;
@@ -13,6 +14,7 @@ default_options = record {
   parse_resources = true;
   parse_mode = Strict;
   parse_imports = true;
+  raw_pointer_rule = AsStored;
 }
 
 -- the options of a TE image: addresses are offsets, and there are no certificates

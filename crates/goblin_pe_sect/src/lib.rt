@@ -12,6 +12,6 @@ pub mod utils;
 pub mod windows;
 
 pub use data_directories::{DataDirectories, DataDirectory, DataDirectoryType, Dirs};
-pub use options::{ParseMode, ParseOptions};
+pub use options::{ParseMode, ParseOptions, RawPointerRule};
 pub use section_table::SectionTable;
 pub use windows::WindowIndex;

@@ -5,6 +5,19 @@ ghost use Rattle.goblin_pe_sect.specs.Options.{default_options, te_options};
 
 pub use goblin_base::ParseMode;
 
+/// Where the raw data of a section begins, for the mapping of addresses.
+///
+/// The PE/COFF specification asks that a raw pointer is a multiple of the file alignment, which is at
+/// least 512; this is for files that do not keep to it. The Windows loader maps a section from its raw
+/// pointer rounded down to 512, goblin from the raw pointer as it is stored.
+#[derive(Debug, PartialEq, Copy, Clone)]
+pub enum RawPointerRule {
+    /// At the raw pointer, as goblin maps.
+    AsStored,
+    /// At the greatest multiple of 512 that is at most the raw pointer, as the Windows loader maps.
+    RoundedTo512,
+}
+
 /// What a reader does and leaves out.
 #[derive(Debug, Copy, Clone)]
 pub struct ParseOptions {
@@ -21,12 +34,17 @@ pub struct ParseOptions {
     pub parse_mode: ParseMode,
     /// Whether a reader of a whole file reads the imports, by default so.
     pub parse_imports: bool,
+    /// Where a section's raw data begins for the mapping of addresses, by default at the raw pointer as
+    /// it is stored. Windows loads it from there rounded down to 512. Every reader that maps addresses
+    /// follows this; [`SectionTable::data`](crate::SectionTable::data) maps none.
+    pub raw_pointer_rule: RawPointerRule,
 }
 
 impl Default for ParseOptions {
     ghost is_default = { λ options. options ≡ default_options };
 
-    /// Everything is read, strictly, and addresses are mapped by the sections.
+    /// Everything is read, strictly, and addresses are mapped by the sections, from their raw pointers
+    /// as stored.
     fn default() -> ParseOptions {
         ParseOptions {
             resolve_rva: true,
@@ -35,6 +53,7 @@ impl Default for ParseOptions {
             parse_resources: true,
             parse_mode: ParseMode::Strict,
             parse_imports: true,
+            raw_pointer_rule: RawPointerRule::AsStored,
         }
     }
 }
@@ -80,6 +99,14 @@ impl ParseOptions {
         ensures { result ≡ record self { parse_imports = parse_imports } }
     {
         self.parse_imports = parse_imports;
+        self
+    }
+
+    /// The same, with addresses mapped by this rule.
+    pub fn with_raw_pointer_rule(mut self, raw_pointer_rule: RawPointerRule) -> ParseOptions
+        ensures { result ≡ record self { raw_pointer_rule = raw_pointer_rule } }
+    {
+        self.raw_pointer_rule = raw_pointer_rule;
         self
     }
 }

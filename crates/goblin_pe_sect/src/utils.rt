@@ -9,7 +9,7 @@ ghost use Rattle.goblin_pe_sect.specs.Multiples.{greatest_multiple, least_multip
 ghost use Rattle.goblin_pe_sect.specs.Options.{is_strict, default_options};
 
 use crate::data_directories::DataDirectory;
-use crate::options::ParseOptions;
+use crate::options::{ParseOptions, RawPointerRule};
 use crate::section_table::SectionTable;
 use goblin_base::{Cause, Endian, Error, ReadFault, Result, ResultOf, TryFromCtx, pread_str};
 
@@ -119,7 +119,13 @@ fn first_in_window(
 pub(crate) fn raw_begin(section: &SectionTable, opts: &ParseOptions) -> u32
     ensures { result ≡ raw_begin opts.now section.now }
 {
-    section.pointer_to_raw_data
+    match opts.raw_pointer_rule {
+        RawPointerRule::AsStored => section.pointer_to_raw_data,
+        RawPointerRule::RoundedTo512 => round_down(
+            section.pointer_to_raw_data as usize,
+            512,
+        ) as u32,
+    }
 }
 
 // Where the file has what stands at an address of the section's window.
@@ -156,9 +162,10 @@ fn file_offset(
 
 /// The file offset of the address `rva`: that of the first section whose window holds it.
 ///
-/// The windows are those that [`window`] answers. The offset is the raw pointer, not rounded, plus the
-/// distance from the section's address; it may lie past the file. Where `opts` leaves addresses
-/// unmapped, the answer is the address itself. There is none where `file_alignment` is no power of two.
+/// The windows are those that [`window`] answers. The offset is the raw pointer, as stored or rounded
+/// down to 512 as `opts` says, plus the distance from the section's address; it may lie past the file.
+/// Where `opts` leaves addresses unmapped, the answer is the address itself. There is none where
+/// `file_alignment` is no power of two.
 #[tactic(auto, using(crate::proofs::Mapped::file_offset_first))]
 pub fn find_offset(
     rva: usize,

@@ -60,7 +60,8 @@ fn count_reached(bounds: &Bounds, rva: usize) -> (usize, usize)
 
 /// The line of addresses, cut into pieces at the windows of sections. Each piece keeps the place, the
 /// address and the raw pointer of the first section whose window covers it, or none; nothing else is kept
-/// of the sections.
+/// of the sections. The raw pointer is kept as stored or rounded down to 512, as the options say that the
+/// index was prepared with.
 #[derive(Drop)]
 pub struct WindowIndex {
     resolves: bool,

@@ -2,4 +2,5 @@
 
 mod exports;
 mod imports;
+mod raw_pointers;
 mod whole;

@@ -1,7 +1,7 @@
 //! The options of the readers.
 
 use goblin_base::{ParseMode, Permissive};
-use goblin_pe_sect::ParseOptions;
+use goblin_pe_sect::{ParseOptions, RawPointerRule};
 
 /// What the options say, in the order of their fields; the mode by whether it is permissive.
 fn fields(opts: ParseOptions) -> [bool; 6] {
@@ -40,5 +40,15 @@ fn options_say_what_they_were_made_for(rt: HostRuntime) {
     ];
     for (opts, want) in rows {
         assert_eq!(rt; fields(opts), want);
+    }
+}
+
+#[test]
+fn raw_pointers_are_as_stored_unless_asked_otherwise(rt: HostRuntime) {
+    for opts in [ParseOptions::default(), ParseOptions::te()] {
+        assert_eq!(rt; opts.raw_pointer_rule, RawPointerRule::AsStored);
+        let rounded = opts.with_raw_pointer_rule(RawPointerRule::RoundedTo512);
+        assert_eq!(rt; rounded.raw_pointer_rule, RawPointerRule::RoundedTo512);
+        assert_eq!(rt; fields(rounded), fields(opts));
     }
 }

@@ -5,7 +5,7 @@ use fixture::sample::section;
 use goblin_base::Error;
 use goblin_pe_sect::utils::{find_offset, window};
 use goblin_pe_sect::windows::Bounds;
-use goblin_pe_sect::{ParseOptions, SectionTable, WindowIndex};
+use goblin_pe_sect::{ParseOptions, RawPointerRule, SectionTable, WindowIndex};
 use std::test::Fail;
 
 /// A section inside the window of [`wide`].
@@ -135,5 +135,27 @@ fn an_index_is_refused_at_each_growth(rt: HostRuntime) -> Result<(), Fail> {
         }
     })?;
     assert!(rt; is_right);
+    Ok(())
+}
+
+#[test]
+fn walk_and_index_round_a_raw_pointer_by_the_rule(rt: HostRuntime) -> Result<(), Fail> {
+    let sections = [section(0x1000, 0x100, 0x100, 0x210)];
+    let rows = [
+        (RawPointerRule::AsStored, 0x210, 0x40F),
+        (RawPointerRule::RoundedTo512, 0x200, 0x3FF),
+    ];
+    for (rule, first, last) in rows {
+        let opts = ParseOptions::default().with_raw_pointer_rule(rule);
+        let index = WindowIndex::prepare(rt.alloc(), &sections, 0x200, &opts)?;
+        for (rva, want) in [(0x1000, Some(first)), (0x11FF, Some(last)), (0x1200, None)] {
+            let walked = find_offset(rva, &sections, 0x200, &opts);
+            assert_eq!(rt;
+                (walked, index.find(rva)),
+                (want, want),
+                "{rule:?} {rva:#x}"
+            );
+        }
+    }
     Ok(())
 }
