@@ -1,5 +1,5 @@
 -- What was read from bytes is written as those bytes; and what was written of numbers that fit their widths is read again.
-use Rattle.std.proofs.Common.{replicate, ◌≡◌, ℕ, true, nat_lt, nat_le, zero, suc, ◌+◌, ◌-◌, ◌*◌, ◌/◌, ◌%◌, ◌^◌, ◌<◌, ◌≤◌, List, [], ◌∷◌, ◌++◌, length, take, take_all, drop, slice_index, refl, sym, ap, ◌∙◌, append_assoc, inl, inr, arith, map, get_or}
+use Rattle.std.proofs.Common.{replicate, ◌≡◌, ℕ, true, nat_lt, nat_le, zero, suc, ◌+◌, ◌-◌, ◌*◌, ◌/◌, ◌%◌, ◌^◌, ◌<◌, ◌≤◌, List, [], ◌∷◌, ◌++◌, length, take, take_all, drop, slice_index, refl, sym, ap, ◌∙◌, append_assoc, inl, inr, arith, map}
 use Rattle.std.specs.Prelude.{slice_range, Some}
 use Rattle.std.specs.Int.{byte_at, bytes_high_first, bytes_low_first}
 use Rattle.std.proofs.Math.Nat.{add-mul-div_left, add-mul-mod_self_left, div-div-eq-div-mul, div-eq_of_lt, mod-eq_of_lt, mul-add-div, mul-add-div_right, mul-add-mod_self_right, one-le-pow, pow-succ', div-one}

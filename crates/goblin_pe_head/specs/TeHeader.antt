@@ -1,5 +1,5 @@
 -- The header of a Terse Executable, and its sections. Both still say where things stood before the headers of the PE file were stripped.
-use Rattle.std.specs.Prelude.{◌≡◌, ◌<◌, ◌⊎◌, ℕ, ◌+◌, ◌-◌, ◌*◌, ◌%◌, ◌^◌, ◌==◌, if◌then◌else◌, nat_le, List, [], ◌∷◌, Option, Some, None, option_map, true}
+use Rattle.std.specs.Prelude.{◌≡◌, ◌<◌, ◌⊎◌, ℕ, ◌+◌, ◌-◌, ◌*◌, ◌%◌, ◌^◌, ◌==◌, if◌then◌else◌, nat_le, List, [], ◌∷◌, Option, Some, None, option_map, true, Bool}
 use Rattle.goblin_base.specs.declared.endian.Endian.{Endian}
 use Rattle.goblin_base.specs.declared.endian.Endian.TheVariants.{Little}
 use Rattle.goblin_base.specs.declared.error.ErrorOf.{ErrorOf}
@@ -82,16 +82,25 @@ section_adjusted d s = record s {
   pointer_to_linenumbers = pointer_lessened d s.pointer_to_linenumbers;
 }
 
--- the section of the record at p, adjusted; a string table would begin at the front of the file
-abbrev pub te_section_at : ℕ → List ℕ → ℕ → Option Section
-te_section_at d bytes p = option_map (section_adjusted d) (section_at true 0 bytes p)
+-- a section as it stands, or as it is in a file from whose front something was stripped
+abbrev pub section_moved : Option ℕ → Section → Section
+section_moved None = λ s. s
+section_moved (Some d) = section_adjusted d
 
--- as many sections as the header says, whose records stand one after the other from p on
+-- n sections, so moved, whose records stand one after the other from p on, with their names from the string table at `table`
+abbrev pub moved_sections_at : Option ℕ → Bool → ℕ → ℕ → List ℕ → ℕ → Option (List Section)
+moved_sections_at move strict table n bytes p = all_at (λ i. option_map (section_moved move) (section_at strict table bytes (p + 40 * i))) n
+
+-- as many sections as the header says, adjusted; a string table would begin at the front of the file
 unfoldable pub te_sections_at : TeHeader → List ℕ → ℕ → Option (List Section)
-te_sections_at h bytes p = displacement h >>= λ d. all_at (λ i. te_section_at d bytes (p + 40 * i)) h.number_of_sections
+te_sections_at h bytes p = displacement h >>= λ d. moved_sections_at (Some d) true 0 h.number_of_sections bytes p
+
+-- which cause is true of n sections, so moved, that are not all there: that of the first that is missing
+abbrev pub IsMovedSectionsFault : Option ℕ → Bool → ℕ → ℕ → List ℕ → ℕ → ErrorOf → Type 0
+IsMovedSectionsFault move strict table n bytes p = IsFirstMissing (λ i. option_map (section_moved move) (section_at strict table bytes (p + 40 * i))) n (λ i. IsSectionFault strict bytes (p + 40 * i))
 
 -- which cause is true of sections that are refused: the file is too short for so many; or less was stripped than stands in its place, and else that of the first that is missing
 abbrev pub IsTeSectionsFault : TeHeader → List ℕ → ℕ → ErrorOf → Type 0
 IsTeSectionsFault h bytes p e =
     IsTooManySections h.number_of_sections bytes e
-    ⊎ FirstFault (displacement h) (IsStrippedFault h) (λ d. IsFirstMissing (λ i. te_section_at d bytes (p + 40 * i)) h.number_of_sections (λ i. IsSectionFault true bytes (p + 40 * i))) e
+    ⊎ FirstFault (displacement h) (IsStrippedFault h) (λ d. IsMovedSectionsFault (Some d) true 0 h.number_of_sections bytes p) e

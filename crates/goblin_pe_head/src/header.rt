@@ -7,6 +7,7 @@ mod dos;
 mod machine;
 mod pe_header;
 mod rich;
+mod sections;
 mod stub;
 mod te;
 

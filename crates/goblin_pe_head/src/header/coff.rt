@@ -9,6 +9,7 @@ ghost use Rattle.goblin_pe_sect.specs.Symbols.{table_bytes};
 ghost use Rattle.goblin_pe_head.specs.declared.header.coff.CoffHeader.{CoffHeader};
 ghost use Rattle.goblin_pe_head.specs.CoffHeader.{IsNoStrings, IsNoSymbols, strings_of, symbols_of, coff_fields, coff_header, string_table_offset, sections_at, IsSectionsFault, IsTooManySections};
 
+use crate::header::sections::read_sections;
 use goblin_base::{
     Cause, Endian, Error, Field, Record, Result, Strtab, field_u16, field_u32, gread_slice,
     pread_u32, put_fields,
@@ -151,14 +152,7 @@ impl CoffHeader {
             return Err(Error::BufferTooShort(count, "sections"));
         }
         let table = self.string_table_offset();
-        let mut sections = Vec::with_capacity(alloc, count)?;
-        let mut end = *offset;
-        'records: for _ in 0..count {
-            let section = SectionTable::parse_with_opts(alloc, bytes, &mut end, table, opts)?;
-            sections.push(section)?;
-        }
-        *offset = end;
-        Ok(sections)
+        read_sections(alloc, bytes, offset, count, table, opts, None)
     }
 
     /// The symbol table, `None` where its pointer is 0.

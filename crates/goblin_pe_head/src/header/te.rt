@@ -5,13 +5,15 @@ ghost use Rattle.std.specs.Prelude.{◌≡◌, ◌+◌, ◌*◌, ◌/◌, ◌<�
 ghost use Rattle.goblin_base.specs.Answers.{Answers, AnswersOrMemory, IsMemory};
 ghost use Rattle.goblin_pe_head.specs.declared.header.te.TeHeader.{TeHeader};
 ghost use Rattle.goblin_pe_head.specs.CoffHeader.{IsTooManySections};
-ghost use Rattle.goblin_pe_head.specs.TeHeader.{displacement, lessened, pointer_lessened, section_adjusted, te_adjusted, te_fields, te_header, te_record, te_sections_at, IsStrippedFault, IsTeFault, IsTeSectionsFault};
+ghost use Rattle.goblin_pe_head.specs.TeHeader.{displacement, lessened, pointer_lessened, section_moved, te_adjusted, te_fields, te_header, te_record, te_sections_at, IsStrippedFault, IsTeFault, IsTeSectionsFault};
 
+use crate::header::sections::read_sections;
 use goblin_base::{
     Cause, Endian, Error, Field, Record, Result, field_u8, field_u16, field_u32, field_u64,
     gread_slice, put_fields,
 };
 use goblin_pe_sect::data_directories::DataDirectory;
+use goblin_pe_sect::options::ParseOptions;
 use goblin_pe_sect::section_table::{SIZEOF_SECTION_TABLE, SectionTable};
 use std::alloc::Global;
 
@@ -171,15 +173,8 @@ impl TeHeader {
             return Err(Error::BufferTooShort(count, "sections"));
         }
         let displacement = self.displacement()?;
-        let mut sections = Vec::with_capacity(alloc, count)?;
-        let mut end = *offset;
-        'records: for _ in 0..count {
-            let mut section = SectionTable::parse(alloc, bytes, &mut end, 0)?;
-            adjust(&mut section, displacement);
-            sections.push(section)?;
-        }
-        *offset = end;
-        Ok(sections)
+        let opts = ParseOptions::default();
+        read_sections(alloc, bytes, offset, count, 0, &opts, Some(displacement))
     }
 }
 
@@ -201,11 +196,15 @@ fn pointer_lessened(pointer: u32, displacement: u32) -> u32
     }
 }
 
-// Makes the address and the pointers of a section those in the stripped file.
+// Makes the address and the pointers of a section those in the stripped file, where something was
+// stripped.
 #[tactic(auto, unfolding(crate::specs::TeHeader::section_adjusted))]
-fn adjust(section: &mut SectionTable, displacement: u32)
-    ensures { section.new ≡ section_adjusted displacement section.old }
+pub(super) fn adjust(section: &mut SectionTable, displacement: Option<u32>)
+    ensures { section.new ≡ section_moved displacement section.old }
 {
+    let Some(displacement) = displacement else {
+        return;
+    };
     section.virtual_address = lessened(section.virtual_address, displacement);
     section.pointer_to_raw_data = pointer_lessened(section.pointer_to_raw_data, displacement);
     section.pointer_to_relocations = pointer_lessened(section.pointer_to_relocations, displacement);
