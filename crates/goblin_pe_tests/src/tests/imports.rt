@@ -8,7 +8,9 @@ ghost use Rattle.goblin_pe_tests.specs.ShortEntry.{short_value};
 
 use fixture::memory::{Outcome, is_refused_until_right};
 use fixture::sample::{put, sample, sample_section};
-use goblin_base::{Cause, Endian, Error, ParseMode, ReadFault, Record, ResultOf, TryFromCtx, field_u16};
+use goblin_base::{
+    Cause, Endian, Error, ParseMode, ReadFault, Record, ResultOf, TryFromCtx, field_u16,
+};
 use goblin_pe::import::{
     Bitfield, HintNameTableEntry, IMPORT_BY_ORDINAL_32, IMPORT_BY_ORDINAL_64, IMPORT_RVA_MASK_32,
     IMPORT_RVA_MASK_64, Import, ImportData, ImportDirectoryEntry, ImportLookupTable,
