@@ -3,8 +3,11 @@
 
 mod addresses;
 mod bytes;
+mod cut_files;
 mod directories;
 mod exports;
+mod failed_calls;
+mod first_faults;
 mod header;
 mod headers;
 mod imports;
@@ -17,6 +20,7 @@ mod rich;
 mod runs;
 mod sample;
 mod sections;
+mod small_rows;
 mod streams;
 mod string_tables;
 mod symbols;
