@@ -1,5 +1,6 @@
 //! Worked values that no contract says.
 
 mod bytes;
+mod errors;
 mod modes;
 mod string_tables;

@@ -1,5 +1,6 @@
 //! Worked values of headers, and what is read through a header.
 
+mod first_faults;
 mod header;
 mod headers;
 mod memory;

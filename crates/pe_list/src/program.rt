@@ -67,7 +67,7 @@ pub fn run<R: Read, W: Write>(
     ensures input { result ≡ Err RunFault.Input → IsTrue reader.new.failed }
     ensures output { result ≡ Err RunFault.Output → IsTrue writer.new.failed }
 
-    // A call that failed ends the run: it isn't tried again.
+    // A fault that a call showed ends the run.
     ensures read_once { result ≢ Err RunFault.Input → reader.new.failed ≡ reader.old.failed }
     ensures written_once { result ≢ Err RunFault.Output → writer.new.failed ≡ writer.old.failed }
 

@@ -22,3 +22,21 @@ fn a_text_is_what_is_left_of_its_piece(rt: HostRuntime) -> Result<(), Fail> {
     }
     Ok(())
 }
+
+#[test]
+fn a_text_begins_where_a_character_begins(rt: HostRuntime) -> Result<(), Fail> {
+    let bytes = b"\xC3\xA9\0\xC3\xBC";
+    let table = Strtab::parse(rt.alloc(), bytes, 0, bytes.len(), 0)?;
+    let rows = [
+        (0, Some("\u{e9}")),
+        (1, None),
+        (2, Some("")),
+        (3, Some("\u{fc}")),
+        (4, None),
+        (5, Some("")),
+    ];
+    for (offset, want) in rows {
+        assert!(rt; table.get_at(offset) == want, "{offset}");
+    }
+    Ok(())
+}

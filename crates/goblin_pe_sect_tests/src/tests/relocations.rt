@@ -203,3 +203,22 @@ fn relocations_are_written_in_either_order(rt: HostRuntime) -> Result<(), Fail> 
     }
     Ok(())
 }
+
+#[test]
+fn the_words_of_a_block_are_its_types_and_offsets(rt: HostRuntime) -> Result<(), Fail> {
+    let directory = DataDirectory {
+        virtual_address: 0,
+        size: 12,
+    };
+    let bytes = b"\0\x10\0\0\x0C\0\0\0\x03\x30\0\0";
+    let data = RelocationData::parse_with_opts(bytes, directory, &[], 0x200, &ParseOptions::te())?;
+    let mut found = Vec::new(rt.alloc());
+    for block in data.blocks() {
+        for word in block?.words() {
+            let word = word?;
+            found.push((word.reloc_type(), word.offset()))?;
+        }
+    }
+    assert!(rt; found.as_slice() == [(3, 3), (0, 0)].as_slice());
+    Ok(())
+}
