@@ -7,9 +7,9 @@ pub use goblin_base::ParseMode;
 
 /// Where the raw data of a section begins, for the mapping of addresses.
 ///
-/// The PE/COFF specification asks that a raw pointer is a multiple of the file alignment, which is at
-/// least 512; this is for files that do not keep to it. The Windows loader maps a section from its raw
-/// pointer rounded down to 512, goblin from the raw pointer as it is stored.
+/// The Windows loader maps a section from its raw pointer rounded down to 512, goblin from the raw
+/// pointer as it is stored. Where that is a multiple of 512, as the PE/COFF specification asks for the
+/// usual file alignments, both say the same.
 #[derive(Debug, PartialEq, Copy, Clone)]
 pub enum RawPointerRule {
     /// At the raw pointer, as goblin maps.
@@ -34,9 +34,9 @@ pub struct ParseOptions {
     pub parse_mode: ParseMode,
     /// Whether a reader of a whole file reads the imports, by default so.
     pub parse_imports: bool,
-    /// Where a section's raw data begins for the mapping of addresses, by default at the raw pointer as
-    /// it is stored. Windows loads it from there rounded down to 512. Every reader that maps addresses
-    /// follows this; [`SectionTable::data`](crate::SectionTable::data) maps none.
+    /// Where a section's raw data begins for the mapping of addresses: by default at the raw pointer as
+    /// it is stored, as in goblin. The Windows loader rounds it down to 512. Every reader that maps
+    /// addresses follows this; [`SectionTable::data`](crate::SectionTable::data) maps none.
     pub raw_pointer_rule: RawPointerRule,
 }
 

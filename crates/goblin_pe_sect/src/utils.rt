@@ -119,12 +119,10 @@ fn first_in_window(
 pub(crate) fn raw_begin(section: &SectionTable, opts: &ParseOptions) -> u32
     ensures { result ≡ raw_begin opts.now section.now }
 {
+    let pointer = section.pointer_to_raw_data;
     match opts.raw_pointer_rule {
-        RawPointerRule::AsStored => section.pointer_to_raw_data,
-        RawPointerRule::RoundedTo512 => round_down(
-            section.pointer_to_raw_data as usize,
-            512,
-        ) as u32,
+        RawPointerRule::AsStored => pointer,
+        RawPointerRule::RoundedTo512 => round_down(pointer as usize, 512) as u32,
     }
 }
 
