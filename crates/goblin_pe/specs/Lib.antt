@@ -1,3 +1,4 @@
+pub mod Addresses
 pub mod Exports
 pub mod ForwarderLaws
 pub mod Forwarders

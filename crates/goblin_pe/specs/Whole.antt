@@ -19,6 +19,7 @@ use Rattle.goblin_pe.specs.declared.whole.Part.{Part}
 use Rattle.goblin_pe.specs.declared.whole.Part.TheVariants.{Absent, Refused}
 use Rattle.goblin_pe.specs.declared.whole.Part.TheVariants as part
 use Rattle.goblin_pe.specs.declared.whole.Tables.{Tables}
+use Rattle.goblin_pe.specs.Addresses.{Mapping}
 use Rattle.goblin_pe.specs.Exports.{ExportRow, ExportTables, IsExportDataFault, export_data, exports}
 use Rattle.goblin_pe.specs.ImportDirectory.{ImportedLibrary, IsImportDataFault, import_data}
 use Rattle.goblin_pe.specs.ImportLookup.{EntryValue, entries_32, entries_64}
@@ -80,6 +81,10 @@ pub record TablePlaces : Type 0 where
 -- what contracts see of the reader's own struct
 abbrev pub table_places : Tables → TablePlaces
 table_places t = record { magic = t.magic; file_alignment = t.file_alignment; exports = t.exports; imports = t.imports; relocations = t.relocations }
+
+-- the same, read by the file alignment of a map of addresses
+abbrev pub places_by : Mapping → Tables → TablePlaces
+places_by m t = record { magic = t.magic; file_alignment = m.file_alignment; exports = t.exports; imports = t.imports; relocations = t.relocations }
 
 -- where the tables lie by an optional header; without one there are no tables
 unfoldable pub places_in : Option OptionalHeader → TablePlaces

@@ -1,15 +1,17 @@
 //! The exports of an image: what its export directory leads to, and the forwarders among them.
 
-ghost use Rattle.std.specs.Prelude.{◌≡◌, ◌++◌, IfErr, IsOk, IsSome, OnOk, length, option_and_then, option_map, option_to_list};
+ghost use Rattle.std.specs.Prelude.{◌≡◌, ◌++◌, ◌⊎◌, IfErr, IsOk, IsSome, IsTrue, OnOk, length, option_and_then, option_map, option_to_list};
+ghost use Rattle.std.specs.Int.{is_power_of_two};
 ghost use Rattle.goblin_base.specs.Answers.{AnswersOrMemory, GivesOrMemory, IsMemory};
 ghost use Rattle.goblin_base.specs.Bytes.{text_at};
 ghost use Rattle.goblin_pe_sect.specs.Mapping.{file_offset};
 ghost use Rattle.goblin_pe_sect.specs.Options.{default_options};
+ghost use Rattle.goblin_pe.specs.Addresses.{offset_of};
 ghost use Rattle.goblin_pe.specs.Exports.{IsExportDataFault, export_data, export_row, exports};
 ghost use Rattle.goblin_pe.specs.Forwarders.{forwarder_at, forwarder_value};
 
+use crate::address_map::AddressMap;
 use goblin_base::{Cause, Error, Result, pread_str};
-use goblin_pe_sect::utils::find_offset;
 use goblin_pe_sect::{DataDirectory, ParseOptions, SectionTable};
 use std::alloc::Global;
 use std::marker::Model;
@@ -85,7 +87,7 @@ impl<'a> ExportData<'a> {
     ) -> Result<ExportData<'a>>
         ensures value { let offset_of = file_offset default_options sections.now file_alignment in
             AnswersOrMemory (λ x. x) result (export_data offset_of directory bytes.now) (IsExportDataFault offset_of directory bytes.now) }
-        ensures grown { IfErr result (λ e. IsMemory e → IsSome (export_data (file_offset default_options sections.now file_alignment) directory bytes.now)) }
+        ensures grown { IfErr result (λ e. IsMemory e → IsSome (export_data (file_offset default_options sections.now file_alignment) directory bytes.now) ⊎ IsTrue (is_power_of_two file_alignment)) }
     {
         let opts = ParseOptions::default();
         ExportData::parse_with_opts(alloc, bytes, directory, sections, file_alignment, &opts)
@@ -101,7 +103,6 @@ impl<'a> ExportData<'a> {
     /// [`Cause::ExportTable`] where no whole record stands there; [`Error::BufferTooShort`] where the
     /// record counts more name pointers, or else more addresses, than the file has bytes;
     /// [`Error::Memory`].
-    #[tactic(auto, unfolding(crate::specs::Exports::tables_if, crate::specs::Exports::tables_of))]
     pub fn parse_with_opts(
         alloc: Global,
         bytes: &'a [u8],
@@ -112,9 +113,25 @@ impl<'a> ExportData<'a> {
     ) -> Result<ExportData<'a>>
         ensures value { let offset_of = file_offset opts.now sections.now file_alignment in
             AnswersOrMemory (λ x. x) result (export_data offset_of directory bytes.now) (IsExportDataFault offset_of directory bytes.now) }
-        ensures grown { IfErr result (λ e. IsMemory e → IsSome (export_data (file_offset opts.now sections.now file_alignment) directory bytes.now)) }
+        ensures grown { IfErr result (λ e. IsMemory e → IsSome (export_data (file_offset opts.now sections.now file_alignment) directory bytes.now) ⊎ (IsTrue opts.now.resolve_rva × IsTrue (is_power_of_two file_alignment))) }
     {
-        let offset_of = |rva: u32| find_offset(rva as usize, sections, file_alignment, opts);
+        let address_map = AddressMap::prepare(alloc, sections, file_alignment, opts)?;
+        ExportData::parse_by(alloc, bytes, directory, &address_map)
+    }
+
+    // Reads the export data of an export directory.
+    #[tactic(auto, unfolding(crate::specs::Exports::tables_if, crate::specs::Exports::tables_of))]
+    pub(crate) fn parse_by(
+        alloc: Global,
+        bytes: &'a [u8],
+        directory: DataDirectory,
+        address_map: &AddressMap,
+    ) -> Result<ExportData<'a>>
+        ensures value { let m = offset_of address_map.now in
+            AnswersOrMemory (λ x. x) result (export_data m directory bytes.now) (IsExportDataFault m directory bytes.now) }
+        ensures grown { IfErr result (λ e. IsMemory e → IsSome (export_data (offset_of address_map.now) directory bytes.now)) }
+    {
+        let offset_of = |rva: u32| address_map.offset_of(rva);
         let Some(offset) = offset_of(directory.virtual_address) else {
             let rva = directory.virtual_address as usize;
             return Err(Error::Malformed(Cause::Unmapped(rva)));
@@ -188,11 +205,9 @@ impl<'a> Export<'a> {
         bytes: &'a [u8],
         tables: &ExportData,
         index: usize,
-        sections: &[SectionTable],
-        file_alignment: u32,
-        opts: &ParseOptions,
+        address_map: &AddressMap,
     ) -> Option<Export<'a>>
-        ensures { result ≡ export_row (file_offset opts.now sections.now file_alignment) bytes.now tables.now index }
+        ensures { result ≡ export_row (offset_of address_map.now) bytes.now tables.now index }
     {
         let pointer = *tables.export_name_pointer_table.as_slice().get(index)?;
         let ordinal = *tables.export_ordinal_table.as_slice().get(index)?;
@@ -200,7 +215,7 @@ impl<'a> Export<'a> {
             .export_address_table
             .as_slice()
             .get(usize::from(ordinal))?;
-        let offset_of = |rva: u32| find_offset(rva as usize, sections, file_alignment, opts);
+        let offset_of = |rva: u32| address_map.offset_of(rva);
         let (rva, reexport) = match address {
             ExportAddressTableEntry::ExportRVA(rva) => (rva, None),
             ExportAddressTableEntry::ForwarderRVA(rva) => (
@@ -255,12 +270,30 @@ impl<'a> Export<'a> {
         ensures value { GivesOrMemory (λ v. v.items) result (exports (file_offset opts.now sections.now file_alignment) bytes.now export_data.now) }
         ensures empty { length bytes.now ≡ 0 → IsOk result }
     {
+        if bytes.is_empty() {
+            return Ok(Vec::new(alloc));
+        }
+        let address_map = AddressMap::prepare(alloc, sections, file_alignment, opts)?;
+        Export::parse_by(alloc, bytes, export_data, &address_map)
+    }
+
+    // The exports that export data lists; none in an empty file, for which no memory is taken.
+    #[tactic(auto, unfolding(crate::specs::Exports::exports))]
+    pub(crate) fn parse_by(
+        alloc: Global,
+        bytes: &'a [u8],
+        export_data: &ExportData,
+        address_map: &AddressMap,
+    ) -> Result<Vec<Export<'a>>>
+        ensures value { GivesOrMemory (λ v. v.items) result (exports (offset_of address_map.now) bytes.now export_data.now) }
+        ensures empty { length bytes.now ≡ 0 → IsOk result }
+    {
         let mut exports = Vec::new(alloc);
         if bytes.is_empty() {
             return Ok(exports);
         }
         'rows: for index in 0..export_data.export_name_pointer_table.as_slice().len() {
-            let row = Export::of_pointer(bytes, export_data, index, sections, file_alignment, opts);
+            let row = Export::of_pointer(bytes, export_data, index, address_map);
             add_row(&mut exports, row)?;
         }
         Ok(exports)

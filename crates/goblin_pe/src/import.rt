@@ -5,12 +5,13 @@ ghost use Rattle.goblin_base.specs.Answers.{AnswersOrMemory, IsMemory};
 ghost use Rattle.goblin_base.specs.Tables.{or_left_out};
 ghost use Rattle.goblin_pe_sect.specs.Mapping.{file_offset};
 ghost use Rattle.goblin_pe_sect.specs.Options.{default_options, is_strict};
+ghost use Rattle.goblin_pe.specs.Addresses.{offset_of};
 ghost use Rattle.goblin_pe.specs.ImportDirectory.{IsImportDataFault, IsLibrariesFault, IsLibraryFault, import_data, libraries_at, library_of};
 
+use crate::address_map::AddressMap;
 use crate::data_directories::DataDirectory;
 use crate::options::ParseOptions;
 use crate::section_table::SectionTable;
-use crate::utils::find_offset;
 use goblin_base::{Cause, Endian, Error, Record, ResultOf, is_passed_over};
 use std::alloc::Global;
 use std::marker::Model;
@@ -54,24 +55,15 @@ fn kept_library<'a, 'e, T: Bitfield<'a>>(
     alloc: Global,
     bytes: &'a [u8],
     entry: ImportDirectoryEntry,
-    sections: &[SectionTable],
-    file_alignment: u32,
-    opts: &ParseOptions,
+    address_map: &AddressMap,
 ) -> ResultOf<'e, Option<SyntheticImportDirectoryEntry<'a>>>
-    ensures { let m = file_offset opts.now sections.now file_alignment in
-        let strict = is_strict opts.now.parse_mode in
+    ensures { let m = offset_of address_map.now in
+        let strict = is_strict address_map.now.opts.parse_mode in
         AnswersOrMemory option_to_list result (or_left_out strict (library_of strict T.format m bytes.now entry)) (IsLibraryFault strict T.format m bytes.now entry) }
 {
-    match SyntheticImportDirectoryEntry::parse_with_opts::<T>(
-        alloc,
-        bytes,
-        entry,
-        sections,
-        file_alignment,
-        opts,
-    ) {
+    match SyntheticImportDirectoryEntry::parse_by::<T>(alloc, bytes, entry, address_map) {
         Ok(library) => Ok(Some(library)),
-        Err(error) if is_passed_over(&error, opts.parse_mode.is_permissive()) => Ok(None),
+        Err(error) if is_passed_over(&error, address_map.is_permissive()) => Ok(None),
         Err(error) => Err(error),
     }
 }
@@ -81,19 +73,17 @@ fn libraries<'a, 'e, T: Bitfield<'a>>(
     alloc: Global,
     bytes: &'a [u8],
     offset: usize,
-    sections: &[SectionTable],
-    file_alignment: u32,
-    opts: &ParseOptions,
+    address_map: &AddressMap,
 ) -> ResultOf<'e, ImportData<'a>>
-    ensures { let m = file_offset opts.now sections.now file_alignment in
-        let strict = is_strict opts.now.parse_mode in
+    ensures { let m = offset_of address_map.now in
+        let strict = is_strict address_map.now.opts.parse_mode in
         AnswersOrMemory (λ x. x) result (libraries_at strict T.format m bytes.now offset) (IsLibrariesFault strict T.format m bytes.now offset) }
 {
     let mut import_data = Vec::new(alloc);
     let mut place = offset;
     'records: loop {
         let Ok(record) = ImportDirectoryEntry::read_at(bytes, place, Endian::Little) else {
-            if opts.parse_mode.is_permissive() {
+            if address_map.is_permissive() {
                 break 'records;
             }
             return Err(Error::Malformed(Cause::ImportRecordEnd(place)));
@@ -101,7 +91,7 @@ fn libraries<'a, 'e, T: Bitfield<'a>>(
         if !record.is_possibly_valid() {
             break 'records;
         }
-        let kept = kept_library::<T>(alloc, bytes, record, sections, file_alignment, opts)?;
+        let kept = kept_library::<T>(alloc, bytes, record, address_map)?;
         if let Some(library) = kept {
             import_data.push(library)?;
         }
@@ -156,15 +146,31 @@ impl<'a> ImportData<'a> {
             AnswersOrMemory (λ x. x) result (import_data strict T.format m bytes.now directory.virtual_address) (IsImportDataFault strict T.format m bytes.now directory.virtual_address) }
         ensures permissive { is_strict opts.now.parse_mode ≡ false → IfErr result IsMemory }
     {
-        let rva = directory.virtual_address as usize;
-        let is_permissive = opts.parse_mode.is_permissive();
-        match find_offset(rva, sections, file_alignment, opts) {
+        let address_map = AddressMap::prepare(alloc, sections, file_alignment, opts)?;
+        ImportData::parse_by::<T>(alloc, bytes, directory, &address_map)
+    }
+
+    // The imports of the directory at the address of `directory`.
+    pub(crate) fn parse_by<'e, T: Bitfield<'a>>(
+        alloc: Global,
+        bytes: &'a [u8],
+        directory: DataDirectory,
+        address_map: &AddressMap,
+    ) -> ResultOf<'e, ImportData<'a>>
+        ensures value { let m = offset_of address_map.now in
+            let strict = is_strict address_map.now.opts.parse_mode in
+            AnswersOrMemory (λ x. x) result (import_data strict T.format m bytes.now directory.virtual_address) (IsImportDataFault strict T.format m bytes.now directory.virtual_address) }
+        ensures permissive { is_strict address_map.now.opts.parse_mode ≡ false → IfErr result IsMemory }
+    {
+        let rva = directory.virtual_address;
+        let is_permissive = address_map.is_permissive();
+        match address_map.offset_of(rva) {
             Some(0) | None if is_permissive => {
                 let import_data = Vec::new(alloc);
                 Ok(ImportData { import_data })
             }
-            Some(offset) => libraries::<T>(alloc, bytes, offset, sections, file_alignment, opts),
-            None => Err(Error::Malformed(Cause::Unmapped(rva))),
+            Some(offset) => libraries::<T>(alloc, bytes, offset, address_map),
+            None => Err(Error::Malformed(Cause::Unmapped(rva as usize))),
         }
     }
 }

@@ -2,6 +2,7 @@
 //! of the crates below stands here too, so that a user names one crate.
 #![tactic(auto)]
 
+mod address_map;
 pub mod export;
 pub mod import;
 pub mod table;

@@ -8,8 +8,10 @@ ghost use Rattle.goblin_pe_head.specs.PeHeader.{header_value, pe_header};
 ghost use Rattle.goblin_pe_head.specs.CoffHeader.{IsTooManySections};
 ghost use Rattle.goblin_pe.specs.ImportDirectory.{IsImportDataFault, import_data};
 ghost use Rattle.goblin_pe.specs.Imports.{IsOverflow, imports_of};
-ghost use Rattle.goblin_pe.specs.Whole.{BecomesPart, IsExportPartFault, IsFileSectionsFault, IsImportPartFault, IsPartThenFault, IsRelocationsPartFault, IsWholeFault, entry_format, export_data_part, exports_part, file_sections, import_data_part, imports_part, items_part, offset_by, part_map, relocations_part, table_places, places_in, whole_file};
+ghost use Rattle.goblin_pe.specs.Addresses.{offset_of};
+ghost use Rattle.goblin_pe.specs.Whole.{BecomesPart, IsExportPartFault, IsFileSectionsFault, IsImportPartFault, IsPartThenFault, IsRelocationsPartFault, IsWholeFault, entry_format, export_data_part, exports_part, file_sections, import_data_part, imports_part, items_part, part_map, places_by, relocations_part, table_places, places_in, whole_file};
 
+use crate::address_map::AddressMap;
 use crate::export::{Export, ExportData};
 use crate::import::{Import, ImportData};
 use goblin_base::{Result, is_passed_over};
@@ -124,20 +126,18 @@ impl Tables {
         alloc: Global,
         bytes: &'a [u8],
         directory: DataDirectory,
-        sections: &[SectionTable],
-        opts: &ParseOptions,
+        address_map: &AddressMap,
     ) -> Result<ImportData<'a>>
-        ensures { let strict = is_strict opts.now.parse_mode in
-            let offset_of = offset_by opts.now sections.now (table_places self.now) in
+        ensures { let strict = is_strict address_map.now.opts.parse_mode in
+            let m = offset_of address_map.now in
             let format = entry_format self.now.magic in
             let rva = directory.virtual_address in
-            AnswersOrMemory (λ x. x) result (import_data strict format offset_of bytes.now rva) (IsImportDataFault strict format offset_of bytes.now rva) }
+            AnswersOrMemory (λ x. x) result (import_data strict format m bytes.now rva) (IsImportDataFault strict format m bytes.now rva) }
     {
-        let alignment = self.file_alignment;
         if self.magic == MAGIC_32 {
-            ImportData::parse_with_opts::<u32>(alloc, bytes, directory, sections, alignment, opts)
+            ImportData::parse_by::<u32>(alloc, bytes, directory, address_map)
         } else {
-            ImportData::parse_with_opts::<u64>(alloc, bytes, directory, sections, alignment, opts)
+            ImportData::parse_by::<u64>(alloc, bytes, directory, address_map)
         }
     }
 
@@ -147,15 +147,17 @@ impl Tables {
         &self,
         alloc: Global,
         bytes: &'a [u8],
-        sections: &[SectionTable],
-        opts: &ParseOptions,
+        address_map: &AddressMap,
     ) -> Result<Part<ImportData<'a>>>
-        ensures { let places = table_places self.now in
-            AnswersOrMemory (λ x. x) result (import_data_part opts.now sections.now bytes.now places) (IsImportPartFault opts.now sections.now bytes.now places) }
+        ensures { let o = address_map.now.opts in
+            let s = address_map.now.sections in
+            let places = places_by address_map.now self.now in
+            AnswersOrMemory (λ x. x) result (import_data_part o s bytes.now places) (IsImportPartFault o s bytes.now places) }
     {
+        let opts = address_map.opts();
         match self.imports {
             Some(directory) if opts.parse_imports => part_of(
-                self.import_data_of(alloc, bytes, directory, sections, opts),
+                self.import_data_of(alloc, bytes, directory, address_map),
                 opts,
             ),
             _ => Ok(Part::Absent),
@@ -206,19 +208,19 @@ impl Tables {
         &self,
         alloc: Global,
         bytes: &'a [u8],
-        sections: &[SectionTable],
-        opts: &ParseOptions,
+        address_map: &AddressMap,
     ) -> Result<Part<ExportData<'a>>>
-        ensures { let places = table_places self.now in
-            AnswersOrMemory (λ x. x) result (export_data_part opts.now sections.now bytes.now places) (IsExportPartFault opts.now sections.now bytes.now places) }
+        ensures { let o = address_map.now.opts in
+            let s = address_map.now.sections in
+            let places = places_by address_map.now self.now in
+            AnswersOrMemory (λ x. x) result (export_data_part o s bytes.now places) (IsExportPartFault o s bytes.now places) }
     {
         let Some(directory) = self.exports else {
             return Ok(Part::Absent);
         };
-        let alignment = self.file_alignment;
         part_of(
-            ExportData::parse_with_opts(alloc, bytes, directory, sections, alignment, opts),
-            opts,
+            ExportData::parse_by(alloc, bytes, directory, address_map),
+            address_map.opts(),
         )
     }
 
@@ -229,18 +231,14 @@ impl Tables {
         alloc: Global,
         bytes: &'a [u8],
         export_data: &Part<ExportData<'a>>,
-        sections: &[SectionTable],
-        opts: &ParseOptions,
+        address_map: &AddressMap,
     ) -> Result<Part<Vec<Export<'a>>>>
-        ensures { GivesOrMemory items_part result (exports_part opts.now sections.now bytes.now (table_places self.now) export_data.now) }
+        ensures { GivesOrMemory items_part result (exports_part address_map.now.opts address_map.now.sections bytes.now (places_by address_map.now self.now) export_data.now) }
     {
         match export_data {
             Part::Absent => Ok(Part::Absent),
             Part::Read(data) => {
-                let alignment = self.file_alignment;
-                let exports = Export::parse_with_opts(
-                    alloc, bytes, data, sections, alignment, opts,
-                )?;
+                let exports = Export::parse_by(alloc, bytes, data, address_map)?;
                 Ok(Part::Read(exports))
             }
             Part::Refused => Ok(Part::Refused),
@@ -312,11 +310,13 @@ impl<'a> Whole<'a> {
         let header = Header::parse_with_opts(bytes, opts)?;
         let sections = sections_of(alloc, bytes, &header, opts)?;
         let tables = Tables::of(&header.optional_header);
-        let import_data = tables.import_data(alloc, bytes, &sections, opts)?;
+        let address_map = AddressMap::prepare(alloc, &sections, tables.file_alignment, opts)?;
+        let import_data = tables.import_data(alloc, bytes, &address_map)?;
         let imports = tables.imports(alloc, bytes, &import_data, &sections, opts)?;
-        let export_data = tables.export_data(alloc, bytes, &sections, opts)?;
-        let exports = tables.exports(alloc, bytes, &export_data, &sections, opts)?;
+        let export_data = tables.export_data(alloc, bytes, &address_map)?;
+        let exports = tables.exports(alloc, bytes, &export_data, &address_map)?;
         let relocations = tables.relocations(bytes, &sections, opts)?;
+        drop(address_map);
         Ok(Whole {
             header,
             sections,

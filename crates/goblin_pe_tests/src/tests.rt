@@ -2,5 +2,6 @@
 
 mod exports;
 mod imports;
+mod overlapping;
 mod raw_pointers;
 mod whole;

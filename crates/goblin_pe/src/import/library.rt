@@ -4,16 +4,17 @@ ghost use Rattle.std.specs.Prelude.{◌≡◌, map, option_map, true};
 ghost use Rattle.goblin_base.specs.Answers.{AnswersOrMemory};
 ghost use Rattle.goblin_pe_sect.specs.Mapping.{file_offset};
 ghost use Rattle.goblin_pe_sect.specs.Options.{default_options, is_strict};
+ghost use Rattle.goblin_pe.specs.Addresses.{offset_of};
 ghost use Rattle.goblin_pe.specs.ImportDirectory.{IsLibraryFault, IsLookupIfFault, address_table_rva, library_of, lookup_offset, lookup_table_if};
 ghost use Rattle.goblin_pe.specs.ImportLookup.{entry_view};
 
+use crate::address_map::AddressMap;
 use crate::import::address_table::{ImportAddressTable, address_table};
 use crate::import::bitfield::Bitfield;
 use crate::import::directory_entry::ImportDirectoryEntry;
 use crate::import::lookup_table::{ImportLookupTable, SyntheticImportLookupTableEntry};
 use crate::options::ParseOptions;
 use crate::section_table::SectionTable;
-use crate::utils::{find_offset, safe_try_name};
 use goblin_base::{Cause, Error, ResultOf};
 use std::alloc::Global;
 use std::marker::Model;
@@ -53,45 +54,29 @@ fn lookup_table_if<'a, 'e, T: Bitfield<'a>>(
     alloc: Global,
     bytes: &'a [u8],
     offset: Option<usize>,
-    sections: &[SectionTable],
-    file_alignment: u32,
-    opts: &ParseOptions,
+    address_map: &AddressMap,
 ) -> ResultOf<'e, Option<ImportLookupTable<'a>>>
-    ensures { let m = file_offset opts.now sections.now file_alignment in
-        let strict = is_strict opts.now.parse_mode in
+    ensures { let m = offset_of address_map.now in
+        let strict = is_strict address_map.now.opts.parse_mode in
         AnswersOrMemory (option_map (map entry_view)) result (lookup_table_if strict T.format m bytes.now offset) (IsLookupIfFault strict T.format m bytes.now offset) }
 {
     let Some(offset) = offset else {
         return Ok(None);
     };
-    let table = SyntheticImportLookupTableEntry::parse_with_opts::<T>(
-        alloc,
-        bytes,
-        offset,
-        sections,
-        file_alignment,
-        opts,
-    )?;
+    let table = SyntheticImportLookupTableEntry::parse_by::<T>(alloc, bytes, offset, address_map)?;
     Ok(Some(table))
 }
 
 // Where a record's lookup table stands: at its own address, or at that of the address table.
-fn lookup_offset(
-    entry: &ImportDirectoryEntry,
-    sections: &[SectionTable],
-    file_alignment: u32,
-    opts: &ParseOptions,
-) -> Option<usize>
-    ensures { result ≡ lookup_offset (file_offset opts.now sections.now file_alignment) entry.now }
+fn lookup_offset(entry: &ImportDirectoryEntry, address_map: &AddressMap) -> Option<usize>
+    ensures { result ≡ lookup_offset (offset_of address_map.now) entry.now }
 {
-    let lookup_rva = entry.import_lookup_table_rva as usize;
-    let address_rva = entry.import_address_table_rva as usize;
-    find_offset(lookup_rva, sections, file_alignment, opts).or_else(|| find_offset(
-        address_rva,
-        sections,
-        file_alignment,
-        opts,
-    ))
+    let lookup_rva = entry.import_lookup_table_rva;
+    let address_rva = entry.import_address_table_rva;
+    match address_map.offset_of(lookup_rva) {
+        Some(offset) => Some(offset),
+        None => address_map.offset_of(address_rva),
+    }
 }
 
 // The address of a record's address table.
@@ -140,12 +125,11 @@ impl<'a> SyntheticImportDirectoryEntry<'a> {
     /// up to one that is 0.
     ///
     /// # Errors
-    /// In strict mode as [`safe_try_name`] where no name can be read; in permissive mode the name is
+    /// In strict mode as [`safe_try_name`](crate::utils::safe_try_name) where no name can be read; in permissive mode the name is
     /// then empty. As [`SyntheticImportLookupTableEntry::parse_with_opts`] where the lookup table is
     /// refused. In both modes [`Error::Malformed`] with [`Cause::Unmapped`] where the address of the
     /// address table has no file offset, and [`Error::Read`] where that table meets the end of the
     /// file. [`Error::Memory`] where memory is refused.
-    #[tactic(auto, unfolding(crate::specs::ImportDirectory::library_of))]
     pub fn parse_with_opts<'e, T: Bitfield<'a>>(
         alloc: Global,
         bytes: &'a [u8],
@@ -158,21 +142,34 @@ impl<'a> SyntheticImportDirectoryEntry<'a> {
             let strict = is_strict opts.now.parse_mode in
             AnswersOrMemory (λ x. x) result (library_of strict T.format m bytes.now import_directory_entry) (IsLibraryFault strict T.format m bytes.now import_directory_entry) }
     {
-        let record = &import_directory_entry;
-        let name_rva = record.name_rva as usize;
-        let name = safe_try_name(bytes, name_rva, sections, file_alignment, opts)?.unwrap_or("");
-        let lookup_offset = lookup_offset(record, sections, file_alignment, opts);
-        let import_lookup_table = lookup_table_if::<T>(
+        let address_map = AddressMap::prepare(alloc, sections, file_alignment, opts)?;
+        SyntheticImportDirectoryEntry::parse_by::<T>(
             alloc,
             bytes,
-            lookup_offset,
-            sections,
-            file_alignment,
-            opts,
-        )?;
-        let address_rva = address_table_rva(record) as usize;
-        let Some(offset) = find_offset(address_rva, sections, file_alignment, opts) else {
-            return Err(Error::Malformed(Cause::Unmapped(address_rva)));
+            import_directory_entry,
+            &address_map,
+        )
+    }
+
+    // What a record leads to.
+    #[tactic(auto, unfolding(crate::specs::ImportDirectory::library_of))]
+    pub(super) fn parse_by<'e, T: Bitfield<'a>>(
+        alloc: Global,
+        bytes: &'a [u8],
+        import_directory_entry: ImportDirectoryEntry,
+        address_map: &AddressMap,
+    ) -> ResultOf<'e, SyntheticImportDirectoryEntry<'a>>
+        ensures { let m = offset_of address_map.now in
+            let strict = is_strict address_map.now.opts.parse_mode in
+            AnswersOrMemory (λ x. x) result (library_of strict T.format m bytes.now import_directory_entry) (IsLibraryFault strict T.format m bytes.now import_directory_entry) }
+    {
+        let record = &import_directory_entry;
+        let name = address_map.name_at(bytes, record.name_rva)?.unwrap_or("");
+        let lookup_offset = lookup_offset(record, address_map);
+        let import_lookup_table = lookup_table_if::<T>(alloc, bytes, lookup_offset, address_map)?;
+        let address_rva = address_table_rva(record);
+        let Some(offset) = address_map.offset_of(address_rva) else {
+            return Err(Error::Malformed(Cause::Unmapped(address_rva as usize)));
         };
         let import_address_table = address_table::<T>(alloc, bytes, offset)?;
         Ok(SyntheticImportDirectoryEntry {

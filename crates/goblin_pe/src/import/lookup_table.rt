@@ -4,13 +4,14 @@ ghost use Rattle.std.specs.Prelude.{map, true};
 ghost use Rattle.goblin_base.specs.Answers.{Answers, AnswersOrMemory};
 ghost use Rattle.goblin_pe_sect.specs.Mapping.{file_offset};
 ghost use Rattle.goblin_pe_sect.specs.Options.{default_options, is_strict};
+ghost use Rattle.goblin_pe.specs.Addresses.{offset_of};
 ghost use Rattle.goblin_pe.specs.ImportLookup.{IsHintNameFault, IsKeptEntryFault, IsLookupTableFault, hint_name, kept_entry, lookup_table, entry_view, hint_name_view, kept_view};
 
+use crate::address_map::AddressMap;
 use crate::import::bitfield::{Bitfield, read_entry};
 use crate::options::ParseOptions;
 use crate::section_table::SectionTable;
 use crate::table::Table;
-use crate::utils::find_offset;
 use goblin_base::{Cause, Endian, Error, Result, ResultOf, pread_str, pread_u16};
 use std::alloc::Global;
 
@@ -80,24 +81,22 @@ impl<'a> SyntheticImportLookupTableEntry<'a> {
     fn kept<'e, T: Bitfield<'a>>(
         entry: &T,
         bytes: &'a [u8],
-        sections: &[SectionTable],
-        file_alignment: u32,
-        opts: &ParseOptions,
+        address_map: &AddressMap,
     ) -> ResultOf<'e, Option<SyntheticImportLookupTableEntry<'a>>>
-        ensures { let m = file_offset opts.now sections.now file_alignment in
-            Answers kept_view result (kept_entry (is_strict opts.now.parse_mode) m bytes.now (T.value entry.now)) (IsKeptEntryFault m bytes.now (T.value entry.now)) }
+        ensures { let m = offset_of address_map.now in
+            Answers kept_view result (kept_entry (is_strict address_map.now.opts.parse_mode) m bytes.now (T.value entry.now)) (IsKeptEntryFault m bytes.now (T.value entry.now)) }
     {
         if entry.is_ordinal() {
             let ordinal = entry.to_ordinal();
             return Ok(Some(SyntheticImportLookupTableEntry::OrdinalNumber(ordinal)));
         }
         let rva = entry.to_rva();
-        let Some(offset) = find_offset(rva as usize, sections, file_alignment, opts) else {
+        let Some(offset) = address_map.offset_of(rva) else {
             return Ok(None);
         };
-        match HintNameTableEntry::parse_with_opts(bytes, offset, opts) {
+        match HintNameTableEntry::parse_with_opts(bytes, offset, address_map.opts()) {
             Ok(named) => Ok(Some(SyntheticImportLookupTableEntry::HintNameTableRVA((rva, named)))),
-            Err(_) if opts.parse_mode.is_permissive() => Ok(None),
+            Err(_) if address_map.is_permissive() => Ok(None),
             Err(error) => Err(error),
         }
     }
@@ -157,12 +156,27 @@ impl<'a> SyntheticImportLookupTableEntry<'a> {
             let strict = is_strict opts.now.parse_mode in
             AnswersOrMemory (map entry_view) result (lookup_table strict T.format m bytes.now offset) (IsLookupTableFault strict T.format m bytes.now offset) }
     {
+        let address_map = AddressMap::prepare(alloc, sections, file_alignment, opts)?;
+        SyntheticImportLookupTableEntry::parse_by::<T>(alloc, bytes, offset, &address_map)
+    }
+
+    // The lookup table at an offset.
+    pub(super) fn parse_by<'e, T: Bitfield<'a>>(
+        alloc: Global,
+        bytes: &'a [u8],
+        offset: usize,
+        address_map: &AddressMap,
+    ) -> ResultOf<'e, ImportLookupTable<'a>>
+        ensures { let m = offset_of address_map.now in
+            let strict = is_strict address_map.now.opts.parse_mode in
+            AnswersOrMemory (map entry_view) result (lookup_table strict T.format m bytes.now offset) (IsLookupTableFault strict T.format m bytes.now offset) }
+    {
         let size = T::size_of();
         let mut entries = Vec::new(alloc);
         let mut place = offset;
         'slots: loop {
             let Ok(entry) = read_entry::<T>(bytes, place) else {
-                if opts.parse_mode.is_permissive() {
+                if address_map.is_permissive() {
                     break 'slots;
                 }
                 return Err(Error::Malformed(Cause::LookupEnd(place)));
@@ -170,13 +184,7 @@ impl<'a> SyntheticImportLookupTableEntry<'a> {
             if entry.is_zero() {
                 break 'slots;
             }
-            let kept = SyntheticImportLookupTableEntry::kept(
-                &entry,
-                bytes,
-                sections,
-                file_alignment,
-                opts,
-            )?;
+            let kept = SyntheticImportLookupTableEntry::kept(&entry, bytes, address_map)?;
             if let Some(kept) = kept {
                 entries.push(kept)?;
             }

@@ -5,7 +5,7 @@ use Rattle.std.proofs.lemmas.Result.{err_from_is_err_and}
 use Rattle.goblin_base.specs.declared.error.ErrorOf.TheVariants.{Malformed}
 use Rattle.goblin_base.specs.declared.error.CauseOf.TheVariants.{ImportRecordEnd}
 use Rattle.goblin_base.proofs.SlotTables.{at-start, at-next, at-last, at-end, at-missing, at-missing_first, at-refused, at-refused_cause}
-use Rattle.goblin_pe_sect.specs.Mapping.{file_offset}
+use Rattle.goblin_pe.specs.Addresses.{offset_of}
 use Rattle.goblin_pe_sect.specs.Options.{is_strict}
 use Rattle.goblin_pe.specs.ImportDirectory.{IsImportRecordEnd, IsLibraryFault}
 use Rattle.goblin_pe.proofs.Modes.{strict, permissive}
@@ -33,7 +33,7 @@ pub returns-in_err-kept : goal.returns-in_err-kept
 returns-in_err-kept g c =
     let e = err_from_is_err_and c.from_residual.result c.from_residual.ensures.1 in
     let going = opposite _ _ false c.is_possibly_valid.ensures c.if-not-is_possibly_valid.false in
-    let IsCause = IsLibraryFault (is_strict c.args.opts.now.parse_mode) g.T.Bitfield.format (file_offset c.args.opts.now c.args.sections.now c.args.file_alignment) c.args.bytes.now in
+    let IsCause = IsLibraryFault (is_strict c.args.address_map.now.opts.parse_mode) g.T.Bitfield.format (offset_of c.args.address_map.now) c.args.bytes.now in
     rw (e.1, e.2) (λ memory.
     let refused = c.in_err-kept.ensures memory in (
       at-refused _ _ _ _ _ _ _ _ (lit≤ tt) c.records.invariant c.in-Ok.ensures going refused.0,

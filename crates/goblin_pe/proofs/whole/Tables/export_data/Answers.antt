@@ -1,13 +1,19 @@
+use Rattle.std.proofs.Common.{subst}
+use Rattle.goblin_pe_sect.specs.declared.options.ParseOptions.{ParseOptions}
 use Rattle.goblin_pe_sect.specs.Options.{is_strict}
+use Rattle.goblin_pe.specs.Addresses.{offset_of}
 use Rattle.goblin_pe.specs.Exports.{IsExportDataFault, export_data}
-use Rattle.goblin_pe.specs.Whole.{export_data_part, offset_by, part_at, table_places}
+use Rattle.goblin_pe.specs.Whole.{BecomesPart, export_data_part, part_at}
 use Rattle.goblin_pe.proofs.Parts.{becomes_same}
 use Rattle.goblin_pe.proofs.whole.Tables.export_data.Goals as goal
 
 pub returns : goal.returns
 unfolding export_data_part part_at
 returns c =
-    let offset_of = offset_by c.args.opts.now c.args.sections.now (table_places c.args.self.now) in
+    let strict = is_strict c.args.address_map.now.opts.parse_mode in
+    let m = offset_of c.args.address_map.now in
     let directory = c.in-Some.directory in
     let bytes = c.args.bytes.now in
-    rw (c.in-Some.is) (becomes_same (is_strict c.args.opts.now.parse_mode) c.parse_with_opts.result c.part_of.result (export_data offset_of directory bytes) (IsExportDataFault offset_of directory bytes) c.parse_with_opts.ensures.value c.part_of.ensures)
+    let made : BecomesPart strict c.parse_by.result c.part_of.result =
+    subst (λ (o : ParseOptions). BecomesPart (is_strict o.parse_mode) c.parse_by.result c.part_of.result) c.opts.ensures c.part_of.ensures in
+    rw (c.in-Some.is) (becomes_same strict c.parse_by.result c.part_of.result (export_data m directory bytes) (IsExportDataFault m directory bytes) c.parse_by.ensures.value made)

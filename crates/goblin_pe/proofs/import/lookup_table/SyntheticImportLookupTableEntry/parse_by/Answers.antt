@@ -1,14 +1,14 @@
 use Rattle.std.proofs.Common.{◌≡◌, ◌≤◌, ◌++◌, sym, ap, ◌∙◌, arith, map, inl, inr, refl}
 use Rattle.std.proofs.lemmas.List.{map-append, append-nil}
 use Rattle.std.proofs.lemmas.Result.{err_from_is_err_and}
-use Rattle.goblin_pe_sect.specs.Mapping.{file_offset}
+use Rattle.goblin_pe.specs.Addresses.{offset_of}
 use Rattle.goblin_base.specs.declared.error.ErrorOf.TheVariants.{Malformed}
 use Rattle.goblin_base.specs.declared.error.CauseOf.TheVariants.{LookupEnd}
 use Rattle.goblin_base.proofs.SlotTables.{at-start, at-next, at-last, at-end, at-missing, at-missing_first, at-refused, at-refused_cause}
 use Rattle.goblin_pe.specs.ImportLookup.{IsKeptEntryFault, IsLookupEnd, entry_view, kept_view}
 use Rattle.goblin_pe.proofs.Modes.{strict, permissive}
-use Rattle.goblin_pe.proofs.import.lookup_table.SyntheticImportLookupTableEntry.parse_with_opts.Goals as goal
-use Rattle.goblin_pe.proofs.import.lookup_table.SyntheticImportLookupTableEntry.parse_with_opts.Goals.{in_default+then-is_permissive, in-Ok+then-is_zero, in-Some+in_ok-push, in_default-kept}
+use Rattle.goblin_pe.proofs.import.lookup_table.SyntheticImportLookupTableEntry.parse_by.Goals as goal
+use Rattle.goblin_pe.proofs.import.lookup_table.SyntheticImportLookupTableEntry.parse_by.Goals.{in_default+then-is_permissive, in-Ok+then-is_zero, in-Some+in_ok-push, in_default-kept}
 
 pub slots-init : goal.slots-init
 slots-init g c = rw c.new-entries.ensures.items (at-start _ _ _ _)
@@ -26,7 +26,7 @@ returns-in_err-kept g c =
     let going = sym c.is_zero.ensures ∙ c.if-is_zero.false in
     rw (e.1, e.2) (λ _. (
       at-refused _ _ _ _ _ _ _ _ width c.slots.invariant c.in-Ok.ensures going c.in_err-kept.ensures.0,
-      inr (at-refused_cause _ _ (IsKeptEntryFault (file_offset c.args.opts.now c.args.sections.now c.args.file_alignment) c.args.bytes.now) _ _ _ _ _ _ width c.slots.invariant c.in-Ok.ensures going c.in_err-kept.ensures.0 c.in_err-kept.ensures.1),
+      inr (at-refused_cause _ _ (IsKeptEntryFault (offset_of c.args.address_map.now) c.args.bytes.now) _ _ _ _ _ _ width c.slots.invariant c.in-Ok.ensures going c.in_err-kept.ensures.0 c.in_err-kept.ensures.1),
     ))
 
 pub slots-preserved : goal.slots-preserved

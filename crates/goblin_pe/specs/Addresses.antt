@@ -1,0 +1,15 @@
+-- By what the addresses of a file are mapped to its offsets.
+use Rattle.std.specs.Prelude.{ℕ, List, Option}
+use Rattle.goblin_pe_sect.specs.declared.options.ParseOptions.{ParseOptions}
+use Rattle.goblin_pe_sect.specs.Mapping.{file_offset}
+use Rattle.goblin_pe_sect.specs.SectionTable.{Section}
+
+-- the sections, the file alignment and the options by which a file's addresses are mapped
+pub record Mapping : Type 0 where
+  pub sections : List Section
+  pub file_alignment : ℕ
+  pub opts : ParseOptions
+
+-- the file offset of an address
+abbrev pub offset_of : Mapping → ℕ → Option ℕ
+offset_of m = file_offset m.opts m.sections m.file_alignment

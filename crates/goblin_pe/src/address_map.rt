@@ -1,0 +1,115 @@
+//! Where addresses lie in the file, by an index that is prepared once.
+
+ghost use Rattle.std.specs.Prelude.{◌≡◌, ◌↔◌, IfErr, IsTrue, option_map};
+ghost use Rattle.std.specs.Int.{is_power_of_two};
+ghost use Rattle.goblin_base.specs.Answers.{Answers, GivesOrMemory};
+ghost use Rattle.goblin_pe_sect.specs.Mapping.{IsSafeNameFault, name_at, name_or_none};
+ghost use Rattle.goblin_base.specs.declared.permissive.ParseMode.TheVariants.{Permissive};
+ghost use Rattle.goblin_pe_sect.specs.Options.{is_strict};
+ghost use Rattle.goblin_pe.specs.Addresses.{offset_of};
+
+use crate::options::ParseOptions;
+use crate::section_table::SectionTable;
+use crate::windows::WindowIndex;
+use goblin_base::{Cause, Error, Result, pread_str};
+use std::alloc::Global;
+use std::marker::Model;
+
+// Where addresses lie in the file, and how what stands there is read: the sections, the file alignment
+// and the options by which addresses are mapped, and the index that maps them.
+#[derive(Drop)]
+pub(crate) struct AddressMap<'s> {
+    sections: &'s [SectionTable],
+    file_alignment: u32,
+    opts: ParseOptions,
+    index: WindowIndex,
+}
+
+impl<'s> Model for AddressMap<'s> {
+    ghost use Rattle.std.specs.Prelude.{◌≡◌, ℕ};
+    ghost use Rattle.goblin_pe_sect.specs.Mapping.{file_offset};
+    ghost use Rattle.goblin_pe_sect.specs.WindowIndex.{located};
+    ghost use Rattle.goblin_pe.specs.Addresses.{Mapping};
+
+    ghost Value = { Mapping };
+
+    ghost view = { λ x. record { sections = x.sections.now; file_alignment = x.file_alignment; opts = x.opts } };
+
+    ghost invariant = { λ x. (rva : ℕ) → located x.index rva ≡ file_offset x.opts x.sections.now x.file_alignment rva };
+}
+
+impl<'s> AddressMap<'s> {
+    // Prepares the index of the sections' windows.
+    pub(crate) fn prepare(
+        alloc: Global,
+        sections: &'s [SectionTable],
+        file_alignment: u32,
+        opts: &ParseOptions,
+    ) -> Result<AddressMap<'s>>
+        ensures made { GivesOrMemory (λ x. x) result (record { sections = sections.now; file_alignment = file_alignment; opts = opts.now }) }
+        ensures grown { IfErr result (λ e. IsTrue opts.now.resolve_rva × IsTrue (is_power_of_two file_alignment)) }
+    {
+        let index = WindowIndex::prepare(alloc, sections, file_alignment, opts)?;
+        Ok(AddressMap {
+            sections,
+            file_alignment,
+            opts: *opts,
+            index,
+        })
+    }
+
+    // The sections.
+    pub(crate) fn sections(&self) -> &'s [SectionTable]
+        ensures { result.now ≡ self.now.sections }
+    {
+        self.sections
+    }
+
+    // The file alignment.
+    pub(crate) fn file_alignment(&self) -> u32
+        ensures { result ≡ self.now.file_alignment }
+    {
+        self.file_alignment
+    }
+
+    // The options.
+    pub(crate) fn opts(&self) -> &ParseOptions
+        ensures { result.now ≡ self.now.opts }
+    {
+        &self.opts
+    }
+
+    // Whether damaged parts are passed over.
+    pub(crate) fn is_permissive(&self) -> bool
+        ensures { IsTrue result ↔ (self.now.opts.parse_mode ≡ Permissive) }
+    {
+        self.opts.parse_mode.is_permissive()
+    }
+
+    // The file offset of an address.
+    pub(crate) fn offset_of(&self, rva: u32) -> Option<usize>
+        ensures { result ≡ offset_of self.now rva }
+    {
+        self.index.find(rva as usize)
+    }
+
+    // The text at an address, with the causes of `safe_try_name`: in permissive mode `None` where there
+    // is none.
+    pub(crate) fn name_at<'a>(&self, bytes: &'a [u8], rva: u32) -> Result<Option<&'a str>>
+        ensures { let m = offset_of self.now in
+            Answers (option_map (λ s. s.now)) result (name_or_none (is_strict self.now.opts.parse_mode) (name_at m bytes.now rva)) (IsSafeNameFault m rva) }
+    {
+        let cause = match self.offset_of(rva) {
+            Some(offset) => match pread_str(bytes, offset) {
+                Ok(name) => return Ok(Some(name)),
+                Err(_) => Cause::NameRead(offset),
+            },
+            None => Cause::Unmapped(rva as usize),
+        };
+        if self.is_permissive() {
+            Ok(None)
+        } else {
+            Err(Error::Malformed(cause))
+        }
+    }
+}

@@ -1,0 +1,145 @@
+//! Two sections that overlap, in both orders: each reader takes what stands where `find_offset` says.
+
+use fixture::sample::{put, section};
+use goblin_base::read::{pread_str, pread_u32};
+use goblin_base::{Endian, Record};
+use goblin_pe::export::{Export, ExportData};
+use goblin_pe::import::{
+    HintNameTableEntry, ImportData, ImportDirectoryEntry, SyntheticImportDirectoryEntry,
+    SyntheticImportLookupTableEntry,
+};
+use goblin_pe_sect::utils::find_offset;
+use goblin_pe_sect::{DataDirectory, ParseOptions, SectionTable};
+use std::alloc::Global;
+use std::test::Fail;
+
+/// The file alignment.
+const ALIGNMENT: u32 = 0x200;
+
+/// Where the directories begin, in the wide section alone.
+const IMPORTS: DataDirectory = DataDirectory {
+    virtual_address: 0x1000,
+    size: 40,
+};
+
+const EXPORTS: DataDirectory = DataDirectory {
+    virtual_address: 0x1100,
+    size: 40,
+};
+
+/// What stands in the file: the import record and the export record, which lead to addresses that lie in
+/// both sections; what the narrow section has there, and what the wide one has.
+const BYTES: &[(usize, &[u8])] = &[
+    (0x800, b"\x10\x12"),
+    (0x80C, b"\x40\x12\x00\x00\x20\x12"),
+    (0x90C, b"\x40\x12"),
+    (0x914, b"\x01\x00\x00\x00\x01"),
+    (0x91C, b"\x80\x12\x00\x00\x84\x12\x00\x00\x88\x12"),
+    (0x410, b"\x50\x12"),
+    (0x420, b"\x0B"),
+    (0x440, b"narrow"),
+    (0x450, b"\x05\x00f"),
+    (0x480, b"\x90\x12\x00\x00\x40\x12"),
+    (0xA10, b"\x50\x12"),
+    (0xA20, b"\x16"),
+    (0xA40, b"wide"),
+    (0xA50, b"\x06\x00g"),
+    (0xA80, b"\xA0\x12\x00\x00\x40\x12"),
+];
+
+/// Where an address lies in the file, and 0 where it does not.
+fn at(rva: usize, sections: &[SectionTable]) -> usize {
+    find_offset(rva, sections, ALIGNMENT, &ParseOptions::default()).unwrap_or(0)
+}
+
+/// Whether a library has the name and the number that stand where `find_offset` says.
+fn is_library(
+    library: &SyntheticImportDirectoryEntry,
+    file: &[u8],
+    sections: &[SectionTable],
+) -> goblin_base::Result<bool> {
+    let name = pread_str(file, at(0x1240, sections))?;
+    let number = pread_u32(file, at(0x1220, sections), Endian::Little)?;
+    Ok(
+        library.name == name
+            && library
+                .import_address_table
+                .as_slice()
+                .first()
+                .is_some_and(|first| *first == u64::from(number)),
+    )
+}
+
+/// Whether the readers of imports take what stands where `find_offset` says.
+fn imports_agree(
+    alloc: Global,
+    file: &[u8],
+    sections: &[SectionTable],
+) -> goblin_base::Result<bool> {
+    let offset = at(0x1210, sections);
+    let table = SyntheticImportLookupTableEntry::parse::<u32>(
+        alloc, file, offset, sections, ALIGNMENT,
+    )?;
+    let want = HintNameTableEntry::parse(file, at(0x1250, sections))?;
+    let named = match table.as_slice().first() {
+        Some(SyntheticImportLookupTableEntry::HintNameTableRVA(named)) => named.1.hint == want.hint
+            && named.1.name == want.name,
+        _ => false,
+    };
+    let record = ImportDirectoryEntry::read_at(file, at(0x1000, sections), Endian::Little)?;
+    let library = SyntheticImportDirectoryEntry::parse::<u32>(
+        alloc, file, record, sections, ALIGNMENT,
+    )?;
+    let imports = ImportData::parse::<u32>(alloc, file, IMPORTS, sections, ALIGNMENT)?;
+    let Some(first) = imports.import_data.first() else {
+        return Ok(false);
+    };
+    Ok(named && is_library(&library, file, sections)? && is_library(first, file, sections)?)
+}
+
+/// Whether the readers of exports take what stands where `find_offset` says.
+fn exports_agree(
+    alloc: Global,
+    file: &[u8],
+    sections: &[SectionTable],
+) -> goblin_base::Result<bool> {
+    let tables = ExportData::parse(alloc, file, EXPORTS, sections, ALIGNMENT)?;
+    let exports = Export::parse(alloc, file, &tables, sections, ALIGNMENT)?;
+    let name = pread_str(file, at(0x1240, sections))?;
+    let rva = pread_u32(file, at(0x1280, sections), Endian::Little)? as usize;
+    let Some(export) = exports.first() else {
+        return Ok(false);
+    };
+    let opts = ParseOptions::default();
+    Ok(
+        tables.name == Some(name)
+            && export.name == Some(name)
+            && export.rva == rva
+            && export.offset == find_offset(rva, sections, ALIGNMENT, &opts),
+    )
+}
+
+#[test]
+fn each_reader_takes_the_first_of_two_overlapping_sections(rt: HostRuntime) -> Result<(), Fail> {
+    let alloc = rt.alloc();
+    let mut file = vec![in alloc; 0u8; 0x1000]?;
+    for (offset, bytes) in BYTES {
+        put(&mut file, *offset, bytes);
+    }
+    let narrow = section(0x1200, 0x200, 0x200, 0x400);
+    let wide = section(0x1000, 0x800, 0x800, 0x800);
+    let again = section(0x1200, 0x200, 0x200, 0x400);
+    let tables = [narrow, wide, again];
+    for (sections, name_offset) in [(&tables[..2], 0x440), (&tables[1..], 0xA40)] {
+        assert_eq!(rt; at(0x1240, sections), name_offset);
+        assert!(rt;
+            imports_agree(alloc, &file, sections)?,
+            "imports at {name_offset:#x}"
+        );
+        assert!(rt;
+            exports_agree(alloc, &file, sections)?,
+            "exports at {name_offset:#x}"
+        );
+    }
+    Ok(())
+}
