@@ -1,5 +1,6 @@
 -- The loops that list imports: over the entries of a table, and over libraries.
-use Rattle.std.proofs.Common.{◌≡◌, ◌<◌, ℕ, ◌+◌, List, [], ◌∷◌, ◌++◌, length, Option, Some, None, refl, sym, ap, ◌∙◌, append-nil, append_assoc}
+use Rattle.std.proofs.Common.{◌≡◌, ◌<◌, ℕ, zero, suc, ◌+◌, Bool, true, false, cond, not, List, [], ◌∷◌, ◌++◌, length, Option, Some, None, refl, sym, ap, subst, ◌∙◌, append-nil, append_assoc}
+use Rattle.std.specs.List.{find}
 use Rattle.std.specs.Prelude.{map, get_or, slice_get, option_map}
 use Rattle.std.proofs.lemmas.Option.{slice_get-get_or, slice_get-map, slice_get_within}
 use Rattle.goblin_base.specs.Tables.{each_below, join}
@@ -8,49 +9,58 @@ use Rattle.goblin_base.specs.Answers.{◌>>=◌, all_at}
 use Rattle.goblin_base.proofs.Steps.{all_at-more, all_at-none, all_at-zero}
 use Rattle.goblin_pe.specs.ImportLookup.{LookupEntry}
 use Rattle.goblin_pe.specs.ImportDirectory.{ImportedLibrary}
-use Rattle.goblin_pe.specs.Imports.{ImportValue, import_at, import_of, import_offset, imports_by, imports_of, library_imports}
+use Rattle.goblin_pe.specs.Imports.{ImportValue, first_without_slots, has_slots, import_at, import_of, import_offset, imports_by, imports_of, kept_entries, library_imports}
 
--- `now` is `old` with the imports of the entries before a position behind it
-pub record AtEntry (size : ℕ) (dll : List ℕ) (rva : ℕ) (entries : List LookupEntry) (position : ℕ) (old now : List ImportValue) : Type 0 where
-  pub made : List ImportValue
-  pub so_far : all_at (import_at size dll rva entries) position ≡ Some made
-  pub behind : now ≡ old ++ made
+-- over a table's entries and slots
+module _ (size : ℕ) (dll : List ℕ) (rva : ℕ) (entries : List LookupEntry) (slots : List ℕ) where
+  -- `now` is `old` with the imports of the entries before a position behind it
+  pub record AtEntry (position : ℕ) (old now : List ImportValue) : Type 0 where
+    pub made : List ImportValue
+    pub so_far : all_at (import_at size dll rva entries slots) position ≡ Some made
+    pub behind : now ≡ old ++ made
 
-pub entry-start : (size : ℕ) (dll : List ℕ) (rva : ℕ) (entries : List LookupEntry) (old : List ImportValue) → AtEntry size dll rva entries 0 old old
-entry-start size dll rva entries old = record { made = []; so_far = all_at-zero (import_at size dll rva entries); behind = sym (append-nil old) }
+  pub entry-start : (old : List ImportValue) → AtEntry 0 old old
+  entry-start old = record { made = []; so_far = all_at-zero (import_at size dll rva entries slots); behind = sym (append-nil old) }
 
--- one entry further
-pub entry-next : (size : ℕ) (dll : List ℕ) (rva : ℕ) (entries : List LookupEntry) (position offset : ℕ) (entry : LookupEntry) (x : ImportValue) (old now : List ImportValue) → AtEntry size dll rva entries position old now → slice_get entries position ≡ Some entry → Some offset ≡ import_offset rva size position → Some (import_of dll offset size entry) ≡ Some x → AtEntry size dll rva entries (position + 1) old (now ++ x ∷ [])
-entry-next size dll rva entries position offset entry x old now h is fits same =
-    let this : import_at size dll rva entries position ≡ Some x = rw (is, ← fits) same in
-    record {
-      made = h.made ++ x ∷ [];
-      so_far = all_at-more (import_at size dll rva entries) position h.made x h.so_far this;
-      behind = ap (λ ys. ys ++ x ∷ []) h.behind ∙ append_assoc old h.made (x ∷ []);
-    }
+  -- one entry further
+  pub entry-next : (position slot offset : ℕ) (entry : LookupEntry) (x : ImportValue) (old now : List ImportValue) → AtEntry position old now → slice_get entries position ≡ Some entry → slice_get slots position ≡ Some slot → Some offset ≡ import_offset rva size slot → Some (import_of dll slot offset size entry) ≡ Some x → AtEntry (position + 1) old (now ++ x ∷ [])
+  entry-next position slot offset entry x old now h is in_slot fits same =
+      let this : import_at size dll rva entries slots position ≡ Some x = rw (is, in_slot, ← fits) same in
+      record {
+        made = h.made ++ x ∷ [];
+        so_far = all_at-more (import_at size dll rva entries slots) position h.made x h.so_far this;
+        behind = ap (λ ys. ys ++ x ∷ []) h.behind ∙ append_assoc old h.made (x ∷ []);
+      }
 
-no_offset : (size : ℕ) (dll : List ℕ) (rva : ℕ) (entries : List LookupEntry) (position : ℕ) → (entry : Option LookupEntry) → import_offset rva size position ≡ None → (entry >>= (λ e. import_offset rva size position >>= (λ o. Some (import_of dll o size e)))) ≡ None
-no_offset size dll rva entries position None none = refl
-no_offset size dll rva entries position (Some e) none = rw none refl
+  no_offset : (slot : ℕ) (entry : Option LookupEntry) → import_offset rva size slot ≡ None → (entry >>= (λ e. import_offset rva size slot >>= (λ o. Some (import_of dll slot o size e)))) ≡ None
+  no_offset slot None none = refl
+  no_offset slot (Some e) none = rw none refl
 
--- an entry without an offset
-pub entry-refused : (size : ℕ) (dll : List ℕ) (rva : ℕ) (entries : List LookupEntry) (position : ℕ) (old : List ImportValue) → position < length entries → import_offset rva size position ≡ None → option_map (λ made. old ++ made) (imports_by size dll rva entries) ≡ None
-unfolding imports_by
-entry-refused size dll rva entries position old below none =
-    let this : import_at size dll rva entries position ≡ None = no_offset size dll rva entries position (slice_get entries position) none in
-    let all : all_at (import_at size dll rva entries) (length entries) ≡ None = all_at-none (import_at size dll rva entries) (length entries) position below this in
-    rw all refl
+  -- an entry whose slot has no offset
+  pub entry-refused : (position slot : ℕ) (old : List ImportValue) → position < length entries → slice_get slots position ≡ Some slot → import_offset rva size slot ≡ None → option_map (λ made. old ++ made) (imports_by size dll rva entries slots) ≡ None
+  unfolding imports_by
+  entry-refused position slot old below in_slot none =
+      let this : import_at size dll rva entries slots position ≡ None = rw in_slot (no_offset slot (slice_get entries position) none) in
+      let all : all_at (import_at size dll rva entries slots) (length entries) ≡ None = all_at-none (import_at size dll rva entries slots) (length entries) position below this in
+      rw all refl
 
--- all entries
-pub entry-end : (size : ℕ) (dll : List ℕ) (rva : ℕ) (entries : List LookupEntry) (position : ℕ) (old now : List ImportValue) → AtEntry size dll rva entries position old now → position ≡ length entries → option_map (λ made. old ++ made) (imports_by size dll rva entries) ≡ Some now
-unfolding imports_by
-entry-end size dll rva entries position old now h end =
-    let all : all_at (import_at size dll rva entries) (length entries) ≡ Some h.made = ap (all_at (import_at size dll rva entries)) (sym end) ∙ h.so_far in
-    rw all (ap Some (sym h.behind))
+  -- all entries
+  pub entry-end : (position : ℕ) (old now : List ImportValue) → AtEntry position old now → position ≡ length entries → option_map (λ made. old ++ made) (imports_by size dll rva entries slots) ≡ Some now
+  unfolding imports_by
+  entry-end position old now h end =
+      let all : all_at (import_at size dll rva entries slots) (length entries) ≡ Some h.made = ap (all_at (import_at size dll rva entries slots)) (sym end) ∙ h.so_far in
+      rw all (ap Some (sym h.behind))
+
+-- the imports from a library that has as many entries as slots
+pub library-slotted : (size : ℕ) (library : ImportedLibrary) → has_slots library ≡ true → library_imports size library ≡ imports_by size library.name library.import_directory_entry.import_address_table_rva (kept_entries library) library.import_lookup_slots
+library-slotted size library h = rw h refl
 
 pub entry-read : {A : Type 0} (view : A → LookupEntry) (entries : List A) (position : ℕ) (d : A) → position < length entries → slice_get (map view entries) position ≡ Some (view (get_or entries position d))
 entry-read view entries position d below =
     slice_get-map view entries position ∙ ap (option_map view) (slice_get-get_or entries position d below)
+
+pub slot-read : (slots : List ℕ) (position : ℕ) → position < length slots → slice_get slots position ≡ Some (get_or slots position 0)
+slot-read slots position below = slice_get-get_or slots position 0 below
 
 -- ---- the loop over libraries
 
@@ -79,3 +89,46 @@ unfolding imports_of
 library-refused size libraries i library old is none =
     let this : imported_at size libraries i ≡ None = ap (λ l. l >>= library_imports size) is ∙ missing old (library_imports size library) none in
     each_below-missing (imported_at size libraries) (length libraries) i (slice_get_within libraries i library is) this
+
+-- ---- slots
+
+module _ {X : Type 0} (p : X → Bool) where
+  -- what is found stands at an index, and passes
+  found : (xs : List X) (y : X) → find p xs ≡ Some y → (i : ℕ) × (slice_get xs i ≡ Some y) × (p y ≡ true)
+  found [] y h = absurd cc
+  found (x ∷ xs) y h = by (p x) refl h
+    where
+      by : (b : Bool) → p x ≡ b → cond b (Some x) (find p xs) ≡ Some y → (i : ℕ) × (slice_get (x ∷ xs) i ≡ Some y) × (p y ≡ true)
+      by true e is = let same : x ≡ y = cc in (0, is, subst (λ z. p z ≡ true) same e)
+      by false e is = let rest = found xs y is in (suc rest.0, rest.1, rest.2)
+
+  -- where nothing is found no element passes
+  not_found : (xs : List X) (i : ℕ) (y : X) → find p xs ≡ None → slice_get xs i ≡ Some y → p y ≡ false
+  not_found [] i y none is = absurd cc
+  not_found (x ∷ xs) i y none is = by (p x) refl none i is
+    where
+      by : (b : Bool) → p x ≡ b → cond b (Some x) (find p xs) ≡ None → (i : ℕ) → slice_get (x ∷ xs) i ≡ Some y → p y ≡ false
+      by true e none i is = absurd cc
+      by false e none zero is = let same : x ≡ y = cc in subst (λ z. p z ≡ false) same e
+      by false e none (suc i) is = not_found xs i y none is
+
+not_true : (b : Bool) → not b ≡ true → b ≡ false
+not_true true h = absurd cc
+not_true false h = refl
+
+not_false : (b : Bool) → not b ≡ false → b ≡ true
+not_false true h = refl
+not_false false h = absurd cc
+
+-- a library that has not as many entries as slots: there is no list
+pub slots-missing : (size : ℕ) (libraries : List ImportedLibrary) (library : ImportedLibrary) → first_without_slots libraries ≡ Some library → imports_of size libraries ≡ None
+unfolding imports_of
+slots-missing size libraries library is =
+    let there = found (λ l. not (has_slots l)) libraries library is in
+    let fails = not_true (has_slots library) there.2 in
+    let this : imported_at size libraries there.0 ≡ None = rw (there.1, fails) refl in
+    each_below-missing (imported_at size libraries) (length libraries) there.0 (slice_get_within libraries there.0 library there.1) this
+
+-- else each library has
+pub slots-there : (libraries : List ImportedLibrary) (i : ℕ) (library : ImportedLibrary) → first_without_slots libraries ≡ None → slice_get libraries i ≡ Some library → has_slots library ≡ true
+slots-there libraries i library none here = not_false (has_slots library) (not_found (λ l. not (has_slots l)) libraries i library none here)

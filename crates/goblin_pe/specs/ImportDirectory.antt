@@ -11,7 +11,7 @@ use Rattle.goblin_base.specs.Record.{FieldValue, uint}
 use Rattle.goblin_base.specs.Answers.{◌>>=◌, FirstFault}
 use Rattle.goblin_base.specs.Tables.{SlotFormat, slot_table, or_left_out, IsTableFault, Format}
 use Rattle.goblin_pe_sect.specs.Mapping.{name_at, name_or_none, IsSafeNameFault, IsUnmapped}
-use Rattle.goblin_pe.specs.ImportLookup.{EntryValue, LookupEntry, lookup_table, address_table, IsLookupTableFault, IsAddressTableFault}
+use Rattle.goblin_pe.specs.ImportLookup.{EntryValue, LookupEntry, lookup_table, lookup_slots, address_table, IsLookupTableFault, IsAddressTableFault}
 use Rattle.goblin_pe.specs.declared.import.directory_entry.ImportDirectoryEntry.{ImportDirectoryEntry}
 
 -- the record in its 20 bytes
@@ -42,6 +42,7 @@ pub record ImportedLibrary : Type 0 where
   pub import_directory_entry : ImportDirectoryEntry
   pub name : List ℕ
   pub import_lookup_table : Option (List LookupEntry)
+  pub import_lookup_slots : List ℕ
   pub import_address_table : List ℕ
 
 -- the offset of a record's lookup table: that of its own address, and where it has none, that of the address table's
@@ -57,6 +58,11 @@ abbrev pub lookup_table_if : Bool → Format EntryValue → (ℕ → Option ℕ)
 lookup_table_if strict format offset_of bytes None = Some None
 lookup_table_if strict format offset_of bytes (Some o) = option_map Some (lookup_table strict format offset_of bytes o)
 
+-- the slots of its entries, and none where there is no offset
+abbrev pub lookup_slots_if : Bool → Format EntryValue → (ℕ → Option ℕ) → List ℕ → Option ℕ → List ℕ
+lookup_slots_if strict format offset_of bytes None = []
+lookup_slots_if strict format offset_of bytes (Some o) = lookup_slots strict format offset_of bytes o
+
 -- what a record leads to, where its name, its lookup table and its address table are there; permissive mode takes the empty name for one that is not
 unfoldable pub library_of : Bool → Format EntryValue → (ℕ → Option ℕ) → List ℕ → ImportDirectoryEntry → Option ImportedLibrary
 library_of strict format offset_of bytes r = do
@@ -64,7 +70,13 @@ library_of strict format offset_of bytes r = do
   lookup ← lookup_table_if strict format offset_of bytes (lookup_offset offset_of r)
   place ← offset_of (address_table_rva r)
   addresses ← address_table format bytes place
-  Some (record { import_directory_entry = r; name = unwrap_or name []; import_lookup_table = lookup; import_address_table = addresses })
+  Some (record {
+    import_directory_entry = r;
+    name = unwrap_or name [];
+    import_lookup_table = lookup;
+    import_lookup_slots = lookup_slots_if strict format offset_of bytes (lookup_offset offset_of r);
+    import_address_table = addresses;
+  })
 
 -- The libraries of the directory at an offset: those of the records before the first that is not in the file or is a last one. Strict mode needs that record, and a library of each; permissive mode leaves out records that lead to none.
 abbrev pub libraries_at : Bool → Format EntryValue → (ℕ → Option ℕ) → List ℕ → ℕ → Option (List ImportedLibrary)

@@ -8,7 +8,7 @@ use Rattle.goblin_base.specs.declared.error.ErrorOf.TheVariants.{Malformed}
 use Rattle.goblin_base.specs.declared.error.CauseOf.TheVariants.{HintEntry, LookupEnd}
 use Rattle.goblin_base.specs.Bytes.{number, number_at, text_at}
 use Rattle.goblin_base.specs.Answers.{IsSliceFault, IsTextFault, ◌>>=◌, FirstFault}
-use Rattle.goblin_base.specs.Tables.{SlotFormat, slot_table, or_left_out, IsTableFault, IsEndFault, Format}
+use Rattle.goblin_base.specs.Tables.{SlotFormat, slot_table, kept_slots, or_left_out, IsTableFault, IsEndFault, Format}
 use Rattle.goblin_pe.specs.declared.import.lookup_table.HintNameTableEntry.{HintNameTableEntry}
 use Rattle.goblin_pe.specs.declared.import.lookup_table.SyntheticImportLookupTableEntry.{SyntheticImportLookupTableEntry}
 use Rattle.goblin_pe.specs.declared.import.lookup_table.SyntheticImportLookupTableEntry.TheVariants.{OrdinalNumber, HintNameTableRVA}
@@ -71,6 +71,10 @@ kept_entry strict offset_of bytes entry =
 -- The lookup table at an offset: what is kept of the entries before the first slot that is not in the file or has number 0. Strict mode needs that slot.
 abbrev pub lookup_table : Bool → Format EntryValue → (ℕ → Option ℕ) → List ℕ → ℕ → Option (List LookupEntry)
 lookup_table strict format offset_of bytes o = slot_table (entry_slots format) strict (kept_entry strict offset_of bytes) bytes o
+
+-- The slots of which that lookup table keeps the entries, by their indexes: one for each entry that it keeps.
+abbrev pub lookup_slots : Bool → Format EntryValue → (ℕ → Option ℕ) → List ℕ → ℕ → List ℕ
+lookup_slots strict format offset_of bytes o = kept_slots (entry_slots format) (kept_entry strict offset_of bytes) bytes o
 
 -- an entry's number, which an address table always keeps
 abbrev pub kept_number : EntryValue → Option (List ℕ)

@@ -23,7 +23,7 @@ use Rattle.goblin_pe.specs.Addresses.{Mapping}
 use Rattle.goblin_pe.specs.Exports.{ExportRow, ExportTables, IsExportDataFault, export_data, exports}
 use Rattle.goblin_pe.specs.ImportDirectory.{ImportedLibrary, IsImportDataFault, import_data}
 use Rattle.goblin_pe.specs.ImportLookup.{EntryValue, entries_32, entries_64}
-use Rattle.goblin_pe.specs.Imports.{ImportValue, IsOverflow, imports_of}
+use Rattle.goblin_pe.specs.Imports.{ImportValue, IsImportsFault, imports_of}
 
 -- ---- parts
 
@@ -63,9 +63,9 @@ IsPartAtFault strict IsFault None e = ⊥
 IsPartAtFault strict IsFault (Some directory) e = (strict ≡ true) × IsFault directory e
 
 -- which cause is true of a table made from another part that refuses all
-abbrev pub IsPartThenFault : {A : Type 0} → Bool → (ErrorOf → Type 0) → Part A → ErrorOf → Type 0
+abbrev pub IsPartThenFault : {A : Type 0} → Bool → (A → ErrorOf → Type 0) → Part A → ErrorOf → Type 0
 IsPartThenFault strict IsFault Absent e = ⊥
-IsPartThenFault strict IsFault (part.Read from) e = (strict ≡ true) × IsFault e
+IsPartThenFault strict IsFault (part.Read from) e = (strict ≡ true) × IsFault from e
 IsPartThenFault strict IsFault Refused e = ⊥
 
 -- ---- the tables
@@ -204,7 +204,7 @@ IsRelocationsPartFault opts sections bytes tables = IsPartAtFault (is_strict opt
 unfoldable pub IsTablesFault : ParseOptions → List Section → List ℕ → TablePlaces → ErrorOf → Type 0
 IsTablesFault opts sections bytes places =
     FirstFault (import_data_part opts sections bytes places) (IsImportPartFault opts sections bytes places) (λ import_data.
-    FirstFault (imports_part opts places import_data) (IsPartThenFault (is_strict opts.parse_mode) IsOverflow import_data) (λ imports.
+    FirstFault (imports_part opts places import_data) (IsPartThenFault (is_strict opts.parse_mode) IsImportsFault import_data) (λ imports.
     FirstFault (export_data_part opts sections bytes places) (IsExportPartFault opts sections bytes places) (λ export_data.
     FirstFault (relocations_part opts sections bytes places) (IsRelocationsPartFault opts sections bytes places) (λ relocations e. ⊥))))
 

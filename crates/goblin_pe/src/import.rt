@@ -30,7 +30,9 @@ pub use bitfield::{
 pub use directory_entry::{ImportDirectoryEntry, SIZEOF_IMPORT_DIRECTORY_ENTRY};
 pub use library::SyntheticImportDirectoryEntry;
 pub use listed::Import;
-pub use lookup_table::{HintNameTableEntry, ImportLookupTable, SyntheticImportLookupTableEntry};
+pub use lookup_table::{
+    HintNameTableEntry, ImportLookupSlots, ImportLookupTable, SyntheticImportLookupTableEntry,
+};
 
 /// The imports of an image.
 ///

@@ -7,7 +7,7 @@ ghost use Rattle.goblin_pe_sect.specs.Options.{is_strict};
 ghost use Rattle.goblin_pe_head.specs.PeHeader.{header_value, pe_header};
 ghost use Rattle.goblin_pe_head.specs.CoffHeader.{IsTooManySections};
 ghost use Rattle.goblin_pe.specs.ImportDirectory.{IsImportDataFault, import_data};
-ghost use Rattle.goblin_pe.specs.Imports.{IsOverflow, imports_of};
+ghost use Rattle.goblin_pe.specs.Imports.{IsImportsFault, imports_of};
 ghost use Rattle.goblin_pe.specs.Addresses.{offset_of};
 ghost use Rattle.goblin_pe.specs.Whole.{BecomesPart, IsExportPartFault, IsFileSectionsFault, IsImportPartFault, IsPartThenFault, IsRelocationsPartFault, IsWholeFault, entry_format, export_data_part, exports_part, file_sections, import_data_part, imports_part, items_part, part_map, places_by, relocations_part, table_places, places_in, whole_file};
 
@@ -173,7 +173,7 @@ impl Tables {
         libraries: &ImportData<'a>,
         sections: &[SectionTable],
     ) -> Result<Vec<Import<'a>>>
-        ensures { AnswersOrMemory (λ v. v.items) result (imports_of (entry_format self.now.magic).width libraries.now) IsOverflow }
+        ensures { AnswersOrMemory (λ v. v.items) result (imports_of (entry_format self.now.magic).width libraries.now) (IsImportsFault libraries.now) }
     {
         if self.magic == MAGIC_32 {
             Import::parse::<u32>(alloc, bytes, libraries, sections)
@@ -193,7 +193,7 @@ impl Tables {
         opts: &ParseOptions,
     ) -> Result<Part<Vec<Import<'a>>>>
         ensures { let strict = is_strict opts.now.parse_mode in
-            AnswersOrMemory items_part result (imports_part opts.now (table_places self.now) import_data.now) (IsPartThenFault strict IsOverflow import_data.now) }
+            AnswersOrMemory items_part result (imports_part opts.now (table_places self.now) import_data.now) (IsPartThenFault strict IsImportsFault import_data.now) }
     {
         match import_data {
             Part::Absent => Ok(Part::Absent),

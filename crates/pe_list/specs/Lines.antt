@@ -56,6 +56,7 @@ import_line i = concat (
     ∷ decimal_field (codes " ordinal=") i.ordinal
     ∷ hex_field (codes " rva=") i.rva
     ∷ decimal_field (codes " size=") i.size
+    ∷ decimal_field (codes " slot=") i.slot
     ∷ name_field (codes " dll=") i.dll
     ∷ name_field (codes " name=") i.name
     ∷ codes "\n"

@@ -115,6 +115,7 @@ impl Listed for Import<'_> {
         push_decimal(text, " ordinal=", self.ordinal as u64)?;
         push_hex(text, " rva=", self.rva as u64)?;
         push_decimal(text, " size=", self.size as u64)?;
+        push_decimal(text, " slot=", self.slot as u64)?;
         push_name(text, " dll=", self.dll)?;
         push_name(text, " name=", self.name.as_str())?;
         text.push_str("\n")?;

@@ -1,20 +1,23 @@
 //! The libraries from which an image imports.
 
-ghost use Rattle.std.specs.Prelude.{◌≡◌, map, option_map, true};
+ghost use Rattle.std.specs.Prelude.{◌≡◌, OnOk, map, option_map, true};
 ghost use Rattle.goblin_base.specs.Answers.{AnswersOrMemory};
 ghost use Rattle.goblin_pe_sect.specs.Mapping.{file_offset};
 ghost use Rattle.goblin_pe_sect.specs.Options.{default_options, is_strict};
 ghost use Rattle.goblin_pe.specs.Addresses.{offset_of};
-ghost use Rattle.goblin_pe.specs.ImportDirectory.{IsLibraryFault, IsLookupIfFault, address_table_rva, library_of, lookup_offset, lookup_table_if};
+ghost use Rattle.goblin_pe.specs.ImportDirectory.{IsLibraryFault, IsLookupIfFault, address_table_rva, library_of, lookup_offset, lookup_slots_if, lookup_table_if};
 ghost use Rattle.goblin_pe.specs.ImportLookup.{entry_view};
 
 use crate::address_map::AddressMap;
 use crate::import::address_table::{ImportAddressTable, address_table};
 use crate::import::bitfield::Bitfield;
 use crate::import::directory_entry::ImportDirectoryEntry;
-use crate::import::lookup_table::{ImportLookupTable, SyntheticImportLookupTableEntry};
+use crate::import::lookup_table::{
+    ImportLookupSlots, ImportLookupTable, SyntheticImportLookupTableEntry,
+};
 use crate::options::ParseOptions;
 use crate::section_table::SectionTable;
+use crate::table::Table;
 use goblin_base::{Cause, Error, ResultOf};
 use std::alloc::Global;
 use std::marker::Model;
@@ -30,6 +33,8 @@ pub struct SyntheticImportDirectoryEntry<'a> {
     pub name: &'a str,
     /// What the lookup table keeps, where there is one.
     pub import_lookup_table: Option<ImportLookupTable<'a>>,
+    /// The slot of each entry of the lookup table, in order; none where there is no table.
+    pub import_lookup_slots: ImportLookupSlots,
     /// The numbers of the address table.
     pub import_address_table: ImportAddressTable,
 }
@@ -45,26 +50,29 @@ impl<'a> Model for SyntheticImportDirectoryEntry<'a> {
       import_directory_entry = entry.import_directory_entry;
       name = entry.name.now;
       import_lookup_table = option_map (map entry_view) entry.import_lookup_table;
+      import_lookup_slots = entry.import_lookup_slots;
       import_address_table = entry.import_address_table;
     } };
 }
 
-// The lookup table at an offset, and nothing where there is no offset.
+// The lookup table at an offset with the slots of its entries, and nothing where there is no offset.
 fn lookup_table_if<'a, 'e, T: Bitfield<'a>>(
     alloc: Global,
     bytes: &'a [u8],
     offset: Option<usize>,
     address_map: &AddressMap,
-) -> ResultOf<'e, Option<ImportLookupTable<'a>>>
-    ensures { let m = offset_of address_map.now in
+) -> ResultOf<'e, (Option<ImportLookupTable<'a>>, ImportLookupSlots)>
+    ensures value { let m = offset_of address_map.now in
         let strict = is_strict address_map.now.opts.parse_mode in
-        AnswersOrMemory (option_map (map entry_view)) result (lookup_table_if strict T.format m bytes.now offset) (IsLookupIfFault strict T.format m bytes.now offset) }
+        AnswersOrMemory (λ both. option_map (map entry_view) both.0) result (lookup_table_if strict T.format m bytes.now offset) (IsLookupIfFault strict T.format m bytes.now offset) }
+    ensures slots { OnOk result (λ both. both.1 ≡ lookup_slots_if (is_strict address_map.now.opts.parse_mode) T.format (offset_of address_map.now) bytes.now offset) }
 {
     let Some(offset) = offset else {
-        return Ok(None);
+        return Ok((None, Table::from(Vec::new(alloc))));
     };
-    let table = SyntheticImportLookupTableEntry::parse_by::<T>(alloc, bytes, offset, address_map)?;
-    Ok(Some(table))
+    let (table, slots) =
+        SyntheticImportLookupTableEntry::parse_by::<T>(alloc, bytes, offset, address_map)?;
+    Ok((Some(table), slots))
 }
 
 // Where a record's lookup table stands: at its own address, or at that of the address table.
@@ -166,7 +174,8 @@ impl<'a> SyntheticImportDirectoryEntry<'a> {
         let record = &import_directory_entry;
         let name = address_map.name_at(bytes, record.name_rva)?.unwrap_or("");
         let lookup_offset = lookup_offset(record, address_map);
-        let import_lookup_table = lookup_table_if::<T>(alloc, bytes, lookup_offset, address_map)?;
+        let (import_lookup_table, import_lookup_slots) =
+            lookup_table_if::<T>(alloc, bytes, lookup_offset, address_map)?;
         let address_rva = address_table_rva(record);
         let Some(offset) = address_map.offset_of(address_rva) else {
             return Err(Error::Malformed(Cause::Unmapped(address_rva as usize)));
@@ -176,6 +185,7 @@ impl<'a> SyntheticImportDirectoryEntry<'a> {
             import_directory_entry,
             name,
             import_lookup_table,
+            import_lookup_slots,
             import_address_table,
         })
     }

@@ -1,9 +1,10 @@
 //! The list of imports.
 
-ghost use Rattle.std.specs.Prelude.{◌≡◌, ◌++◌, length, map, min, option_map, string_bytes};
-ghost use Rattle.goblin_base.specs.Answers.{AnswersOrMemory, GivesOrMemory};
+ghost use Rattle.std.specs.Prelude.{◌≡◌, ◌++◌, IfErr, None, length, map, min, option_map, string_bytes, true};
+ghost use Rattle.std.specs.Option.{option_copied};
+ghost use Rattle.goblin_base.specs.Answers.{AnswersOrMemory, GivesOrMemory, IsMemory};
 ghost use Rattle.goblin_pe.specs.ImportLookup.{entry_view};
-ghost use Rattle.goblin_pe.specs.Imports.{IsOverflow, import_of, import_offset, imports_by, imports_of, kept_count, kept_entries, library_imports, ordinal_name};
+ghost use Rattle.goblin_pe.specs.Imports.{IsImportsFault, IsOverflow, first_without_slots, has_slots, import_of, import_offset, imports_by, imports_of, kept_count, kept_entries, library_imports, ordinal_name};
 
 use crate::import::ImportData;
 use crate::import::bitfield::Bitfield;
@@ -30,12 +31,15 @@ pub struct Import<'a> {
     pub dll: &'a str,
     /// The ordinal; of an import by name, the hint.
     pub ordinal: u16,
-    /// The address of the address table, plus as many sizes as kept entries stand before this one.
+    /// The address of its own entry in the address table, where the loader puts the address of what is
+    /// imported.
     pub offset: usize,
     /// The address of the hint and the name, 0 of an import by ordinal.
     pub rva: usize,
     /// The size of an entry of the address table, in bytes.
     pub size: usize,
+    /// The index of its entry in the lookup table and in the address table, in the file.
+    pub slot: usize,
 }
 
 impl<'a> Model for Import<'a> {
@@ -53,6 +57,7 @@ impl<'a> Model for Import<'a> {
       offset = import.offset;
       rva = import.rva;
       size = import.size;
+      slot = import.slot;
     } };
 }
 
@@ -65,11 +70,11 @@ fn ordinal_name(alloc: Global, ordinal: u16) -> Result<String>
     Ok(name)
 }
 
-// The offset of an entry of an address table, where it does not pass 64 bits.
-fn import_offset(rva: u32, size: usize, position: usize) -> Option<usize>
-    ensures { result ≡ import_offset rva size position }
+// The address of a slot of an address table, where it does not pass 64 bits.
+fn import_offset(rva: u32, size: usize, slot: usize) -> Option<usize>
+    ensures { result ≡ import_offset rva size slot }
 {
-    let distance = size.checked_mul(position)?;
+    let distance = size.checked_mul(slot)?;
     distance.checked_add(rva as usize)
 }
 
@@ -80,10 +85,11 @@ impl<'a> Import<'a> {
         alloc: Global,
         entry: &SyntheticImportLookupTableEntry<'a>,
         dll: &'a str,
+        slot: usize,
         offset: usize,
         size: usize,
     ) -> Result<Import<'a>>
-        ensures { GivesOrMemory (λ x. x) result (import_of dll.now offset size (entry_view entry.now)) }
+        ensures { GivesOrMemory (λ x. x) result (import_of dll.now slot offset size (entry_view entry.now)) }
     {
         let (name, ordinal, rva) = match entry {
             SyntheticImportLookupTableEntry::OrdinalNumber(ordinal) => {
@@ -100,6 +106,7 @@ impl<'a> Import<'a> {
             offset,
             rva,
             size,
+            slot,
         })
     }
 
@@ -107,15 +114,18 @@ impl<'a> Import<'a> {
     /// that a lookup table keeps, in the order of the libraries and of the entries.
     ///
     /// # Errors
-    /// [`Error::Malformed`] with [`Cause::Overflow`] where an import's offset passes 64 bits;
-    /// [`Error::Memory`] where memory is refused.
+    /// [`Error::Malformed`] with [`Cause::SlotCount`] where a library, made by hand, has not as many
+    /// entries as slots: the counts of the first such library, before memory is asked for; else with
+    /// [`Cause::Overflow`] where an import's offset passes 64 bits. [`Error::Memory`] where memory is
+    /// refused.
     pub fn parse<'e, T: Bitfield<'a>>(
         alloc: Global,
         _bytes: &'a [u8],
         import_data: &ImportData<'a>,
         _sections: &[SectionTable],
     ) -> ResultOf<'e, Vec<Import<'a>>>
-        ensures { AnswersOrMemory (λ v. v.items) result (imports_of T.format.width import_data.now) IsOverflow }
+        ensures value { AnswersOrMemory (λ v. v.items) result (imports_of T.format.width import_data.now) (IsImportsFault import_data.now) }
+        ensures counted { IfErr result (λ e. IsMemory e → first_without_slots import_data.now ≡ None) }
     {
         Ok(imports_of(alloc, &import_data.import_data, T::size_of())?)
     }
@@ -134,6 +144,17 @@ fn kept_entries<'b, 'a>(
     }
 }
 
+// The first library that has not as many entries as slots.
+fn first_without_slots<'b, 'a>(
+    libraries: &'b [SyntheticImportDirectoryEntry<'a>],
+) -> Option<&'b SyntheticImportDirectoryEntry<'a>>
+    ensures { option_copied result ≡ first_without_slots libraries.now }
+{
+    libraries
+        .iter()
+        .find(|library| kept_entries(library).len() != library.import_lookup_slots.as_slice().len())
+}
+
 // How many entries the lookup tables of libraries keep, or the greatest number, for which there is no
 // memory.
 fn count_of(libraries: &[SyntheticImportDirectoryEntry]) -> usize
@@ -146,23 +167,27 @@ fn count_of(libraries: &[SyntheticImportDirectoryEntry]) -> usize
     count
 }
 
-// Appends the imports of a table's entries, which have `size` bytes in the address table at `rva`.
+// Appends the imports of a table's entries, each in its slot of `size` bytes of the address table at
+// `rva`.
 fn push_entries<'a>(
     alloc: Global,
     imports: &mut Vec<Import<'a>>,
     entries: &[SyntheticImportLookupTableEntry<'a>],
+    slots: &[usize],
     dll: &'a str,
     rva: u32,
     size: usize,
 ) -> Result<()>
-    ensures { let made = imports_by size dll.now rva (map entry_view entries.now) in
+    requires { length slots.now ≡ length entries.now }
+    ensures { let made = imports_by size dll.now rva (map entry_view entries.now) slots.now in
         AnswersOrMemory (λ _. imports.new.items) result (option_map (λ more. imports.old.items ++ more) made) IsOverflow }
 {
     'entries: for (position, entry) in entries.iter().enumerate() {
-        let Some(offset) = import_offset(rva, size, position) else {
+        let slot = slots[position];
+        let Some(offset) = import_offset(rva, size, slot) else {
             return Err(Error::Malformed(Cause::Overflow));
         };
-        let import = Import::of_entry(alloc, entry, dll, offset, size)?;
+        let import = Import::of_entry(alloc, entry, dll, slot, offset, size)?;
         imports.push(import)?;
     }
     Ok(())
@@ -175,28 +200,34 @@ fn push_imports<'a>(
     library: &SyntheticImportDirectoryEntry<'a>,
     size: usize,
 ) -> Result<()>
+    requires { has_slots library.now ≡ true }
     ensures { AnswersOrMemory (λ _. imports.new.items) result (option_map (λ made. imports.old.items ++ made) (library_imports size library.now)) IsOverflow }
 {
-    let rva = library.import_directory_entry.import_address_table_rva;
     push_entries(
         alloc,
         imports,
         kept_entries(library),
+        library.import_lookup_slots.as_slice(),
         library.name,
-        rva,
+        library.import_directory_entry.import_address_table_rva,
         size,
     )
 }
 
 // The imports from all libraries, whose address tables have entries of `size` bytes.
-#[tactic(auto, unfolding(crate::specs::Imports::imports_of))]
 fn imports_of<'a>(
     alloc: Global,
     libraries: &[SyntheticImportDirectoryEntry<'a>],
     size: usize,
 ) -> Result<Vec<Import<'a>>>
-    ensures { AnswersOrMemory (λ v. v.items) result (imports_of size libraries.now) IsOverflow }
+    ensures value { AnswersOrMemory (λ v. v.items) result (imports_of size libraries.now) (IsImportsFault libraries.now) }
+    ensures counted { IfErr result (λ e. IsMemory e → first_without_slots libraries.now ≡ None) }
 {
+    if let Some(library) = first_without_slots(libraries) {
+        let entries = kept_entries(library).len();
+        let slots = library.import_lookup_slots.as_slice().len();
+        return Err(Error::Malformed(Cause::SlotCount(entries, slots)));
+    }
     let mut imports = Vec::with_capacity(alloc, count_of(libraries))?;
     'libraries: for library in libraries {
         push_imports(alloc, &mut imports, library, size)?;

@@ -1,11 +1,14 @@
 //! Import lookup tables: what is imported from a library, by name or by ordinal.
 
-ghost use Rattle.std.specs.Prelude.{map, true};
-ghost use Rattle.goblin_base.specs.Answers.{Answers, AnswersOrMemory};
+ghost use Rattle.std.specs.Prelude.{◌≡◌, ◌<◌, ◌++◌, ◌∷◌, [], IfErr, OnOk, Some, if◌then◌else◌, length, map, option_to_list, true};
+ghost use Rattle.std.specs.List.{All};
+ghost use Rattle.std.specs.List.Sorted.{IsStrictlyIncreasing};
+ghost use Rattle.goblin_base.specs.Answers.{Answers, AnswersOrMemory, IsMemory};
+ghost use Rattle.goblin_base.specs.Tables.{is_kept, stop};
 ghost use Rattle.goblin_pe_sect.specs.Mapping.{file_offset};
 ghost use Rattle.goblin_pe_sect.specs.Options.{default_options, is_strict};
 ghost use Rattle.goblin_pe.specs.Addresses.{offset_of};
-ghost use Rattle.goblin_pe.specs.ImportLookup.{IsHintNameFault, IsKeptEntryFault, IsLookupTableFault, hint_name, kept_entry, lookup_table, entry_view, hint_name_view, kept_view};
+ghost use Rattle.goblin_pe.specs.ImportLookup.{IsHintNameFault, IsKeptEntryFault, IsLookupTableFault, entry_slots, hint_name, kept_entry, lookup_slots, lookup_table, entry_view, hint_name_view, kept_view};
 
 use crate::address_map::AddressMap;
 use crate::import::bitfield::{Bitfield, read_entry};
@@ -107,6 +110,12 @@ impl<'a> SyntheticImportLookupTableEntry<'a> {
 /// Source: PE Format, "Import Lookup Table".
 pub type ImportLookupTable<'a> = Table<SyntheticImportLookupTableEntry<'a>>;
 
+/// The slots of the entries that a lookup table keeps, in order: how many entries stand before each in
+/// the file. The entry of the address table that belongs to an import has the same index.
+///
+/// Source: PE Format, "Import Address Table".
+pub type ImportLookupSlots = Table<usize>;
+
 impl<'a> SyntheticImportLookupTableEntry<'a> {
     /// The lookup table at `offset`, as [`SyntheticImportLookupTableEntry::parse_with_opts`] with the
     /// default options.
@@ -156,24 +165,61 @@ impl<'a> SyntheticImportLookupTableEntry<'a> {
             let strict = is_strict opts.now.parse_mode in
             AnswersOrMemory (map entry_view) result (lookup_table strict T.format m bytes.now offset) (IsLookupTableFault strict T.format m bytes.now offset) }
     {
+        let (table, _) = SyntheticImportLookupTableEntry::parse_with_slots::<T>(
+            alloc,
+            bytes,
+            offset,
+            sections,
+            file_alignment,
+            opts,
+        )?;
+        Ok(table)
+    }
+
+    /// The lookup table at `offset`, as [`SyntheticImportLookupTableEntry::parse_with_opts`], and the
+    /// slot of each entry that it keeps. The slots rise, and lie below the slot where the table ends.
+    ///
+    /// # Errors
+    /// As [`SyntheticImportLookupTableEntry::parse_with_opts`].
+    pub fn parse_with_slots<'e, T: Bitfield<'a>>(
+        alloc: Global,
+        bytes: &'a [u8],
+        offset: usize,
+        sections: &[SectionTable],
+        file_alignment: u32,
+        opts: &ParseOptions,
+    ) -> ResultOf<'e, (ImportLookupTable<'a>, ImportLookupSlots)>
+        ensures value { let m = file_offset opts.now sections.now file_alignment in
+            let strict = is_strict opts.now.parse_mode in
+            AnswersOrMemory (λ both. map entry_view both.0) result (lookup_table strict T.format m bytes.now offset) (IsLookupTableFault strict T.format m bytes.now offset) }
+        ensures slots { let m = file_offset opts.now sections.now file_alignment in
+            OnOk result (λ both. both.1 ≡ lookup_slots (is_strict opts.now.parse_mode) T.format m bytes.now offset) }
+        ensures counted { OnOk result (λ both. length both.0 ≡ length both.1) }
+        ensures rising { OnOk result (λ both. IsStrictlyIncreasing both.1) }
+        ensures below { OnOk result (λ both. All (λ slot. slot < stop (entry_slots T.format) bytes.now offset) both.1) }
+    {
         let address_map = AddressMap::prepare(alloc, sections, file_alignment, opts)?;
         SyntheticImportLookupTableEntry::parse_by::<T>(alloc, bytes, offset, &address_map)
     }
 
-    // The lookup table at an offset.
+    // The lookup table at an offset, and the indexes of the slots whose entries it keeps.
     pub(super) fn parse_by<'e, T: Bitfield<'a>>(
         alloc: Global,
         bytes: &'a [u8],
         offset: usize,
         address_map: &AddressMap,
-    ) -> ResultOf<'e, ImportLookupTable<'a>>
-        ensures { let m = offset_of address_map.now in
+    ) -> ResultOf<'e, (ImportLookupTable<'a>, ImportLookupSlots)>
+        ensures value { let m = offset_of address_map.now in
             let strict = is_strict address_map.now.opts.parse_mode in
-            AnswersOrMemory (map entry_view) result (lookup_table strict T.format m bytes.now offset) (IsLookupTableFault strict T.format m bytes.now offset) }
+            AnswersOrMemory (λ both. map entry_view both.0) result (lookup_table strict T.format m bytes.now offset) (IsLookupTableFault strict T.format m bytes.now offset) }
+        ensures slots { OnOk result (λ both. both.1 ≡ lookup_slots (is_strict address_map.now.opts.parse_mode) T.format (offset_of address_map.now) bytes.now offset) }
+        ensures counted { OnOk result (λ both. length both.0 ≡ length both.1) }
     {
         let size = T::size_of();
         let mut entries = Vec::new(alloc);
+        let mut slots = Vec::new(alloc);
         let mut place = offset;
+        let mut slot = 0;
         'slots: loop {
             let Ok(entry) = read_entry::<T>(bytes, place) else {
                 if address_map.is_permissive() {
@@ -185,11 +231,28 @@ impl<'a> SyntheticImportLookupTableEntry<'a> {
                 break 'slots;
             }
             let kept = SyntheticImportLookupTableEntry::kept(&entry, bytes, address_map)?;
-            if let Some(kept) = kept {
-                entries.push(kept)?;
-            }
+            push_kept(&mut entries, &mut slots, kept, slot)?;
             place += size;
+            slot += 1;
         }
-        Ok(Table::from(entries))
+        Ok((Table::from(entries), Table::from(slots)))
     }
+}
+
+// Appends an entry that is kept, and the index of its slot.
+fn push_kept<'a>(
+    entries: &mut Vec<SyntheticImportLookupTableEntry<'a>>,
+    slots: &mut Vec<usize>,
+    kept: Option<SyntheticImportLookupTableEntry<'a>>,
+    slot: usize,
+) -> Result<()>
+    ensures entries { OnOk result (entries.new.items ≡ entries.old.items ++ option_to_list kept) }
+    ensures slots { OnOk result (slots.new.items ≡ slots.old.items ++ (if is_kept (Some (kept_view kept)) then slot ∷ [] else [])) }
+    ensures memory { IfErr result IsMemory }
+{
+    if let Some(entry) = kept {
+        entries.push(entry)?;
+        slots.push(slot)?;
+    }
+    Ok(())
 }

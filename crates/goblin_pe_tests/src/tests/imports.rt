@@ -13,8 +13,8 @@ use goblin_base::{
 };
 use goblin_pe::import::{
     Bitfield, HintNameTableEntry, IMPORT_BY_ORDINAL_32, IMPORT_BY_ORDINAL_64, IMPORT_RVA_MASK_32,
-    IMPORT_RVA_MASK_64, Import, ImportData, ImportDirectoryEntry, ImportLookupTable,
-    SIZEOF_IMPORT_DIRECTORY_ENTRY, SyntheticImportDirectoryEntry, SyntheticImportLookupTableEntry,
+    IMPORT_RVA_MASK_64, Import, ImportData, ImportDirectoryEntry, ImportLookupSlots,
+    ImportLookupTable,    SIZEOF_IMPORT_DIRECTORY_ENTRY, SyntheticImportDirectoryEntry, SyntheticImportLookupTableEntry,
 };
 use goblin_pe_sect::{DataDirectory, ParseOptions, SectionTable};
 use std::alloc::{AllocError, Global};
@@ -122,13 +122,13 @@ const RECORD: ImportDirectoryEntry = ImportDirectoryEntry {
     import_address_table_rva: 0x1060,
 };
 
-/// An import, by what is wanted of it: name, ordinal, offset, address and size.
-type Row = (&'static str, u16, usize, usize, usize);
+/// An import, by what is wanted of it: name, ordinal, offset, address, size and slot.
+type Row = (&'static str, u16, usize, usize, usize, usize);
 
 /// The sample file's imports.
-const GO: Row = ("Go", 5, 0x1060, 0x1090, 4);
+const GO: Row = ("Go", 5, 0x1060, 0x1090, 4, 0);
 
-const SEVEN: Row = ("ORDINAL 7", 7, 0x1064, 0, 4);
+const SEVEN: Row = ("ORDINAL 7", 7, 0x1064, 0, 4, 1);
 
 fn options(mode: ParseMode) -> ParseOptions {
     ParseOptions::default().with_parse_mode(mode)
@@ -166,6 +166,7 @@ fn are_rows(imports: &[Import], rows: &[Row]) -> bool {
                     import.offset,
                     import.rva,
                     import.size,
+                    import.slot,
                 ) == *row
         })
 }
@@ -179,12 +180,12 @@ fn imports_are_listed_by_each_entry_type(rt: HostRuntime) -> Result<(), Fail> {
         assert!(rt; are_rows(&words, &[GO, SEVEN]), "u32 {mode:?}");
         let long = imports_of::<u64>(alloc, &file, mode)?;
         assert!(rt;
-            are_rows(&long, &[("ORDINAL 4240", 4240, 0x1060, 0, 8)]),
+            are_rows(&long, &[("ORDINAL 4240", 4240, 0x1060, 0, 8, 0)]),
             "u64 {mode:?}"
         );
         let short = imports_of::<Short>(alloc, &file, mode)?;
         assert!(rt;
-            are_rows(&short, &[("Go", 5, 0x1060, 0x1090, 2)]),
+            are_rows(&short, &[("Go", 5, 0x1060, 0x1090, 2, 0)]),
             "Short {mode:?}"
         );
     }
@@ -249,7 +250,7 @@ fn permissive_mode_keeps_a_hint_without_a_name(rt: HostRuntime) -> Result<(), Fa
     let strict = imports_of::<u32>(alloc, &file, ParseMode::Strict);
     assert!(rt; matches!(strict, Err(Error::Read(ReadFault::BadOffset))));
     let imports = imports_of::<u32>(alloc, &file, ParseMode::Permissive)?;
-    assert!(rt; are_rows(&imports, &[("", 0, 0x1060, 0x10FE, 4), SEVEN]));
+    assert!(rt; are_rows(&imports, &[("", 0, 0x1060, 0x10FE, 4, 0), SEVEN]));
     Ok(())
 }
 
@@ -260,7 +261,7 @@ fn permissive_mode_leaves_out_a_hint_that_is_not_whole(rt: HostRuntime) -> Resul
     let strict = imports_of::<u32>(alloc, &file, ParseMode::Strict);
     assert!(rt; matches!(strict, Err(Error::Malformed(Cause::HintEntry(0x2FF)))));
     let imports = imports_of::<u32>(alloc, &file, ParseMode::Permissive)?;
-    assert!(rt; are_rows(&imports, &[("ORDINAL 7", 7, 0x1060, 0, 4)]));
+    assert!(rt; are_rows(&imports, &[SEVEN]));
     let entry = HintNameTableEntry::parse_with_opts(&file, 0x2FF, &options(ParseMode::Permissive));
     assert!(rt; matches!(entry, Err(Error::Malformed(Cause::HintEntry(0x2FF)))));
     Ok(())
@@ -272,10 +273,7 @@ fn an_address_that_no_section_maps_is_left_out_in_both_modes(rt: HostRuntime) ->
     let file = sample_with(alloc, 0x240, b"\x00\x90")?;
     for mode in [ParseMode::Strict, ParseMode::Permissive] {
         let imports = imports_of::<u32>(alloc, &file, mode)?;
-        assert!(rt;
-            are_rows(&imports, &[("ORDINAL 7", 7, 0x1060, 0, 4)]),
-            "{mode:?}"
-        );
+        assert!(rt; are_rows(&imports, &[SEVEN]), "{mode:?}");
     }
     Ok(())
 }
@@ -388,6 +386,51 @@ fn an_import_whose_offset_passes_64_bits_is_refused(rt: HostRuntime) -> Result<(
         };
         assert!(rt; is_right, "{address}");
     }
+    Ok(())
+}
+
+#[test]
+fn a_lookup_table_is_read_with_its_slots(rt: HostRuntime) -> Result<(), Fail> {
+    let alloc = rt.alloc();
+    let sections = [sample_section()];
+    // The table as it stands, and with its first entry at an address that no section maps.
+    for (entry, wanted) in [(&b"\x90\x10"[..], &[0usize, 1][..]), (b"\x00\x90", &[1])] {
+        let file = sample_with(alloc, 0x240, entry)?;
+        for mode in [ParseMode::Strict, ParseMode::Permissive] {
+            let opts = options(mode);
+            let (table, slots) = SyntheticImportLookupTableEntry::parse_with_slots::<u32>(
+                alloc, &file, 0x240, &sections, ALIGNMENT, &opts,
+            )?;
+            assert_eq!(rt; slots.as_slice(), wanted, "{mode:?}");
+            let is_right = match table.as_slice() {
+                [first, second] => wanted.len() == 2 && is_go(first) && is_seven(second),
+                [only] => wanted.len() == 1 && is_seven(only),
+                _ => false,
+            };
+            assert!(rt; is_right, "{mode:?}");
+        }
+    }
+    Ok(())
+}
+
+#[test]
+fn a_library_that_has_not_as_many_entries_as_slots_is_refused(rt: HostRuntime) -> Result<(), Fail> {
+    let alloc = rt.alloc();
+    let file = sample(alloc)?;
+    let sections = [sample_section()];
+    let mut data = ImportData::parse::<u32>(alloc, &file, DIRECTORY, &sections, ALIGNMENT)?;
+    for library in &mut data.import_data {
+        let mut slots = Vec::new(alloc);
+        slots.push(0)?;
+        library.import_lookup_slots = ImportLookupSlots::from(slots);
+    }
+    let one_slot = Import::parse::<u32>(alloc, &file, &data, &sections);
+    assert!(rt; matches!(one_slot, Err(Error::Malformed(Cause::SlotCount(2, 1)))));
+    for library in &mut data.import_data {
+        library.import_lookup_table = None;
+    }
+    let no_table = Import::parse::<u32>(alloc, &file, &data, &sections);
+    assert!(rt; matches!(no_table, Err(Error::Malformed(Cause::SlotCount(0, 1)))));
     Ok(())
 }
 

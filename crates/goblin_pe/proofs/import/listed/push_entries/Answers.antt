@@ -2,15 +2,17 @@ use Rattle.std.proofs.Common.{Some, sym, ap, arith}
 use Rattle.std.proofs.lemmas.List.{length-map}
 use Rattle.std.proofs.lemmas.Result.{err_from_is_err_and}
 use Rattle.goblin_pe.specs.ImportLookup.{entry_view}
-use Rattle.goblin_pe.proofs.Imports.{entry-start, entry-next, entry-read, entry-refused, entry-end}
+use Rattle.goblin_pe.proofs.Imports.{entry-start, entry-next, entry-read, entry-refused, entry-end, slot-read}
 use Rattle.goblin_pe.proofs.import.listed.push_entries.Goals as goal
 
 pub entries-init : goal.entries-init
-entries-init c = entry-start _ _ _ _ _
+entries-init c = entry-start _ _ _ _ _ _
 
 pub returns-in_default : goal.returns-in_default
-returns-in_default c = λ _.
-    (entry-refused _ _ _ _ c.entries.position _ (omega (arith, length-map c.args.entries.now entry_view, c.entries-test.true)) (sym c.in_default.ensures), tt)
+returns-in_default c =
+    let within = omega (arith, length-map c.args.entries.now entry_view, c.entries-test.true) in
+    let in_slot = slot-read c.args.slots.now c.entries.position (omega (arith, c.requires, c.entries-test.true)) in
+    λ _. (entry-refused _ _ _ _ _ c.entries.position _ _ within in_slot (sym c.in_default.ensures), tt)
 
 pub returns-in_err-import : goal.returns-in_err-import
 returns-in_err-import c =
@@ -19,9 +21,10 @@ returns-in_err-import c =
 
 pub entries-preserved : goal.entries-preserved
 entries-preserved c =
-    let next = entry-next _ _ _ _ _ _ _ _ _ _ c.entries.invariant (entry-read entry_view _ _ _ c.entries-test.true) c.in-Some.ensures (ap Some c.in_ok-import.ensures) in
+    let in_slot = slot-read c.args.slots.now c.entries.position (omega (arith, c.requires, c.entries-test.true)) in
+    let next = entry-next _ _ _ _ _ _ _ _ _ _ _ _ c.entries.invariant (entry-read entry_view _ _ _ c.entries-test.true) in_slot c.in-Some.ensures (ap Some c.in_ok-import.ensures) in
     rw c.in_ok-push.ensures.items next
 
 pub returns : goal.returns
 returns c =
-    entry-end _ _ _ _ _ _ _ c.entries.invariant (omega (arith, length-map c.args.entries.now entry_view, c.entries-test.false, c.entries.auto.position-end))
+    entry-end _ _ _ _ _ _ _ _ c.entries.invariant (omega (arith, length-map c.args.entries.now entry_view, c.entries-test.false, c.entries.auto.position-end))

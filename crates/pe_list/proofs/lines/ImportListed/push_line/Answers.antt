@@ -14,6 +14,7 @@ returns c =
     (pushed (string_bytes c.push_hex.new.text) (string_bytes c.push_decimal.new.text) (string_bytes c.push_str.new.self) (decimal_field (codes " ordinal=") c.self.inside.ordinal) _ c.in_ok-push_decimal.ensures
     (pushed (string_bytes c.push_decimal.new.text) (string_bytes c.push_hex-2.new.text) (string_bytes c.push_str.new.self) (hex_field (codes " rva=") c.self.inside.rva) _ c.in_ok-push_hex-2.ensures
     (pushed (string_bytes c.push_hex-2.new.text) (string_bytes c.push_decimal-2.new.text) (string_bytes c.push_str.new.self) (decimal_field (codes " size=") c.self.inside.size) _ c.in_ok-push_decimal-2.ensures
-    (pushed (string_bytes c.push_decimal-2.new.text) (string_bytes c.push_name.new.text) (string_bytes c.push_str.new.self) (name_field (codes " dll=") (c.self.inside.dll.now)) _ c.in_ok-push_name.ensures
+    (pushed (string_bytes c.push_decimal-2.new.text) (string_bytes c.push_decimal-3.new.text) (string_bytes c.push_str.new.self) (decimal_field (codes " slot=") c.self.inside.slot) _ c.in_ok-push_decimal-3.ensures
+    (pushed (string_bytes c.push_decimal-3.new.text) (string_bytes c.push_name.new.text) (string_bytes c.push_str.new.self) (name_field (codes " dll=") (c.self.inside.dll.now)) _ c.in_ok-push_name.ensures
     (pushed (string_bytes c.push_name.new.text) (string_bytes c.push_name-2.new.text) (string_bytes c.push_str.new.self) (name_field (codes " name=") (cow_str_bytes c.self.inside.name)) _ name
-    (pushed_last (string_bytes c.push_name-2.new.text) (string_bytes c.push_str.new.self) (codes "\n") c.in_ok-push_str.ensures.bytes)))))))
+    (pushed_last (string_bytes c.push_name-2.new.text) (string_bytes c.push_str.new.self) (codes "\n") c.in_ok-push_str.ensures.bytes))))))))

@@ -4,20 +4,20 @@ use Rattle.std.proofs.lemmas.Result.{err_from_is_err_and}
 use Rattle.goblin_pe.specs.Addresses.{offset_of}
 use Rattle.goblin_base.specs.declared.error.ErrorOf.TheVariants.{Malformed}
 use Rattle.goblin_base.specs.declared.error.CauseOf.TheVariants.{LookupEnd}
-use Rattle.goblin_base.proofs.SlotTables.{at-start, at-next, at-last, at-end, at-missing, at-missing_first, at-refused, at-refused_cause}
+use Rattle.goblin_base.proofs.SlotTables.{kept-start, kept-next, kept-all, at-start, at-next, at-last, at-end, at-missing, at-missing_first, at-refused, at-refused_cause}
 use Rattle.goblin_pe.specs.ImportLookup.{IsKeptEntryFault, IsLookupEnd, entry_view, kept_view}
 use Rattle.goblin_pe.proofs.Modes.{strict, permissive}
 use Rattle.goblin_pe.proofs.import.lookup_table.SyntheticImportLookupTableEntry.parse_by.Goals as goal
-use Rattle.goblin_pe.proofs.import.lookup_table.SyntheticImportLookupTableEntry.parse_by.Goals.{in_default+then-is_permissive, in-Ok+then-is_zero, in-Some+in_ok-push, in_default-kept}
+use Rattle.goblin_pe.proofs.import.lookup_table.SyntheticImportLookupTableEntry.parse_by.Goals.{in_default+then-is_permissive, in-Ok+then-is_zero}
 
 pub slots-init : goal.slots-init
-slots-init g c = rw c.new-entries.ensures.items (at-start _ _ _ _)
+slots-init g c = rw (c.new-entries.ensures.items, c.new-slots.ensures.items) (at-start _ _ _ _, kept-start _ _ _ _, omega arith, refl)
 
 pub returns-in_default : goal.returns-in_default
 returns-in_default g c = λ _.
     let mode = strict _ _ c.is_permissive.ensures c.if-is_permissive.false in
     let width : 1 ≤ g.T.Bitfield.format.width = omega (arith, c.size_of-size.ensures.width, c.size_of-size.ensures.positive) in
-    (at-missing _ _ _ _ _ _ _ width c.slots.invariant c.in_default.ensures.0 mode, inl (at-missing_first _ _ _ IsLookupEnd _ _ c.slots.place _ (Malformed (LookupEnd c.slots.place)) width c.slots.invariant c.in_default.ensures.0 mode refl))
+    (at-missing _ _ _ _ _ _ _ width c.slots.invariant.0 c.in_default.ensures.0 mode, inl (at-missing_first _ _ _ IsLookupEnd _ _ c.slots.place _ (Malformed (LookupEnd c.slots.place)) width c.slots.invariant.0 c.in_default.ensures.0 mode refl))
 
 pub returns-in_err-kept : goal.returns-in_err-kept
 returns-in_err-kept g c =
@@ -25,30 +25,25 @@ returns-in_err-kept g c =
     let width : 1 ≤ g.T.Bitfield.format.width = omega (arith, c.size_of-size.ensures.width, c.size_of-size.ensures.positive) in
     let going = sym c.is_zero.ensures ∙ c.if-is_zero.false in
     rw (e.1, e.2) (λ _. (
-      at-refused _ _ _ _ _ _ _ _ width c.slots.invariant c.in-Ok.ensures going c.in_err-kept.ensures.0,
-      inr (at-refused_cause _ _ (IsKeptEntryFault (offset_of c.args.address_map.now) c.args.bytes.now) _ _ _ _ _ _ width c.slots.invariant c.in-Ok.ensures going c.in_err-kept.ensures.0 c.in_err-kept.ensures.1),
+      at-refused _ _ _ _ _ _ _ _ width c.slots.invariant.0 c.in-Ok.ensures going c.in_err-kept.ensures.0,
+      inr (at-refused_cause _ _ (IsKeptEntryFault (offset_of c.args.address_map.now) c.args.bytes.now) _ _ _ _ _ _ width c.slots.invariant.0 c.in-Ok.ensures going c.in_err-kept.ensures.0 c.in_err-kept.ensures.1),
     ))
 
 pub slots-preserved : goal.slots-preserved
 slots-preserved g c =
-    let grown : map entry_view c.match-kept.entries.items ≡ map entry_view c.slots.entries.items ++ kept_view c.in_ok-kept.kept =
-    elim c.match-kept.branch [
-      | in-Some+in_ok-push w ↦
-          ap (λ v. map entry_view v.items) w.entries-is ∙ ap (map entry_view) w.in_ok-push.ensures.items ∙ map-append entry_view c.slots.entries.items _
-          ∙ ap (λ k. map entry_view c.slots.entries.items ++ kept_view k) (sym w.in-Some.is)
-      | in_default-kept w ↦
-          ap (λ v. map entry_view v.items) w.entries-is ∙ sym (append-nil (map entry_view c.slots.entries.items))
-          ∙ ap (λ k. map entry_view c.slots.entries.items ++ kept_view k) (sym w.in_default-kept.is)
-    ] in
-    let next = at-next _ _ _ _ _ _ _ _ c.slots.invariant c.in-Ok.ensures (sym c.is_zero.ensures ∙ c.if-is_zero.false) c.in_ok-kept.ensures in
-    rw (grown, c.size_of-size.ensures.width) next
+    let going = sym c.is_zero.ensures ∙ c.if-is_zero.false in
+    let grown = ap (map entry_view) c.in_ok-push_kept.ensures.entries ∙ map-append entry_view c.slots.entries.items _ in
+    let next = at-next _ _ _ _ _ _ _ _ c.slots.invariant.0 c.in-Ok.ensures going c.in_ok-kept.ensures in
+    let kept = kept-next _ _ _ _ _ _ _ _ _ c.slots.invariant.1 c.in-Ok.ensures c.in_ok-kept.ensures in
+    let low = omega (arith, c.slots.invariant.2, c.size_of-size.ensures.positive) in
+    rw (grown, c.in_ok-push_kept.ensures.slots, c.size_of-size.ensures.width) (next, kept, low, c.in_ok-push_kept.ensures.counted c.slots.invariant.3)
 
 pub returns : goal.returns
 returns g c =
     let width : 1 ≤ g.T.Bitfield.format.width = omega (arith, c.size_of-size.ensures.width, c.size_of-size.ensures.positive) in
     elim c.match-read_entry.branch [
       | in_default+then-is_permissive w ↦
-          rw c.from.ensures (at-end _ _ _ _ _ _ _ width c.slots.invariant w.in_default.ensures.0 (permissive _ _ w.is_permissive.ensures w.if-is_permissive.true))
+          rw c.from.ensures (at-end _ _ _ _ _ _ _ width c.slots.invariant.0 w.in_default.ensures.0 (permissive _ _ w.is_permissive.ensures w.if-is_permissive.true))
       | in-Ok+then-is_zero w ↦
-          rw c.from.ensures (at-last _ _ _ _ _ _ _ _ width c.slots.invariant w.in-Ok.ensures (sym w.is_zero.ensures ∙ w.if-is_zero.true))
+          rw c.from.ensures (at-last _ _ _ _ _ _ _ _ width c.slots.invariant.0 w.in-Ok.ensures (sym w.is_zero.ensures ∙ w.if-is_zero.true))
     ]
