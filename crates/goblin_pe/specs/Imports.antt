@@ -1,5 +1,5 @@
 -- The imports of import data: one for each entry that a lookup table keeps, in the order of the libraries and of the entries.
-use Rattle.std.specs.Prelude.{◌≡◌, ℕ, ◌+◌, ◌*◌, ◌^◌, ◌++◌, ◌==◌, nat_lt, not, IsSomeAnd, Bool, true, false, if◌then◌else◌, codes, List, [], length, slice_get, sum_by, Option, Some, None, unwrap_or}
+use Rattle.std.specs.Prelude.{◌≡◌, ◌⊎◌, ℕ, ◌+◌, ◌*◌, ◌^◌, ◌++◌, ◌==◌, nat_lt, not, IsSomeAnd, Bool, true, false, if◌then◌else◌, codes, List, [], length, slice_get, sum_by, Option, Some, None, unwrap_or}
 use Rattle.std.specs.Fmt.{decimal}
 use Rattle.std.specs.List.{find}
 use Rattle.goblin_base.specs.declared.error.ErrorOf.{ErrorOf}
@@ -79,9 +79,12 @@ IsOverflow e = ⊥
 abbrev pub first_without_slots : List ImportedLibrary → Option ImportedLibrary
 first_without_slots libraries = find (λ library. not (has_slots library)) libraries
 
--- which cause is true of imports that are refused: how many entries and slots the first library has that has not as many; and else that an offset passes 64 bits
+-- the refusal is that a library has so many entries and so many slots
+abbrev pub IsSlotCount : ImportedLibrary → ErrorOf → Type 0
+IsSlotCount library (Malformed (SlotCount entries slots)) = (entries ≡ length (kept_entries library)) × (slots ≡ length library.import_lookup_slots)
+IsSlotCount library e = ⊥
+
+-- which cause is true of imports that are refused: the counts of the first library that has not as many entries as slots, and where each has, an offset that passes 64 bits
 abbrev pub IsImportsFault : List ImportedLibrary → ErrorOf → Type 0
-IsImportsFault libraries (Malformed (SlotCount entries slots)) =
-    IsSomeAnd (first_without_slots libraries) (λ library. (entries ≡ length (kept_entries library)) × (slots ≡ length library.import_lookup_slots))
-IsImportsFault libraries (Malformed Overflow) = first_without_slots libraries ≡ None
-IsImportsFault libraries e = ⊥
+IsImportsFault libraries e =
+    IsSomeAnd (first_without_slots libraries) (λ library. IsSlotCount library e) ⊎ ((first_without_slots libraries ≡ None) × IsOverflow e)
