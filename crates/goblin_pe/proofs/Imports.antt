@@ -112,23 +112,23 @@ module _ {X : Type 0} (p : X → Bool) where
       by false e none zero is = let same : x ≡ y = cc in subst (λ z. p z ≡ false) same e
       by false e none (suc i) is = not_found xs i y none is
 
-not_true : (b : Bool) → not b ≡ true → b ≡ false
-not_true true h = absurd cc
-not_true false h = refl
+true_negated : (b : Bool) → not b ≡ true → b ≡ false
+true_negated true h = absurd cc
+true_negated false h = refl
 
-not_false : (b : Bool) → not b ≡ false → b ≡ true
-not_false true h = refl
-not_false false h = absurd cc
+false_negated : (b : Bool) → not b ≡ false → b ≡ true
+false_negated true h = refl
+false_negated false h = absurd cc
 
 -- a library that has not as many entries as slots: there is no list
 pub slots-missing : (size : ℕ) (libraries : List ImportedLibrary) (library : ImportedLibrary) → first_without_slots libraries ≡ Some library → imports_of size libraries ≡ None
 unfolding imports_of
 slots-missing size libraries library is =
     let there = found (λ l. not (has_slots l)) libraries library is in
-    let fails = not_true (has_slots library) there.2 in
+    let fails = true_negated (has_slots library) there.2 in
     let this : imported_at size libraries there.0 ≡ None = rw (there.1, fails) refl in
     each_below-missing (imported_at size libraries) (length libraries) there.0 (slice_get_within libraries there.0 library there.1) this
 
 -- else each library has
 pub slots-there : (libraries : List ImportedLibrary) (i : ℕ) (library : ImportedLibrary) → first_without_slots libraries ≡ None → slice_get libraries i ≡ Some library → has_slots library ≡ true
-slots-there libraries i library none here = not_false (has_slots library) (not_found (λ l. not (has_slots l)) libraries i library none here)
+slots-there libraries i library none here = false_negated (has_slots library) (not_found (λ l. not (has_slots l)) libraries i library none here)

@@ -13,12 +13,12 @@ at_most : (n len : ℕ) (forwarder : Option Forwarder) → IfSome {T = Forwarder
 at_most n len None = tt
 at_most n len (Some f) = min-le_right n len
 
-behind : (len : ℕ) (text : Option (List ℕ)) → IfSome {T = Forwarder × ℕ} (text >>= (λ t. forwarder_of t >>= (λ f. Some (f, min (length t + 1) len)))) (λ x. x.1 ≤ len)
-behind len None = tt
-behind len (Some t) = at_most (length t + 1) len (forwarder_of t)
+length_within : (len : ℕ) (text : Option (List ℕ)) → IfSome {T = Forwarder × ℕ} (text >>= (λ t. forwarder_of t >>= (λ f. Some (f, min (length t + 1) len)))) (λ x. x.1 ≤ len)
+length_within len None = tt
+length_within len (Some t) = at_most (length t + 1) len (forwarder_of t)
 
 pub forwarder_in-within : (endian : Endian) (bytes : List ℕ) → IfSome (forwarder_in endian bytes) (λ x. x.1 ≤ length bytes)
-forwarder_in-within endian bytes = behind (length bytes) (text_at bytes 0)
+forwarder_in-within endian bytes = length_within (length bytes) (text_at bytes 0)
 
 no_memory : (text : Option (List ℕ)) (bytes : List ℕ) (e : ErrorOf) → IsMemory e → FirstFault text (IsTextFault bytes 0) IsForwarderFault e → ⊥
 no_memory None bytes (Memory m) h fault = fault

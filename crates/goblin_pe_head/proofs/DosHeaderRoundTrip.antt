@@ -12,14 +12,14 @@ pub dos_back : WritesBack 64 dos_record dos_fields
 unfolding dos_record dos_fields
 dos_back = writes_back 64 dos_record dos_fields refl (λ endian own bytes. refl)
 
-same_cells : (a : ℕ) (xs ys : List ℕ) → xs ≡ ys → a ∷ xs ≡ a ∷ ys
-same_cells a xs ys e = cc
+same_rest : (a : ℕ) (xs ys : List ℕ) → xs ≡ ys → a ∷ xs ≡ a ∷ ys
+same_rest a xs ys e = cc
 
 items_from : (xs : List ℕ) (n i : ℕ) → i + n ≤ length xs → map (λ j. slice_index xs j) (range_with_len i n) ≡ take n (drop i xs)
 items_from xs zero i le = refl
 items_from xs (suc n) i le =
     let next : drop i xs ≡ slice_index xs i ∷ drop (i + 1) xs = drop-cons xs i 0 (omega arith) ∙ ap (λ (k : ℕ). slice_index xs i ∷ drop k xs) (sym (add-one i)) in
-    same_cells (slice_index xs i) _ _ (items_from xs n (i + 1) (omega arith)) ∙ sym (ap (take (suc n)) next)
+    same_rest (slice_index xs i) _ _ (items_from xs n (i + 1) (omega arith)) ∙ sym (ap (take (suc n)) next)
 
 -- all items of a list
 items : (xs : List ℕ) (n : ℕ) → length xs ≡ n → map (λ j. slice_index xs j) (range_with_len 0 n) ≡ xs

@@ -17,12 +17,12 @@ bind-within None f P Q h step = tt
 bind-within (Some x) f P Q h step = step x h
 
 record-within : {R : Type 0} (size : ℕ) (value : List ℕ → R) (bytes : List ℕ) (p : ℕ) → IfSome (record_at size value bytes p) (λ _. p + size ≤ length bytes)
-record-within {R} size value bytes p = by_test (nat_lt p (length bytes)) (nat_le (p + size) (length bytes)) (slice_range bytes p (p + size)) (leb-true _ _)
+record-within {R} size value bytes p = whole_record (nat_lt p (length bytes)) (nat_le (p + size) (length bytes)) (slice_range bytes p (p + size)) (leb-true _ _)
   where
-    by_test : (start end : Bool) (own : List ℕ) → (end ≡ true → p + size ≤ length bytes) → IfSome {T = R} (option_map value (cond (start && end) (Some own) None)) (λ _. p + size ≤ length bytes)
-    by_test true true own h = h refl
-    by_test true false own h = tt
-    by_test false end own h = tt
+    whole_record : (start end : Bool) (own : List ℕ) → (end ≡ true → p + size ≤ length bytes) → IfSome {T = R} (option_map value (cond (start && end) (Some own) None)) (λ _. p + size ≤ length bytes)
+    whole_record true true own h = h refl
+    whole_record true false own h = tt
+    whole_record false end own h = tt
 
 fields_32-within : (bytes : List ℕ) → IfSome (fields_32 bytes) (λ f. f.size ≤ length bytes)
 fields_32-within bytes =
@@ -46,14 +46,14 @@ fixed-within magic bytes = either-within (λ f. f.size ≤ length bytes) (nat_eq
 directories-within : (count : ℕ) (bytes : List ℕ) (p : ℕ) → p ≤ length bytes → IfSome (directories_at count bytes p) (λ _. p + 8 * count ≤ length bytes)
 unfolding directories_at
 directories-within count bytes p le =
-    by_test (nat_le count 16) (nat_eq count 0) (nat_le (p + 8 * count) (length bytes)) _ (eqb-true count 0) (leb-true (p + 8 * count) (length bytes))
+    few_directories (nat_le count 16) (nat_eq count 0) (nat_le (p + 8 * count) (length bytes)) _ (eqb-true count 0) (leb-true (p + 8 * count) (length bytes))
   where
-    by_test : {A : Type 0} → (few none room : Bool) (value : A) → (none ≡ true → count ≡ 0) → (room ≡ true → p + 8 * count ≤ length bytes)
+    few_directories : {A : Type 0} → (few none room : Bool) (value : A) → (none ≡ true → count ≡ 0) → (room ≡ true → p + 8 * count ≤ length bytes)
         → IfSome {T = A} (cond (few && (none || room)) (Some value) None) (λ _. p + 8 * count ≤ length bytes)
-    by_test true true room value none_is room_is = subst (λ (k : ℕ). p + 8 * k ≤ length bytes) (sym (none_is refl)) (subst (λ (n : ℕ). n ≤ length bytes) (sym (add-zero p)) le)
-    by_test true false true value none_is room_is = room_is refl
-    by_test true false false value none_is room_is = tt
-    by_test false none room value none_is room_is = tt
+    few_directories true true room value none_is room_is = subst (λ (k : ℕ). p + 8 * k ≤ length bytes) (sym (none_is refl)) (subst (λ (n : ℕ). n ≤ length bytes) (sym (add-zero p)) le)
+    few_directories true false true value none_is room_is = room_is refl
+    few_directories true false false value none_is room_is = tt
+    few_directories false none room value none_is room_is = tt
 
 anything : {A : Type 0} (o : Option A) → IfSome o (λ _. Unit {0})
 anything None = tt

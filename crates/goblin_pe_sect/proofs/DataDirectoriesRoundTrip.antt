@@ -32,14 +32,14 @@ zeros = refl
 abbrev directory : ℕ → ℕ → DataDirectory
 directory address size = record { virtual_address = address; size = size }
 
-by_test : (b c : Bool) (end : ℕ) (d : DataDirectory) → (b ≡ true → d.virtual_address ≡ 0) → (c ≡ true → d.size ≡ 0) → directory_or_zeros (cond (b && c) None (Some (end, d))) ≡ d
-by_test true true end d address size = ap (λ (x : ℕ). directory x 0) (sym (address refl)) ∙ ap (directory d.virtual_address) (sym (size refl))
-by_test true false end d address size = refl
-by_test false c end d address size = refl
+zeros_by_tests : (b c : Bool) (end : ℕ) (d : DataDirectory) → (b ≡ true → d.virtual_address ≡ 0) → (c ≡ true → d.size ≡ 0) → directory_or_zeros (cond (b && c) None (Some (end, d))) ≡ d
+zeros_by_tests true true end d address size = ap (λ (x : ℕ). directory x 0) (sym (address refl)) ∙ ap (directory d.virtual_address) (sym (size refl))
+zeros_by_tests true false end d address size = refl
+zeros_by_tests false c end d address size = refl
 
 -- an entry stands for its directory, also for one of zeros
 directory_or_zeros-entry_ending : (end : ℕ) (d : DataDirectory) → directory_or_zeros (entry_ending end d) ≡ d
-directory_or_zeros-entry_ending end d = by_test (d.virtual_address == 0) (d.size == 0) end d (eqb-true d.virtual_address 0) (eqb-true d.size 0)
+directory_or_zeros-entry_ending end d = zeros_by_tests (d.virtual_address == 0) (d.size == 0) end d (eqb-true d.virtual_address 0) (eqb-true d.size 0)
 
 own_bytes : (bytes : List ℕ) (p : ℕ) → IsBytes bytes → p + 8 ≤ length bytes → encoding Little (directory_fields (directory_record Little (slice_range bytes p (p + 8)))) ≡ slice_range bytes p (p + 8)
 own_bytes bytes p h room =

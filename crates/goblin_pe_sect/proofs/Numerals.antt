@@ -1,4 +1,4 @@
--- Digits, one behind the other.
+-- Digits, one digit_after the other.
 use Rattle.std.proofs.Common.{suc, ◌-◌, ◌/◌, ◌%◌, ◌≡◌, ℕ, ◌+◌, ◌*◌, ◌^◌, ◌<◌, ◌≤◌, List, [], ◌∷◌, ◌++◌, Bool, true, false, ◌&&◌, refl, take, drop, map, length, ap, sym, ◌∙◌, arith, append_assoc}
 use Rattle.std.specs.Prelude.{if◌then◌else◌, nat_lt, position, slice_index, slice_set, IfSome, None, Some}
 use Rattle.std.specs.List.{list_all, position_or_len}
@@ -16,8 +16,8 @@ alone r d =
     let one : r ^ 0 ≡ 1 = pow-zero r in
     rw one (omega arith)
 
-behind : (x p s r d : ℕ) → x * (p * r) + (s * r + d) ≡ (x * p + s) * r + d
-behind x p s r d = grind arith
+digit_after : (x p s r d : ℕ) → x * (p * r) + (s * r + d) ≡ (x * p + s) * r + d
+digit_after x p s r d = grind arith
 
 power : (r n : ℕ) → r ^ (n + 1) ≡ r ^ n * r
 power r n =
@@ -31,7 +31,7 @@ digits_sum-more r [] d = alone r d
 digits_sum-more r (x ∷ xs) d =
     let rest = digits_sum-more r xs d in
     let long : r ^ length (xs ++ d ∷ []) ≡ r ^ length xs * r = ap (λ (k : ℕ). r ^ k) (length-append xs (d ∷ [])) ∙ power r (length xs) in
-    rw (long, rest) (behind x (r ^ length xs) (digits_sum r xs) r d)
+    rw (long, rest) (digit_after x (r ^ length xs) (digits_sum r xs) r d)
 
 -- there are at most 64 digits, and one at least
 pub radix_range : (s : Digits) → (0 < radix s) × (radix s ≤ 64)

@@ -10,6 +10,7 @@ use Rattle.std.proofs.lemmas.List.{length-append, length-replicate, append-nil, 
 use Rattle.std.proofs.Math.Seq.{take-append_seam}
 use Rattle.std.proofs.lemmas.Option.{cond_some}
 use Rattle.std.specs.Option.{option_map}
+use Rattle.goblin_base.proofs.Texts.{not_true}
 use Rattle.goblin_base.specs.Bytes.{before_nul, bounded_text_at}
 use Rattle.goblin_pe_sect.specs.declared.digits.Digits.{Digits}
 use Rattle.goblin_pe_sect.specs.declared.digits.Digits.TheVariants.{Decimal, Base64}
@@ -29,12 +30,9 @@ ascii (b ∷ bs) h =
 pub utf8 : (text : List ℕ) → list_all is_plain text ≡ true → is_utf8 text ≡ true
 utf8 text h = is_utf8-from_IsUtf8 text (IsUtf8-from_ascii text (ascii text h))
 
-pub by_test : (b : Bool) → (b ≡ true → ⊥) → b ≡ false
-by_test true h = absurd (h refl)
-by_test false h = refl
 
 nonzero : (b : ℕ) → nat_lt 0 b ≡ true → nat_eq b 0 ≡ false
-nonzero b h = by_test (nat_eq b 0) (λ e. omega (arith, eqb-true b 0 e, ltb-true 0 b h))
+nonzero b h = not_true (nat_eq b 0) (λ e. omega (arith, eqb-true b 0 e, ltb-true 0 b h))
 
 first_nul : (text : List ℕ) (k : ℕ) → list_all is_plain text ≡ true → position_or_len (λ b. b == 0) (text ++ replicate k 0) ≡ length text
 first_nul [] zero h = refl
@@ -120,7 +118,7 @@ decimal_read strict (d ∷ ds) k n digits some len value =
     let text = map (digit_byte Decimal) (d ∷ ds) in
     let apart = digit_apart d (ltb-true d 10 (and_parts (nat_lt d 10) (list_all (λ d. nat_lt d 10) ds) digits).0) in
     let there = behind_one text k (all_plain Decimal (d ∷ ds) digits) (ap (λ (m : ℕ). m + k) (length-map (d ∷ ds) (digit_byte Decimal)) ∙ len) in
-    let nonempty : nat_eq (length text) 0 ≡ false = by_test (nat_eq (length text) 0) (λ e. omega (arith, eqb-true (length text) 0 e)) in
+    let nonempty : nat_eq (length text) 0 ≡ false = not_true (nat_eq (length text) 0) (λ e. omega (arith, eqb-true (length text) 0 e)) in
     let read : decimal_number text ≡ Some n = rw (apart.1, nonempty) value in
     let here : name_value strict (47 ∷ text ++ replicate k 0) ≡ text_value strict (bounded_text_at (47 ∷ (text ++ replicate k 0)) 1 7) decimal_number = rw apart.0 refl in
     here ∙ ap (λ (o : Option (List ℕ)). text_value strict o decimal_number) there ∙ ap (option_map (λ (m : ℕ). Some m)) read

@@ -44,8 +44,8 @@ at_or_before begins up rva k h v has low =
       | inr earlier ↦ omega (arith, here, rising_to begins up i k earlier h.within)
     ]
 
-behind : (begins : List ℕ) → IsStrictlyIncreasing begins → (rva k : ℕ) → IsBetween begins rva k → (v : ℕ) → Contains begins v → slice_index begins k < v → (k + 1 < length begins) × (slice_index begins (k + 1) ≤ v) × (rva < v)
-behind begins up rva k h v has high =
+begins_after : (begins : List ℕ) → IsStrictlyIncreasing begins → (rva k : ℕ) → IsBetween begins rva k → (v : ℕ) → Contains begins v → slice_index begins k < v → (k + 1 < length begins) × (slice_index begins (k + 1) ≤ v) × (rva < v)
+begins_after begins up rva k h v has high =
     let i : ℕ = has.0 in
     let here : get_or begins i 0 ≡ v = get_or_default begins i 0 v has.1 ∙ has.2 in
     elim (cases_lt k i) [
@@ -64,7 +64,7 @@ same_window sections alignment begins cut rva k h j s is =
           interval_same s.virtual_address (window_end s alignment) (slice_index begins k) rva
           (λ low. omega (arith, h.before, low))
           (λ low. at_or_before begins cut.rising rva k h s.virtual_address (cut.all s.virtual_address (inr (j, s, is, some, inl refl))) low)
-          (λ high. (behind begins cut.rising rva k h (window_end s alignment) (cut.all (window_end s alignment) (inr (j, s, is, some, inr refl))) high).2)
+          (λ high. (begins_after begins cut.rising rva k h (window_end s alignment) (cut.all (window_end s alignment) (inr (j, s, is, some, inr refl))) high).2)
           (λ high. omega (arith, h.before, high))
       | inr none ↦ interval_none s.virtual_address (window_end s alignment) (slice_index begins k) rva (omega arith)
     ]
@@ -168,7 +168,7 @@ index_is opts sections alignment begins cut near = record {
       let s : Section = own.1.section in
       let inside = in_window alignment (slice_index begins k) s own.1.holds in
       let here : IsBetween begins (slice_index begins k) k = record { within = own.0; before = omega arith; after = λ lt. rising_at begins cut.rising k (k + 1) (omega arith) lt } in
-      let next = behind begins cut.rising (slice_index begins k) k here (window_end s alignment) (cut.all (window_end s alignment) (inr (own.1.place, s, own.1.is, omega (arith, inside), inr refl))) inside.1 in
+      let next = begins_after begins cut.rising (slice_index begins k) k here (window_end s alignment) (cut.all (window_end s alignment) (inr (own.1.place, s, own.1.is, omega (arith, inside), inr refl))) inside.1 in
       (next.0, omega (arith, next.1, own.1.address, near own.1.place s own.1.is));
   unmapped = λ off. cc;
 }

@@ -11,18 +11,18 @@ counted [] = omega arith
 counted (Ok b ∷ items) = let rest = counted items in omega (arith, rest)
 counted (Err e ∷ items) = let rest = counted items in omega (arith, rest)
 
-behind : (items : ℕ → List (Result Block ErrorOf)) (n p : ℕ) (item : Result Block ErrorOf) → ((q : ℕ) → length (items q) ≤ n) → length (then_items items p item) ≤ suc n
-behind items n p (Ok b) h = let rest = h (p + b.size) in omega (arith, rest)
-behind items n p (Err e) h = omega arith
+fewer_after : (items : ℕ → List (Result Block ErrorOf)) (n p : ℕ) (item : Result Block ErrorOf) → ((q : ℕ) → length (items q) ≤ n) → length (then_items items p item) ≤ suc n
+fewer_after items n p (Ok b) h = let rest = h (p + b.size) in omega (arith, rest)
+fewer_after items n p (Err e) h = omega arith
 
-by_test : (b : Bool) (xs : List (Result Block ErrorOf)) (n : ℕ) → length xs ≤ n → length (cond b xs []) ≤ n
-by_test true xs n h = h
-by_test false xs n h = omega arith
+few_by_test : (b : Bool) (xs : List (Result Block ErrorOf)) (n : ℕ) → length xs ≤ n → length (cond b xs []) ≤ n
+few_by_test true xs n h = h
+few_by_test false xs n h = omega arith
 
 first : (n : ℕ) (directory : List ℕ) (p : ℕ) → length (first_items n directory p) ≤ n
 unfolding first_items
 first zero directory p = omega arith
-first (suc n) directory p = by_test (nat_lt p (length directory)) (then_items (first_items n directory) p (block_at directory p)) (suc n) (behind (first_items n directory) n p (block_at directory p) (first n directory))
+first (suc n) directory p = few_by_test (nat_lt p (length directory)) (then_items (first_items n directory) p (block_at directory p)) (suc n) (fewer_after (first_items n directory) n p (block_at directory p) (first n directory))
 
 -- there are no more blocks than bytes
 pub block_count_below : (directory : List ℕ) → block_count (block_items directory 0) ≤ length directory
