@@ -87,7 +87,8 @@ impl<'a> ExportData<'a> {
     ) -> Result<ExportData<'a>>
         ensures value { let offset_of = file_offset default_options sections.now file_alignment in
             AnswersOrMemory (λ x. x) result (export_data offset_of directory bytes.now) (IsExportDataFault offset_of directory bytes.now) }
-        ensures grown { IfErr result (λ e. IsMemory e → IsSome (export_data (file_offset default_options sections.now file_alignment) directory bytes.now) ⊎ IsTrue (is_power_of_two file_alignment)) }
+        ensures grown { let offset_of = file_offset default_options sections.now file_alignment in
+            IfErr result (λ e. IsMemory e → IsSome (export_data offset_of directory bytes.now) ⊎ IsTrue (is_power_of_two file_alignment)) }
     {
         let opts = ParseOptions::default();
         ExportData::parse_with_opts(alloc, bytes, directory, sections, file_alignment, &opts)
@@ -113,7 +114,9 @@ impl<'a> ExportData<'a> {
     ) -> Result<ExportData<'a>>
         ensures value { let offset_of = file_offset opts.now sections.now file_alignment in
             AnswersOrMemory (λ x. x) result (export_data offset_of directory bytes.now) (IsExportDataFault offset_of directory bytes.now) }
-        ensures grown { IfErr result (λ e. IsMemory e → IsSome (export_data (file_offset opts.now sections.now file_alignment) directory bytes.now) ⊎ (IsTrue opts.now.resolve_rva × IsTrue (is_power_of_two file_alignment))) }
+        ensures grown { let offset_of = file_offset opts.now sections.now file_alignment in
+            let indexes = IsTrue opts.now.resolve_rva × IsTrue (is_power_of_two file_alignment) in
+            IfErr result (λ e. IsMemory e → IsSome (export_data offset_of directory bytes.now) ⊎ indexes) }
     {
         let address_map = AddressMap::prepare(alloc, sections, file_alignment, opts)?;
         ExportData::parse_by(alloc, bytes, directory, &address_map)

@@ -116,7 +116,8 @@ impl<'a> ImportData<'a> {
         file_alignment: u32,
     ) -> ResultOf<'e, ImportData<'a>>
         ensures { let m = file_offset default_options sections.now file_alignment in
-            AnswersOrMemory (λ x. x) result (import_data true T.format m bytes.now directory.virtual_address) (IsImportDataFault true T.format m bytes.now directory.virtual_address) }
+            let rva = directory.virtual_address in
+            AnswersOrMemory (λ x. x) result (import_data true T.format m bytes.now rva) (IsImportDataFault true T.format m bytes.now rva) }
     {
         let opts = ParseOptions::default();
         ImportData::parse_with_opts::<T>(alloc, bytes, directory, sections, file_alignment, &opts)
@@ -145,7 +146,8 @@ impl<'a> ImportData<'a> {
     ) -> ResultOf<'e, ImportData<'a>>
         ensures value { let m = file_offset opts.now sections.now file_alignment in
             let strict = is_strict opts.now.parse_mode in
-            AnswersOrMemory (λ x. x) result (import_data strict T.format m bytes.now directory.virtual_address) (IsImportDataFault strict T.format m bytes.now directory.virtual_address) }
+            let rva = directory.virtual_address in
+            AnswersOrMemory (λ x. x) result (import_data strict T.format m bytes.now rva) (IsImportDataFault strict T.format m bytes.now rva) }
         ensures permissive { is_strict opts.now.parse_mode ≡ false → IfErr result IsMemory }
     {
         let address_map = AddressMap::prepare(alloc, sections, file_alignment, opts)?;
@@ -161,7 +163,8 @@ impl<'a> ImportData<'a> {
     ) -> ResultOf<'e, ImportData<'a>>
         ensures value { let m = offset_of address_map.now in
             let strict = is_strict address_map.now.opts.parse_mode in
-            AnswersOrMemory (λ x. x) result (import_data strict T.format m bytes.now directory.virtual_address) (IsImportDataFault strict T.format m bytes.now directory.virtual_address) }
+            let rva = directory.virtual_address in
+            AnswersOrMemory (λ x. x) result (import_data strict T.format m bytes.now rva) (IsImportDataFault strict T.format m bytes.now rva) }
         ensures permissive { is_strict address_map.now.opts.parse_mode ≡ false → IfErr result IsMemory }
     {
         let rva = directory.virtual_address;

@@ -172,7 +172,8 @@ pub fn find_offset(
     opts: &ParseOptions,
 ) -> Option<usize>
     ensures value { result ≡ file_offset opts.now sections.now file_alignment rva }
-    ensures first { IsTrue opts.now.resolve_rva → IsTrue (is_power_of_two file_alignment) → MatchOption result (MapsNowhere sections.now file_alignment rva) (MapsTo opts.now sections.now file_alignment rva) }
+    ensures first { IsTrue opts.now.resolve_rva → IsTrue (is_power_of_two file_alignment) →
+        MatchOption result (MapsNowhere sections.now file_alignment rva) (MapsTo opts.now sections.now file_alignment rva) }
     ensures apart { OffsetsApart opts.now sections.now file_alignment }
 {
     file_offset(rva, sections, file_alignment, opts)
@@ -206,7 +207,8 @@ pub fn try_name<'a>(
     file_alignment: u32,
     opts: &ParseOptions,
 ) -> Result<&'a str>
-    ensures { Answers (λ s. s.now) result (name_at (file_offset opts.now sections.now file_alignment) bytes.now rva) (IsNameAtFault (file_offset opts.now sections.now file_alignment) bytes.now rva) }
+    ensures { let m = file_offset opts.now sections.now file_alignment in
+        Answers (λ s. s.now) result (name_at m bytes.now rva) (IsNameAtFault m bytes.now rva) }
 {
     match find_offset(rva, sections, file_alignment, opts) {
         Some(offset) => pread_str(bytes, offset),
@@ -227,7 +229,8 @@ pub fn safe_try_name<'a>(
     file_alignment: u32,
     opts: &ParseOptions,
 ) -> Result<Option<&'a str>>
-    ensures { Answers (option_map (λ s. s.now)) result (name_or_none (is_strict opts.now.parse_mode) (name_at (file_offset opts.now sections.now file_alignment) bytes.now rva)) (IsSafeNameFault (file_offset opts.now sections.now file_alignment) rva) }
+    ensures { let m = file_offset opts.now sections.now file_alignment in
+        Answers (option_map (λ s. s.now)) result (name_or_none (is_strict opts.now.parse_mode) (name_at m bytes.now rva)) (IsSafeNameFault m rva) }
 {
     let cause = match find_offset(rva, sections, file_alignment, opts) {
         Some(offset) => match pread_str(bytes, offset) {
@@ -254,7 +257,9 @@ pub fn get_data<'a, 'e, T: TryFromCtx<'a>>(
     directory: DataDirectory,
     file_alignment: u32,
 ) -> ResultOf<'e, T>
-    ensures { Answers T.plain result (data_at (file_offset default_options sections.now file_alignment) T.value_of bytes.now directory.virtual_address) (IsDataFault (file_offset default_options sections.now file_alignment) T.refusal bytes.now directory.virtual_address) }
+    ensures { let m = file_offset default_options sections.now file_alignment in
+        let rva = directory.virtual_address in
+        Answers T.plain result (data_at m T.value_of bytes.now rva) (IsDataFault m T.refusal bytes.now rva) }
 {
     get_data_with_opts(
         bytes,
@@ -279,7 +284,9 @@ pub fn get_data_with_opts<'a, 'e, T: TryFromCtx<'a>>(
     file_alignment: u32,
     opts: &ParseOptions,
 ) -> ResultOf<'e, T>
-    ensures { Answers T.plain result (data_at (file_offset opts.now sections.now file_alignment) T.value_of bytes.now directory.virtual_address) (IsDataFault (file_offset opts.now sections.now file_alignment) T.refusal bytes.now directory.virtual_address) }
+    ensures { let m = file_offset opts.now sections.now file_alignment in
+        let rva = directory.virtual_address in
+        Answers T.plain result (data_at m T.value_of bytes.now rva) (IsDataFault m T.refusal bytes.now rva) }
 {
     let rva = directory.virtual_address as usize;
     let Some(offset) = find_offset(rva, sections, file_alignment, opts) else {

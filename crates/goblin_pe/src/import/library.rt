@@ -64,7 +64,8 @@ fn lookup_table_if<'a, 'e, T: Bitfield<'a>>(
 ) -> ResultOf<'e, (Option<ImportLookupTable<'a>>, ImportLookupSlots)>
     ensures value { let m = offset_of address_map.now in
         let strict = is_strict address_map.now.opts.parse_mode in
-        AnswersOrMemory (λ both. option_map (map entry_view) both.0) result (lookup_table_if strict T.format m bytes.now offset) (IsLookupIfFault strict T.format m bytes.now offset) }
+        let view = option_map (map entry_view) in
+        AnswersOrMemory (λ both. view both.0) result (lookup_table_if strict T.format m bytes.now offset) (IsLookupIfFault strict T.format m bytes.now offset) }
     ensures slots { OnOk result (λ both. both.1 ≡ lookup_slots_if (is_strict address_map.now.opts.parse_mode) T.format (offset_of address_map.now) bytes.now offset) }
 {
     let Some(offset) = offset else {

@@ -23,7 +23,9 @@ pub(super) fn read_sections(
     displacement: Option<u32>,
 ) -> Result<Vec<SectionTable>>
     ensures value { let strict = is_strict opts.now.parse_mode in
-        AnswersOrMemory (λ v. v.items) result (moved_sections_at displacement strict string_table_offset count bytes.now offset.old) (IsMovedSectionsFault displacement strict string_table_offset count bytes.now offset.old) }
+        let sections = moved_sections_at displacement strict string_table_offset count bytes.now offset.old in
+        let fault = IsMovedSectionsFault displacement strict string_table_offset count bytes.now offset.old in
+        AnswersOrMemory (λ v. v.items) result sections fault }
     ensures grown { IfErr result (λ e. IsMemory e → 0 < count) }
     ensures ok { OnOk result (offset.new ≡ offset.old + 40 * count) }
     ensures err { OnErr result (offset.new ≡ offset.old) }
