@@ -1,15 +1,17 @@
 -- The loops that list imports: over the entries of a table, and over libraries.
-use Rattle.std.proofs.Common.{◌≡◌, ◌<◌, ℕ, zero, suc, ◌+◌, Bool, true, false, cond, not, List, [], ◌∷◌, ◌++◌, length, Option, Some, None, refl, sym, ap, subst, ◌∙◌, append-nil, append_assoc}
+use Rattle.std.proofs.Common.{◌≡◌, ◌<◌, ℕ, zero, suc, ◌+◌, Bool, true, false, cond, not, List, [], ◌∷◌, ◌++◌, length, Option, Some, None, refl, sym, ap, subst, inl, ◌∙◌, append-nil, append_assoc}
 use Rattle.std.specs.List.{find}
-use Rattle.std.specs.Prelude.{map, get_or, slice_get, option_map}
+use Rattle.std.specs.Prelude.{IsSomeAnd, map, get_or, slice_get, option_map}
 use Rattle.std.proofs.lemmas.Option.{slice_get-get_or, slice_get-map, slice_get_within}
+use Rattle.goblin_base.specs.declared.error.ErrorOf.TheVariants.{Malformed}
+use Rattle.goblin_base.specs.declared.error.CauseOf.TheVariants.{SlotCount}
 use Rattle.goblin_base.specs.Tables.{each_below, join}
 use Rattle.goblin_base.proofs.Below.{each_below-missing, each_below-next}
 use Rattle.goblin_base.specs.Answers.{◌>>=◌, all_at}
 use Rattle.goblin_base.proofs.Steps.{all_at-more, all_at-none, all_at-zero}
 use Rattle.goblin_pe.specs.ImportLookup.{LookupEntry}
 use Rattle.goblin_pe.specs.ImportDirectory.{ImportedLibrary}
-use Rattle.goblin_pe.specs.Imports.{ImportValue, first_without_slots, has_slots, import_at, import_of, import_offset, imports_by, imports_of, kept_entries, library_imports}
+use Rattle.goblin_pe.specs.Imports.{ImportValue, IsImportsFault, IsSlotCount, first_without_slots, has_slots, import_at, import_of, import_offset, imports_by, imports_of, kept_entries, library_imports}
 
 -- over a table's entries and slots
 module _ (size : ℕ) (dll : List ℕ) (rva : ℕ) (entries : List LookupEntry) (slots : List ℕ) where
@@ -93,24 +95,24 @@ library-refused size libraries i library old is none =
 -- ---- slots
 
 module _ {X : Type 0} (p : X → Bool) where
+  found_by : (x : X) (xs : List X) (y : X) (b : Bool) → p x ≡ b → ((find p xs ≡ Some y) → (i : ℕ) × (slice_get xs i ≡ Some y) × (p y ≡ true)) → cond b (Some x) (find p xs) ≡ Some y → (i : ℕ) × (slice_get (x ∷ xs) i ≡ Some y) × (p y ≡ true)
+  found_by x xs y true e rest is = let same : x ≡ y = cc in (0, is, subst (λ z. p z ≡ true) same e)
+  found_by x xs y false e rest is = let later = rest is in (suc later.0, later.1, later.2)
+
   -- what is found stands at an index, and passes
   found : (xs : List X) (y : X) → find p xs ≡ Some y → (i : ℕ) × (slice_get xs i ≡ Some y) × (p y ≡ true)
   found [] y h = absurd cc
-  found (x ∷ xs) y h = by (p x) refl h
-    where
-      by : (b : Bool) → p x ≡ b → cond b (Some x) (find p xs) ≡ Some y → (i : ℕ) × (slice_get (x ∷ xs) i ≡ Some y) × (p y ≡ true)
-      by true e is = let same : x ≡ y = cc in (0, is, subst (λ z. p z ≡ true) same e)
-      by false e is = let rest = found xs y is in (suc rest.0, rest.1, rest.2)
+  found (x ∷ xs) y h = found_by x xs y (p x) refl (λ is. found xs y is) h
+
+  not_found_by : (x : X) (xs : List X) (y : X) (b : Bool) → p x ≡ b → ((i : ℕ) → find p xs ≡ None → slice_get xs i ≡ Some y → p y ≡ false) → cond b (Some x) (find p xs) ≡ None → (i : ℕ) → slice_get (x ∷ xs) i ≡ Some y → p y ≡ false
+  not_found_by x xs y true e rest none i is = absurd cc
+  not_found_by x xs y false e rest none zero is = let same : x ≡ y = cc in subst (λ z. p z ≡ false) same e
+  not_found_by x xs y false e rest none (suc i) is = rest i none is
 
   -- where nothing is found no element passes
   not_found : (xs : List X) (i : ℕ) (y : X) → find p xs ≡ None → slice_get xs i ≡ Some y → p y ≡ false
   not_found [] i y none is = absurd cc
-  not_found (x ∷ xs) i y none is = by (p x) refl none i is
-    where
-      by : (b : Bool) → p x ≡ b → cond b (Some x) (find p xs) ≡ None → (i : ℕ) → slice_get (x ∷ xs) i ≡ Some y → p y ≡ false
-      by true e none i is = absurd cc
-      by false e none zero is = let same : x ≡ y = cc in subst (λ z. p z ≡ false) same e
-      by false e none (suc i) is = not_found xs i y none is
+  not_found (x ∷ xs) i y none is = not_found_by x xs y (p x) refl (λ j. not_found xs j y) none i is
 
 true_negated : (b : Bool) → not b ≡ true → b ≡ false
 true_negated true h = absurd cc
@@ -121,7 +123,7 @@ false_negated true h = refl
 false_negated false h = absurd cc
 
 -- a library that has not as many entries as slots: there is no list
-pub slots-missing : (size : ℕ) (libraries : List ImportedLibrary) (library : ImportedLibrary) → first_without_slots libraries ≡ Some library → imports_of size libraries ≡ None
+slots-missing : (size : ℕ) (libraries : List ImportedLibrary) (library : ImportedLibrary) → first_without_slots libraries ≡ Some library → imports_of size libraries ≡ None
 unfolding imports_of
 slots-missing size libraries library is =
     let there = found (λ l. not (has_slots l)) libraries library is in
@@ -132,3 +134,9 @@ slots-missing size libraries library is =
 -- else each library has
 pub slots-there : (libraries : List ImportedLibrary) (i : ℕ) (library : ImportedLibrary) → first_without_slots libraries ≡ None → slice_get libraries i ≡ Some library → has_slots library ≡ true
 slots-there libraries i library none here = false_negated (has_slots library) (not_found (λ l. not (has_slots l)) libraries i library none here)
+
+-- and that is a true cause
+pub slots-refused : (size : ℕ) (libraries : List ImportedLibrary) (library : ImportedLibrary) (entries slots : ℕ) → first_without_slots libraries ≡ Some library → entries ≡ length (kept_entries library) → slots ≡ length library.import_lookup_slots
+    → (imports_of size libraries ≡ None) × IsImportsFault libraries (Malformed (SlotCount entries slots))
+slots-refused size libraries library entries slots is e s =
+    (slots-missing size libraries library is, inl (subst (λ o. IsSomeAnd o (λ l. IsSlotCount l (Malformed (SlotCount entries slots)))) (sym is) (e, s)))

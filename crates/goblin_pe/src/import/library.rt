@@ -1,6 +1,6 @@
 //! The libraries from which an image imports.
 
-ghost use Rattle.std.specs.Prelude.{◌≡◌, OnOk, map, option_map, true};
+ghost use Rattle.std.specs.Prelude.{◌≡◌, IfOk, map, option_map, true};
 ghost use Rattle.goblin_base.specs.Answers.{AnswersOrMemory};
 ghost use Rattle.goblin_pe_sect.specs.Mapping.{file_offset};
 ghost use Rattle.goblin_pe_sect.specs.Options.{default_options, is_strict};
@@ -66,7 +66,7 @@ fn lookup_table_if<'a, 'e, T: Bitfield<'a>>(
         let strict = is_strict address_map.now.opts.parse_mode in
         let view = option_map (map entry_view) in
         AnswersOrMemory (λ both. view both.0) result (lookup_table_if strict T.format m bytes.now offset) (IsLookupIfFault strict T.format m bytes.now offset) }
-    ensures slots { OnOk result (λ both. both.1 ≡ lookup_slots_if (is_strict address_map.now.opts.parse_mode) T.format (offset_of address_map.now) bytes.now offset) }
+    ensures slots { IfOk result (λ both. both.1 ≡ lookup_slots_if (is_strict address_map.now.opts.parse_mode) T.format (offset_of address_map.now) bytes.now offset) }
 {
     let Some(offset) = offset else {
         return Ok((None, Table::from(Vec::new(alloc))));

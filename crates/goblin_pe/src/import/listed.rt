@@ -215,6 +215,7 @@ fn push_imports<'a>(
 }
 
 // The imports from all libraries, whose address tables have entries of `size` bytes.
+#[tactic(auto, unfolding(crate::specs::Imports::imports_of))]
 fn imports_of<'a>(
     alloc: Global,
     libraries: &[SyntheticImportDirectoryEntry<'a>],

@@ -1,6 +1,6 @@
 //! Import lookup tables: what is imported from a library, by name or by ordinal.
 
-ghost use Rattle.std.specs.Prelude.{◌≡◌, ◌<◌, ◌++◌, ◌∷◌, [], IfErr, OnOk, Some, if◌then◌else◌, length, map, option_to_list, true};
+ghost use Rattle.std.specs.Prelude.{◌≡◌, ◌<◌, ◌++◌, ◌∷◌, [], IfErr, IfOk, OnOk, Some, if◌then◌else◌, length, map, option_to_list, true};
 ghost use Rattle.std.specs.List.{All};
 ghost use Rattle.std.specs.List.Sorted.{IsStrictlyIncreasing};
 ghost use Rattle.goblin_base.specs.Answers.{Answers, AnswersOrMemory, IsMemory};
@@ -181,6 +181,7 @@ impl<'a> SyntheticImportLookupTableEntry<'a> {
     ///
     /// # Errors
     /// As [`SyntheticImportLookupTableEntry::parse_with_opts`].
+    #[tactic(auto, using(crate::proofs::LookupSlots::rising, crate::proofs::LookupSlots::below))]
     pub fn parse_with_slots<'e, T: Bitfield<'a>>(
         alloc: Global,
         bytes: &'a [u8],
@@ -193,10 +194,10 @@ impl<'a> SyntheticImportLookupTableEntry<'a> {
             let strict = is_strict opts.now.parse_mode in
             AnswersOrMemory (λ both. map entry_view both.0) result (lookup_table strict T.format m bytes.now offset) (IsLookupTableFault strict T.format m bytes.now offset) }
         ensures slots { let m = file_offset opts.now sections.now file_alignment in
-            OnOk result (λ both. both.1 ≡ lookup_slots (is_strict opts.now.parse_mode) T.format m bytes.now offset) }
-        ensures counted { OnOk result (λ both. length both.0 ≡ length both.1) }
-        ensures rising { OnOk result (λ both. IsStrictlyIncreasing both.1) }
-        ensures below { OnOk result (λ both. All (λ slot. slot < stop (entry_slots T.format) bytes.now offset) both.1) }
+            IfOk result (λ both. both.1 ≡ lookup_slots (is_strict opts.now.parse_mode) T.format m bytes.now offset) }
+        ensures counted { IfOk result (λ both. length both.0 ≡ length both.1) }
+        ensures rising { IfOk result (λ both. IsStrictlyIncreasing both.1) }
+        ensures below { IfOk result (λ both. All (λ slot. slot < stop (entry_slots T.format) bytes.now offset) both.1) }
     {
         let address_map = AddressMap::prepare(alloc, sections, file_alignment, opts)?;
         SyntheticImportLookupTableEntry::parse_by::<T>(alloc, bytes, offset, &address_map)
@@ -212,8 +213,8 @@ impl<'a> SyntheticImportLookupTableEntry<'a> {
         ensures value { let m = offset_of address_map.now in
             let strict = is_strict address_map.now.opts.parse_mode in
             AnswersOrMemory (λ both. map entry_view both.0) result (lookup_table strict T.format m bytes.now offset) (IsLookupTableFault strict T.format m bytes.now offset) }
-        ensures slots { OnOk result (λ both. both.1 ≡ lookup_slots (is_strict address_map.now.opts.parse_mode) T.format (offset_of address_map.now) bytes.now offset) }
-        ensures counted { OnOk result (λ both. length both.0 ≡ length both.1) }
+        ensures slots { IfOk result (λ both. both.1 ≡ lookup_slots (is_strict address_map.now.opts.parse_mode) T.format (offset_of address_map.now) bytes.now offset) }
+        ensures counted { IfOk result (λ both. length both.0 ≡ length both.1) }
     {
         let size = T::size_of();
         let mut entries = Vec::new(alloc);
@@ -246,8 +247,9 @@ fn push_kept<'a>(
     kept: Option<SyntheticImportLookupTableEntry<'a>>,
     slot: usize,
 ) -> Result<()>
-    ensures entries { OnOk result (entries.new.items ≡ entries.old.items ++ option_to_list kept) }
-    ensures slots { OnOk result (slots.new.items ≡ slots.old.items ++ (if is_kept (Some (kept_view kept)) then slot ∷ [] else [])) }
+    ensures entries { OnOk result (entries.new.items ≡ entries.old.items ++ option_to_list kept.entry) }
+    ensures slots { OnOk result (slots.new.items ≡ slots.old.items ++ (if is_kept (Some (kept_view kept.entry)) then slot ∷ [] else [])) }
+    ensures counted { OnOk result (length entries.old.items ≡ length slots.old.items → length entries.new.items ≡ length slots.new.items) }
     ensures memory { IfErr result IsMemory }
 {
     if let Some(entry) = kept {

@@ -1,4 +1,4 @@
-use Rattle.std.proofs.Common.{Some, sym, ap, arith}
+use Rattle.std.proofs.Common.{◌<◌, length, map, Some, sym, ap, arith}
 use Rattle.std.proofs.lemmas.List.{length-map}
 use Rattle.std.proofs.lemmas.Result.{err_from_is_err_and}
 use Rattle.goblin_pe.specs.ImportLookup.{entry_view}
@@ -10,7 +10,7 @@ entries-init c = entry-start _ _ _ _ _ _
 
 pub returns-in_default : goal.returns-in_default
 returns-in_default c =
-    let within = omega (arith, length-map c.args.entries.now entry_view, c.entries-test.true) in
+    let within : c.entries.position < length (map entry_view c.args.entries.now) = omega (arith, length-map c.args.entries.now entry_view, c.entries-test.true) in
     let in_slot = slot-read c.args.slots.now c.entries.position (omega (arith, c.requires, c.entries-test.true)) in
     λ _. (entry-refused _ _ _ _ _ c.entries.position _ _ within in_slot (sym c.in_default.ensures), tt)
 
