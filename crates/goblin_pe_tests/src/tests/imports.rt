@@ -14,7 +14,8 @@ use goblin_base::{
 use goblin_pe::import::{
     Bitfield, HintNameTableEntry, IMPORT_BY_ORDINAL_32, IMPORT_BY_ORDINAL_64, IMPORT_RVA_MASK_32,
     IMPORT_RVA_MASK_64, Import, ImportData, ImportDirectoryEntry, ImportLookupSlots,
-    ImportLookupTable,    SIZEOF_IMPORT_DIRECTORY_ENTRY, SyntheticImportDirectoryEntry, SyntheticImportLookupTableEntry,
+    ImportLookupTable, SIZEOF_IMPORT_DIRECTORY_ENTRY, SyntheticImportDirectoryEntry,
+    SyntheticImportLookupTableEntry,
 };
 use goblin_pe_sect::{DataDirectory, ParseOptions, SectionTable};
 use std::alloc::{AllocError, Global};
