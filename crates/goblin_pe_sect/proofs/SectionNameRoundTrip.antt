@@ -30,7 +30,6 @@ ascii (b ∷ bs) h =
 pub utf8 : (text : List ℕ) → list_all is_plain text ≡ true → is_utf8 text ≡ true
 utf8 text h = is_utf8-from_IsUtf8 text (IsUtf8-from_ascii text (ascii text h))
 
-
 nonzero : (b : ℕ) → nat_lt 0 b ≡ true → nat_eq b 0 ≡ false
 nonzero b h = not_true (nat_eq b 0) (λ e. omega (arith, eqb-true b 0 e, ltb-true 0 b h))
 

@@ -71,8 +71,12 @@ fn lookup_table_if<'a, 'e, T: Bitfield<'a>>(
     let Some(offset) = offset else {
         return Ok((None, Table::from(Vec::new(alloc))));
     };
-    let (table, slots) =
-        SyntheticImportLookupTableEntry::parse_by::<T>(alloc, bytes, offset, address_map)?;
+    let (table, slots) = SyntheticImportLookupTableEntry::parse_by::<T>(
+        alloc,
+        bytes,
+        offset,
+        address_map,
+    )?;
     Ok((Some(table), slots))
 }
 
@@ -175,8 +179,12 @@ impl<'a> SyntheticImportDirectoryEntry<'a> {
         let record = &import_directory_entry;
         let name = address_map.name_at(bytes, record.name_rva)?.unwrap_or("");
         let lookup_offset = lookup_offset(record, address_map);
-        let (import_lookup_table, import_lookup_slots) =
-            lookup_table_if::<T>(alloc, bytes, lookup_offset, address_map)?;
+        let (import_lookup_table, import_lookup_slots) = lookup_table_if::<T>(
+            alloc,
+            bytes,
+            lookup_offset,
+            address_map,
+        )?;
         let address_rva = address_table_rva(record);
         let Some(offset) = address_map.offset_of(address_rva) else {
             return Err(Error::Malformed(Cause::Unmapped(address_rva as usize)));

@@ -144,15 +144,20 @@ fn kept_entries<'b, 'a>(
     }
 }
 
+// Whether a library has as many entries as slots.
+fn has_slots(library: &SyntheticImportDirectoryEntry) -> bool
+    ensures { result ≡ has_slots library.now }
+{
+    kept_entries(library).len() == library.import_lookup_slots.as_slice().len()
+}
+
 // The first library that has not as many entries as slots.
 fn first_without_slots<'b, 'a>(
     libraries: &'b [SyntheticImportDirectoryEntry<'a>],
 ) -> Option<&'b SyntheticImportDirectoryEntry<'a>>
     ensures { option_copied result ≡ first_without_slots libraries.now }
 {
-    libraries
-        .iter()
-        .find(|library| kept_entries(library).len() != library.import_lookup_slots.as_slice().len())
+    libraries.iter().find(|library| !has_slots(library))
 }
 
 // How many entries the lookup tables of libraries keep, or the greatest number, for which there is no
