@@ -58,20 +58,6 @@ impl<'s> AddressMap<'s> {
         })
     }
 
-    // The sections.
-    pub(crate) fn sections(&self) -> &'s [SectionTable]
-        ensures { result.now ≡ self.now.sections }
-    {
-        self.sections
-    }
-
-    // The file alignment.
-    pub(crate) fn file_alignment(&self) -> u32
-        ensures { result ≡ self.now.file_alignment }
-    {
-        self.file_alignment
-    }
-
     // The options.
     pub(crate) fn opts(&self) -> &ParseOptions
         ensures { result.now ≡ self.now.opts }
