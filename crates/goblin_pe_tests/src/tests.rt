@@ -3,4 +3,5 @@
 mod exports;
 mod imports;
 mod raw_pointers;
+mod table_footprints;
 mod whole;
