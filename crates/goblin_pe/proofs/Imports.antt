@@ -13,6 +13,13 @@ use Rattle.goblin_pe.specs.ImportLookup.{LookupEntry}
 use Rattle.goblin_pe.specs.ImportDirectory.{ImportedLibrary}
 use Rattle.goblin_pe.specs.Imports.{ImportValue, IsImportsFault, IsSlotCount, first_without_slots, has_slots, import_at, import_of, import_offset, imports_by, imports_of, kept_entries, library_imports}
 
+-- what a test says of that whose opposite it is
+pub opposite : (last valid v : Bool) → valid ≡ not last → valid ≡ not v → last ≡ v
+opposite true valid true is test = refl
+opposite true valid false is test = let both = sym is ∙ test in cc
+opposite false valid true is test = let both = sym is ∙ test in cc
+opposite false valid false is test = refl
+
 -- over a table's entries and slots
 module _ (size : ℕ) (dll : List ℕ) (rva : ℕ) (entries : List LookupEntry) (slots : List ℕ) where
   -- `now` is `old` with the imports of the entries before a position behind it
@@ -52,10 +59,6 @@ module _ (size : ℕ) (dll : List ℕ) (rva : ℕ) (entries : List LookupEntry) 
   entry-end position old now h end =
       let all : all_at (import_at size dll rva entries slots) (length entries) ≡ Some h.made = ap (all_at (import_at size dll rva entries slots)) (sym end) ∙ h.so_far in
       rw all (ap Some (sym h.behind))
-
--- the imports from a library that has as many entries as slots
-pub library-slotted : (size : ℕ) (library : ImportedLibrary) → has_slots library ≡ true → library_imports size library ≡ imports_by size library.name library.import_directory_entry.import_address_table_rva (kept_entries library) library.import_lookup_slots
-library-slotted size library h = rw h refl
 
 pub entry-read : {A : Type 0} (view : A → LookupEntry) (entries : List A) (position : ℕ) (d : A) → position < length entries → slice_get (map view entries) position ≡ Some (view (get_or entries position d))
 entry-read view entries position d below =

@@ -5,6 +5,7 @@
 mod address_map;
 pub mod export;
 pub mod import;
+pub mod laws;
 pub mod table;
 pub mod whole;
 

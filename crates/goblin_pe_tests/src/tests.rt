@@ -4,4 +4,5 @@ mod exports;
 mod imports;
 mod overlapping;
 mod raw_pointers;
+mod table_footprints;
 mod whole;

@@ -81,7 +81,7 @@ fn lookup_table_if<'a, 'e, T: Bitfield<'a>>(
 }
 
 // Where a record's lookup table stands: at its own address, or at that of the address table.
-fn lookup_offset(entry: &ImportDirectoryEntry, address_map: &AddressMap) -> Option<usize>
+pub(crate) fn lookup_offset(entry: &ImportDirectoryEntry, address_map: &AddressMap) -> Option<usize>
     ensures { result ≡ lookup_offset (offset_of address_map.now) entry.now }
 {
     let lookup_rva = entry.import_lookup_table_rva;
@@ -93,7 +93,7 @@ fn lookup_offset(entry: &ImportDirectoryEntry, address_map: &AddressMap) -> Opti
 }
 
 // The address of a record's address table.
-fn address_table_rva(entry: &ImportDirectoryEntry) -> u32
+pub(crate) fn address_table_rva(entry: &ImportDirectoryEntry) -> u32
     ensures { result ≡ address_table_rva entry.now }
 {
     match entry.import_address_table_rva {

@@ -23,7 +23,7 @@ use std::test::Fail;
 
 /// An entry of two bytes, by ordinal from 2^15 on.
 #[derive(Debug, PartialEq, Eq, Copy, Clone)]
-struct Short {
+pub(super) struct Short {
     number: u16,
 }
 
@@ -106,16 +106,16 @@ impl<'a> Bitfield<'a> for Vast {
 }
 
 /// Where the sample file's import directory lies.
-const DIRECTORY: DataDirectory = DataDirectory {
+pub(super) const DIRECTORY: DataDirectory = DataDirectory {
     virtual_address: 0x1000,
     size: 0x28,
 };
 
 /// The sample file's file alignment.
-const ALIGNMENT: u32 = 0x200;
+pub(super) const ALIGNMENT: u32 = 0x200;
 
 /// The record of the sample file's import directory.
-const RECORD: ImportDirectoryEntry = ImportDirectoryEntry {
+pub(super) const RECORD: ImportDirectoryEntry = ImportDirectoryEntry {
     import_lookup_table_rva: 0x1040,
     time_date_stamp: 0,
     forwarder_chain: 0,
@@ -294,7 +294,7 @@ fn is_seven(entry: &SyntheticImportLookupTableEntry) -> bool {
 }
 
 /// Whether this is the sample file's lookup table, by entries of four bytes.
-fn is_sample_table(table: &ImportLookupTable) -> bool {
+pub(super) fn is_sample_table(table: &ImportLookupTable) -> bool {
     match table.as_slice() {
         [first, second] => is_go(first) && is_seven(second),
         _ => false,
