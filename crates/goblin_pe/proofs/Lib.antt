@@ -5,3 +5,6 @@ pub mod ImportDirectoryRoundTrip
 pub mod Imports
 pub mod Modes
 pub mod Parts
+pub mod PermissiveReads
+pub mod TableRuns
+pub mod TwinParts

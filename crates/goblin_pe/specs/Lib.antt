@@ -1,7 +1,11 @@
+pub mod ExportFootprints
 pub mod Exports
 pub mod ForwarderLaws
 pub mod Forwarders
 pub mod ImportDirectory
 pub mod ImportLookup
 pub mod Imports
+pub mod Modes
+pub mod TableRuns
+pub mod TwinParts
 pub mod Whole

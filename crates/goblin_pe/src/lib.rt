@@ -4,6 +4,7 @@
 
 pub mod export;
 pub mod import;
+pub mod laws;
 pub mod table;
 pub mod whole;
 

@@ -1,15 +1,13 @@
 -- Files that agree on the footprint of a header, or of a table that a header leads to, have the same there.
-use Rattle.std.proofs.Common.{◌≡◌, ℕ, ◌+◌, ◌-◌, ◌*◌, ◌<◌, ◌≤◌, ◌&&◌, ◌++◌, Bool, true, false, cond, nat_eq, nat_le, nat_lt, List, [], ◌∷◌, length, drop, map, Option, Some, None, refl, sym, ap, subst, ◌∙◌, inl, inr, arith}
-use Rattle.std.specs.Prelude.{option_map, slice_index, slice_range}
+use Rattle.std.proofs.Common.{◌≡◌, ℕ, ◌+◌, ◌-◌, ◌*◌, ◌≤◌, ◌++◌, Bool, true, false, cond, nat_eq, nat_le, nat_lt, List, [], ◌∷◌, length, drop, Option, Some, None, refl, sym, ap, subst, ◌∙◌, inl, inr, arith}
+use Rattle.std.specs.Prelude.{option_map, slice_range}
 use Rattle.std.proofs.lemmas.Bool.{cases_Bool, cases_lt, cond-false, le-leb, leb-true, lt-leb}
 use Rattle.std.proofs.lemmas.List.{get_or-drop, length-drop}
 use Rattle.goblin_base.specs.declared.endian.Endian.TheVariants.{Little}
-use Rattle.goblin_base.specs.Answers.{◌>>=◌}
 use Rattle.goblin_base.specs.Bytes.{number_at, text_of}
 use Rattle.goblin_base.specs.Footprints.{Agree, Covers, Range, led_to, positions, slice_footprint}
 use Rattle.goblin_base.specs.Record.{record_at}
 use Rattle.goblin_base.specs.Strtab.{string_table}
-use Rattle.goblin_base.specs.Tables.{concat_below}
 use Rattle.goblin_base.proofs.Footprints.{agree-below, agree-left, agree-led, agree-right, same-all_at, same-led, same-number_at, same-record_at, same-slice_at, same-slice_range, same-then, same-within}
 use Rattle.goblin_base.proofs.Numbers.{number_at-some}
 use Rattle.goblin_pe_sect.specs.DataDirectories.{directories_at}

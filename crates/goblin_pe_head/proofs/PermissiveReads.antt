@@ -1,5 +1,5 @@
 -- What strict mode reads of headers, permissive mode reads, too.
-use Rattle.std.proofs.Common.{◌≡◌, ℕ, ◌+◌, ◌*◌, Bool, true, false, List, Option, Some, None, refl}
+use Rattle.std.proofs.Common.{ℕ, ◌+◌, ◌*◌, true, false, List, Option, Some, None}
 use Rattle.goblin_base.specs.Answers.{◌>>=◌}
 use Rattle.goblin_base.proofs.Kept.{Keeps, all_at-kept, then-kept}
 use Rattle.goblin_pe_sect.specs.SectionTable.{section_at}

@@ -1,5 +1,5 @@
 -- The footprints of the readers of headers: of a PE file, of a COFF file with the tables that its header leads to, and of a Terse Executable.
-use Rattle.std.specs.Prelude.{ℕ, ◌+◌, ◌-◌, ◌*◌, ◌==◌, Bool, true, nat_lt, nat_le, if◌then◌else◌, List, [], ◌++◌, Option, None, Some, map, drop, slice_range}
+use Rattle.std.specs.Prelude.{ℕ, ◌+◌, ◌-◌, ◌*◌, ◌==◌, Bool, true, nat_lt, if◌then◌else◌, List, [], ◌++◌, Option, None, Some, map, drop, slice_range}
 use Rattle.goblin_base.specs.declared.endian.Endian.TheVariants.{Little}
 use Rattle.goblin_base.specs.Bytes.{number_at}
 use Rattle.goblin_base.specs.Footprints.{Range, led_to, positions, slice_footprint}

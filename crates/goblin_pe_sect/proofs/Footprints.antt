@@ -6,12 +6,11 @@ use Rattle.std.proofs.lemmas.Bool.{and_parts, cases_Bool, cases_lt, cond-false, 
 use Rattle.std.proofs.lemmas.List.{length-drop}
 use Rattle.goblin_base.specs.declared.endian.Endian.{Endian}
 use Rattle.goblin_base.specs.declared.endian.Endian.TheVariants.{Little}
-use Rattle.goblin_base.specs.Answers.{◌>>=◌}
-use Rattle.goblin_base.specs.Bytes.{slice_at, text_at}
+use Rattle.goblin_base.specs.Bytes.{slice_at}
 use Rattle.goblin_base.specs.Footprints.{Agree, led_to, rest_footprint, slice_footprint, stretch_footprint}
 use Rattle.goblin_base.specs.Record.{record_at}
 use Rattle.goblin_base.specs.Tables.{concat_below}
-use Rattle.goblin_base.proofs.Footprints.{agree-below, agree-left, agree-right, agree-led, same-led, same-record_at, same-slice_at, same-slice_range, same-text_at, same-within}
+use Rattle.goblin_base.proofs.Footprints.{agree-below, agree-left, agree-right, same-led, same-record_at, same-slice_at, same-slice_range, same-text_at, same-within}
 use Rattle.goblin_pe_sect.specs.declared.data_directories.DataDirectory.{DataDirectory}
 use Rattle.goblin_pe_sect.specs.BaseRelocations.{relocation_data}
 use Rattle.goblin_pe_sect.specs.DataDirectories.{directories_at, directory_record, entry_at, entry_ending}

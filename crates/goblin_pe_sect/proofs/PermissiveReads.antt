@@ -1,14 +1,13 @@
 -- What strict mode reads of a section, permissive mode reads, too.
-use Rattle.std.proofs.Common.{◌≡◌, ℕ, Bool, true, false, cond, List, Option, Some, None, refl}
+use Rattle.std.proofs.Common.{ℕ, Bool, true, false, cond, List, Option, Some, None}
 use Rattle.std.specs.Prelude.{nat_eq, slice_index}
 use Rattle.goblin_base.specs.declared.endian.Endian.TheVariants.{Little}
-use Rattle.goblin_base.specs.Answers.{◌>>=◌}
 use Rattle.goblin_base.specs.Bytes.{bounded_text_at}
 use Rattle.goblin_base.specs.Record.{record_at}
 use Rattle.goblin_base.proofs.Kept.{Keeps, then-kept}
 use Rattle.goblin_pe_sect.specs.Mapping.{name_or_none}
 use Rattle.goblin_pe_sect.specs.SectionName.{decimal_number, name_value, numeral, text_value}
-use Rattle.goblin_pe_sect.specs.SectionTable.{Section, section_at, section_record}
+use Rattle.goblin_pe_sect.specs.SectionTable.{section_at, section_record}
 use Rattle.goblin_pe_sect.specs.declared.digits.Digits.TheVariants.{Base64}
 
 text_value-kept : (text : Option (List ℕ)) (number_of : List ℕ → Option ℕ) → Keeps (text_value true text number_of) (text_value false text number_of)

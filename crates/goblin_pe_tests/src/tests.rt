@@ -2,5 +2,7 @@
 
 mod exports;
 mod imports;
+mod modes;
 mod raw_pointers;
+mod twin_parts;
 mod whole;

@@ -105,16 +105,16 @@ impl<'a> Bitfield<'a> for Vast {
 }
 
 /// Where the sample file's import directory lies.
-const DIRECTORY: DataDirectory = DataDirectory {
+pub(super) const DIRECTORY: DataDirectory = DataDirectory {
     virtual_address: 0x1000,
     size: 0x28,
 };
 
 /// The sample file's file alignment.
-const ALIGNMENT: u32 = 0x200;
+pub(super) const ALIGNMENT: u32 = 0x200;
 
 /// The record of the sample file's import directory.
-const RECORD: ImportDirectoryEntry = ImportDirectoryEntry {
+pub(super) const RECORD: ImportDirectoryEntry = ImportDirectoryEntry {
     import_lookup_table_rva: 0x1040,
     time_date_stamp: 0,
     forwarder_chain: 0,
