@@ -1,5 +1,5 @@
 -- The loops that list imports: over the entries of a table, and over libraries.
-use Rattle.std.proofs.Common.{◌≡◌, ◌<◌, ℕ, ◌+◌, List, [], ◌∷◌, ◌++◌, length, Option, Some, None, refl, sym, ap, ◌∙◌, append-nil, append_assoc}
+use Rattle.std.proofs.Common.{◌≡◌, ◌<◌, ℕ, ◌+◌, Bool, true, false, not, List, [], ◌∷◌, ◌++◌, length, Option, Some, None, refl, sym, ap, ◌∙◌, append-nil, append_assoc}
 use Rattle.std.specs.Prelude.{map, get_or, slice_get, option_map}
 use Rattle.std.proofs.lemmas.Option.{slice_get-get_or, slice_get-map, slice_get_within}
 use Rattle.goblin_base.specs.Tables.{each_below, join}
@@ -9,6 +9,13 @@ use Rattle.goblin_base.proofs.Steps.{all_at-more, all_at-none, all_at-zero}
 use Rattle.goblin_pe.specs.ImportLookup.{LookupEntry}
 use Rattle.goblin_pe.specs.ImportDirectory.{ImportedLibrary}
 use Rattle.goblin_pe.specs.Imports.{ImportValue, import_at, import_of, import_offset, imports_by, imports_of, library_imports}
+
+-- what a test says of that whose opposite it is
+pub opposite : (last valid v : Bool) → valid ≡ not last → valid ≡ not v → last ≡ v
+opposite true valid true is test = refl
+opposite true valid false is test = let both = sym is ∙ test in cc
+opposite false valid true is test = let both = sym is ∙ test in cc
+opposite false valid false is test = refl
 
 -- `now` is `old` with the imports of the entries before a position behind it
 pub record AtEntry (size : ℕ) (dll : List ℕ) (rva : ℕ) (entries : List LookupEntry) (position : ℕ) (old now : List ImportValue) : Type 0 where

@@ -1,7 +1,9 @@
 pub mod ExportDirectoryRoundTrip
+pub mod ExportFootprints
 mod ExportRows
 mod Grammar
 pub mod ImportDirectoryRoundTrip
+pub mod ImportFootprints
 pub mod Imports
 pub mod Modes
 pub mod Parts

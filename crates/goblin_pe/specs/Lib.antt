@@ -3,6 +3,7 @@ pub mod Exports
 pub mod ForwarderLaws
 pub mod Forwarders
 pub mod ImportDirectory
+pub mod ImportFootprints
 pub mod ImportLookup
 pub mod Imports
 pub mod Modes

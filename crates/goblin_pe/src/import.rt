@@ -23,11 +23,13 @@ mod listed;
 mod lookup_table;
 
 pub use address_table::ImportAddressTable;
+pub(crate) use bitfield::read_entry;
 pub use bitfield::{
     Bitfield, IMPORT_BY_ORDINAL_32, IMPORT_BY_ORDINAL_64, IMPORT_RVA_MASK_32, IMPORT_RVA_MASK_64,
 };
 pub use directory_entry::{ImportDirectoryEntry, SIZEOF_IMPORT_DIRECTORY_ENTRY};
 pub use library::SyntheticImportDirectoryEntry;
+pub(crate) use library::{address_table_rva, lookup_offset};
 pub use listed::Import;
 pub use lookup_table::{HintNameTableEntry, ImportLookupTable, SyntheticImportLookupTableEntry};
 

@@ -4,5 +4,6 @@ mod exports;
 mod imports;
 mod modes;
 mod raw_pointers;
+mod table_footprints;
 mod twin_parts;
 mod whole;

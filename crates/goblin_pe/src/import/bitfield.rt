@@ -144,7 +144,7 @@ impl<'a> Bitfield<'a> for u64 {
 }
 
 // The entry at an offset.
-pub(super) fn read_entry<'a, 'e, T: Bitfield<'a>>(bytes: &'a [u8], offset: usize) -> ResultOf<'e, T>
+pub(crate) fn read_entry<'a, 'e, T: Bitfield<'a>>(bytes: &'a [u8], offset: usize) -> ResultOf<'e, T>
     ensures { Answers T.value result (record_at T.format.width T.format.value_of bytes.now offset) (IsSliceFault bytes.now offset T.format.width) }
 {
     let entry = pread_slice(bytes, offset, T::size_of())?;

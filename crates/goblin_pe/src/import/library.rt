@@ -76,7 +76,7 @@ fn lookup_table_if<'a, 'e, T: Bitfield<'a>>(
 }
 
 // Where a record's lookup table stands: at its own address, or at that of the address table.
-fn lookup_offset(
+pub(crate) fn lookup_offset(
     entry: &ImportDirectoryEntry,
     sections: &[SectionTable],
     file_alignment: u32,
@@ -95,7 +95,7 @@ fn lookup_offset(
 }
 
 // The address of a record's address table.
-fn address_table_rva(entry: &ImportDirectoryEntry) -> u32
+pub(crate) fn address_table_rva(entry: &ImportDirectoryEntry) -> u32
     ensures { result ≡ address_table_rva entry.now }
 {
     match entry.import_address_table_rva {

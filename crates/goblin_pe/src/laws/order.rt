@@ -1,21 +1,18 @@
 //! The readers that map addresses, under two tables of sections.
 
-ghost use Rattle.goblin_base.specs.Answers.{AnswersOrMemory};
 ghost use Rattle.goblin_pe_sect.specs.Mapping.{file_offset};
 ghost use Rattle.goblin_pe_sect.specs.Options.{is_strict};
 ghost use Rattle.goblin_pe_sect.specs.WindowOrder.{IsReordering};
-ghost use Rattle.goblin_pe.specs.ExportFootprints.{export_read, export_read_view};
-ghost use Rattle.goblin_pe.specs.Exports.{IsExportDataFault};
 ghost use Rattle.goblin_pe.specs.TableRuns.{AreAlike, AreTables};
 
 use crate::data_directories::DataDirectory;
-use crate::export::{Export, ExportData};
 use crate::import::{Bitfield, ImportData, ImportLookupTable, SyntheticImportLookupTableEntry};
+use crate::laws::exports::{ExportRead, read_exports};
 use crate::options::ParseOptions;
 use crate::relocation::RelocationData;
 use crate::section_table::SectionTable;
 use crate::utils::{get_data_with_opts, safe_try_name};
-use goblin_base::{Result, ResultOf, TryFromCtx};
+use goblin_base::{ResultOf, TryFromCtx};
 use std::alloc::Global;
 
 /// What the readers of [`Tables`] are asked for.
@@ -43,8 +40,8 @@ pub struct TablesOf<'a, 'e, D> {
     pub lookup: ResultOf<'e, ImportLookupTable<'a>>,
     /// The imports of a directory.
     pub imports: ResultOf<'e, ImportData<'a>>,
-    /// The export data of a directory, and the exports that they list.
-    pub exports: ResultOf<'e, (ExportData<'a>, Vec<Export<'a>>)>,
+    /// The export data of a directory, and the exports that it lists.
+    pub exports: ResultOf<'e, ExportRead<'a>>,
     /// The base relocations of a directory.
     pub relocations: ResultOf<'e, RelocationData<'a>>,
     /// The name at an address, as [`safe_try_name`] gives it.
@@ -55,31 +52,6 @@ pub struct TablesOf<'a, 'e, D> {
 
 /// The answers of the six readers that map addresses by a table of sections.
 pub type Tables<'a, D> = TablesOf<'a, 'static, D>;
-
-// Export data, and the exports that they list.
-#[tactic(auto, unfolding(crate::specs::ExportFootprints::export_read))]
-fn read_exports<'a>(
-    alloc: Global,
-    bytes: &'a [u8],
-    directory: DataDirectory,
-    sections: &[SectionTable],
-    file_alignment: u32,
-    opts: &ParseOptions,
-) -> Result<(ExportData<'a>, Vec<Export<'a>>)>
-    ensures { let offset_of = file_offset opts.now sections.now file_alignment in
-        AnswersOrMemory export_read_view result (export_read offset_of directory bytes.now) (IsExportDataFault offset_of directory bytes.now) }
-{
-    let data = ExportData::parse_with_opts(
-        alloc,
-        bytes,
-        directory,
-        sections,
-        file_alignment,
-        opts,
-    )?;
-    let exports = Export::parse_with_opts(alloc, bytes, &data, sections, file_alignment, opts)?;
-    Ok((data, exports))
-}
 
 // The answers of the six readers. A refusal of one stands in its place, and the others still run.
 pub(super) fn read_tables<'a, 'e, T: Bitfield<'a>, D: TryFromCtx<'a>>(

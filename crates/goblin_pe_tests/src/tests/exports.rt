@@ -22,12 +22,12 @@ const DIRECTORY: DataDirectory = DataDirectory {
 const ALIGNMENT: u32 = 0x200;
 
 /// An export's name, file offset, address, and what it stands for.
-type Row<'a> = (Option<&'a str>, Option<usize>, usize, Option<Reexport<'a>>);
+pub(super) type Row<'a> = (Option<&'a str>, Option<usize>, usize, Option<Reexport<'a>>);
 
 /// The sample file's exports.
-const PLAIN: Row = (Some("f"), Some(0x210), 0x1010, None);
+pub(super) const PLAIN: Row = (Some("f"), Some(0x210), 0x1010, None);
 
-const FORWARDED: Row = (
+pub(super) const FORWARDED: Row = (
     Some("a.dll"),
     Some(0x2E0),
     0x10E0,
@@ -45,7 +45,7 @@ fn exports_of(alloc: Global, file: &[u8]) -> goblin_base::Result<Vec<Export<'_>>
 }
 
 /// Whether these are the exports, in this order.
-fn are(exports: &[Export], want: &[Row]) -> bool {
+pub(super) fn are(exports: &[Export], want: &[Row]) -> bool {
     exports.len() == want.len()
         && exports.iter().zip(want).all(|(export, row)| {
             (export.name, export.offset, export.rva, export.reexport) == *row && export.size == 0

@@ -22,7 +22,7 @@ use std::test::Fail;
 
 /// An entry of two bytes, by ordinal from 2^15 on.
 #[derive(Debug, PartialEq, Eq, Copy, Clone)]
-struct Short {
+pub(super) struct Short {
     number: u16,
 }
 
@@ -295,7 +295,7 @@ fn is_seven(entry: &SyntheticImportLookupTableEntry) -> bool {
 }
 
 /// Whether this is the sample file's lookup table, by entries of four bytes.
-fn is_sample_table(table: &ImportLookupTable) -> bool {
+pub(super) fn is_sample_table(table: &ImportLookupTable) -> bool {
     match table.as_slice() {
         [first, second] => is_go(first) && is_seven(second),
         _ => false,

@@ -1,4 +1,4 @@
-use Rattle.std.proofs.Common.{◌≡◌, ◌++◌, Bool, true, false, not, sym, ap, ◌∙◌, lit≤, inl, inr, refl}
+use Rattle.std.proofs.Common.{◌≡◌, ◌++◌, true, false, sym, ap, ◌∙◌, lit≤, inl, inr, refl}
 use Rattle.std.specs.Prelude.{option_to_list}
 use Rattle.std.proofs.lemmas.List.{append-nil}
 use Rattle.std.proofs.lemmas.Result.{err_from_is_err_and}
@@ -8,16 +8,10 @@ use Rattle.goblin_base.proofs.SlotTables.{at-start, at-next, at-last, at-end, at
 use Rattle.goblin_pe_sect.specs.Mapping.{file_offset}
 use Rattle.goblin_pe_sect.specs.Options.{is_strict}
 use Rattle.goblin_pe.specs.ImportDirectory.{IsImportRecordEnd, IsLibraryFault}
+use Rattle.goblin_pe.proofs.Imports.{opposite}
 use Rattle.goblin_pe.proofs.Modes.{strict, permissive}
 use Rattle.goblin_pe.proofs.import.libraries.Goals as goal
 use Rattle.goblin_pe.proofs.import.libraries.Goals.{in_default+then-is_permissive, in-Ok+then-not-is_possibly_valid, in-Some+in_ok-push, in_default-kept}
-
--- what a test says of that whose opposite it is
-opposite : (last valid v : Bool) → valid ≡ not last → valid ≡ not v → last ≡ v
-opposite true valid true is test = refl
-opposite true valid false is test = let both = sym is ∙ test in cc
-opposite false valid true is test = let both = sym is ∙ test in cc
-opposite false valid false is test = refl
 
 pub records-init : goal.records-init
 records-init g c = rw c.new-import_data.ensures.items (at-start _ _ _ _)

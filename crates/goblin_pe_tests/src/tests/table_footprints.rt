@@ -1,0 +1,366 @@
+//! Which bytes of a file its imports and exports depend on.
+
+use crate::tests::exports::{FORWARDED, PLAIN, are};
+use crate::tests::imports::{ALIGNMENT, DIRECTORY, RECORD, Short, is_sample_table};
+use fixture::memory::{Outcome, is_refused_until_right};
+use fixture::sample::{SAMPLE_LEN, put, sample, sample_section};
+use goblin_base::{Error, ParseMode};
+use goblin_pe::Whole;
+use goblin_pe::export::{ExportAddressTableEntry, ExportDirectoryTable};
+use goblin_pe::import::{
+    Import, ImportData, SyntheticImportDirectoryEntry, SyntheticImportLookupTableEntry,
+};
+use goblin_pe::laws::{ExportRead, footprint_imports, twin_exports, twin_imports, twin_lookup};
+use goblin_pe_sect::{DataDirectory, ParseOptions};
+use std::alloc::Global;
+use std::test::Fail;
+
+/// Positions, by where they begin and where they end.
+type Span = (usize, usize);
+
+/// What the readers reach in the sample file: of its lookup table, its imports and its exports.
+const LOOKUP: &[Span] = &[(0x240, 0x24C), (0x290, 0x295)];
+
+const IMPORTS: &[Span] = &[
+    (0x200, 0x228),
+    (0x240, 0x24C),
+    (0x260, 0x26C),
+    (0x280, 0x286),
+    (0x290, 0x295),
+];
+
+const EXPORTS: &[Span] = &[
+    (0x280, 0x286),
+    (0x2A0, 0x2DC),
+    (0x2E0, 0x2E6),
+    (0x2F0, 0x2F2),
+];
+
+/// The sample file's export directory.
+const EXPORT_DIRECTORY: DataDirectory = DataDirectory {
+    virtual_address: 0x10A0,
+    size: 0x60,
+};
+
+fn is_in(spans: &[Span], place: usize) -> bool {
+    spans
+        .iter()
+        .any(|(begin, end)| *begin <= place && place < *end)
+}
+
+/// Whether both hold the same positions of a file of the sample's length.
+fn are_the_same(spans: &[Span], want: &[Span]) -> bool {
+    (0..SAMPLE_LEN + 1).all(|place| is_in(spans, place) == is_in(want, place))
+}
+
+fn flip(file: &mut [u8], place: usize) {
+    if let Some(byte) = file.get_mut(place) {
+        *byte ^= 0xFF;
+    }
+}
+
+/// Changes every byte outside of these positions.
+fn flip_outside(file: &mut [u8], spans: &[Span]) {
+    for place in 0..file.len() {
+        if !is_in(spans, place) {
+            flip(file, place);
+        }
+    }
+}
+
+/// Whether what is read is the same in each file that differs from this one outside of these
+/// positions, at one place or at all of them, and another where a byte of each span is changed.
+fn depends_on<F: FnMut(&[u8]) -> bool>(
+    file: &mut [u8],
+    spans: &[Span],
+    mut is_the_same: F,
+) -> bool
+    requires { F.IsAlwaysCallable is_the_same }
+{
+    for place in 0..file.len() {
+        if !is_in(spans, place) {
+            flip(file, place);
+            if !is_the_same(file) {
+                return false;
+            }
+            flip(file, place);
+        }
+    }
+    flip_outside(file, spans);
+    if !is_the_same(file) {
+        return false;
+    }
+    flip_outside(file, spans);
+    for (begin, end) in spans {
+        let mut is_read = false;
+        for place in *begin..*end {
+            flip(file, place);
+            is_read = is_read || !is_the_same(file);
+            flip(file, place);
+        }
+        if !is_read {
+            return false;
+        }
+    }
+    true
+}
+
+/// On which bytes of an image for 32 bits its imports depend.
+fn import_bytes(alloc: Global, bytes: &[u8], whole: &Whole) -> goblin_base::Result<Vec<Span>> {
+    let opts = ParseOptions::default();
+    if let Some(header) = &whole.header.optional_header
+        && let Some(directory) = header.data_directories.get_import_table()
+    {
+        let alignment = header.windows_fields.file_alignment;
+        return footprint_imports::<u32>(alloc, bytes, *directory, &whole.sections, alignment, &opts);
+    }
+    Ok(Vec::new(alloc))
+}
+
+/// Whether this is the sample file's import data, by entries of four bytes.
+fn are_sample_imports(data: &ImportData) -> bool {
+    match &data.import_data[..] {
+        [library] => is_sample_library(library),
+        _ => false,
+    }
+}
+
+fn is_sample_library(library: &SyntheticImportDirectoryEntry) -> bool {
+    (library.import_directory_entry, library.name) == (RECORD, "a.dll")
+        && matches!(&library.import_lookup_table, Some(table) if is_sample_table(table))
+        && library.import_address_table.as_slice() == [0x1090, 0x8000_0007].as_slice()
+}
+
+/// Whether this is the sample file's export data with its exports.
+fn are_sample_exports(read: &ExportRead) -> bool {
+    let (tables, exports) = read;
+    let table = ExportDirectoryTable {
+        name_rva: 0x1080,
+        ordinal_base: 1,
+        address_table_entries: 2,
+        number_of_name_pointers: 2,
+        export_address_table_rva: 0x10C8,
+        name_pointer_rva: 0x10D0,
+        ordinal_table_rva: 0x10D8,
+        ..ExportDirectoryTable::default()
+    };
+    let addresses = [
+        ExportAddressTableEntry::ExportRVA(0x1010),
+        ExportAddressTableEntry::ForwarderRVA(0x10E0),
+    ];
+    (tables.name, tables.export_directory_table) == (Some("a.dll"), table)
+        && tables.export_name_pointer_table.as_slice() == [0x10F0, 0x1080].as_slice()
+        && tables.export_ordinal_table.as_slice() == [0, 1].as_slice()
+        && tables.export_address_table.as_slice() == addresses.as_slice()
+        && are(exports, &[PLAIN, FORWARDED])
+}
+
+#[test]
+fn a_lookup_table_depends_on_its_slots_hints_and_names(rt: HostRuntime) -> Result<(), Fail> {
+    let alloc = rt.alloc();
+    let file = sample(alloc)?;
+    let mut other = sample(alloc)?;
+    let sections = [sample_section()];
+    let opts = ParseOptions::default();
+    let is_read = depends_on(&mut other, LOOKUP, |b| {
+        let (first, second) = twin_lookup::<u32>(
+            alloc, &file, b, 0x240, &sections, ALIGNMENT, &opts,
+        );
+        matches!(first, Ok(table) if is_sample_table(&table))
+            && matches!(second, Ok(table) if is_sample_table(&table))
+    });
+    assert!(rt; is_read);
+    Ok(())
+}
+
+#[test]
+fn imports_depend_on_records_slots_and_names(rt: HostRuntime) -> Result<(), Fail> {
+    let alloc = rt.alloc();
+    let file = sample(alloc)?;
+    let mut other = sample(alloc)?;
+    let sections = [sample_section()];
+    let opts = ParseOptions::default();
+    let is_read = depends_on(&mut other, IMPORTS, |b| {
+        let (first, second) = twin_imports::<u32>(
+            alloc, &file, b, DIRECTORY, &sections, ALIGNMENT, &opts,
+        );
+        matches!(first, Ok(data) if are_sample_imports(&data))
+            && matches!(second, Ok(data) if are_sample_imports(&data))
+    });
+    assert!(rt; is_read);
+    Ok(())
+}
+
+#[test]
+fn exports_depend_on_tables_names_and_forwarders(rt: HostRuntime) -> Result<(), Fail> {
+    let alloc = rt.alloc();
+    let file = sample(alloc)?;
+    let mut other = sample(alloc)?;
+    let sections = [sample_section()];
+    let opts = ParseOptions::default();
+    let is_read = depends_on(&mut other, EXPORTS, |b| {
+        let (first, second) = twin_exports(
+            alloc, &file, b, EXPORT_DIRECTORY, &sections, ALIGNMENT, &opts,
+        );
+        matches!(first, Ok(read) if are_sample_exports(&read))
+            && matches!(second, Ok(read) if are_sample_exports(&read))
+    });
+    assert!(rt; is_read);
+    Ok(())
+}
+
+#[test]
+fn the_footprint_of_imports_is_listed(rt: HostRuntime) -> Result<(), Fail> {
+    let alloc = rt.alloc();
+    let mut file = sample(alloc)?;
+    let sections = [sample_section()];
+    // The file as it stands, and with every byte outside changed.
+    for _ in 0..2 {
+        for mode in [ParseMode::Strict, ParseMode::Permissive] {
+            let opts = ParseOptions::default().with_parse_mode(mode);
+            let spans = footprint_imports::<u32>(
+                alloc, &file, DIRECTORY, &sections, ALIGNMENT, &opts,
+            )?;
+            assert!(rt; are_the_same(&spans, IMPORTS), "{mode:?}");
+        }
+        flip_outside(&mut file, IMPORTS);
+    }
+    let whole = Whole::read(alloc, &file, &ParseOptions::default())?;
+    assert!(rt; are_the_same(&import_bytes(alloc, &file, &whole)?, IMPORTS));
+    Ok(())
+}
+
+#[test]
+fn a_directory_that_is_not_read_has_no_footprint(rt: HostRuntime) -> Result<(), Fail> {
+    let alloc = rt.alloc();
+    let file = sample(alloc)?;
+    let strict = ParseOptions::default();
+    let permissive = strict.with_parse_mode(ParseMode::Permissive);
+    let nowhere = DataDirectory {
+        virtual_address: 0x9000,
+        size: 0x28,
+    };
+    let unmapped = footprint_imports::<u32>(
+        alloc,
+        &file,
+        nowhere,
+        &[sample_section()],
+        ALIGNMENT,
+        &strict,
+    )?;
+    assert!(rt; unmapped.is_empty());
+    // At offset 0 strict mode reads a directory, and permissive mode takes it for empty.
+    let front = DataDirectory::default();
+    let plain = ParseOptions { resolve_rva: false, ..strict };
+    let read = footprint_imports::<u32>(alloc, &file, front, &[], ALIGNMENT, &plain)?;
+    assert!(rt; is_in(&read, 0));
+    let opts = ParseOptions { resolve_rva: false, ..permissive };
+    let empty = footprint_imports::<u32>(alloc, &file, front, &[], ALIGNMENT, &opts)?;
+    assert!(rt; empty.is_empty());
+    Ok(())
+}
+
+#[test]
+fn tables_of_two_files_are_read_by_each_entry_type(rt: HostRuntime) -> Result<(), Fail> {
+    let alloc = rt.alloc();
+    let file = sample(alloc)?;
+    let sections = [sample_section()];
+    let opts = ParseOptions::default();
+    let (first, second) = twin_lookup::<u64>(
+        alloc, &file, &[], 0x240, &sections, ALIGNMENT, &opts,
+    );
+    assert!(rt; first?.as_slice().len() == 1 && second.is_err());
+    let (first, second) = twin_imports::<Short>(
+        alloc, &[], &file, DIRECTORY, &sections, ALIGNMENT, &opts,
+    );
+    assert!(rt; first.is_err() && second?.import_data.len() == 1);
+    let spans = footprint_imports::<Short>(
+        alloc, &file, DIRECTORY, &sections, ALIGNMENT, &opts,
+    )?;
+    assert!(rt; is_in(&spans, 0x243) && !is_in(&spans, 0x244));
+    Ok(())
+}
+
+#[test]
+fn a_name_may_be_an_ordinals_and_may_reach_the_end(rt: HostRuntime) -> Result<(), Fail> {
+    let alloc = rt.alloc();
+    let sections = [sample_section()];
+    let opts = ParseOptions::default();
+    // A lookup table at the directory's own place: its one entry leads to its own bytes.
+    let mut file = sample(alloc)?;
+    put(&mut file, 0x200, b"\x00\x10");
+    let data = ImportData::parse_with_opts::<u32>(
+        alloc, &file, DIRECTORY, &sections, ALIGNMENT, &opts,
+    )?;
+    let imports = Import::parse::<u32>(alloc, &file, &data, &sections)?;
+    let rows_are_right = match &imports[..] {
+        [import] => (&import.name[..], import.ordinal, import.dll) == ("", 4096, "a.dll")
+            && (import.offset, import.rva) == (0x1060, 0x1000),
+        _ => false,
+    };
+    assert!(rt; rows_are_right);
+    // A name that runs to the end of a longer file.
+    let mut long = sample(alloc)?;
+    long.resize(0x400, b'A')?;
+    for place in 0x292..0x300 {
+        put(&mut long, place, b"A");
+    }
+    let data = ImportData::parse_with_opts::<u32>(
+        alloc, &long, DIRECTORY, &sections, ALIGNMENT, &opts,
+    )?;
+    let imports = Import::parse::<u32>(alloc, &long, &data, &sections)?;
+    let is_long = matches!(&imports[..], [import, _] if import.name.len() == 366 && import.name.bytes().all(|b| b == b'A'));
+    assert!(rt; is_long);
+    Ok(())
+}
+
+#[test]
+fn a_lookup_table_may_meet_the_end(rt: HostRuntime) -> Result<(), Fail> {
+    let alloc = rt.alloc();
+    let sections = [sample_section()];
+    let strict = ParseOptions::default();
+    let permissive = strict.with_parse_mode(ParseMode::Permissive);
+    // The length of the file, and how many entries permissive mode keeps.
+    for (len, count) in [(0x248, 1), (0x247, 0)] {
+        let mut file = sample(alloc)?;
+        file.truncate(len);
+        let refused = SyntheticImportLookupTableEntry::parse_with_opts::<u32>(
+            alloc, &file, 0x240, &sections, ALIGNMENT, &strict,
+        );
+        assert!(rt; matches!(refused, Err(Error::Malformed(_) | Error::Read(_))), "{len:#x}");
+        let kept = SyntheticImportLookupTableEntry::parse_with_opts::<u32>(
+            alloc, &file, 0x240, &sections, ALIGNMENT, &permissive,
+        )?;
+        let sevens = kept
+            .as_slice()
+            .iter()
+            .filter(|entry| matches!(entry, SyntheticImportLookupTableEntry::OrdinalNumber(7)));
+        assert!(rt; kept.as_slice().len() == count && sevens.count() == count, "{len:#x}");
+    }
+    Ok(())
+}
+
+#[test]
+fn each_growth_refused_stands_in_its_place(rt: HostRuntime) -> Result<(), Fail> {
+    let alloc = rt.alloc();
+    let file = sample(alloc)?;
+    let sections = [sample_section()];
+    let opts = ParseOptions::default();
+    let is_listed = is_refused_until_right(alloc, || {
+        match footprint_imports::<u32>(alloc, &file, DIRECTORY, &sections, ALIGNMENT, &opts) {
+            Ok(spans) if is_in(&spans, 0x294) => Outcome::Right,
+            Err(Error::Memory(_)) => Outcome::Refused,
+            _ => Outcome::Wrong,
+        }
+    })?;
+    assert!(rt; is_listed, "footprint");
+    let is_read = is_refused_until_right(alloc, || {
+        match twin_imports::<u32>(alloc, &file, &[], DIRECTORY, &sections, ALIGNMENT, &opts) {
+            (Ok(data), Err(Error::Malformed(_))) if are_sample_imports(&data) => Outcome::Right,
+            (Err(Error::Memory(_)), Err(Error::Malformed(_))) => Outcome::Refused,
+            _ => Outcome::Wrong,
+        }
+    })?;
+    assert!(rt; is_read, "imports");
+    Ok(())
+}
