@@ -8,3 +8,6 @@ pub mod Imports
 pub mod LookupSlots
 pub mod Modes
 pub mod Parts
+pub mod PermissiveReads
+pub mod TableRuns
+pub mod TwinParts

@@ -2,7 +2,9 @@
 
 mod exports;
 mod imports;
+mod modes;
 mod overlapping;
 mod raw_pointers;
 mod table_footprints;
+mod twin_parts;
 mod whole;
