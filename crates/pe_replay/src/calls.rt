@@ -150,8 +150,8 @@ fn show_lookup_table(rt: &HostRuntime, file: &[u8]) -> Result<(), Refused> {
     for entry in table.as_slice() {
         match entry {
             SyntheticImportLookupTableEntry::OrdinalNumber(ordinal) => println!(rt; "#{ordinal}")?,
-            SyntheticImportLookupTableEntry::HintNameTableRVA((_, named)) => print!(rt;
-                "{} ",
+            SyntheticImportLookupTableEntry::HintNameTableRVA((_, named)) => println!(rt;
+                "{}",
                 named.name
             )?,
         }
