@@ -77,6 +77,22 @@ halves windows near begins old k up agree =
 
 -- ---- the windows of a section table
 
+next_from : (opts : ParseOptions) (alignment n i : ℕ) (sections : List Section) (d : Section) → i < length sections → map (λ (r : ℕ × Section). section_window_at opts alignment r.0 r.1) (enumerate_from n (take (suc i) sections)) ≡ map (λ (r : ℕ × Section). section_window_at opts alignment r.0 r.1) (enumerate_from n (take i sections)) ++ section_window_at opts alignment (n + i) (get_or sections i d) ∷ []
+next_from opts alignment n i [] d within = absurd (omega arith)
+next_from opts alignment n zero (s ∷ sections) d within =
+    let same : n ≡ n + 0 = omega arith in
+    ap (λ (k : ℕ). section_window_at opts alignment k s ∷ []) same
+next_from opts alignment n (suc i) (s ∷ sections) d within =
+    let place : n + 1 + i ≡ n + suc i = omega arith in
+    let later = next_from opts alignment (n + 1) i sections d (omega arith) in
+    ap (λ (ws : List Window). section_window_at opts alignment n s ∷ ws) (later ∙ ap (λ (k : ℕ). map (λ (r : ℕ × Section). section_window_at opts alignment r.0 r.1) (enumerate_from (n + 1) (take i sections)) ++ section_window_at opts alignment k (get_or sections i d) ∷ []) place)
+
+-- the windows of one section more
+pub next_window : (opts : ParseOptions) (alignment i : ℕ) (sections : List Section) (d : Section) → i < length sections → section_windows opts alignment (take (i + 1) sections) ≡ section_windows opts alignment (take i sections) ++ section_window_at opts alignment i (get_or sections i d) ∷ []
+next_window opts alignment i sections d within =
+    let same : 0 + i ≡ i = omega arith in
+    ap (λ (n : ℕ). section_windows opts alignment (take n sections)) (add-one i) ∙ next_from opts alignment 0 i sections d within ∙ ap (λ (k : ℕ). section_windows opts alignment (take i sections) ++ section_window_at opts alignment k (get_or sections i d) ∷ []) same
+
 from_by : (opts : ParseOptions) (alignment n j : ℕ) (s : Section) (sections : List Section) (b : Bool) (found : Option Window) → option_map (λ (w : Window). w.owner) found ≡ option_map (owner_of_section opts (n + 1 + j)) (slice_get sections j) → option_map (λ (w : Window). w.owner) (cond b (Some (section_window_at opts alignment n s)) found) ≡ option_map (owner_of_section opts (n + cond (not b) (1 + j) 0)) (slice_get (s ∷ sections) (cond (not b) (1 + j) 0))
 from_by opts alignment n j s sections true found later =
     let same : n ≡ n + 0 = omega arith in

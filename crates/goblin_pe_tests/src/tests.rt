@@ -2,6 +2,7 @@
 
 mod exports;
 mod imports;
+mod large_file;
 mod modes;
 mod overlapping;
 mod raw_pointers;

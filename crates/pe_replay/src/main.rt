@@ -1,54 +1,91 @@
 //! Shows what readers of the library make of a file on standard input, for the script that compares it
-//! with what stands beside the samples.
+//! with what stands beside the samples; or what a call answers that takes memory.
 #![tactic(auto)]
+
+mod calls;
 
 ghost use Rattle.std.specs.Prelude.{◌≡◌, ◌≤◌, IfOk, OnOk, length, IsSomeAnd, Some, true};
 ghost use Rattle.goblin_pe_head.specs.PeHeader.{header_bytes, pe_header};
 
-use goblin_base::Endian;
+use calls::show_call;
+use goblin_base::{Endian, Error};
 use goblin_pe_head::{CoffHeader, Header, TeHeader};
 use goblin_pe_sect::utils::find_offset;
 use goblin_pe_sect::{ParseOptions, WindowIndex};
-use std::io::{Read, Write};
+use std::alloc::AllocError;
+use std::io::{ErrorKind, Read, Write};
 use std::process::ExitCode;
 use std::{env, io};
 
 fn main(rt: HostRuntime) -> ExitCode {
     match replay(&rt) {
         Ok(()) => ExitCode::SUCCESS,
-        Err(_) => ExitCode::from(1),
+        Err(refused) => {
+            let _ = rt.eprintln(refused.line());
+            ExitCode::from(1)
+        }
     }
 }
 
 // Why nothing is shown.
 #[derive(Copy, Clone)]
-struct Refused;
+pub enum Refused {
+    // Memory was asked for and refused.
+    Memory,
+    Other,
+}
 
-impl From<goblin_base::Error> for Refused {
-    fn from(_: goblin_base::Error) -> Refused {
-        Refused
+impl Refused {
+    fn line(self) -> &'static str {
+        match self {
+            Refused::Memory => "out of memory",
+            Refused::Other => "refused",
+        }
+    }
+}
+
+impl From<Error> for Refused {
+    fn from(error: Error) -> Refused {
+        match error {
+            Error::Memory(_) => Refused::Memory,
+            _ => Refused::Other,
+        }
+    }
+}
+
+impl From<AllocError> for Refused {
+    fn from(_: AllocError) -> Refused {
+        Refused::Memory
     }
 }
 
 impl From<io::Error> for Refused {
-    fn from(_: io::Error) -> Refused {
-        Refused
+    fn from(error: io::Error) -> Refused {
+        match error.kind() {
+            ErrorKind::OutOfMemory => Refused::Memory,
+            _ => Refused::Other,
+        }
     }
 }
 
-// Shows what the word asks for of the file on standard input.
+// Shows what the word asks for of the file on standard input, or makes the call that the next word names.
 fn replay(rt: &HostRuntime) -> Result<(), Refused> {
     let mut words = env::args(rt)?;
     let _program = words.next();
+    let word = words.next();
+    let is_call = matches!(&word, Some(word) if word.as_str() == "call");
+    if is_call {
+        return show_call(rt, words.next());
+    }
     let mut file = Vec::new(rt.alloc());
     rt.stdin().read_to_end(&mut file)?;
-    match words.next() {
+    match word {
         Some(word) if word.as_str() == "header" => show_header(rt, &file),
         Some(word) if word.as_str() == "te" => show_te(rt, &file),
         Some(word) if word.as_str() == "symbols" => show_symbols(rt, &file),
         Some(word) if word.as_str() == "walk" => show_offsets(rt, &file, words.next(), false),
         Some(word) if word.as_str() == "index" => show_offsets(rt, &file, words.next(), true),
-        _ => Err(Refused),
+        _ => Err(Refused::Other),
     }
 }
 
@@ -112,7 +149,7 @@ fn show_symbols(rt: &HostRuntime, file: &[u8]) -> Result<(), Refused> {
     let header = CoffHeader::parse(file, &mut offset)?;
     let (Some(symbols), Some(strings)) = (header.symbols(file)?, header.strings(rt.alloc(), file)?)
     else {
-        return Err(Refused);
+        return Err(Refused::Other);
     };
     for (index, _, symbol) in symbols.iter() {
         println!(rt;
@@ -147,8 +184,8 @@ fn show_offsets(
     is_by_index: bool,
 ) -> Result<(), Refused> {
     let count = match word {
-        Some(word) => word.parse::<u32>().map_err(|_| Refused)?,
-        None => return Err(Refused),
+        Some(word) => word.parse::<u32>().map_err(|_| Refused::Other)?,
+        None => return Err(Refused::Other),
     };
     let mut offset = 0;
     let header = CoffHeader::parse(file, &mut offset)?;

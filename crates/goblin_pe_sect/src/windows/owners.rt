@@ -55,6 +55,7 @@ fn window_at(
 }
 
 // The windows of all sections, in the table's order.
+#[tactic(auto, using(crate::proofs::Stretches::next_window))]
 fn windows_of(
     alloc: Global,
     sections: &[SectionTable],
@@ -64,11 +65,11 @@ fn windows_of(
     requires { 0 < file_alignment }
     ensures { IfOk result (λ v. v.items ≡ section_windows opts.now file_alignment sections.now) }
 {
-    sections
-        .iter()
-        .enumerate()
-        .map(|(index, section)| window_at(index, section, file_alignment, opts))
-        .collect(alloc)
+    let mut windows = Vec::with_capacity(alloc, sections.len())?;
+    'sections: for (index, section) in sections.iter().enumerate() {
+        windows.push(window_at(index, section, file_alignment, opts))?;
+    }
+    Ok(windows)
 }
 
 // The owner of the first window that holds the address.
@@ -110,11 +111,13 @@ fn meeting(
 ) -> Result<Vec<Window>, AllocError>
     ensures { IfOk result (λ v. v.items ≡ filter (window_meets first last) windows.now) }
 {
-    windows
-        .iter()
-        .copied()
-        .filter(|window| window.begin <= last && first < window.end)
-        .collect(alloc)
+    let mut near = Vec::with_capacity(alloc, windows.len())?;
+    'windows: for window in windows {
+        if window.begin <= last && first < window.end {
+            near.push(*window)?;
+        }
+    }
+    Ok(near)
 }
 
 // The windows that may own an address from `first` to `last`.

@@ -9,21 +9,19 @@ use std::io;
 use std::io::{ErrorKind, Read, Write};
 use std::test::Fail;
 
-/// Gives a byte a read, and fails once, after so many reads.
+/// Gives a byte a read, so many times, and then fails each time.
 #[derive(Drop)]
-struct Flaky<'a> {
+struct Broken<'a> {
     bytes: &'a [u8],
     reads_left: usize,
-    has_failed: bool,
 }
 
-impl Read for Flaky<'_> {
+impl Read for Broken<'_> {
     fn read(&mut self, buf: &mut [u8]) -> io::Result<usize> {
-        if self.reads_left == 0 && !self.has_failed {
-            self.has_failed = true;
+        if self.reads_left == 0 {
             return Err(io::Error::from(ErrorKind::Interrupted));
         }
-        self.reads_left = self.reads_left.saturating_sub(1);
+        self.reads_left -= 1;
         match (self.bytes, buf) {
             ([first, rest @ ..], [place, ..]) => {
                 *place = *first;
@@ -40,10 +38,9 @@ fn stops_at_each_failed_read(rt: HostRuntime) -> Result<(), Fail> {
     let file = sample(rt.alloc())?;
     for reads_left in 0..SAMPLE_LEN + 2 {
         let mut taken = Vec::new(rt.alloc());
-        let mut reader = Watched::new(Flaky {
+        let mut reader = Watched::new(Broken {
             bytes: &file,
             reads_left,
-            has_failed: false,
         });
         let ran = run(
             rt.alloc(),

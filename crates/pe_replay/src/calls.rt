@@ -1,0 +1,212 @@
+//! Calls that take memory, each by a word, over the sample file of the tests: for the script that refuses
+//! each of their growths in turn.
+
+use crate::Refused;
+use fixture::sample::{ELSEWHERE, TABLE, import_name, put, sample_named, sample_section, section};
+use goblin_base::{Endian, ParseMode, Record};
+use goblin_pe::export::{Export, ExportData};
+use goblin_pe::import::{
+    Import, ImportData, ImportDirectoryEntry, SyntheticImportDirectoryEntry,
+    SyntheticImportLookupTableEntry,
+};
+use goblin_pe::{Part, Whole};
+use goblin_pe_head::{CoffHeader, TeHeader};
+use goblin_pe_sect::{DataDirectory, ParseOptions, SectionTable, WindowIndex};
+
+// The sample file's directories, and its file alignment.
+const IMPORTS: DataDirectory = DataDirectory {
+    virtual_address: 0x1000,
+    size: 0x28,
+};
+
+const EXPORTS: DataDirectory = DataDirectory {
+    virtual_address: 0x10A0,
+    size: 0x60,
+};
+
+const ALIGNMENT: u32 = 0x200;
+
+/// Makes the call of this word over the sample file, whose section has its name elsewhere, and shows its
+/// answer in a line.
+pub fn show_call(rt: &HostRuntime, word: Option<String>) -> Result<(), Refused> {
+    let file = sample_named(rt.alloc(), ELSEWHERE)?;
+    match word {
+        Some(word) if word.as_str() == "section" => show_section(rt, &file),
+        Some(word) if word.as_str() == "clone" => show_clone(rt),
+        Some(word) if word.as_str() == "data" => show_data(rt),
+        Some(word) if word.as_str() == "sections" => show_sections(rt, &file),
+        Some(word) if word.as_str() == "te" => show_te_sections(rt),
+        Some(word) if word.as_str() == "strings" => show_strings(rt),
+        Some(word) if word.as_str() == "index" => show_index(rt),
+        Some(word) if word.as_str() == "lookup" => show_lookup_table(rt, &file),
+        Some(word) if word.as_str() == "library" => show_library(rt, &file),
+        Some(word) if word.as_str() == "imports" => show_imports(rt, &file),
+        Some(word) if word.as_str() == "exports" => show_exports(rt, &file),
+        Some(word) if word.as_str() == "whole" => show_whole(rt, &file, ParseMode::Strict),
+        Some(word) if word.as_str() == "permissive" => show_whole(rt, &file, ParseMode::Permissive),
+        _ => Err(Refused::Other),
+    }
+}
+
+// The answer of a call that moves an offset from `from`, and its refusal only where the offset stayed.
+fn moved<T>(read: goblin_base::Result<T>, from: usize, offset: usize) -> Result<T, Refused> {
+    match read {
+        Ok(value) => Ok(value),
+        Err(error) if offset == from => Err(Refused::from(error)),
+        Err(_) => Err(Refused::Other),
+    }
+}
+
+fn show_section(rt: &HostRuntime, file: &[u8]) -> Result<(), Refused> {
+    let mut offset = TABLE;
+    let read = SectionTable::parse(rt.alloc(), file, &mut offset, 0);
+    let section = moved(read, TABLE, offset)?;
+    println!(rt; "{} {offset:#x}", section.name()?)?;
+    Ok(())
+}
+
+fn show_clone(rt: &HostRuntime) -> Result<(), Refused> {
+    let original = SectionTable {
+        real_name: import_name(rt.alloc())?,
+        ..sample_section()
+    };
+    println!(rt; "{}", original.clone(rt.alloc())?.name()?)?;
+    Ok(())
+}
+
+fn show_data(rt: &HostRuntime) -> Result<(), Refused> {
+    let padded = section(0, 6, 4, 4);
+    let Some(data) = padded.data(rt.alloc(), &[0; 16])? else {
+        return Err(Refused::Other);
+    };
+    println!(rt; "{:?}", &data[..])?;
+    Ok(())
+}
+
+fn show_sections(rt: &HostRuntime, file: &[u8]) -> Result<(), Refused> {
+    let mut offset = 0x44;
+    let header = CoffHeader::parse(file, &mut offset)?;
+    let mut offset = TABLE;
+    let read = header.sections(rt.alloc(), file, &mut offset);
+    let sections = moved(read, TABLE, offset)?;
+    for section in &sections {
+        println!(rt; "{} {offset:#x}", section.name()?)?;
+    }
+    Ok(())
+}
+
+// A stripped file of one section, whose record stands at its front.
+fn show_te_sections(rt: &HostRuntime) -> Result<(), Refused> {
+    let header = TeHeader {
+        number_of_sections: 1,
+        stripped_size: 0x128,
+        ..TeHeader::default()
+    };
+    let mut file = [0; 40];
+    section(0x1000, 0, 0, 0x200).into_ctx(&mut file, Endian::Little);
+    let mut offset = 0;
+    let read = header.sections(rt.alloc(), &file, &mut offset);
+    let sections = moved(read, 0, offset)?;
+    for section in &sections {
+        println!(rt;
+            "{:#x} {:#x}",
+            section.virtual_address, section.pointer_to_raw_data
+        )?;
+    }
+    Ok(())
+}
+
+// A string table of three bytes, after no symbols at offset 1.
+fn show_strings(rt: &HostRuntime) -> Result<(), Refused> {
+    let header = CoffHeader {
+        pointer_to_symbol_table: 1,
+        ..CoffHeader::default()
+    };
+    let mut file = [0; 8];
+    put(&mut file, 1, b"\x07\0\0\0abc");
+    let strings = header.strings(rt.alloc(), &file)?;
+    let Some(text) = strings.and_then(|strings| strings.get_at(0)) else {
+        return Err(Refused::Other);
+    };
+    println!(rt; "{text}")?;
+    Ok(())
+}
+
+fn show_index(rt: &HostRuntime) -> Result<(), Refused> {
+    let opts = ParseOptions::default();
+    let index = WindowIndex::prepare(rt.alloc(), &[sample_section()], ALIGNMENT, &opts)?;
+    println!(rt; "{:#x}", index.find(0x1010).unwrap_or(0))?;
+    Ok(())
+}
+
+fn show_lookup_table(rt: &HostRuntime, file: &[u8]) -> Result<(), Refused> {
+    let table = SyntheticImportLookupTableEntry::parse::<u32>(
+        rt.alloc(),
+        file,
+        0x240,
+        &[sample_section()],
+        ALIGNMENT,
+    )?;
+    for entry in table.as_slice() {
+        match entry {
+            SyntheticImportLookupTableEntry::OrdinalNumber(ordinal) => println!(rt; "#{ordinal}")?,
+            SyntheticImportLookupTableEntry::HintNameTableRVA((_, named)) => println!(rt;
+                "{}",
+                named.name
+            )?,
+        }
+    }
+    Ok(())
+}
+
+fn show_library(rt: &HostRuntime, file: &[u8]) -> Result<(), Refused> {
+    let record = ImportDirectoryEntry::read_at(file, 0x200, Endian::Little)?;
+    let library = SyntheticImportDirectoryEntry::parse::<u32>(
+        rt.alloc(),
+        file,
+        record,
+        &[sample_section()],
+        ALIGNMENT,
+    )?;
+    println!(rt;
+        "{} {:?}",
+        library.name,
+        library.import_address_table.as_slice()
+    )?;
+    Ok(())
+}
+
+fn show_imports(rt: &HostRuntime, file: &[u8]) -> Result<(), Refused> {
+    let sections = [sample_section()];
+    let data = ImportData::parse::<u32>(rt.alloc(), file, IMPORTS, &sections, ALIGNMENT)?;
+    let imports = Import::parse::<u32>(rt.alloc(), file, &data, &sections)?;
+    for import in &imports {
+        println!(rt; "{} {:#x}", &import.name[..], import.offset)?;
+    }
+    Ok(())
+}
+
+fn show_exports(rt: &HostRuntime, file: &[u8]) -> Result<(), Refused> {
+    let sections = [sample_section()];
+    let tables = ExportData::parse(rt.alloc(), file, EXPORTS, &sections, ALIGNMENT)?;
+    let exports = Export::parse(rt.alloc(), file, &tables, &sections, ALIGNMENT)?;
+    for export in &exports {
+        println!(rt; "{} {:#x}", export.name.unwrap_or(""), export.rva)?;
+    }
+    Ok(())
+}
+
+fn show_whole(rt: &HostRuntime, file: &[u8], mode: ParseMode) -> Result<(), Refused> {
+    let opts = ParseOptions::default().with_parse_mode(mode);
+    let whole = Whole::read(rt.alloc(), file, &opts)?;
+    let (Part::Read(imports), Part::Read(exports)) = (&whole.imports, &whole.exports) else {
+        return Err(Refused::Other);
+    };
+    println!(rt;
+        "{} {} {}",
+        whole.sections.len(),
+        imports.len(),
+        exports.len()
+    )?;
+    Ok(())
+}
