@@ -15,7 +15,7 @@ use Rattle.goblin_base.specs.Bytes.{IsTextTo, before_nul, bounded_text_at, numbe
 use Rattle.goblin_base.specs.Record.{record_at}
 use Rattle.goblin_base.specs.Tables.{concat_below, counted_table, counted_table_if, each_below, ends_table, entry_at, Format, is_kept, kept_slots, least, slot_at, slot_place, slot_table, SlotFormat, stop, whole_entries}
 use Rattle.goblin_base.specs.Footprints.{Agree, Alike, AlikeOrMemory, Covers, Range, counted_footprint, led_to, positions, slice_footprint, slot_footprint, slots_reached, stretch_footprint}
-use Rattle.goblin_base.proofs.Below.{concat_below-agree, each_below-agree, least-agree}
+use Rattle.goblin_base.proofs.Below.{concat_below-agree, each_below-agree, least-agree, same-filter}
 use Rattle.goblin_base.proofs.Numbers.{get_or-slice, number-slice, read_number}
 use Rattle.goblin_base.proofs.TextEnds.{stretch_is_text}
 
@@ -341,10 +341,6 @@ same-slot_table slots needs_end leads_to piece again a b o same h =
     (same_slot slots leads_to a b o n (omega arith) h ∙ ap (slot_at slots b o) stops)
     (made ∙ ap (each_below (λ i. slot_at slots b o i >>= again)) stops)
 
-same_filter : (p q : ℕ → Bool) (n k : ℕ) → ((j : ℕ) → j < k + n → p j ≡ q j) → filter p (range_with_len k n) ≡ filter q (range_with_len k n)
-same_filter p q zero k same = refl
-same_filter p q (suc n) k same = rw (same k (omega arith), same_filter p q n (k + 1) (λ j l. same j (omega arith))) refl
-
 -- the same of the kept slots
 pub same-kept_slots : {V A : Type 0} → (slots : SlotFormat V) (leads_to : V → List Range) (piece again : V → Option (List A)) (a b : List ℕ) (o : ℕ) → ((v : V) → Agree (leads_to v) a b → piece v ≡ again v) → Agree (slot_footprint slots leads_to a o) a b
     → kept_slots slots piece a o ≡ kept_slots slots again b o
@@ -352,7 +348,7 @@ unfolding kept_slots slot_footprint
 same-kept_slots slots leads_to piece again a b o same h =
     let n = stop slots a o in
     let leads : Agree (concat_below (λ i. led_to (slot_at slots a o i) leads_to) n) a b = agree-left _ (positions o (slot_place slots o (slots_reached slots a o))) a b h in
-    same_filter (λ i. is_kept (slot_at slots a o i >>= piece)) (λ i. is_kept (slot_at slots b o i >>= again)) n 0
+    same-filter (λ i. is_kept (slot_at slots a o i >>= piece)) (λ i. is_kept (slot_at slots b o i >>= again)) n 0
     (λ j lt.
     ap is_kept
     (same-led (slot_at slots a o j) (slot_at slots b o j) piece again leads_to a b (same_slot slots leads_to a b o j (omega (arith, lt)) h) (λ v is agree. same v agree)

@@ -1,11 +1,11 @@
 -- What is read in one way, and is kept where it is read in another: steps, lists of values, and tables.
-use Rattle.std.proofs.Common.{◌≡◌, ℕ, zero, suc, ◌+◌, Bool, true, false, cond, not, List, ◌∷◌, map, Option, Some, None, refl, ap}
-use Rattle.std.specs.Prelude.{option_map}
+use Rattle.std.proofs.Common.{◌≡◌, ◌<◌, ℕ, zero, suc, ◌+◌, Bool, true, false, cond, not, List, ◌∷◌, map, Option, Some, None, refl, ap, sym, arith}
+use Rattle.std.specs.Prelude.{◌≢◌, option_map}
 use Rattle.std.specs.List.{range_with_len}
 use Rattle.std.specs.Option.{is_some}
 use Rattle.goblin_base.specs.Answers.{◌>>=◌, all_at, all_of}
-use Rattle.goblin_base.specs.Tables.{SlotFormat, each_below, or_left_out, slot_at, slot_table, stop}
-use Rattle.goblin_base.proofs.Below.{each_below-kept}
+use Rattle.goblin_base.specs.Tables.{SlotFormat, each_below, is_kept, kept_slots, or_left_out, slot_at, slot_table, stop}
+use Rattle.goblin_base.proofs.Below.{each_below-kept, each_below-missing, same-filter}
 use Rattle.goblin_base.proofs.Steps.{mapped, step}
 
 -- one way has no value that the other lacks
@@ -16,6 +16,12 @@ pub then-kept : {A B : Type 0} (first second : Option A) (f g : A → Option B) 
 then-kept first second f g kept rest y e =
     let s = step first f y e in
     rw (kept s.value s.is) (rest s.value y s.then)
+
+-- the same, where the rest may use what the first step is
+pub then-kept_by : {A B : Type 0} (first second : Option A) (f g : A → Option B) → Keeps first second → ((x : A) → first ≡ Some x → Keeps (f x) (g x)) → Keeps (first >>= f) (second >>= g)
+then-kept_by first second f g kept rest y e =
+    let s = step first f y e in
+    rw (kept s.value s.is) (rest s.value s.is y s.then)
 
 pub map-kept : {A B : Type 0} (f : A → B) (first second : Option A) → Keeps first second → Keeps (option_map f first) (option_map f second)
 map-kept f first second kept y e =
@@ -50,3 +56,19 @@ slot_table-kept slots piece again bytes o kept xs e =
     each_below-kept (λ i. slot_at slots bytes o i >>= piece) (λ i. slot_at slots bytes o i >>= again) n
     (λ i ys lt. then-kept (slot_at slots bytes o i) (slot_at slots bytes o i) piece again (λ v same. same) kept ys) xs
     (without_test (not (is_some (slot_at slots bytes o n))) (each_below (λ i. slot_at slots bytes o i >>= piece) n) xs e)
+
+kept_same : {A : Type 0} (first second : Option (List A)) → Keeps first second → first ≢ None → is_kept first ≡ is_kept second
+kept_same None second kept there = absurd (there refl)
+kept_same (Some xs) second kept there = ap is_kept (sym (kept xs refl))
+
+-- and the slots of which something is kept, where the table has a value
+pub kept_slots-kept : {V A : Type 0} (slots : SlotFormat V) (piece again : V → Option (List A)) (bytes : List ℕ) (o : ℕ) (xs : List A) → ((v : V) → Keeps (piece v) (again v)) → slot_table slots true piece bytes o ≡ Some xs → kept_slots slots piece bytes o ≡ kept_slots slots again bytes o
+unfolding slot_table kept_slots
+kept_slots-kept {V} {A} slots piece again bytes o xs kept e =
+    let n = stop slots bytes o in
+    let made : ℕ → Option (List A) = λ i. slot_at slots bytes o i >>= piece in
+    let read : each_below made n ≡ Some xs = without_test (not (is_some (slot_at slots bytes o n))) (each_below made n) xs e in
+    same-filter (λ i. is_kept (made i)) (λ i. is_kept (slot_at slots bytes o i >>= again)) n 0
+    (λ j lt.
+    kept_same (made j) (slot_at slots bytes o j >>= again) (then-kept (slot_at slots bytes o j) (slot_at slots bytes o j) piece again (λ v same. same) kept)
+    (λ none. absurd (cc (read, each_below-missing made n j (omega (arith, lt)) none))))

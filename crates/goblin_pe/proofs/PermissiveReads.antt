@@ -9,8 +9,8 @@ use Rattle.goblin_base.specs.declared.permissive.ParseMode.TheVariants.{Strict, 
 use Rattle.goblin_base.specs.Answers.{Answers, AnswersOrMemory, IsMemory, ◌>>=◌}
 use Rattle.goblin_base.specs.Bytes.{number_at, text_at}
 use Rattle.goblin_base.specs.Tables.{Format, each_below, or_left_out}
-use Rattle.goblin_base.proofs.Kept.{Keeps, map-kept, or_left_out-kept, slot_table-kept, then-kept}
-use Rattle.goblin_base.proofs.Steps.{same_value, step}
+use Rattle.goblin_base.proofs.Kept.{Keeps, kept_slots-kept, map-kept, or_left_out-kept, slot_table-kept, then-kept, then-kept_by}
+use Rattle.goblin_base.proofs.Steps.{mapped, same_value, step}
 use Rattle.goblin_pe_sect.specs.declared.data_directories.DataDirectory.{DataDirectory}
 use Rattle.goblin_pe_sect.specs.declared.options.ParseOptions.{ParseOptions}
 use Rattle.goblin_pe_sect.specs.Mapping.{file_offset, name_at, name_or_none}
@@ -24,8 +24,8 @@ use Rattle.goblin_pe.specs.declared.import.directory_entry.ImportDirectoryEntry.
 use Rattle.goblin_pe.specs.declared.whole.Part.{Part}
 use Rattle.goblin_pe.specs.declared.whole.Part.TheVariants.{Absent, Refused}
 use Rattle.goblin_pe.specs.declared.whole.Part.TheVariants as part
-use Rattle.goblin_pe.specs.ImportDirectory.{ImportedLibrary, import_data, import_slots, libraries_at, libraries_if, library_of, lookup_offset, lookup_table_if}
-use Rattle.goblin_pe.specs.ImportLookup.{EntryValue, entry_slots, hint_name, kept_entry, kept_name, lookup_table, or_empty}
+use Rattle.goblin_pe.specs.ImportDirectory.{ImportedLibrary, import_data, import_slots, libraries_at, libraries_if, library_of, lookup_offset, lookup_slots_if, lookup_table_if}
+use Rattle.goblin_pe.specs.ImportLookup.{EntryValue, LookupEntry, entry_slots, hint_name, kept_entry, kept_name, lookup_table, or_empty}
 use Rattle.goblin_pe.specs.ImportLookup.LookupEntry.{ByName}
 use Rattle.goblin_pe.specs.Imports.{ImportValue, imports_of}
 use Rattle.goblin_pe.specs.Exports.{export_data}
@@ -89,14 +89,20 @@ lookup_table_if-kept : (format : Format EntryValue) (offset_of : ℕ → Option 
 lookup_table_if-kept format offset_of bytes None table e = e
 lookup_table_if-kept format offset_of bytes (Some o) table e = map-kept (λ t. Some t) (lookup_table true format offset_of bytes o) (lookup_table false format offset_of bytes o) (lookup_table-kept format offset_of bytes o) table e
 
+lookup_slots_if-kept : (format : Format EntryValue) (offset_of : ℕ → Option ℕ) (bytes : List ℕ) (place : Option ℕ) (table : Option (List LookupEntry)) → lookup_table_if true format offset_of bytes place ≡ Some table → lookup_slots_if true format offset_of bytes place ≡ lookup_slots_if false format offset_of bytes place
+lookup_slots_if-kept format offset_of bytes None table e = refl
+lookup_slots_if-kept format offset_of bytes (Some o) table e =
+    let m = mapped (lookup_table true format offset_of bytes o) (λ t. Some t) table e in
+    kept_slots-kept (entry_slots format) (kept_entry true offset_of bytes) (kept_entry false offset_of bytes) bytes o m.value (kept_entry-kept offset_of bytes) m.is
+
 library_of-kept : (format : Format EntryValue) (offset_of : ℕ → Option ℕ) (bytes : List ℕ) (r : ImportDirectoryEntry) → Keeps (library_of true format offset_of bytes r) (library_of false format offset_of bytes r)
 unfolding library_of
 library_of-kept format offset_of bytes r =
     let name = name_at offset_of bytes r.name_rva in
     let place = lookup_offset offset_of r in
     then-kept (name_or_none true name) (name_or_none false name) _ _ (name_or_none-kept name)
-    (λ own. then-kept (lookup_table_if true format offset_of bytes place) (lookup_table_if false format offset_of bytes place) _ _ (lookup_table_if-kept format offset_of bytes place)
-    (λ lookup library same. same))
+    (λ own. then-kept_by (lookup_table_if true format offset_of bytes place) (lookup_table_if false format offset_of bytes place) _ _ (lookup_table_if-kept format offset_of bytes place)
+    (λ lookup is library same. rw (← lookup_slots_if-kept format offset_of bytes place lookup is) same))
 
 libraries_at-kept : (format : Format EntryValue) (offset_of : ℕ → Option ℕ) (bytes : List ℕ) (o : ℕ) → Keeps (libraries_at true format offset_of bytes o) (libraries_at false format offset_of bytes o)
 libraries_at-kept format offset_of bytes o =
