@@ -106,7 +106,14 @@ fn permissive_mode_has_no_imports_from_the_front_of_the_file(rt: HostRuntime) ->
         name: 0x1030,
     };
     let (strict, permissive): (Tables<ImportDirectoryEntry>, Tables<ImportDirectoryEntry>) =
-        mode_tables::<u32, _>(alloc, &file, &sections, &request, 0x200, &ParseOptions::default());
+        mode_tables::<u32, _>(
+            alloc,
+            &file,
+            &sections,
+            &request,
+            0x200,
+            &ParseOptions::default(),
+        );
     let data = strict.imports?;
     let imports = Import::parse::<u32>(alloc, &file, &data, &sections)?;
     let rows_are_right = match &imports[..] {
@@ -187,8 +194,8 @@ fn a_mode_refused_for_want_of_memory_stands_in_its_place(rt: HostRuntime) -> Res
     let is_right = is_refused_until_right(alloc, || match mode_whole(alloc, &file, &opts) {
         (Ok(strict), Ok(permissive)) if is_sample(&strict) && is_sample(&permissive) =>
             Outcome::Right,
-        (Err(Error::Memory(_)), Ok(_) | Err(Error::Memory(_)))
-        | (Ok(_), Err(Error::Memory(_))) => Outcome::Refused,
+        (Err(Error::Memory(_)), Ok(_) | Err(Error::Memory(_))) | (Ok(_), Err(Error::Memory(_))) =>
+            Outcome::Refused,
         _ => Outcome::Wrong,
     })?;
     assert!(rt; is_right);

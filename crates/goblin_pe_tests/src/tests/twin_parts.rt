@@ -18,7 +18,7 @@ const COFF_HEADER: CoffHeader = CoffHeader {
     pointer_to_symbol_table: 0,
     number_of_symbol_table: 0,
     size_of_optional_header: 0xE0,
-    characteristics: 0x201,
+    characteristics: 0x102,
 };
 
 /// The bytes of the sample file's library name.
@@ -94,7 +94,16 @@ fn single_tables_of_one_file_are_what_their_readers_give(rt: HostRuntime) -> Res
     let sections = [sample_section()];
     let opts = ParseOptions::default();
     let (first, second): (Parts<ImportDirectoryEntry>, Parts<ImportDirectoryEntry>) = twin_parts(
-        alloc, &file, &again, COFF_HEADER, TABLE, NAME, DIRECTORY, &sections, ALIGNMENT, &opts,
+        alloc,
+        &file,
+        &again,
+        COFF_HEADER,
+        TABLE,
+        NAME,
+        DIRECTORY,
+        &sections,
+        ALIGNMENT,
+        &opts,
     );
     assert!(rt; are_sample_parts(first)?);
     assert!(rt; are_sample_parts(second)?);
@@ -111,7 +120,16 @@ fn single_tables_of_two_files_are_each_files_own(rt: HostRuntime) -> Result<(), 
     let sections = [sample_section()];
     let opts = ParseOptions::default();
     let (first, second): (Parts<ImportDirectoryEntry>, Parts<ImportDirectoryEntry>) = twin_parts(
-        alloc, &file, &other, COFF_HEADER, TABLE, NAME, DIRECTORY, &sections, ALIGNMENT, &opts,
+        alloc,
+        &file,
+        &other,
+        COFF_HEADER,
+        TABLE,
+        NAME,
+        DIRECTORY,
+        &sections,
+        ALIGNMENT,
+        &opts,
     );
     assert!(rt; first.sections?[..] == [sample_section()]);
     let sections = second.sections?;
