@@ -7,3 +7,6 @@ pub mod ImportFootprints
 pub mod Imports
 pub mod Modes
 pub mod Parts
+pub mod PermissiveReads
+pub mod TableRuns
+pub mod TwinParts

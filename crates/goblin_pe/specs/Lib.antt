@@ -6,4 +6,7 @@ pub mod ImportDirectory
 pub mod ImportFootprints
 pub mod ImportLookup
 pub mod Imports
+pub mod Modes
+pub mod TableRuns
+pub mod TwinParts
 pub mod Whole

@@ -10,11 +10,23 @@
 //! where a refusal of one stands in its place and the other still runs; and it is proved that the two
 //! are equal values or both refusals wherever the files agree on the footprint of the read in `a`, if
 //! neither is refused for want of memory. Nothing is said of equal causes.
+//!
+//! The calls whose names begin with `mode` read one file in both modes, and
+//! [`reorder_whole_tables`] reads it under two tables of sections: permissive mode repeats what strict
+//! mode reads, and the order of sections changes nothing where their windows are disjoint.
 
 mod exports;
 mod footprint;
+mod header;
 mod imports;
+mod modes;
+mod order;
+mod parts;
 
 pub use exports::{ExportRead, twin_exports};
 pub use footprint::footprint_imports;
+pub use header::twin_header;
 pub use imports::{twin_imports, twin_lookup};
+pub use modes::{mode_header, mode_tables, mode_whole};
+pub use order::{Request, Tables, TablesOf, reorder_whole_tables};
+pub use parts::{Parts, PartsOf, twin_parts};

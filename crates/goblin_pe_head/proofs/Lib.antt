@@ -1,9 +1,12 @@
 pub mod CoffHeaderRoundTrip
 pub mod DosHeaderRoundTrip
+pub mod Footprints
 pub mod OptionalFieldsRoundTrip
 pub mod OptionalHeaderRoundTrip
 pub mod PeHeaderRoundTrip
+pub mod PermissiveReads
 pub mod RichEntries
+pub mod RichFootprint
 pub mod RichLaw
 pub mod RichMetadataRoundTrip
 pub mod RichPlaces

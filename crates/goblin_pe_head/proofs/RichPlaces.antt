@@ -21,7 +21,8 @@ found : (passes : Bool) (a i : ℕ) (later : Option ℕ) → cond passes (Some a
 found true a i later e = inl (refl, cc)
 found false a i later e = inr (refl, e)
 
-find_is : (test : ℕ → Bool) (n a i : ℕ) → find test (range_with_len a n) ≡ Some i → IsFound test a n i
+-- what is found, with the numbers before it
+pub find_is : (test : ℕ → Bool) (n a i : ℕ) → find test (range_with_len a n) ≡ Some i → IsFound test a n i
 find_is test zero a i e = absurd cc
 find_is test (suc n) a i e =
     elim (found (test a) a i (find test (range_with_len (a + 1) n)) e) [

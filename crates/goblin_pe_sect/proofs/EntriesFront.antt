@@ -11,7 +11,8 @@ use Rattle.goblin_pe_sect.specs.declared.data_directories.DataDirectory.{DataDir
 use Rattle.goblin_pe_sect.specs.DataDirectories.{directories_at, directory_record, entry_at, entry_ending}
 use Rattle.goblin_pe_sect.proofs.Entries.{entry_at-below, entry_at-past}
 
-same_map : {X : Type 0} (f g : ℕ → X) (a n : ℕ) → ((i : ℕ) → f i ≡ g i) → map f (range_with_len a n) ≡ map g (range_with_len a n)
+-- two functions that give the same at each index make the same list
+pub same_map : {X : Type 0} (f g : ℕ → X) (a n : ℕ) → ((i : ℕ) → f i ≡ g i) → map f (range_with_len a n) ≡ map g (range_with_len a n)
 same_map f g a zero same = refl
 same_map {X} f g a (suc n) same = rw (same a, same_map f g (a + 1) n same) refl
 

@@ -7,12 +7,15 @@ pub mod DigitsRoundTrip
 pub mod Entries
 pub mod EntriesFront
 mod First
+pub mod Footprints
 pub mod Halving
 pub mod Mapped
 pub mod Multiples
 pub mod Numerals
+pub mod PermissiveReads
 pub mod RelocationRecords
 pub mod RelocationsRoundTrip
+pub mod Reordered
 pub mod SectionNameRoundTrip
 pub mod SectionTableRoundTrip
 pub mod Stretches

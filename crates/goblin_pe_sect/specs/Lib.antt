@@ -1,6 +1,7 @@
 pub mod AuxiliarySymbols
 pub mod BaseRelocations
 pub mod DataDirectories
+pub mod Footprints
 pub mod Mapping
 pub mod Multiples
 pub mod Options
@@ -9,4 +10,5 @@ pub mod SectionName
 pub mod SectionTable
 pub mod Symbols
 pub mod WindowIndex
+pub mod WindowOrder
 pub mod WindowStretches

@@ -2,6 +2,8 @@
 
 mod exports;
 mod imports;
+mod modes;
 mod raw_pointers;
 mod table_footprints;
+mod twin_parts;
 mod whole;

@@ -19,7 +19,7 @@ pub type ExportRead<'a> = (ExportData<'a>, Vec<Export<'a>>);
 
 // The export data of a directory, and the exports that it lists.
 #[tactic(auto, unfolding(crate::specs::ExportFootprints::export_read))]
-fn read_exports<'a>(
+pub(super) fn read_exports<'a>(
     alloc: Global,
     bytes: &'a [u8],
     directory: DataDirectory,

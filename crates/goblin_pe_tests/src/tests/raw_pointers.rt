@@ -16,7 +16,7 @@ fn is_import(import: &Import, want: (&str, u16, usize, usize)) -> bool {
 }
 
 /// Whether these are the sample file's imports.
-fn are_sample_imports(imports: &[Import]) -> bool {
+pub(super) fn are_sample_imports(imports: &[Import]) -> bool {
     match imports {
         [first, second] => is_import(first, ("Go", 5, 0x1060, 0x1090))
             && is_import(second, ("ORDINAL 7", 7, 0x1064, 0)),
@@ -25,7 +25,7 @@ fn are_sample_imports(imports: &[Import]) -> bool {
 }
 
 /// Whether these are the sample file's exports, found at these offsets.
-fn are_sample_exports(exports: &[Export], offsets: (usize, usize)) -> bool {
+pub(super) fn are_sample_exports(exports: &[Export], offsets: (usize, usize)) -> bool {
     let forwarder = Reexport::DLLOrdinal {
         ordinal: 12,
         lib: "b",

@@ -1,0 +1,28 @@
+use Rattle.std.proofs.Common.{ℕ, Option, true, false, subst}
+use Rattle.goblin_base.specs.declared.permissive.ParseMode.TheVariants.{Permissive, Strict}
+use Rattle.goblin_pe_sect.specs.declared.options.ParseOptions.{ParseOptions}
+use Rattle.goblin_pe_sect.specs.Mapping.{file_offset}
+use Rattle.goblin_pe_sect.specs.Options.{is_strict}
+use Rattle.goblin_pe.specs.TableRuns.{AreTables}
+use Rattle.goblin_pe.proofs.PermissiveReads.{map-mode}
+use Rattle.goblin_pe.proofs.TableRuns.{are_repeated}
+use Rattle.goblin_pe.proofs.laws.modes.mode_tables.Goals as goal
+
+pub returns-clause-strict : goal.returns-clause-strict
+returns-clause-strict g c =
+    let read =
+    subst (λ (o : ParseOptions). AreTables g.T.Bitfield.format g.D.TryFromCtx.plain g.D.TryFromCtx.value_of g.D.TryFromCtx.refusal (is_strict o.parse_mode) (file_offset o c.args.sections.now c.args.file_alignment) c.args.bytes.now c.args.request.now c.read_tables-strict.result)
+    c.with_parse_mode-strictly.ensures c.read_tables-strict.ensures in
+    subst (λ (m : ℕ → Option ℕ). AreTables g.T.Bitfield.format g.D.TryFromCtx.plain g.D.TryFromCtx.value_of g.D.TryFromCtx.refusal true m c.args.bytes.now c.args.request.now c.read_tables-strict.result)
+    (map-mode Strict c.args.opts.now c.args.sections.now c.args.file_alignment) read
+
+pub returns-clause-permissive : goal.returns-clause-permissive
+returns-clause-permissive g c =
+    let read =
+    subst (λ (o : ParseOptions). AreTables g.T.Bitfield.format g.D.TryFromCtx.plain g.D.TryFromCtx.value_of g.D.TryFromCtx.refusal (is_strict o.parse_mode) (file_offset o c.args.sections.now c.args.file_alignment) c.args.bytes.now c.args.request.now c.read_tables-permissive.result)
+    c.with_parse_mode-permissively.ensures c.read_tables-permissive.ensures in
+    subst (λ (m : ℕ → Option ℕ). AreTables g.T.Bitfield.format g.D.TryFromCtx.plain g.D.TryFromCtx.value_of g.D.TryFromCtx.refusal false m c.args.bytes.now c.args.request.now c.read_tables-permissive.result)
+    (map-mode Permissive c.args.opts.now c.args.sections.now c.args.file_alignment) read
+
+pub returns-clause-repeats : goal.returns-clause-repeats
+returns-clause-repeats g c = are_repeated _ _ _ _ _ _ _ _ _ (returns-clause-strict g c) (returns-clause-permissive g c)

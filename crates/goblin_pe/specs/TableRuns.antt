@@ -1,0 +1,43 @@
+-- The six readers that map addresses by a table of sections: what they answer, and how the answers of two runs compare.
+use Rattle.std.specs.Prelude.{ℕ, Bool, List, map, Option, option_map}
+use Rattle.goblin_base.specs.declared.endian.Endian.{Endian}
+use Rattle.goblin_base.specs.declared.error.ErrorOf.{ErrorOf}
+use Rattle.goblin_base.specs.Answers.{Answers, AnswersOrMemory}
+use Rattle.goblin_base.specs.Footprints.{Alike, AlikeOrMemory}
+use Rattle.goblin_base.specs.Tables.{Format}
+use Rattle.goblin_pe_sect.specs.BaseRelocations.{IsRelocationDataFault, relocation_bytes, relocation_data}
+use Rattle.goblin_pe_sect.specs.Mapping.{IsDataFault, IsSafeNameFault, data_at, name_at, name_or_none}
+use Rattle.goblin_pe.specs.declared.laws.order.Request.{Request}
+use Rattle.goblin_pe.specs.declared.laws.order.TablesOf.{TablesOf}
+use Rattle.goblin_pe.specs.ExportFootprints.{export_read, export_read_view}
+use Rattle.goblin_pe.specs.Exports.{IsExportDataFault}
+use Rattle.goblin_pe.specs.ImportDirectory.{IsImportDataFault, import_data}
+use Rattle.goblin_pe.specs.ImportLookup.{EntryValue, IsLookupTableFault, entry_view, lookup_table}
+use Rattle.goblin_pe.specs.Modes.{Repeats, RepeatsOrMemory, unless_front}
+
+-- Each answer is its reader's own value, over a map of addresses to file offsets.
+pub record AreTables {D Y : Type 0} (format : Format EntryValue) (plain : D → Y) (value_of : Endian → List ℕ → Option (Y × ℕ)) (refusal : Endian → List ℕ → ErrorOf → Type 0) (strict : Bool) (offset_of : ℕ → Option ℕ) (bytes : List ℕ) (request : Request) (tables : TablesOf D) : Type 0 where
+  pub lookup : AnswersOrMemory (map entry_view) tables.lookup (lookup_table strict format offset_of bytes request.lookup) (IsLookupTableFault strict format offset_of bytes request.lookup)
+  pub imports : AnswersOrMemory (λ x. x) tables.imports (import_data strict format offset_of bytes request.imports.virtual_address) (IsImportDataFault strict format offset_of bytes request.imports.virtual_address)
+  pub exports : AnswersOrMemory export_read_view tables.exports (export_read offset_of request.exports bytes) (IsExportDataFault offset_of request.exports bytes)
+  pub relocations : Answers relocation_bytes tables.relocations (relocation_data offset_of bytes request.relocations) (IsRelocationDataFault offset_of bytes request.relocations)
+  pub name : Answers (option_map (λ s. s.now)) tables.name (name_or_none strict (name_at offset_of bytes request.name)) (IsSafeNameFault offset_of request.name)
+  pub value : Answers plain tables.value (data_at offset_of value_of bytes request.value.virtual_address) (IsDataFault offset_of refusal bytes request.value.virtual_address)
+
+-- The answers of each reader are alike.
+pub record AreAlike {D Y : Type 0} (plain : D → Y) (first second : TablesOf D) : Type 0 where
+  pub lookup : AlikeOrMemory (map entry_view) first.lookup second.lookup
+  pub imports : AlikeOrMemory (λ x. x) first.imports second.imports
+  pub exports : AlikeOrMemory export_read_view first.exports second.exports
+  pub relocations : Alike relocation_bytes first.relocations second.relocations
+  pub name : Alike (option_map (λ s. s.now)) first.name second.name
+  pub value : Alike plain first.value second.value
+
+-- Where a reader has a value in the first run, it has the same in the second; but libraries of an import directory at the front of the file are then none.
+pub record AreRepeated {D Y : Type 0} (plain : D → Y) (import_place : Option ℕ) (first second : TablesOf D) : Type 0 where
+  pub lookup : RepeatsOrMemory (map entry_view) (λ x. x) first.lookup second.lookup
+  pub imports : RepeatsOrMemory (λ x. x) (unless_front import_place) first.imports second.imports
+  pub exports : RepeatsOrMemory export_read_view (λ x. x) first.exports second.exports
+  pub relocations : Repeats relocation_bytes (λ x. x) first.relocations second.relocations
+  pub name : Repeats (option_map (λ s. s.now)) (λ x. x) first.name second.name
+  pub value : Repeats plain (λ x. x) first.value second.value

@@ -1,0 +1,155 @@
+//! The readers of headers and of single tables, on two files.
+
+ghost use Rattle.goblin_base.specs.Answers.{AnswersOrMemory};
+ghost use Rattle.goblin_pe_sect.specs.Mapping.{file_offset};
+ghost use Rattle.goblin_pe_sect.specs.Options.{is_strict};
+ghost use Rattle.goblin_pe.specs.TwinParts.{AreAlikeParts, AreParts, IsTeImageFault, PartsAsked, te_image, te_view};
+
+use crate::data_directories::DataDirectory;
+use crate::header::{CoffHeader, Header, TeHeader};
+use crate::options::ParseOptions;
+use crate::relocation::RelocationData;
+use crate::section_table::SectionTable;
+use crate::symbol::SymbolTable;
+use crate::utils::get_data_with_opts;
+use goblin_base::{Result, ResultOf, Strtab, TryFromCtx};
+use std::alloc::Global;
+
+/// The answers of the readers of headers and of single tables, with errors whose texts live for `'e`.
+/// Use it by its name [`Parts`].
+#[derive(Drop)]
+pub struct PartsOf<'a, 'e, D> {
+    /// The header of bytes that begin with a signature, as [`Header::parse_without_dos`] reads it.
+    pub header: ResultOf<'e, Header<'a>>,
+    /// The sections of a COFF header, at an offset.
+    pub sections: ResultOf<'e, Vec<SectionTable>>,
+    /// Its symbol table.
+    pub symbols: ResultOf<'e, Option<SymbolTable<'a>>>,
+    /// Its string table.
+    pub strings: ResultOf<'e, Option<Strtab<'a>>>,
+    /// The header of a Terse Executable at the offset, and its sections behind it.
+    pub te: ResultOf<'e, (TeHeader, Vec<SectionTable>)>,
+    /// The base relocations of a directory.
+    pub relocations: ResultOf<'e, RelocationData<'a>>,
+    /// The value at the address of a directory.
+    pub value: ResultOf<'e, D>,
+}
+
+/// The answers of the readers of headers and of single tables.
+pub type Parts<'a, D> = PartsOf<'a, 'static, D>;
+
+// The header of a Terse Executable at an offset, and its sections behind it.
+#[tactic(auto, unfolding(crate::specs::TwinParts::te_image))]
+fn read_te(alloc: Global, bytes: &[u8], offset: usize) -> Result<(TeHeader, Vec<SectionTable>)>
+    ensures { AnswersOrMemory te_view result (te_image bytes.now offset) (IsTeImageFault bytes.now offset) }
+{
+    let mut end = offset;
+    let header = TeHeader::parse(bytes, &mut end)?;
+    let sections = header.sections(alloc, bytes, &mut end)?;
+    Ok((header, sections))
+}
+
+// The answers of the readers for one file.
+fn read_parts<'a, 'e, D: TryFromCtx<'a>>(
+    alloc: Global,
+    bytes: &'a [u8],
+    coff_header: CoffHeader,
+    offset: usize,
+    relocations: DataDirectory,
+    value: DataDirectory,
+    sections: &[SectionTable],
+    file_alignment: u32,
+    opts: &ParseOptions,
+) -> PartsOf<'a, 'e, D>
+    ensures { let asked : PartsAsked = record { coff_header = coff_header; offset = offset; relocations = relocations; value = value } in
+        AreParts D.plain D.value_of D.refusal (is_strict opts.now.parse_mode) (file_offset opts.now sections.now file_alignment) asked bytes.now result }
+{
+    let mut end = offset;
+    PartsOf {
+        header: Header::parse_without_dos(bytes),
+        sections: coff_header.sections_with_opts(alloc, bytes, &mut end, opts),
+        symbols: coff_header.symbols(bytes),
+        strings: coff_header.strings(alloc, bytes),
+        te: read_te(alloc, bytes, offset),
+        relocations: RelocationData::parse_with_opts(
+            bytes,
+            relocations,
+            sections,
+            file_alignment,
+            opts,
+        ),
+        value: get_data_with_opts(bytes, sections, value, file_alignment, opts),
+    }
+}
+
+/// Runs the readers of [`Parts`] on two files: the sections of `coff_header` at `offset`, where a
+/// Terse Executable would begin, too; its symbols and strings; the base relocations of the directory
+/// `relocations`, and the value at the address of the directory `value`, by the handed table of
+/// sections. A refusal of one reader, also for want of memory, stands in its place, and the others
+/// still run.
+///
+/// Each answer is its file's own. Where the files agree on what a reader reaches in the first, both of
+/// its answers are equal, or both are refusals, unless one is refused for want of memory.
+pub fn twin_parts<'a, 'e, D: TryFromCtx<'a>>(
+    alloc: Global,
+    a: &'a [u8],
+    b: &'a [u8],
+    coff_header: CoffHeader,
+    offset: usize,
+    relocations: DataDirectory,
+    value: DataDirectory,
+    sections: &[SectionTable],
+    file_alignment: u32,
+    opts: &ParseOptions,
+) -> (PartsOf<'a, 'e, D>, PartsOf<'a, 'e, D>)
+    ensures first { let asked : PartsAsked = record { coff_header = coff_header; offset = offset; relocations = relocations; value = value } in
+        AreParts D.plain D.value_of D.refusal (is_strict opts.now.parse_mode) (file_offset opts.now sections.now file_alignment) asked a.now result.0 }
+    ensures second { let asked : PartsAsked = record { coff_header = coff_header; offset = offset; relocations = relocations; value = value } in
+        AreParts D.plain D.value_of D.refusal (is_strict opts.now.parse_mode) (file_offset opts.now sections.now file_alignment) asked b.now result.1 }
+    ensures alike { let asked : PartsAsked = record { coff_header = coff_header; offset = offset; relocations = relocations; value = value } in
+        AreAlikeParts D.plain (is_strict opts.now.parse_mode) (file_offset opts.now sections.now file_alignment) asked a.now b.now result.0 result.1 }
+{
+    let first = read_parts(
+        alloc,
+        a,
+        coff_header,
+        offset,
+        relocations,
+        value,
+        sections,
+        file_alignment,
+        opts,
+    );
+    let second = read_parts(
+        alloc,
+        b,
+        coff_header,
+        offset,
+        relocations,
+        value,
+        sections,
+        file_alignment,
+        opts,
+    );
+    // Field by field: the proof that all of it may be moved at once is too large for the checker.
+    (
+        PartsOf {
+            header: first.header,
+            sections: first.sections,
+            symbols: first.symbols,
+            strings: first.strings,
+            te: first.te,
+            relocations: first.relocations,
+            value: first.value,
+        },
+        PartsOf {
+            header: second.header,
+            sections: second.sections,
+            symbols: second.symbols,
+            strings: second.strings,
+            te: second.te,
+            relocations: second.relocations,
+            value: second.value,
+        },
+    )
+}

@@ -1,0 +1,75 @@
+-- A table of sections maps addresses alike in any order, where no two windows meet.
+use Rattle.std.proofs.Common.{◌≡◌, ℕ, suc, ◌<◌, Bool, true, false, cond, IsTrue, List, [], ◌∷◌, length, get_or, slice_get, Option, Some, None, find, refl, ap, sym, inl, inr, rules, tests}
+use Rattle.std.specs.Int.{is_power_of_two}
+use Rattle.std.specs.List.{AllPairs}
+use Rattle.std.specs.List.Sorted.{IsPermutation}
+use Rattle.std.specs.Option.{option_map}
+use Rattle.std.proofs.lemmas.Bool.{cases_Bool}
+use Rattle.std.proofs.lemmas.List.Sorted.{Contains-permutation, IsPermutation-sym}
+use Rattle.std.proofs.lemmas.Option.{get_or_from_slice_get, slice_get_read, slice_get_within}
+use Rattle.goblin_pe_sect.specs.declared.options.ParseOptions.{ParseOptions}
+use Rattle.goblin_pe_sect.specs.SectionTable.{Section}
+use Rattle.goblin_pe_sect.specs.Mapping.{file_offset, is_in_window, offset_in}
+use Rattle.goblin_pe_sect.specs.WindowOrder.{AreApart, IsReordering}
+use Rattle.goblin_pe_sect.proofs.First.{first_is_found, found_at_first, found_passes, none_passes}
+use Rattle.goblin_pe_sect.proofs.Mapped.{in_window}
+use Rattle.std.specs.List.{position_or_len}
+
+-- where an element of one list stands in the other
+record IsMovedTo {X : Type 0} (ys : List X) (x : X) : Type 0 where
+  place : ℕ
+  is : slice_get ys place ≡ Some x
+
+moved_to : {X : Type 0} (xs ys : List X) → IsPermutation xs ys → (i : ℕ) (x : X) → slice_get xs i ≡ Some x → IsMovedTo ys x
+moved_to xs ys moved i x at =
+    let there = Contains-permutation xs ys x moved (i, slice_get_within xs i x at, get_or_from_slice_get xs i x x at) in
+    record { place = there.0; is = slice_get_read ys (length ys) there.0 x refl there.1 (sym there.2) }
+
+-- no element passes
+none_found : {X : Type 0} (p : X → Bool) (xs : List X) → ((k : ℕ) (x : X) → slice_get xs k ≡ Some x → p x ≡ false) → find p xs ≡ None
+none_found p [] fails = refl
+none_found p (x ∷ xs) fails = rw (fails 0 x refl) (none_found p xs (λ k y at. fails (suc k) y at))
+
+-- of two elements at most one passes
+abbrev AreAlone : {X : Type 0} → (X → Bool) → List X → Type 0
+AreAlone {X} p xs = (i j : ℕ) (x y : X) → i < j → slice_get xs i ≡ Some x → slice_get xs j ≡ Some y → p x ≡ true → p y ≡ true → ⊥
+
+found_by : {X : Type 0} (p : X → Bool) (xs ys : List X) → IsPermutation xs ys → AreAlone p xs → (found : Option X) → find p ys ≡ found → find p xs ≡ found
+found_by p xs ys moved alone None e =
+    none_found p xs (λ k x at. let there = moved_to xs ys moved k x at in none_passes p ys e there.place x there.is)
+found_by {X} p xs ys moved alone (Some y) e =
+    let here = moved_to ys xs (IsPermutation-sym xs ys moved) (position_or_len p ys) y (found_at_first p ys y e) in
+    let passes = found_passes p ys y e in
+    first_is_found p xs here.place y here.is passes (λ k x lt at.
+    elim (cases_Bool (p x)) [
+      | inl too ↦ absurd (alone k here.place x y lt at here.is too passes)
+      | inr fails ↦ fails
+    ])
+
+-- where at most one element passes, the same is found in any order
+find_reordered : {X : Type 0} (p : X → Bool) (xs ys : List X) → IsPermutation xs ys → AreAlone p xs → find p xs ≡ find p ys
+find_reordered p xs ys moved alone = found_by p xs ys moved alone (find p ys) refl
+
+-- windows that do not meet hold an address at most once
+alone_in_windows : (alignment rva : ℕ) (sections : List Section) → AllPairs (AreApart alignment) sections → AreAlone (is_in_window alignment rva) sections
+alone_in_windows alignment rva sections apart i j s t lt at_i at_j holds_s holds_t =
+    let pair : AreApart alignment (get_or sections i s) (get_or sections j s) = apart i j s lt (slice_get_within sections j t at_j) in
+    let one : AreApart alignment s t = rw (get_or_from_slice_get sections i s s at_i, get_or_from_slice_get sections j t s at_j) at pair in
+    one rva (in_window alignment rva s holds_s) (in_window alignment rva t holds_t)
+
+same_choice : (on even : Bool) (x y : Option ℕ) (own : Option ℕ) → (even ≡ true → x ≡ y) → cond on (cond even x None) own ≡ cond on (cond even y None) own
+same_choice true true x y own same = same refl
+same_choice true false x y own same = refl
+same_choice false even x y own same = refl
+
+-- a table in another order maps each address alike
+pub file_offset-reordered : (opts : ParseOptions) (xs ys : List Section) (alignment : ℕ) → IsReordering alignment xs ys → (rva : ℕ) → file_offset opts xs alignment rva ≡ file_offset opts ys alignment rva
+unfolding file_offset
+file_offset-reordered opts xs ys alignment is rva =
+    same_choice opts.resolve_rva (is_power_of_two alignment) _ _ (Some rva) (λ even.
+    let there : IsTrue (is_power_of_two alignment) = search (rules, tests) in
+    ap (option_map (λ s. offset_in opts s rva)) (find_reordered (is_in_window alignment rva) xs ys is.moved (alone_in_windows alignment rva xs (is.apart there))))
+
+-- the two maps are the same
+pub map-reordered : (opts : ParseOptions) (xs ys : List Section) (alignment : ℕ) → IsReordering alignment xs ys → file_offset opts xs alignment ≡ file_offset opts ys alignment
+map-reordered opts xs ys alignment is = λ i rva. file_offset-reordered opts xs ys alignment is rva i

@@ -1,0 +1,16 @@
+-- Tables of sections that differ in the order of their sections alone.
+use Rattle.std.specs.Prelude.{IsTrue, ℕ, List}
+use Rattle.std.specs.Int.{is_power_of_two}
+use Rattle.std.specs.List.{AllPairs}
+use Rattle.std.specs.List.Sorted.{IsPermutation}
+use Rattle.goblin_pe_sect.specs.SectionTable.{Section}
+use Rattle.goblin_pe_sect.specs.Mapping.{InWindow}
+
+-- no address lies in the windows of both
+abbrev pub AreApart : ℕ → Section → Section → Type 0
+AreApart alignment s t = (rva : ℕ) → InWindow alignment rva s → ¬ InWindow alignment rva t
+
+-- The second table has the sections of the first in any order, and the windows of any two of them are disjoint. Where the alignment is no power of two there are no windows.
+pub record IsReordering (alignment : ℕ) (first second : List Section) : Type 0 where
+  pub moved : IsPermutation first second
+  pub apart : IsTrue (is_power_of_two alignment) → AllPairs (AreApart alignment) first

@@ -1,0 +1,196 @@
+//! Readers in both modes, and under two tables of sections.
+
+use crate::tests::imports::{ALIGNMENT, DIRECTORY, RECORD};
+use crate::tests::raw_pointers::{are_sample_exports, are_sample_imports};
+use fixture::memory::{Outcome, is_refused_until_right};
+use fixture::sample::{put, sample, sample_section, section};
+use goblin_base::{Cause, Error};
+use goblin_pe::import::{Import, ImportDirectoryEntry};
+use goblin_pe::laws::{
+    Request, Tables, mode_header, mode_tables, mode_whole, reorder_whole_tables,
+};
+use goblin_pe::options::ParseOptions;
+use goblin_pe::{Part, Whole};
+use goblin_pe_sect::{DataDirectory, SectionTable};
+use std::alloc::{AllocError, Global};
+use std::test::Fail;
+
+/// Where the tables of the sample file lie; a value is read in the place of its import directory.
+const REQUEST: Request = Request {
+    lookup: 0x240,
+    imports: DIRECTORY,
+    exports: DataDirectory {
+        virtual_address: 0x10A0,
+        size: 0x60,
+    },
+    relocations: DataDirectory {
+        virtual_address: 0x1080,
+        size: 5,
+    },
+    value: DIRECTORY,
+    name: 0x1080,
+};
+
+/// Whether this is the sample file.
+fn is_sample(whole: &Whole) -> bool {
+    let lists_are_right = match (&whole.imports, &whole.exports) {
+        (Part::Read(imports), Part::Read(exports)) => are_sample_imports(imports)
+            && are_sample_exports(exports, (0x210, 0x2E0)),
+        _ => false,
+    };
+    let tables_are_right = match (&whole.import_data, &whole.export_data, &whole.relocations) {
+        (Part::Read(data), Part::Read(tables), Part::Absent) => data.import_data.len() == 1
+            && tables.name == Some("a.dll"),
+        _ => false,
+    };
+    whole.header.coff_header.machine == 0x14C
+        && whole.sections[..] == [sample_section()]
+        && lists_are_right
+        && tables_are_right
+}
+
+#[test]
+fn both_modes_read_the_same_file(rt: HostRuntime) -> Result<(), Fail> {
+    let alloc = rt.alloc();
+    let file = sample(alloc)?;
+    let opts = ParseOptions::default();
+    let (strict, permissive) = mode_header(&file, &opts);
+    assert!(rt; strict? == permissive?);
+    let (strict, permissive) = mode_whole(alloc, &file, &opts);
+    assert!(rt; is_sample(&strict?) && is_sample(&permissive?));
+    Ok(())
+}
+
+#[test]
+fn permissive_mode_reads_a_header_that_strict_mode_refuses(rt: HostRuntime) -> Result<(), Fail> {
+    let mut file = sample(rt.alloc())?;
+    // The PE signature stands within the DOS header, where there is no room for a stub.
+    put(&mut file, 0x3C, b"\x20");
+    put(&mut file, 0x20, b"PE\0\0");
+    let (strict, permissive) = mode_header(&file, &ParseOptions::default());
+    assert!(rt; matches!(strict, Err(Error::Malformed(Cause::StubBeforeStart(0x20)))));
+    assert!(rt; permissive?.dos_header.pe_pointer == 0x20);
+    Ok(())
+}
+
+/// A file with an import directory at its front.
+fn front_file(alloc: Global) -> Result<Vec<u8>, AllocError> {
+    let mut file = vec![in alloc; 0u8; 0x40]?;
+    let parts: [(usize, &[u8]); 4] = [
+        (0x00, b"\x28\x10"),
+        (0x0C, b"\x30\x10\x00\x00\x28\x10"),
+        (0x28, b"\x01\x00\x00\x80"),
+        (0x30, b"x"),
+    ];
+    for (offset, bytes) in parts {
+        put(&mut file, offset, bytes);
+    }
+    Ok(file)
+}
+
+#[test]
+fn permissive_mode_has_no_imports_from_the_front_of_the_file(rt: HostRuntime) -> Result<(), Fail> {
+    let alloc = rt.alloc();
+    let file = front_file(alloc)?;
+    let sections = [section(0x1000, 0x200, 0x200, 0)];
+    let directory = DataDirectory {
+        virtual_address: 0x1000,
+        size: 0,
+    };
+    let request = Request {
+        lookup: 0x28,
+        imports: directory,
+        exports: directory,
+        relocations: directory,
+        value: directory,
+        name: 0x1030,
+    };
+    let (strict, permissive): (Tables<ImportDirectoryEntry>, Tables<ImportDirectoryEntry>) =
+        mode_tables::<u32, _>(alloc, &file, &sections, &request, 0x200, &ParseOptions::default());
+    let data = strict.imports?;
+    let imports = Import::parse::<u32>(alloc, &file, &data, &sections)?;
+    let rows_are_right = match &imports[..] {
+        [import] => (&import.name[..], import.dll, import.offset) == ("ORDINAL 1", "x", 0x1028),
+        _ => false,
+    };
+    assert!(rt; rows_are_right);
+    assert!(rt; permissive.imports?.import_data.is_empty());
+    // All else is the same.
+    assert_eq!(rt; strict.lookup?.as_slice().len(), 1);
+    assert_eq!(rt; permissive.lookup?.as_slice().len(), 1);
+    assert_eq!(rt; strict.name?, Some("x"));
+    assert_eq!(rt; permissive.name?, Some("x"));
+    assert!(rt; strict.value? == permissive.value?);
+    Ok(())
+}
+
+/// Whether these are the sample file's tables.
+fn are_sample_tables(
+    alloc: Global,
+    file: &[u8],
+    sections: &[SectionTable],
+    tables: Tables<ImportDirectoryEntry>,
+) -> goblin_base::Result<bool> {
+    let imports = Import::parse::<u32>(alloc, file, &tables.imports?, sections)?;
+    let (data, exports) = tables.exports?;
+    Ok(
+        are_sample_imports(&imports)
+            && are_sample_exports(&exports, (0x210, 0x2E0))
+            && data.name == Some("a.dll")
+            && tables.lookup?.as_slice().len() == 2
+            && tables.relocations.is_ok()
+            && tables.name? == Some("a.dll")
+            && tables.value? == RECORD,
+    )
+}
+
+#[test]
+fn sections_may_stand_in_any_order(rt: HostRuntime) -> Result<(), Fail> {
+    let alloc = rt.alloc();
+    let file = sample(alloc)?;
+    let first = [sample_section(), section(0x3000, 0x100, 0x100, 0x100)];
+    let second = [section(0x3000, 0x100, 0x100, 0x100), sample_section()];
+    let opts = ParseOptions::default();
+    let (one, other): (Tables<ImportDirectoryEntry>, Tables<ImportDirectoryEntry>) =
+        reorder_whole_tables::<u32, _>(alloc, &file, &first, &second, &REQUEST, ALIGNMENT, &opts);
+    assert!(rt; are_sample_tables(alloc, &file, &first, one)?);
+    assert!(rt; are_sample_tables(alloc, &file, &second, other)?);
+    Ok(())
+}
+
+#[test]
+fn each_table_of_sections_has_its_own_answers(rt: HostRuntime) -> Result<(), Fail> {
+    let alloc = rt.alloc();
+    let file = sample(alloc)?;
+    let opts = ParseOptions::default();
+    let (one, other): (Tables<ImportDirectoryEntry>, Tables<ImportDirectoryEntry>) =
+        reorder_whole_tables::<u32, _>(
+            alloc,
+            &file,
+            &[sample_section()],
+            &[],
+            &REQUEST,
+            ALIGNMENT,
+            &opts,
+        );
+    assert_eq!(rt; one.name?, Some("a.dll"));
+    assert!(rt; matches!(other.name, Err(Error::Malformed(Cause::Unmapped(0x1080)))));
+    assert!(rt; other.imports.is_err() && other.exports.is_err());
+    Ok(())
+}
+
+#[test]
+fn a_mode_refused_for_want_of_memory_stands_in_its_place(rt: HostRuntime) -> Result<(), Fail> {
+    let alloc = rt.alloc();
+    let file = sample(alloc)?;
+    let opts = ParseOptions::default();
+    let is_right = is_refused_until_right(alloc, || match mode_whole(alloc, &file, &opts) {
+        (Ok(strict), Ok(permissive)) if is_sample(&strict) && is_sample(&permissive) =>
+            Outcome::Right,
+        (Err(Error::Memory(_)), Ok(_) | Err(Error::Memory(_)))
+        | (Ok(_), Err(Error::Memory(_))) => Outcome::Refused,
+        _ => Outcome::Wrong,
+    })?;
+    assert!(rt; is_right);
+    Ok(())
+}

@@ -1,0 +1,122 @@
+//! Headers, and single tables, of two files.
+
+use crate::tests::imports::{ALIGNMENT, DIRECTORY, RECORD};
+use fixture::sample::{TABLE, put, sample, sample_section};
+use goblin_base::{Cause, Error};
+use goblin_pe::header::{CoffHeader, Header};
+use goblin_pe::import::ImportDirectoryEntry;
+use goblin_pe::laws::{Parts, twin_header, twin_parts};
+use goblin_pe::options::ParseOptions;
+use goblin_pe_sect::DataDirectory;
+use std::test::Fail;
+
+/// The sample file's COFF header.
+const COFF_HEADER: CoffHeader = CoffHeader {
+    machine: 0x14C,
+    number_of_sections: 1,
+    time_date_stamp: 0,
+    pointer_to_symbol_table: 0,
+    number_of_symbol_table: 0,
+    size_of_optional_header: 0xE0,
+    characteristics: 0x201,
+};
+
+/// The bytes of the sample file's library name.
+const NAME: DataDirectory = DataDirectory {
+    virtual_address: 0x1080,
+    size: 5,
+};
+
+/// Changes a byte.
+fn flip(file: &mut [u8], place: usize) {
+    if let Some(byte) = file.get_mut(place) {
+        *byte ^= 0xFF;
+    }
+}
+
+/// Whether this is the sample file's header.
+fn is_sample_header(header: &Header) -> bool {
+    let optional_is_right = match &header.optional_header {
+        Some(optional) => optional.standard_fields.magic == 0x10B
+            && optional.windows_fields.file_alignment == 0x200
+            && optional.data_directories.get_import_table() == Some(&DIRECTORY),
+        None => false,
+    };
+    header.dos_header.pe_pointer == 0x40 && header.coff_header == COFF_HEADER && optional_is_right
+}
+
+#[test]
+fn a_header_depends_on_the_bytes_before_the_sections(rt: HostRuntime) -> Result<(), Fail> {
+    let alloc = rt.alloc();
+    let file = sample(alloc)?;
+    let mut other = sample(alloc)?;
+    let opts = ParseOptions::default();
+    for place in 0..file.len() {
+        flip(&mut other, place);
+        let (first, second) = twin_header(&file, &other, &opts);
+        let first = first?;
+        assert!(rt; is_sample_header(&first), "{place:#x}");
+        let is_the_same = matches!(second, Ok(header) if header == first);
+        assert!(rt; is_the_same == (TABLE <= place), "{place:#x}");
+        flip(&mut other, place);
+    }
+    for place in TABLE..file.len() {
+        flip(&mut other, place);
+    }
+    let (first, second) = twin_header(&file, &other, &opts);
+    assert!(rt; is_sample_header(&first?) && is_sample_header(&second?));
+    Ok(())
+}
+
+/// Whether these are the sample file's: without a DOS header its first four bytes are the signature,
+/// and the section's name says that less was stripped than a Terse Executable's header.
+fn are_sample_parts(parts: Parts<ImportDirectoryEntry>) -> goblin_base::Result<bool> {
+    let relocations = match parts.relocations {
+        Ok(relocations) => relocations.blocks().count(),
+        Err(_) => 0,
+    };
+    Ok(
+        parts.header?.signature == 0x5A4D
+            && parts.sections?[..] == [sample_section()]
+            && matches!(parts.symbols, Ok(None))
+            && matches!(parts.strings, Ok(None))
+            && matches!(parts.te, Err(Error::Malformed(Cause::StrippedSize(0))))
+            && relocations == 1
+            && parts.value? == RECORD,
+    )
+}
+
+#[test]
+fn single_tables_of_one_file_are_what_their_readers_give(rt: HostRuntime) -> Result<(), Fail> {
+    let alloc = rt.alloc();
+    let file = sample(alloc)?;
+    let again = sample(alloc)?;
+    let sections = [sample_section()];
+    let opts = ParseOptions::default();
+    let (first, second): (Parts<ImportDirectoryEntry>, Parts<ImportDirectoryEntry>) = twin_parts(
+        alloc, &file, &again, COFF_HEADER, TABLE, NAME, DIRECTORY, &sections, ALIGNMENT, &opts,
+    );
+    assert!(rt; are_sample_parts(first)?);
+    assert!(rt; are_sample_parts(second)?);
+    Ok(())
+}
+
+#[test]
+fn single_tables_of_two_files_are_each_files_own(rt: HostRuntime) -> Result<(), Fail> {
+    let alloc = rt.alloc();
+    let file = sample(alloc)?;
+    let mut other = sample(alloc)?;
+    put(&mut other, TABLE, b".text\0");
+    put(&mut other, 0x210, b"\x61");
+    let sections = [sample_section()];
+    let opts = ParseOptions::default();
+    let (first, second): (Parts<ImportDirectoryEntry>, Parts<ImportDirectoryEntry>) = twin_parts(
+        alloc, &file, &other, COFF_HEADER, TABLE, NAME, DIRECTORY, &sections, ALIGNMENT, &opts,
+    );
+    assert!(rt; first.sections?[..] == [sample_section()]);
+    let sections = second.sections?;
+    assert!(rt; matches!(&sections[..], [section] if section.name == *b".text\0\0\0"));
+    assert!(rt; first.value?.import_address_table_rva == 0x1060);
+    assert!(rt; second.value?.import_address_table_rva == 0x1061);
+    Ok(())
+}
