@@ -10,3 +10,4 @@ pub mod Parts
 pub mod PermissiveReads
 pub mod TableRuns
 pub mod TwinParts
+pub mod WholeFootprints
