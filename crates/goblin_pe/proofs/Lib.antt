@@ -11,3 +11,4 @@ pub mod Parts
 pub mod PermissiveReads
 pub mod TableRuns
 pub mod TwinParts
+pub mod WholeFootprints

@@ -11,3 +11,4 @@ pub mod Modes
 pub mod TableRuns
 pub mod TwinParts
 pub mod Whole
+pub mod WholeFootprints

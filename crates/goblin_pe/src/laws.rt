@@ -22,6 +22,7 @@ mod imports;
 mod modes;
 mod order;
 mod parts;
+mod whole;
 
 pub use exports::{ExportRead, twin_exports};
 pub use footprint::footprint_imports;
@@ -30,3 +31,4 @@ pub use imports::{twin_imports, twin_lookup};
 pub use modes::{mode_header, mode_tables, mode_whole};
 pub use order::{Request, Tables, TablesOf, reorder_whole_tables};
 pub use parts::{Parts, PartsOf, twin_parts};
+pub use whole::twin_whole;
