@@ -13,8 +13,9 @@ use std::test::Fail;
 
 /// Gives up to `step` bytes a call, but for one call, which fails.
 #[derive(Drop)]
-struct Source<'a> {
-    bytes: &'a [u8],
+struct Source {
+    bytes: Vec<u8>,
+    at: usize,
     step: usize,
     /// Which call fails, the first being 1.
     failing: usize,
@@ -22,10 +23,11 @@ struct Source<'a> {
     rooms: Vec<usize>,
 }
 
-impl<'a> Source<'a> {
-    fn new(alloc: Global, bytes: &'a [u8], step: usize, failing: usize) -> Source<'a> {
+impl Source {
+    fn new(alloc: Global, bytes: Vec<u8>, step: usize, failing: usize) -> Source {
         Source {
             bytes,
+            at: 0,
             step,
             failing,
             rooms: Vec::new(alloc),
@@ -33,16 +35,16 @@ impl<'a> Source<'a> {
     }
 }
 
-impl Read for Source<'_> {
+impl Read for Source {
     fn read(&mut self, buf: &mut [u8]) -> io::Result<usize> {
         self.rooms.push(buf.len())?;
         if self.rooms.len() == self.failing {
             return Err(io::Error::from(ErrorKind::Interrupted));
         }
-        let n = self.bytes.len().min(buf.len()).min(self.step);
-        let (front, rest) = self.bytes.split_at(n);
-        buf[..n].copy_from_slice(front);
-        self.bytes = rest;
+        let rest = self.bytes.get(self.at..).unwrap_or(&[]);
+        let n = rest.len().min(buf.len()).min(self.step);
+        buf[..n].copy_from_slice(&rest[..n]);
+        self.at = self.at.saturating_add(n);
         Ok(n)
     }
 }
@@ -106,12 +108,11 @@ impl Write for Sink {
 
 #[test]
 fn no_read_follows_a_failed_one_or_the_end(rt: HostRuntime) -> Result<(), Fail> {
-    let file = sample(rt.alloc())?;
     // How many bytes a read gives, and how many reads there are, the last of which meets the end.
     for (step, reads) in [(1, SAMPLE_LEN + 1), (0x2FF, 3), (usize::MAX, 2)] {
         // None fails where `failing` is 0.
         for failing in 0..reads + 1 {
-            let mut source = Source::new(rt.alloc(), &file, step, failing);
+            let mut source = Source::new(rt.alloc(), sample(rt.alloc())?, step, failing);
             let mut taken = Vec::new(rt.alloc());
             let ran = run(
                 rt.alloc(),
@@ -125,7 +126,10 @@ fn no_read_follows_a_failed_one_or_the_end(rt: HostRuntime) -> Result<(), Fail> 
             } else {
                 matches!(ran, Err(RunFault::Input)) && calls == failing && taken.is_empty()
             };
-            assert!(rt; is_right, "by {step}, where call {failing} fails, of {calls}");
+            assert!(rt;
+                is_right,
+                "by {step}, where call {failing} fails, of {calls}"
+            );
         }
     }
     Ok(())
@@ -170,7 +174,8 @@ fn no_write_follows_a_failed_one(rt: HostRuntime) -> Result<(), Fail> {
 
 #[test]
 fn a_watched_reader_hands_on_each_call_and_its_answer(rt: HostRuntime) -> Result<(), Fail> {
-    let mut source = Source::new(rt.alloc(), b"abcdefg", 3, 2);
+    let bytes = Vec::from_array(rt.alloc(), *b"abcdefg")?;
+    let mut source = Source::new(rt.alloc(), bytes, 3, 2);
     let mut reader = Watched::new(&mut source);
     // The room, how many bytes are given and which, and whether a call has failed by then or met the end.
     let rows: [(usize, Option<usize>, &[u8; 4], bool, bool); 6] = [
@@ -188,7 +193,11 @@ fn a_watched_reader_hands_on_each_call_and_its_answer(rt: HostRuntime) -> Result
             Err(e) => given.is_none() && e.kind() == ErrorKind::Interrupted,
         };
         assert!(rt; is_answer && buf == *want, "{want:?}");
-        assert_eq!(rt; (reader.failed(), reader.ended()), (failed, ended), "{want:?}");
+        assert_eq!(rt;
+            (reader.failed(), reader.ended()),
+            (failed, ended),
+            "{want:?}"
+        );
     }
     assert_eq!(rt; source.rooms.as_slice(), [4, 2, 0, 4, 1, 4].as_slice());
     Ok(())
