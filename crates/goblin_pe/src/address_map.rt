@@ -11,7 +11,8 @@ ghost use Rattle.goblin_pe.specs.Addresses.{offset_of};
 use crate::options::ParseOptions;
 use crate::section_table::SectionTable;
 use crate::windows::WindowIndex;
-use goblin_base::{Cause, Error, Result, pread_str};
+use crate::utils::safe_name_at;
+use goblin_base::Result;
 use std::alloc::Global;
 use std::marker::Model;
 
@@ -85,17 +86,6 @@ impl<'s> AddressMap<'s> {
         ensures { let m = offset_of self.now in
             Answers (option_map (λ s. s.now)) result (name_or_none (is_strict self.now.opts.parse_mode) (name_at m bytes.now rva)) (IsSafeNameFault m rva) }
     {
-        let cause = match self.offset_of(rva) {
-            Some(offset) => match pread_str(bytes, offset) {
-                Ok(name) => return Ok(Some(name)),
-                Err(_) => Cause::NameRead(offset),
-            },
-            None => Cause::Unmapped(rva as usize),
-        };
-        if self.is_permissive() {
-            Ok(None)
-        } else {
-            Err(Error::Malformed(cause))
-        }
+        safe_name_at(bytes, rva as usize, self.offset_of(rva), &self.opts)
     }
 }

@@ -232,7 +232,25 @@ pub fn safe_try_name<'a>(
     ensures { let m = file_offset opts.now sections.now file_alignment in
         Answers (option_map (λ s. s.now)) result (name_or_none (is_strict opts.now.parse_mode) (name_at m bytes.now rva)) (IsSafeNameFault m rva) }
 {
-    let cause = match find_offset(rva, sections, file_alignment, opts) {
+    let offset = find_offset(rva, sections, file_alignment, opts);
+    safe_name_at(bytes, rva, offset, opts)
+}
+
+/// The text at `offset`, the file offset of the address `rva`, as [`safe_try_name`] gives it; for who
+/// maps addresses by an index. There is no text where there is no offset.
+///
+/// # Errors
+/// As [`safe_try_name`].
+pub fn safe_name_at<'a>(
+    bytes: &'a [u8],
+    rva: usize,
+    offset: Option<usize>,
+    opts: &ParseOptions,
+) -> Result<Option<&'a str>>
+    ensures { let strict = is_strict opts.now.parse_mode in
+        Answers (option_map (λ s. s.now)) result (name_or_none strict (name_at (λ _. offset) bytes.now rva)) (IsSafeNameFault (λ _. offset) rva) }
+{
+    let cause = match offset {
         Some(offset) => match pread_str(bytes, offset) {
             Ok(name) => return Ok(Some(name)),
             Err(_) => Cause::NameRead(offset),
