@@ -107,16 +107,24 @@ fn a_large_file_is_read_in_both_modes(rt: HostRuntime) -> Result<(), Fail> {
         };
         let copy = section.clone(rt.alloc())?;
         assert!(rt; is_long(copy.name()?), "{mode:?}: the section's name");
-        let (Part::Read(imports), Part::Read(exports), Part::Read(relocations)) =
-            (&whole.imports, &whole.exports, &whole.relocations)
-        else {
+        let (Part::Read(imports), Part::Read(exports), Part::Read(relocations)) = (
+            &whole.imports,
+            &whole.exports,
+            &whole.relocations,
+        ) else {
             assert!(rt; false, "{mode:?}: tables");
             return Ok(());
         };
-        let is_first = matches!(imports.first(), Some(first) if is_long(&first.name[..]) && is_long(first.dll));
+        let is_first =
+            matches!(imports.first(), Some(first) if is_long(&first.name[..]) && is_long(first.dll));
         let is_last = matches!(imports.last(), Some(last) if &last.name[..] == "ORDINAL 4463");
-        assert!(rt; imports.len() == ENTRIES && is_first && is_last, "{mode:?}: imports");
-        let are_named = exports.iter().all(|export| export.name.is_some_and(|name| is_long(name)));
+        assert!(rt;
+            imports.len() == ENTRIES && is_first && is_last,
+            "{mode:?}: imports"
+        );
+        let are_named = exports
+            .iter()
+            .all(|export| export.name.is_some_and(|name| is_long(name)));
         assert!(rt; exports.len() == ENTRIES && are_named, "{mode:?}: exports");
         let blocks = relocations.blocks().filter(|block| block.is_ok()).count();
         assert_eq!(rt; blocks, BLOCKS, "{mode:?}");
