@@ -8,7 +8,7 @@ use Rattle.goblin_base.specs.Tables.{SlotFormat, each_below, is_kept, kept_slots
 use Rattle.goblin_base.proofs.Below.{each_below-kept, each_below-missing, same-filter}
 use Rattle.goblin_base.proofs.Steps.{mapped, step}
 
--- one way has no value that the other lacks
+-- what the first has, the second has
 abbrev pub Keeps : {A : Type 0} → Option A → Option A → Type 0
 Keeps {A} first second = (x : A) → first ≡ Some x → second ≡ Some x
 

@@ -2,6 +2,7 @@ pub mod ExportDirectoryRoundTrip
 pub mod ExportFootprints
 mod ExportRows
 mod Grammar
+pub mod ImportBound
 pub mod ImportDirectoryRoundTrip
 pub mod ImportFootprints
 pub mod Imports

@@ -11,10 +11,14 @@ use crate::header::Header;
 use crate::options::ParseOptions;
 use goblin_base::Result;
 
-/// The headers of two files. It takes no memory; a refusal of one stands in its place.
+/// The headers of two files. It takes no memory.
 ///
-/// Each answer is its file's own. Where the files agree on what the reading of a header reaches in the
-/// first, both are equal, or both are refusals.
+/// The footprint of the read, in both modes: the DOS header's record, the two bytes of its signature
+/// and the four to which it points; and where the DOS header is there, the stub, the PE signature, the
+/// COFF header, and of the optional header its magic, its fields and its directories.
+///
+/// # Errors
+/// For each file as [`Header::parse_with_opts`].
 pub fn twin_header<'a>(
     a: &'a [u8],
     b: &'a [u8],

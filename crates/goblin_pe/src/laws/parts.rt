@@ -88,8 +88,14 @@ fn read_parts<'a, 'e, D: TryFromCtx<'a>>(
 /// sections. A refusal of one reader, also for want of memory, stands in its place, and the others
 /// still run.
 ///
-/// Each answer is its file's own. Where the files agree on what a reader reaches in the first, both of
-/// its answers are equal, or both are refusals, unless one is refused for want of memory.
+/// Each reader has a footprint of its own. The header's: the signature, the COFF header, and what
+/// [`twin_header`](crate::laws::twin_header) says of an optional header. That of sections: each record,
+/// and the text to which its name points. The symbol table's bytes; the string table's length and
+/// bytes; a Terse Executable's record and, where its header is there, its sections; the bytes of the
+/// base relocations; and of the value all from its offset on.
+///
+/// # Errors
+/// For each file as the readers that the fields of [`PartsOf`] name.
 pub fn twin_parts<'a, 'e, D: TryFromCtx<'a>>(
     alloc: Global,
     a: &'a [u8],

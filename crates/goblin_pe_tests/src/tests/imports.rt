@@ -124,12 +124,12 @@ pub(super) const RECORD: ImportDirectoryEntry = ImportDirectoryEntry {
 };
 
 /// An import, by what is wanted of it: name, ordinal, offset, address, size and slot.
-type Row = (&'static str, u16, usize, usize, usize, usize);
+pub(super) type Row = (&'static str, u16, usize, usize, usize, usize);
 
 /// The sample file's imports.
-const GO: Row = ("Go", 5, 0x1060, 0x1090, 4, 0);
+pub(super) const GO: Row = ("Go", 5, 0x1060, 0x1090, 4, 0);
 
-const SEVEN: Row = ("ORDINAL 7", 7, 0x1064, 0, 4, 1);
+pub(super) const SEVEN: Row = ("ORDINAL 7", 7, 0x1064, 0, 4, 1);
 
 fn options(mode: ParseMode) -> ParseOptions {
     ParseOptions::default().with_parse_mode(mode)
@@ -157,7 +157,7 @@ fn imports_of<'a, 'e, T: Bitfield<'a>>(
 }
 
 /// Whether these are the imports from `a.dll`.
-fn are_rows(imports: &[Import], rows: &[Row]) -> bool {
+pub(super) fn are_rows(imports: &[Import], rows: &[Row]) -> bool {
     imports.len() == rows.len()
         && imports.iter().zip(rows).all(|(import, row)| {
             import.dll == "a.dll"

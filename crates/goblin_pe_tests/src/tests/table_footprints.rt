@@ -1,16 +1,20 @@
 //! Which bytes of a file its imports and exports depend on.
 
 use crate::tests::exports::{FORWARDED, PLAIN, are};
-use crate::tests::imports::{ALIGNMENT, DIRECTORY, RECORD, Short, is_sample_table};
+use crate::tests::imports::{
+    ALIGNMENT, DIRECTORY, GO, RECORD, SEVEN, Short, are_rows, is_sample_table,
+};
 use fixture::memory::{Outcome, is_refused_until_right};
 use fixture::sample::{SAMPLE_LEN, put, sample, sample_section};
 use goblin_base::{Error, ParseMode};
-use goblin_pe::Whole;
-use goblin_pe::export::{ExportAddressTableEntry, ExportDirectoryTable};
+use goblin_pe::export::{ExportAddressTableEntry, ExportData, ExportDirectoryTable};
 use goblin_pe::import::{
     Import, ImportData, SyntheticImportDirectoryEntry, SyntheticImportLookupTableEntry,
 };
-use goblin_pe::laws::{ExportRead, footprint_imports, twin_exports, twin_imports, twin_lookup};
+use goblin_pe::laws::{
+    ExportRead, footprint_imports, twin_exports, twin_imports, twin_lookup, twin_whole,
+};
+use goblin_pe::{Part, Whole};
 use goblin_pe_sect::{DataDirectory, ParseOptions};
 use std::alloc::Global;
 use std::test::Fail;
@@ -31,6 +35,19 @@ const IMPORTS: &[Span] = &[
 
 const EXPORTS: &[Span] = &[
     (0x280, 0x286),
+    (0x2A0, 0x2DC),
+    (0x2E0, 0x2E6),
+    (0x2F0, 0x2F2),
+];
+
+/// And of the whole file: also of its header and its section table.
+const WHOLE: &[Span] = &[
+    (0x000, 0x160),
+    (0x200, 0x228),
+    (0x240, 0x24C),
+    (0x260, 0x26C),
+    (0x280, 0x286),
+    (0x290, 0x295),
     (0x2A0, 0x2DC),
     (0x2E0, 0x2E6),
     (0x2F0, 0x2F2),
@@ -134,9 +151,8 @@ fn is_sample_library(library: &SyntheticImportDirectoryEntry) -> bool {
         && library.import_address_table.as_slice() == [0x1090, 0x8000_0007].as_slice()
 }
 
-/// Whether this is the sample file's export data with its exports.
-fn are_sample_exports(read: &ExportRead) -> bool {
-    let (tables, exports) = read;
+/// Whether this is the sample file's export data.
+fn are_sample_tables(tables: &ExportData) -> bool {
     let table = ExportDirectoryTable {
         name_rva: 0x1080,
         ordinal_base: 1,
@@ -155,7 +171,16 @@ fn are_sample_exports(read: &ExportRead) -> bool {
         && tables.export_name_pointer_table.as_slice() == [0x10F0, 0x1080].as_slice()
         && tables.export_ordinal_table.as_slice() == [0, 1].as_slice()
         && tables.export_address_table.as_slice() == addresses.as_slice()
-        && are(exports, &[PLAIN, FORWARDED])
+}
+
+/// Whether these are the sample file's sections and tables.
+fn is_sample(whole: &Whole) -> bool {
+    whole.sections[..] == [sample_section()]
+        && matches!(&whole.import_data, Part::Read(data) if are_sample_imports(data))
+        && matches!(&whole.imports, Part::Read(imports) if are_rows(imports, &[GO, SEVEN]))
+        && matches!(&whole.export_data, Part::Read(tables) if are_sample_tables(tables))
+        && matches!(&whole.exports, Part::Read(exports) if are(exports, &[PLAIN, FORWARDED]))
+        && matches!(&whole.relocations, Part::Absent)
 }
 
 /// Whether both files have the sample file's lookup table.
@@ -181,8 +206,25 @@ fn have_exports<'a>(alloc: Global, a: &'a [u8], b: &'a [u8]) -> bool {
     let sections = [sample_section()];
     let opts = ParseOptions::default();
     let (first, second) = twin_exports(alloc, a, b, EXPORT_DIRECTORY, &sections, ALIGNMENT, &opts);
-    matches!(&first, Ok(read) if are_sample_exports(read))
-        && matches!(&second, Ok(read) if are_sample_exports(read))
+    are_sample_exports(&first) && are_sample_exports(&second)
+}
+
+fn are_sample_exports(read: &goblin_base::Result<ExportRead>) -> bool {
+    match read {
+        Ok((tables, exports)) => are_sample_tables(tables) && are(exports, &[PLAIN, FORWARDED]),
+        Err(_) => false,
+    }
+}
+
+/// Whether both files have the sample file's header, sections and tables.
+fn are_wholes<'a>(alloc: Global, a: &'a [u8], b: &'a [u8]) -> bool {
+    let (first, second) = twin_whole(alloc, a, b, &ParseOptions::default());
+    match (&first, &second) {
+        (Ok(first), Ok(second)) => first.header == second.header
+            && is_sample(first)
+            && is_sample(second),
+        _ => false,
+    }
 }
 
 #[test]
@@ -201,6 +243,10 @@ fn tables_depend_on_their_footprints_alone(rt: HostRuntime) -> Result<(), Fail> 
     assert!(rt;
         depends_on(&mut other, EXPORTS, |b| have_exports(alloc, &file, b)),
         "exports"
+    );
+    assert!(rt;
+        depends_on(&mut other, WHOLE, |b| are_wholes(alloc, &file, b)),
+        "whole file"
     );
     Ok(())
 }
