@@ -135,12 +135,13 @@ impl<'a> SyntheticImportDirectoryEntry<'a> {
     /// The lookup table is read at its address, and where no section maps that, at the address of the
     /// address table; where that has no file offset either, there is none. The address table is read
     /// at its address, and where that is 0, at the address of the lookup table; it keeps the numbers
-    /// up to one that is 0.
+    /// up to one that is 0. The slots are those of
+    /// [`SyntheticImportLookupTableEntry::parse_with_slots`].
     ///
     /// # Errors
-    /// In strict mode as [`safe_try_name`](crate::utils::safe_try_name) where no name can be read; in permissive mode the name is
-    /// then empty. As [`SyntheticImportLookupTableEntry::parse_with_opts`] where the lookup table is
-    /// refused. In both modes [`Error::Malformed`] with [`Cause::Unmapped`] where the address of the
+    /// In strict mode as [`safe_try_name`](crate::utils::safe_try_name) where no name can be read; in
+    /// permissive mode the name is then empty. As
+    /// [`SyntheticImportLookupTableEntry::parse_with_opts`] where the lookup table is refused. In both modes [`Error::Malformed`] with [`Cause::Unmapped`] where the address of the
     /// address table has no file offset, and [`Error::Read`] where that table meets the end of the
     /// file. [`Error::Memory`] where memory is refused.
     pub fn parse_with_opts<'e, T: Bitfield<'a>>(

@@ -5,7 +5,7 @@ use fixture::sample::{put, sample, sample_section};
 use goblin_base::{Cause, Endian, Error, Record};
 use goblin_pe::export::{
     Export, ExportAddressTableEntry, ExportData, ExportDirectoryTable, Reexport,
-    SIZEOF_EXPORT_ADDRESS_TABLE_ENTRY, SIZEOF_EXPORT_DIRECTORY_TABLE,
+    SIZEOF_EXPORT_DIRECTORY_TABLE,
 };
 use goblin_pe::table::Table;
 use goblin_pe_sect::DataDirectory;
@@ -224,6 +224,19 @@ fn exports_are_refused_at_each_growth(rt: HostRuntime) -> Result<(), Fail> {
 }
 
 #[test]
-fn sizes_of_exports_have_their_values(rt: HostRuntime) {
-    assert!(rt; SIZEOF_EXPORT_DIRECTORY_TABLE == 40 && SIZEOF_EXPORT_ADDRESS_TABLE_ENTRY == 4);
+fn each_refusal_of_exports_tells_its_cause(rt: HostRuntime) -> Result<(), Fail> {
+    let alloc = rt.alloc();
+    let file = sample(alloc)?;
+    // A directory whose record would pass the file, and one that no section maps.
+    for (virtual_address, cause) in
+        [(0x10F0, Cause::ExportTable(0x2F0)), (0x9000, Cause::Unmapped(0x9000))]
+    {
+        let directory = DataDirectory {
+            virtual_address,
+            size: 0x28,
+        };
+        let read = ExportData::parse(alloc, &file, directory, &[sample_section()], ALIGNMENT);
+        assert!(rt; matches!(read, Err(Error::Malformed(told)) if told == cause));
+    }
+    Ok(())
 }

@@ -12,8 +12,7 @@ use goblin_base::{
     Cause, Endian, Error, ParseMode, ReadFault, Record, ResultOf, TryFromCtx, field_u16,
 };
 use goblin_pe::import::{
-    Bitfield, HintNameTableEntry, IMPORT_BY_ORDINAL_32, IMPORT_BY_ORDINAL_64, IMPORT_RVA_MASK_32,
-    IMPORT_RVA_MASK_64, Import, ImportData, ImportDirectoryEntry, ImportLookupSlots,
+    Bitfield, HintNameTableEntry, Import, ImportData, ImportDirectoryEntry, ImportLookupSlots,
     ImportLookupTable, SIZEOF_IMPORT_DIRECTORY_ENTRY, SyntheticImportDirectoryEntry,
     SyntheticImportLookupTableEntry,
 };
@@ -460,16 +459,53 @@ fn a_record_that_ends_a_directory_is_told_from_one_of_zeros(rt: HostRuntime) {
 }
 
 #[test]
-fn the_constants_have_their_values(rt: HostRuntime) {
-    assert_eq!(rt;
-        (IMPORT_BY_ORDINAL_32, IMPORT_RVA_MASK_32),
-        (0x8000_0000, 0x7FFF_FFFF)
+fn each_refusal_of_imports_tells_its_cause(rt: HostRuntime) -> Result<(), Fail> {
+    let alloc = rt.alloc();
+    let file = sample(alloc)?;
+    let sections = [sample_section()];
+    let cut = SyntheticImportLookupTableEntry::parse::<u32>(
+        alloc, &file[..0x248], 0x240, &sections, ALIGNMENT,
     );
-    assert_eq!(rt;
-        (IMPORT_BY_ORDINAL_64, IMPORT_RVA_MASK_64),
-        (1 << 63, 0x7FFF_FFFF)
+    assert!(rt; matches!(cut, Err(Error::Malformed(Cause::LookupEnd(0x248)))));
+    let record = ImportDirectoryEntry {
+        import_address_table_rva: 0x9000,
+        ..RECORD
+    };
+    let library = SyntheticImportDirectoryEntry::parse::<u32>(
+        alloc, &file, record, &sections, ALIGNMENT,
     );
-    assert_eq!(rt; SIZEOF_IMPORT_DIRECTORY_ENTRY, 20);
+    assert!(rt; matches!(library, Err(Error::Malformed(Cause::Unmapped(0x9000)))));
+    // A directory whose first record would pass the file, and one that no section maps.
+    for (virtual_address, cause) in
+        [(0x10F0, Cause::ImportRecordEnd(0x2F0)), (0x9000, Cause::Unmapped(0x9000))]
+    {
+        let directory = DataDirectory {
+            virtual_address,
+            size: 0x28,
+        };
+        let strict = ImportData::parse::<u32>(alloc, &file, directory, &sections, ALIGNMENT);
+        assert!(rt; matches!(strict, Err(Error::Malformed(told)) if told == cause));
+        let opts = options(ParseMode::Permissive);
+        let permissive = ImportData::parse_with_opts::<u32>(
+            alloc, &file, directory, &sections, ALIGNMENT, &opts,
+        )?;
+        assert!(rt; permissive.import_data.is_empty());
+    }
+    Ok(())
+}
+
+#[test]
+fn a_lookup_table_without_entries_is_empty(rt: HostRuntime) -> Result<(), Fail> {
+    let alloc = rt.alloc();
+    let file = sample(alloc)?;
+    for mode in [ParseMode::Strict, ParseMode::Permissive] {
+        let opts = options(mode);
+        let (table, slots) = SyntheticImportLookupTableEntry::parse_with_slots::<u32>(
+            alloc, &file, 0x248, &[sample_section()], ALIGNMENT, &opts,
+        )?;
+        assert!(rt; table.as_slice().is_empty() && slots.as_slice().is_empty(), "{mode:?}");
+    }
+    Ok(())
 }
 
 #[test]
@@ -481,10 +517,11 @@ fn a_lookup_table_is_refused_at_each_growth(rt: HostRuntime) -> Result<(), Fail>
         let opts = options(mode);
         let is_right = is_refused_until_right(
             alloc,
-            || match SyntheticImportLookupTableEntry::parse_with_opts::<u32>(
+            || match SyntheticImportLookupTableEntry::parse_with_slots::<u32>(
                 alloc, &file, 0x240, &sections, ALIGNMENT, &opts,
             ) {
-                Ok(table) if is_sample_table(&table) => Outcome::Right,
+                Ok(both) if is_sample_table(&both.0) && both.1.as_slice() == [0, 1].as_slice() =>
+                    Outcome::Right,
                 Err(Error::Memory(_)) => Outcome::Refused,
                 _ => Outcome::Wrong,
             },
