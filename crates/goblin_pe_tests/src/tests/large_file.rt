@@ -1,10 +1,14 @@
 //! A large file: long names, more imports and exports than two bytes can count, and more than a mebibyte of
 //! base relocations. With ample memory each reader answers.
 
-use fixture::sample::{sample_named, section};
+use fixture::sample::{TABLE, sample_named, section};
 use goblin_base::{Endian, pwrite_slice, pwrite_u16, pwrite_u32};
+use goblin_pe::export::Export;
 use goblin_pe::header::CoffHeader;
+use goblin_pe::import::Import;
 use goblin_pe::options::{ParseMode, ParseOptions};
+use goblin_pe::relocation::RelocationData;
+use goblin_pe::section_table::SectionTable;
 use goblin_pe::windows::WindowIndex;
 use goblin_pe::{Part, Whole};
 use std::alloc::Global;
@@ -37,29 +41,27 @@ const RELOCATIONS: usize = ORDINALS + 2 * ENTRIES;
 
 const END: usize = RELOCATIONS + 12 * BLOCKS;
 
-/// The address of what stands at an offset of the one section.
-const fn address(offset: usize) -> u32 {
-    offset as u32 + 0xE00
-}
+/// By how much the address of what stands in the one section lies behind its offset.
+const DISTANCE: usize = 0xE00;
 
 /// The sample file's numbers that lead to the tables, by their offsets.
 const NUMBERS: &[(usize, u32)] = &[
     // The directory of base relocations.
-    (0xE0, address(RELOCATIONS)),
+    (0xE0, (RELOCATIONS + DISTANCE) as u32),
     (0xE4, 12 * BLOCKS as u32),
     // The section's two sizes.
     (0x140, (END - 0x200) as u32),
     (0x148, (END - 0x200) as u32),
     // The import record.
-    (0x200, address(LOOKUP)),
-    (0x20C, address(NAME)),
-    (0x210, address(LOOKUP)),
+    (0x200, (LOOKUP + DISTANCE) as u32),
+    (0x20C, (NAME + DISTANCE) as u32),
+    (0x210, (LOOKUP + DISTANCE) as u32),
     // The export record.
     (0x2B4, ENTRIES as u32),
     (0x2B8, ENTRIES as u32),
-    (0x2BC, address(ADDRESSES)),
-    (0x2C0, address(POINTERS)),
-    (0x2C4, address(ORDINALS)),
+    (0x2BC, (ADDRESSES + DISTANCE) as u32),
+    (0x2C0, (POINTERS + DISTANCE) as u32),
+    (0x2C4, (ORDINALS + DISTANCE) as u32),
 ];
 
 /// The sample file, with large tables behind it.
@@ -73,7 +75,7 @@ fn large_file(alloc: Global) -> goblin_base::Result<Vec<u8>> {
     for i in 0..NAME_LEN {
         pwrite_slice(&mut file, NAME + i, b"A")?;
     }
-    pwrite_u32(&mut file, LOOKUP, address(HINT), Endian::Little)?;
+    pwrite_u32(&mut file, LOOKUP, (HINT + DISTANCE) as u32, Endian::Little)?;
     for i in 0..ENTRIES {
         let index = (i % 0x1_0000) as u16;
         if i > 0 {
@@ -81,7 +83,12 @@ fn large_file(alloc: Global) -> goblin_base::Result<Vec<u8>> {
             pwrite_u32(&mut file, LOOKUP + 4 * i, by_ordinal, Endian::Little)?;
         }
         pwrite_u32(&mut file, ADDRESSES + 4 * i, 0x1010, Endian::Little)?;
-        pwrite_u32(&mut file, POINTERS + 4 * i, address(NAME), Endian::Little)?;
+        pwrite_u32(
+            &mut file,
+            POINTERS + 4 * i,
+            (NAME + DISTANCE) as u32,
+            Endian::Little,
+        )?;
         pwrite_u16(&mut file, ORDINALS + 2 * i, index, Endian::Little)?;
     }
     for i in 0..BLOCKS {
@@ -95,40 +102,64 @@ fn is_long(name: &str) -> bool {
     name.len() == NAME_LEN && name.as_bytes().iter().all(|byte| *byte == b'A')
 }
 
+/// Whether these are all imports: the first by the long name, the last by its ordinal.
+fn are_all_imports(imports: &[Import]) -> bool {
+    let (Some(first), Some(last)) = (imports.first(), imports.last()) else {
+        return false;
+    };
+    imports.len() == ENTRIES
+        && is_long(&first.name[..])
+        && is_long(first.dll)
+        && &last.name[..] == "ORDINAL 4463"
+}
+
+/// Whether these are all exports.
+fn are_all_exports(exports: &[Export]) -> bool {
+    let mut named = 0usize;
+    for export in exports {
+        if export.name.is_some_and(|name| is_long(name)) {
+            named = named.saturating_add(1);
+        }
+    }
+    named == ENTRIES && exports.len() == ENTRIES
+}
+
+/// Whether these are all base relocations.
+fn are_all_blocks(relocations: &RelocationData) -> bool {
+    let mut blocks = 0usize;
+    for block in relocations.blocks() {
+        if block.is_ok() {
+            blocks = blocks.saturating_add(1);
+        }
+    }
+    blocks == BLOCKS
+}
+
+/// Whether each table of the file is read whole, in a mode.
+fn is_read(alloc: Global, file: &[u8], mode: ParseMode) -> goblin_base::Result<bool> {
+    let opts = ParseOptions::default().with_parse_mode(mode);
+    let whole = Whole::read(alloc, file, &opts)?;
+    let Part::Read(imports) = &whole.imports else {
+        return Ok(false);
+    };
+    let Part::Read(exports) = &whole.exports else {
+        return Ok(false);
+    };
+    let Part::Read(relocations) = &whole.relocations else {
+        return Ok(false);
+    };
+    Ok(are_all_imports(imports) && are_all_exports(exports) && are_all_blocks(relocations))
+}
+
 #[test]
 fn a_large_file_is_read_in_both_modes(rt: HostRuntime) -> Result<(), Fail> {
     let file = large_file(rt.alloc())?;
     for mode in [ParseMode::Strict, ParseMode::Permissive] {
-        let opts = ParseOptions::default().with_parse_mode(mode);
-        let whole = Whole::read(rt.alloc(), &file, &opts)?;
-        let [section] = whole.sections.as_slice() else {
-            assert!(rt; false, "{mode:?}: sections");
-            return Ok(());
-        };
-        let copy = section.clone(rt.alloc())?;
-        assert!(rt; is_long(copy.name()?), "{mode:?}: the section's name");
-        let (Part::Read(imports), Part::Read(exports), Part::Read(relocations)) = (
-            &whole.imports,
-            &whole.exports,
-            &whole.relocations,
-        ) else {
-            assert!(rt; false, "{mode:?}: tables");
-            return Ok(());
-        };
-        let is_first =
-            matches!(imports.first(), Some(first) if is_long(&first.name[..]) && is_long(first.dll));
-        let is_last = matches!(imports.last(), Some(last) if &last.name[..] == "ORDINAL 4463");
-        assert!(rt;
-            imports.len() == ENTRIES && is_first && is_last,
-            "{mode:?}: imports"
-        );
-        let are_named = exports
-            .iter()
-            .all(|export| export.name.is_some_and(|name| is_long(name)));
-        assert!(rt; exports.len() == ENTRIES && are_named, "{mode:?}: exports");
-        let blocks = relocations.blocks().filter(|block| block.is_ok()).count();
-        assert_eq!(rt; blocks, BLOCKS, "{mode:?}");
+        assert!(rt; is_read(rt.alloc(), &file, mode)?, "{mode:?}");
     }
+    let mut offset = TABLE;
+    let section = SectionTable::parse(rt.alloc(), &file, &mut offset, 0)?;
+    assert!(rt; is_long(section.clone(rt.alloc())?.name()?));
     Ok(())
 }
 
@@ -158,8 +189,11 @@ fn as_many_sections_as_two_bytes_count_are_read(rt: HostRuntime) -> Result<(), F
 #[test]
 fn data_of_a_large_size_in_memory_are_read(rt: HostRuntime) -> Result<(), Fail> {
     let padded = section(0, 1 << 24, 4, 4);
-    let data = padded.data(rt.alloc(), &[7; 16])?;
-    let is_padded = matches!(&data, Some(data) if data[..4] == [7; 4] && data.len() == 1 << 24);
-    assert!(rt; is_padded);
+    let Some(data) = padded.data(rt.alloc(), &[7; 16])? else {
+        assert!(rt; false, "no data");
+        return Ok(());
+    };
+    let zeros = data.iter().filter(|byte| **byte == 0).count();
+    assert_eq!(rt; (data.len(), zeros), (1 << 24, (1 << 24) - 4));
     Ok(())
 }
