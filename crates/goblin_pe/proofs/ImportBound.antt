@@ -15,10 +15,10 @@ use Rattle.goblin_base.proofs.Records.{record_at-some}
 use Rattle.goblin_base.proofs.Steps.{mapped, same_value, step}
 use Rattle.goblin_pe_sect.specs.Mapping.{name_at, name_or_none}
 use Rattle.goblin_pe.specs.declared.import.directory_entry.ImportDirectoryEntry.{ImportDirectoryEntry}
-use Rattle.goblin_pe.specs.ImportDirectory.{ImportedLibrary, import_data, address_table_rva, import_slots, libraries_at, libraries_if, library_of, lookup_offset, lookup_table_if}
+use Rattle.goblin_pe.specs.ImportDirectory.{ImportedLibrary, import_data, address_table_rva, import_slots, libraries_at, libraries_if, library_of, lookup_offset, lookup_slots_if, lookup_table_if}
 use Rattle.goblin_pe.specs.ImportLookup.{EntryValue, LookupEntry, address_table, entry_slots, kept_entry, kept_name, lookup_table}
 use Rattle.goblin_pe.specs.ImportLookup.LookupEntry.{ByOrdinal}
-use Rattle.goblin_pe.specs.Imports.{ImportValue, import_at, imports_by, imports_of, kept_count, kept_entries, library_imports}
+use Rattle.goblin_pe.specs.Imports.{ImportValue, has_slots, import_at, imports_by, imports_of, kept_count, kept_entries, library_imports}
 
 -- ---- tables of slots
 
@@ -112,7 +112,7 @@ module _ (strict : Bool) (format : Format EntryValue) (offset_of : ℕ → Optio
       let s2 = step (lookup_table_if strict format offset_of bytes (lookup_offset offset_of r)) _ library s1.then in
       let s3 = step (offset_of (address_table_rva r)) _ library s2.then in
       let s4 = step (address_table format bytes s3.value) _ library s3.then in
-      let made : ImportedLibrary = record { import_directory_entry = r; name = unwrap_or s1.value []; import_lookup_table = s2.value; import_address_table = s4.value } in
+      let made : ImportedLibrary = record { import_directory_entry = r; name = unwrap_or s1.value []; import_lookup_table = s2.value; import_lookup_slots = lookup_slots_if strict format offset_of bytes (lookup_offset offset_of r); import_address_table = s4.value } in
       subst (λ (l : ImportedLibrary). length (kept_entries l) ≤ entries) (same_value made library s4.then) (lookup_table_if-few (lookup_offset offset_of r) s2.value s2.is)
 
   kept-few : (library : Option ImportedLibrary) (xs : List ImportedLibrary) → ((l : ImportedLibrary) → library ≡ Some l → length (kept_entries l) ≤ entries) → or_left_out strict library ≡ Some xs → kept_count xs ≤ entries
@@ -155,12 +155,16 @@ all_of-length {A} (value ∷ values) xs e =
     let s2 = step (all_of values) (λ rest. Some (s1.value ∷ rest)) xs s1.then in
     omega (arith, all_of-length values s2.value s2.is, ap length (same_value (s1.value ∷ s2.value) xs s2.then))
 
+slotted : {A : Type 0} (test : Bool) (value : Option A) (xs : A) → cond test value None ≡ Some xs → value ≡ Some xs
+slotted true value xs e = e
+slotted false value xs e = absurd cc
+
 library_imports-length : (size : ℕ) (library : ImportedLibrary) (xs : List ImportValue) → library_imports size library ≡ Some xs → length xs ≡ length (kept_entries library)
 unfolding imports_by
 library_imports-length size library xs e =
     let n = length (kept_entries library) in
-    let at = import_at size library.name library.import_directory_entry.import_address_table_rva (kept_entries library) in
-    omega (arith, all_of-length (map at (range_with_len 0 n)) xs e, length-map (range_with_len 0 n) at, length-range_with_len 0 n)
+    let at = import_at size library.name library.import_directory_entry.import_address_table_rva (kept_entries library) library.import_lookup_slots in
+    omega (arith, all_of-length (map at (range_with_len 0 n)) xs (slotted (has_slots library) _ xs e), length-map (range_with_len 0 n) at, length-range_with_len 0 n)
 
 imports_to : (size : ℕ) (libraries : List ImportedLibrary) (n : ℕ) (xs : List ImportValue) → n ≤ length libraries → each_below (λ i. slice_get libraries i >>= library_imports size) n ≡ Some xs → length xs ≡ kept_count (take n libraries)
 unfolding each_below

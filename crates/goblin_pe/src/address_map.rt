@@ -10,8 +10,8 @@ ghost use Rattle.goblin_pe.specs.Addresses.{offset_of};
 
 use crate::options::ParseOptions;
 use crate::section_table::SectionTable;
-use crate::windows::WindowIndex;
 use crate::utils::safe_name_at;
+use crate::windows::WindowIndex;
 use goblin_base::Result;
 use std::alloc::Global;
 use std::marker::Model;

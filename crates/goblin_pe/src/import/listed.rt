@@ -1,10 +1,10 @@
 //! The list of imports.
 
-ghost use Rattle.std.specs.Prelude.{◌≡◌, ◌++◌, IfErr, None, length, map, min, option_map, string_bytes, true};
+ghost use Rattle.std.specs.Prelude.{◌≡◌, ◌++◌, IfErr, IfOk, None, length, map, min, option_map, string_bytes, true};
 ghost use Rattle.std.specs.Option.{option_copied};
 ghost use Rattle.goblin_base.specs.Answers.{AnswersOrMemory, GivesOrMemory, IsMemory};
 ghost use Rattle.goblin_pe.specs.ImportLookup.{entry_view};
-ghost use Rattle.goblin_pe.specs.Imports.{IsImportsFault, IsOverflow, first_without_slots, has_slots, import_of, import_offset, imports_by, imports_of, kept_count, kept_entries, library_imports, ordinal_name};
+ghost use Rattle.goblin_pe.specs.Imports.{AreFewImports, IsImportsFault, IsOverflow, first_without_slots, has_slots, import_of, import_offset, imports_by, imports_of, kept_count, kept_entries, library_imports, ordinal_name};
 
 use crate::import::ImportData;
 use crate::import::bitfield::Bitfield;
@@ -113,6 +113,9 @@ impl<'a> Import<'a> {
     /// The imports of `import_data`, whose address tables have entries of type `T`: one for each entry
     /// that a lookup table keeps, in the order of the libraries and of the entries.
     ///
+    /// Of import data that was read from a file of N bytes there are at most (N / 20) * (N / k) imports,
+    /// for entries of k bytes: so many records, and so many entries of each, the file has room for.
+    ///
     /// # Errors
     /// [`Error::Malformed`] with [`Cause::SlotCount`] where a library, made by hand, has not as many
     /// entries as slots: the counts of the first such library, before memory is asked for; else with
@@ -126,6 +129,7 @@ impl<'a> Import<'a> {
     ) -> ResultOf<'e, Vec<Import<'a>>>
         ensures value { AnswersOrMemory (λ v. v.items) result (imports_of T.format.width import_data.now) (IsImportsFault import_data.now) }
         ensures counted { IfErr result (λ e. IsMemory e → first_without_slots import_data.now ≡ None) }
+        ensures bound { IfOk result (λ v. AreFewImports T.format import_data.now v.items) }
     {
         Ok(imports_of(alloc, &import_data.import_data, T::size_of())?)
     }
