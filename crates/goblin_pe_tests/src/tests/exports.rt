@@ -228,9 +228,10 @@ fn each_refusal_of_exports_tells_its_cause(rt: HostRuntime) -> Result<(), Fail> 
     let alloc = rt.alloc();
     let file = sample(alloc)?;
     // A directory whose record would pass the file, and one that no section maps.
-    for (virtual_address, cause) in
-        [(0x10F0, Cause::ExportTable(0x2F0)), (0x9000, Cause::Unmapped(0x9000))]
-    {
+    for (virtual_address, cause) in [
+        (0x10F0, Cause::ExportTable(0x2F0)),
+        (0x9000, Cause::Unmapped(0x9000)),
+    ] {
         let directory = DataDirectory {
             virtual_address,
             size: 0x28,

@@ -463,10 +463,22 @@ fn each_refusal_of_imports_tells_its_cause(rt: HostRuntime) -> Result<(), Fail> 
     let alloc = rt.alloc();
     let file = sample(alloc)?;
     let sections = [sample_section()];
-    let cut = SyntheticImportLookupTableEntry::parse::<u32>(
-        alloc, &file[..0x248], 0x240, &sections, ALIGNMENT,
-    );
-    assert!(rt; matches!(cut, Err(Error::Malformed(Cause::LookupEnd(0x248)))));
+    // The table by ordinals, which meets the end of the file; and as it stands, where the hint of its
+    // first entry is missing before that.
+    let ordinals = sample_with(alloc, 0x240, b"\x05\x00\x00\x80")?;
+    for (bytes, cause) in [
+        (&ordinals, Cause::LookupEnd(0x248)),
+        (&file, Cause::HintEntry(0x290)),
+    ] {
+        let cut = SyntheticImportLookupTableEntry::parse::<u32>(
+            alloc,
+            &bytes[..0x248],
+            0x240,
+            &sections,
+            ALIGNMENT,
+        );
+        assert!(rt; matches!(cut, Err(Error::Malformed(told)) if told == cause));
+    }
     let record = ImportDirectoryEntry {
         import_address_table_rva: 0x9000,
         ..RECORD
@@ -476,9 +488,10 @@ fn each_refusal_of_imports_tells_its_cause(rt: HostRuntime) -> Result<(), Fail> 
     );
     assert!(rt; matches!(library, Err(Error::Malformed(Cause::Unmapped(0x9000)))));
     // A directory whose first record would pass the file, and one that no section maps.
-    for (virtual_address, cause) in
-        [(0x10F0, Cause::ImportRecordEnd(0x2F0)), (0x9000, Cause::Unmapped(0x9000))]
-    {
+    for (virtual_address, cause) in [
+        (0x10F0, Cause::ImportRecordEnd(0x2F0)),
+        (0x9000, Cause::Unmapped(0x9000)),
+    ] {
         let directory = DataDirectory {
             virtual_address,
             size: 0x28,
@@ -501,9 +514,17 @@ fn a_lookup_table_without_entries_is_empty(rt: HostRuntime) -> Result<(), Fail> 
     for mode in [ParseMode::Strict, ParseMode::Permissive] {
         let opts = options(mode);
         let (table, slots) = SyntheticImportLookupTableEntry::parse_with_slots::<u32>(
-            alloc, &file, 0x248, &[sample_section()], ALIGNMENT, &opts,
+            alloc,
+            &file,
+            0x248,
+            &[sample_section()],
+            ALIGNMENT,
+            &opts,
         )?;
-        assert!(rt; table.as_slice().is_empty() && slots.as_slice().is_empty(), "{mode:?}");
+        assert!(rt;
+            table.as_slice().is_empty() && slots.as_slice().is_empty(),
+            "{mode:?}"
+        );
     }
     Ok(())
 }
