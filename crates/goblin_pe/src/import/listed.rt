@@ -1,7 +1,8 @@
 //! The list of imports.
 
-ghost use Rattle.std.specs.Prelude.{◌≡◌, ◌++◌, length, map, min, option_map, string_bytes};
+ghost use Rattle.std.specs.Prelude.{◌≡◌, ◌++◌, IfOk, length, map, min, option_map, string_bytes};
 ghost use Rattle.goblin_base.specs.Answers.{AnswersOrMemory, GivesOrMemory};
+ghost use Rattle.goblin_pe.specs.ImportBound.{AreFew};
 ghost use Rattle.goblin_pe.specs.ImportLookup.{entry_view};
 ghost use Rattle.goblin_pe.specs.Imports.{IsOverflow, import_of, import_offset, imports_by, imports_of, kept_count, kept_entries, library_imports, ordinal_name};
 
@@ -109,13 +110,15 @@ impl<'a> Import<'a> {
     /// # Errors
     /// [`Error::Malformed`] with [`Cause::Overflow`] where an import's offset passes 64 bits;
     /// [`Error::Memory`] where memory is refused.
+    #[tactic(auto, using(crate::proofs::ImportBound::are_few))]
     pub fn parse<'e, T: Bitfield<'a>>(
         alloc: Global,
         _bytes: &'a [u8],
         import_data: &ImportData<'a>,
         _sections: &[SectionTable],
     ) -> ResultOf<'e, Vec<Import<'a>>>
-        ensures { AnswersOrMemory (λ v. v.items) result (imports_of T.format.width import_data.now) IsOverflow }
+        ensures value { AnswersOrMemory (λ v. v.items) result (imports_of T.format.width import_data.now) IsOverflow }
+        ensures bound { IfOk result (λ v. AreFew T.format import_data.now v.items) }
     {
         Ok(imports_of(alloc, &import_data.import_data, T::size_of())?)
     }
