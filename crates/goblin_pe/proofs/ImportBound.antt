@@ -15,6 +15,7 @@ use Rattle.goblin_base.proofs.Records.{record_at-some}
 use Rattle.goblin_base.proofs.Steps.{mapped, same_value, step}
 use Rattle.goblin_pe_sect.specs.Mapping.{name_at, name_or_none}
 use Rattle.goblin_pe.specs.declared.import.directory_entry.ImportDirectoryEntry.{ImportDirectoryEntry}
+use Rattle.goblin_pe.specs.ImportBound.{AreFew}
 use Rattle.goblin_pe.specs.ImportDirectory.{ImportedLibrary, import_data, address_table_rva, import_slots, libraries_at, libraries_if, library_of, lookup_offset, lookup_slots_if, lookup_table_if}
 use Rattle.goblin_pe.specs.ImportLookup.{EntryValue, LookupEntry, address_table, entry_slots, kept_entry, kept_name, lookup_table}
 use Rattle.goblin_pe.specs.ImportLookup.LookupEntry.{ByOrdinal}
@@ -179,12 +180,10 @@ imports_to size libraries (suc n) xs le e =
     let next : kept_count (take (n + 1) libraries) ≡ kept_count (take (suc n) libraries) = ap (λ (k : ℕ). kept_count (take k libraries)) (add-one n) in
     omega (arith, before, own, more, here, next, ap length parts.4, length-append parts.0 parts.1)
 
--- The imports of import data that some file has number at most as many as records fit the file, times as many as entries fit it.
-pub imports-few : (strict : Bool) (format : Format EntryValue) (offset_of : ℕ → Option ℕ) (bytes : List ℕ) (rva : ℕ) (libraries : List ImportedLibrary) (imports : List ImportValue) → 0 < format.width
-    → import_data strict format offset_of bytes rva ≡ Some libraries → imports_of format.width libraries ≡ Some imports → length imports ≤ length bytes / 20 * (length bytes / format.width)
-unfolding imports_of
-imports-few strict format offset_of bytes rva libraries imports some read listed =
-    let few = import_data-few strict format offset_of bytes some rva libraries read in
+pub are_few : (format : Format EntryValue) (libraries : List ImportedLibrary) (imports : List ImportValue) → 0 < format.width → imports_of format.width libraries ≡ Some imports → AreFew format libraries imports
+unfolding AreFew imports_of
+are_few format libraries imports some listed strict offset_of file rva read =
+    let few = import_data-few strict format offset_of file some rva libraries read in
     let all = imports_to format.width libraries (length libraries) imports (omega arith) listed in
     let whole : kept_count (take (length libraries) libraries) ≡ kept_count libraries = ap kept_count (take_all (length libraries) libraries (omega arith)) in
     omega (arith, few, all, whole)

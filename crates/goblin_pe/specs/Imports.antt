@@ -1,15 +1,15 @@
 -- The imports of import data: one for each entry that a lookup table keeps, in the order of the libraries and of the entries.
-use Rattle.std.specs.Prelude.{◌≡◌, ◌⊎◌, ℕ, ◌+◌, ◌*◌, ◌/◌, ◌≤◌, ◌^◌, ◌++◌, ◌==◌, nat_lt, not, IsSomeAnd, Bool, true, false, if◌then◌else◌, codes, List, [], length, slice_get, sum_by, Option, Some, None, unwrap_or}
+use Rattle.std.specs.Prelude.{◌≡◌, ◌⊎◌, ℕ, ◌+◌, ◌*◌, ◌^◌, ◌++◌, ◌==◌, nat_lt, not, IsSomeAnd, Bool, true, false, if◌then◌else◌, codes, List, [], length, slice_get, sum_by, Option, Some, None, unwrap_or}
 use Rattle.std.specs.Fmt.{decimal}
 use Rattle.std.specs.List.{find}
 use Rattle.goblin_base.specs.declared.error.ErrorOf.{ErrorOf}
 use Rattle.goblin_base.specs.declared.error.ErrorOf.TheVariants.{Malformed}
 use Rattle.goblin_base.specs.declared.error.CauseOf.TheVariants.{Overflow, SlotCount}
-use Rattle.goblin_base.specs.Tables.{Format, each_below}
+use Rattle.goblin_base.specs.Tables.{each_below}
 use Rattle.goblin_base.specs.Answers.{◌>>=◌, all_at}
-use Rattle.goblin_pe.specs.ImportLookup.{EntryValue, LookupEntry}
+use Rattle.goblin_pe.specs.ImportLookup.{LookupEntry}
 use Rattle.goblin_pe.specs.ImportLookup.LookupEntry.{ByOrdinal, ByName}
-use Rattle.goblin_pe.specs.ImportDirectory.{ImportedLibrary, import_data}
+use Rattle.goblin_pe.specs.ImportDirectory.{ImportedLibrary}
 
 -- an import, its texts as their bytes; and whether its name is a text of the file, not a copy
 pub record ImportValue : Type 0 where
@@ -69,12 +69,6 @@ library_imports size library =
 -- the imports from all libraries, of entries of `size` bytes
 unfoldable pub imports_of : ℕ → List ImportedLibrary → Option (List ImportValue)
 imports_of size libraries = each_below (λ i. slice_get libraries i >>= library_imports size) (length libraries)
-
--- the imports of import data, which number no more than records fit a file that it was read from, times as many as entries do
-abbrev pub AreFewImports : Format EntryValue → List ImportedLibrary → List ImportValue → Type 0
-AreFewImports format libraries imports =
-    (strict : Bool) (offset_of : ℕ → Option ℕ) (bytes : List ℕ) (rva : ℕ) → import_data strict format offset_of bytes rva ≡ Some libraries
-    → length imports ≤ length bytes / 20 * (length bytes / format.width)
 
 -- the refusal is that an offset passes 64 bits
 abbrev pub IsOverflow : ErrorOf → Type 0

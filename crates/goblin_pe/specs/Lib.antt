@@ -3,6 +3,7 @@ pub mod ExportFootprints
 pub mod Exports
 pub mod ForwarderLaws
 pub mod Forwarders
+pub mod ImportBound
 pub mod ImportDirectory
 pub mod ImportFootprints
 pub mod ImportLookup

@@ -1,6 +1,7 @@
 //! Worked values of imports, exports and whole files.
 
 mod exports;
+mod import_bound;
 mod imports;
 mod large_file;
 mod modes;

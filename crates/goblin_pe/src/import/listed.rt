@@ -3,8 +3,9 @@
 ghost use Rattle.std.specs.Prelude.{◌≡◌, ◌++◌, IfErr, IfOk, None, length, map, min, option_map, string_bytes, true};
 ghost use Rattle.std.specs.Option.{option_copied};
 ghost use Rattle.goblin_base.specs.Answers.{AnswersOrMemory, GivesOrMemory, IsMemory};
+ghost use Rattle.goblin_pe.specs.ImportBound.{AreFew};
 ghost use Rattle.goblin_pe.specs.ImportLookup.{entry_view};
-ghost use Rattle.goblin_pe.specs.Imports.{AreFewImports, IsImportsFault, IsOverflow, first_without_slots, has_slots, import_of, import_offset, imports_by, imports_of, kept_count, kept_entries, library_imports, ordinal_name};
+ghost use Rattle.goblin_pe.specs.Imports.{IsImportsFault, IsOverflow, first_without_slots, has_slots, import_of, import_offset, imports_by, imports_of, kept_count, kept_entries, library_imports, ordinal_name};
 
 use crate::import::ImportData;
 use crate::import::bitfield::Bitfield;
@@ -121,6 +122,7 @@ impl<'a> Import<'a> {
     /// entries as slots: the counts of the first such library, before memory is asked for; else with
     /// [`Cause::Overflow`] where an import's offset passes 64 bits. [`Error::Memory`] where memory is
     /// refused.
+    #[tactic(auto, using(crate::proofs::ImportBound::are_few))]
     pub fn parse<'e, T: Bitfield<'a>>(
         alloc: Global,
         _bytes: &'a [u8],
@@ -129,7 +131,7 @@ impl<'a> Import<'a> {
     ) -> ResultOf<'e, Vec<Import<'a>>>
         ensures value { AnswersOrMemory (λ v. v.items) result (imports_of T.format.width import_data.now) (IsImportsFault import_data.now) }
         ensures counted { IfErr result (λ e. IsMemory e → first_without_slots import_data.now ≡ None) }
-        ensures bound { IfOk result (λ v. AreFewImports T.format import_data.now v.items) }
+        ensures bound { IfOk result (λ v. AreFew T.format import_data.now v.items) }
     {
         Ok(imports_of(alloc, &import_data.import_data, T::size_of())?)
     }
