@@ -465,20 +465,18 @@ fn each_refusal_of_imports_tells_its_cause(rt: HostRuntime) -> Result<(), Fail> 
     let sections = [sample_section()];
     // The table by ordinals, which meets the end of the file; and as it stands, where the hint of its
     // first entry is missing before that.
-    let ordinals = sample_with(alloc, 0x240, b"\x05\x00\x00\x80")?;
-    for (bytes, cause) in [
-        (&ordinals, Cause::LookupEnd(0x248)),
-        (&file, Cause::HintEntry(0x290)),
-    ] {
-        let cut = SyntheticImportLookupTableEntry::parse::<u32>(
-            alloc,
-            &bytes[..0x248],
-            0x240,
-            &sections,
-            ALIGNMENT,
-        );
-        assert!(rt; matches!(cut, Err(Error::Malformed(told)) if told == cause));
-    }
+    let mut ordinals = sample_with(alloc, 0x240, b"\x05\x00\x00\x80")?;
+    ordinals.truncate(0x248);
+    let mut names = sample(alloc)?;
+    names.truncate(0x248);
+    let no_end = SyntheticImportLookupTableEntry::parse::<u32>(
+        alloc, &ordinals, 0x240, &sections, ALIGNMENT,
+    );
+    assert!(rt; matches!(no_end, Err(Error::Malformed(Cause::LookupEnd(0x248)))));
+    let no_hint = SyntheticImportLookupTableEntry::parse::<u32>(
+        alloc, &names, 0x240, &sections, ALIGNMENT,
+    );
+    assert!(rt; matches!(no_hint, Err(Error::Malformed(Cause::HintEntry(0x290)))));
     let record = ImportDirectoryEntry {
         import_address_table_rva: 0x9000,
         ..RECORD
