@@ -1,10 +1,10 @@
 -- Files that agree on what a read reaches have the same value there.
-use Rattle.std.proofs.Common.{◌≡◌, ◌<◌, ◌≤◌, ◌+◌, ◌-◌, ◌*◌, ℕ, zero, suc, min, Bool, true, false, cond, not, ◌&&◌, nat_le, nat_lt, Option, Some, None, Result, Ok, Err, List, [], ◌∷◌, ◌++◌, length, map, take, drop, sym, ap, subst, ◌∙◌, refl, arith, inl, inr}
+use Rattle.std.proofs.Common.{◌≡◌, ◌<◌, ◌≤◌, ◌+◌, ◌-◌, ◌*◌, ℕ, zero, suc, min, Bool, true, false, cond, not, ◌&&◌, nat_le, nat_lt, Option, Some, None, Result, Ok, Err, List, [], ◌∷◌, ◌++◌, length, map, drop, sym, ap, subst, ◌∙◌, refl, arith, inl, inr}
 use Rattle.std.specs.Prelude.{slice_index, slice_range, is_none, option_map, option_to_list}
 use Rattle.std.specs.Option.{is_some}
 use Rattle.std.specs.List.{filter, range_with_len}
 use Rattle.std.proofs.Math.Nat.{mul-le-mul_left}
-use Rattle.std.proofs.lemmas.Bool.{cases_lt, cases_Bool, lt-ltb, le-ltb, le-leb, leb-true, and_right, cond-true, cond-false}
+use Rattle.std.proofs.lemmas.Bool.{cases_lt, cases_Bool, lt-ltb, le-ltb, le-leb, leb-true, and_right, cond-false}
 use Rattle.std.proofs.lemmas.List.{length-take, length-drop, take_all}
 use Rattle.std.proofs.lemmas.Grind.{same_number_lists}
 use Rattle.goblin_base.specs.declared.endian.Endian.{Endian}

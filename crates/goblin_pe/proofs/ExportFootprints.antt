@@ -1,5 +1,5 @@
 -- Files that agree on what the readers of exports reach in the first have the same exports.
-use Rattle.std.proofs.Common.{◌≡◌, ℕ, true, false, cond, eqb, Option, Some, None, List, [], ◌++◌, length, sym, ap, subst, ◌∙◌, refl, inl, inr}
+use Rattle.std.proofs.Common.{◌≡◌, ℕ, true, false, cond, eqb, Option, Some, List, [], ◌++◌, length, sym, ap, subst, ◌∙◌, refl, inl, inr}
 use Rattle.std.specs.Prelude.{option_map, option_to_list, slice_get}
 use Rattle.std.proofs.lemmas.Bool.{cases_Bool}
 use Rattle.goblin_base.specs.Answers.{◌>>=◌}
@@ -8,7 +8,7 @@ use Rattle.goblin_base.specs.Bytes.{text_at}
 use Rattle.goblin_base.specs.Footprints.{Agree, counted_footprint, led_to, slice_footprint, stretch_footprint}
 use Rattle.goblin_base.specs.Tables.{concat_below, counted_table_if}
 use Rattle.goblin_base.proofs.Below.{concat_below-agree}
-use Rattle.goblin_base.proofs.Footprints.{agree-below, agree-left, agree-right, same-counted_table_if, same-led, same-record_at, same-text_at, same-then}
+use Rattle.goblin_base.proofs.Footprints.{agree-below, agree-left, agree-right, same-counted_table_if, same-led, same-record_at, same-text_at}
 use Rattle.goblin_pe_sect.specs.declared.data_directories.DataDirectory.{DataDirectory}
 use Rattle.goblin_pe_sect.specs.Mapping.{name_at}
 use Rattle.goblin_pe.specs.declared.export.tables.ExportAddressTableEntry.{ExportAddressTableEntry}

@@ -1,10 +1,9 @@
 -- Files that agree on what the readers of imports reach in the first have the same imports.
-use Rattle.std.proofs.Common.{◌≡◌, ◌≤◌, ℕ, ◌+◌, ◌-◌, min, Bool, true, false, cond, not, ◌&&◌, eqb, nat_le, nat_lt, Option, Some, None, List, [], ◌++◌, length, take, drop, ap, subst, ◌∙◌, refl, arith, inl, inr}
+use Rattle.std.proofs.Common.{◌≡◌, ℕ, ◌+◌, ◌-◌, min, Bool, true, cond, not, ◌&&◌, eqb, nat_le, nat_lt, Option, Some, None, List, [], ◌++◌, length, take, drop, ap, subst, ◌∙◌, refl, arith, inl, inr}
 use Rattle.std.specs.Prelude.{option_map, slice_range}
 use Rattle.std.proofs.lemmas.Bool.{cases_Bool, le-leb, leb-false, leb-true, lt-ltb}
 use Rattle.std.proofs.lemmas.List.{length-drop, take_all}
 use Rattle.goblin_base.specs.declared.endian.Endian.TheVariants.{Little}
-use Rattle.goblin_base.specs.Answers.{◌>>=◌}
 use Rattle.goblin_base.specs.Bytes.{before_nul, number_at, slice_at, text_at}
 use Rattle.goblin_base.specs.Footprints.{Agree, led_to, positions, slice_footprint, stretch_footprint}
 use Rattle.goblin_base.specs.Tables.{Format, or_left_out}

@@ -1,6 +1,5 @@
 -- Files that agree on what the reader of a whole file reaches in the first have the same parts.
 use Rattle.std.proofs.Common.{◌≡◌, ℕ, Bool, true, false, cond, Option, Some, None, List, [], ◌++◌, length, ap, subst, refl}
-use Rattle.goblin_base.specs.Answers.{◌>>=◌}
 use Rattle.goblin_base.specs.Footprints.{Agree, Range, led_to}
 use Rattle.goblin_base.proofs.Footprints.{agree-left, agree-right, same-led, same-then}
 use Rattle.goblin_base.proofs.Steps.{same_value}
@@ -13,7 +12,7 @@ use Rattle.goblin_pe_sect.specs.SectionTable.{Section}
 use Rattle.goblin_pe_sect.proofs.Footprints.{same-relocation_data}
 use Rattle.goblin_pe_head.specs.CoffHeader.{string_table_offset}
 use Rattle.goblin_pe_head.specs.Footprints.{header_footprint}
-use Rattle.goblin_pe_head.specs.PeHeader.{PeHeader, pe_header}
+use Rattle.goblin_pe_head.specs.PeHeader.{pe_header}
 use Rattle.goblin_pe_head.proofs.Footprints.{same-header, same-sections_at}
 use Rattle.goblin_pe.specs.declared.whole.Part.{Part}
 use Rattle.goblin_pe.specs.declared.whole.Part.TheVariants.{Absent, Refused}
