@@ -1,6 +1,7 @@
 //! Worked values of imports, exports and whole files.
 
 mod exports;
+mod import_bound;
 mod imports;
 mod modes;
 mod raw_pointers;
