@@ -19,7 +19,7 @@ use Rattle.goblin_pe_head.specs.PeHeader.{IsHeaderAtFault, header_value, header_
 use Rattle.goblin_pe_head.specs.TeHeader.{IsTeFault, IsTeSectionsFault, te_header, te_sections_at}
 use Rattle.goblin_pe.specs.declared.laws.parts.PartsOf.{PartsOf}
 
--- the header of a Terse Executable at p, and its sections behind it
+-- the header of a Terse Executable at p, and its sections after it
 unfoldable pub te_image : List ℕ → ℕ → Option (TeHeader × List Section)
 te_image bytes p = do
   header ← te_header bytes p

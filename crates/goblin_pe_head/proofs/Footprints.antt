@@ -64,7 +64,7 @@ same-stub_at a b p le h =
 
 -- ---- the optional header
 
--- files that agree on positions behind p agree on them in what is left from p on
+-- files that agree on positions from p on agree on them in what is left there
 covers-moved : (p i : ℕ) (ranges : List Range) → Covers ranges i → Covers (moved_by p ranges) (p + i)
 unfolding moved_by
 covers-moved p i [] h = absurd h

@@ -32,7 +32,7 @@ abbrev pub dans_footprint : ℕ → Option ℕ → List Range
 dans_footprint p None = positions 64 p
 dans_footprint p (Some j) = positions 64 (64 + j + 4)
 
--- the search for both markers: up to the marker `Rich` and the key behind it, and the whole stretch where there is none
+-- the search for both markers: up to the marker `Rich` and the key after it, and the whole stretch where there is none
 abbrev pub markers_footprint : List ℕ → ℕ → Option ℕ → List Range
 markers_footprint stretch p None = positions 64 p
 markers_footprint stretch p (Some i) = positions 64 (64 + i + 8) ++ dans_footprint p (dans_place (word_at stretch (i + 4)) stretch)
@@ -48,7 +48,7 @@ fixed_footprint magic bytes =
     else if magic == 0x20B then slice_footprint bytes 0 24 ++ slice_footprint bytes 24 88
     else []
 
--- the optional header at the front of bytes: its magic, its fields, and the directories behind them
+-- the optional header at the front of bytes: its magic, its fields, and the directories after them
 unfoldable pub optional_footprint : List ℕ → List Range
 optional_footprint bytes =
     slice_footprint bytes 0 2
@@ -90,16 +90,16 @@ sections_footprint strict table n bytes p = concat_below (λ i. section_footprin
 unfoldable pub symbols_footprint : CoffHeader → List ℕ → List Range
 symbols_footprint header bytes = if header.pointer_to_symbol_table == 0 then [] else slice_footprint bytes header.pointer_to_symbol_table (18 * header.number_of_symbol_table)
 
--- the string table at p: the four bytes of its length, and the bytes behind them
+-- the string table at p: the four bytes of its length, and the bytes after them
 unfoldable pub strings_at_footprint : List ℕ → ℕ → List Range
 strings_at_footprint bytes p = slice_footprint bytes p 4 ++ led_to (number_at Little 4 bytes p) (λ n. if nat_lt n 4 then [] else slice_footprint bytes (p + 4) (n - 4))
 
--- the string table behind the symbol table
+-- the string table after the symbol table
 unfoldable pub strings_footprint : CoffHeader → List ℕ → List Range
 strings_footprint header bytes = if header.pointer_to_symbol_table == 0 then [] else strings_at_footprint bytes (string_table_offset header)
 
 -- ---- a Terse Executable
 
--- the header at p, and the sections behind it, where it is there
+-- the header at p, and the sections after it, where it is there
 unfoldable pub te_footprint : List ℕ → ℕ → List Range
 te_footprint bytes p = slice_footprint bytes p 40 ++ led_to (te_header bytes p) (λ header. sections_footprint true 0 header.number_of_sections bytes (p + 40))

@@ -27,7 +27,7 @@ pub struct PartsOf<'a, 'e, D> {
     pub symbols: ResultOf<'e, Option<SymbolTable<'a>>>,
     /// Its string table.
     pub strings: ResultOf<'e, Option<Strtab<'a>>>,
-    /// The header of a Terse Executable at the offset, and its sections behind it.
+    /// The header of a Terse Executable at the offset, and its sections after it.
     pub te: ResultOf<'e, (TeHeader, Vec<SectionTable>)>,
     /// The base relocations of a directory.
     pub relocations: ResultOf<'e, RelocationData<'a>>,
@@ -38,7 +38,7 @@ pub struct PartsOf<'a, 'e, D> {
 /// The answers of the readers of headers and of single tables.
 pub type Parts<'a, D> = PartsOf<'a, 'static, D>;
 
-// The header of a Terse Executable at an offset, and its sections behind it.
+// The header of a Terse Executable at an offset, and its sections after it.
 #[tactic(auto, unfolding(crate::specs::TwinParts::te_image))]
 fn read_te(alloc: Global, bytes: &[u8], offset: usize) -> Result<(TeHeader, Vec<SectionTable>)>
     ensures { AnswersOrMemory te_view result (te_image bytes.now offset) (IsTeImageFault bytes.now offset) }

@@ -11,7 +11,7 @@ use std::test::Fail;
 fn records_and_entries_may_be_the_same_bytes(rt: HostRuntime) -> Result<(), Fail> {
     let alloc = rt.alloc();
     // Sixteen words that are each an ordinal entry, and an address of the file's front; the last word
-    // ends the tables. Three records stand behind the first word.
+    // ends the tables. Three records stand after the first word.
     let mut file = vec![in alloc; 0u8; 68]?;
     for word in 0..16 {
         put(&mut file, 4 * word, b"\0\0\0\x80");

@@ -147,7 +147,7 @@ fn single_tables_of_two_files_are_each_files_own(rt: HostRuntime) -> Result<(), 
     Ok(())
 }
 
-/// A Terse Executable with one section, and behind it a symbol and a string table.
+/// A Terse Executable with one section, and after it a symbol and a string table.
 fn terse_file(alloc: Global) -> Result<Vec<u8>, AllocError> {
     let mut file = vec![in alloc; 0u8; 0x70]?;
     put(&mut file, 0x00, b"VZ");
