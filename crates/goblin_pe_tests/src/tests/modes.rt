@@ -148,12 +148,14 @@ fn are_sample_tables<'a>(
     } = tables;
     let imports = Import::parse::<u32>(alloc, file, &imports?, sections)?;
     let (data, exports) = exports?;
+    // The five bytes of a name are no whole block.
+    let item = relocations?.blocks().next();
     Ok(
         are_sample_imports(&imports)
             && are_sample_exports(&exports, (0x210, 0x2E0))
             && data.name == Some("a.dll")
             && lookup?.as_slice().len() == 2
-            && relocations?.blocks().count() == 1
+            && matches!(item, Some(Err(_)))
             && name? == Some("a.dll")
             && value? == RECORD,
     )
