@@ -148,14 +148,14 @@ fn are_sample_tables<'a>(
     } = tables;
     let imports = Import::parse::<u32>(alloc, file, &imports?, sections)?;
     let (data, exports) = exports?;
-    let mut blocks = relocations?.blocks();
+    // The five bytes of a name are no whole block.
+    let item = relocations?.blocks().next();
     Ok(
         are_sample_imports(&imports)
             && are_sample_exports(&exports, (0x210, 0x2E0))
             && data.name == Some("a.dll")
             && lookup?.as_slice().len() == 2
-            && blocks.next().is_some()
-            && blocks.next().is_none()
+            && matches!(item, Some(Err(_)))
             && name? == Some("a.dll")
             && value? == RECORD,
     )

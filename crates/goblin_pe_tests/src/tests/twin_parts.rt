@@ -81,15 +81,15 @@ fn are_sample_parts(parts: Parts<ImportDirectoryEntry>) -> goblin_base::Result<b
         relocations,
         value,
     } = parts;
-    let mut blocks = relocations?.blocks();
+    // The five bytes of a name are no whole block.
+    let item = relocations?.blocks().next();
     Ok(
         header?.signature == 0x5A4D
             && sections?[..] == [sample_section()]
             && matches!(symbols, Ok(None))
             && matches!(strings, Ok(None))
             && matches!(te, Err(Error::Malformed(Cause::StrippedSize(0))))
-            && blocks.next().is_some()
-            && blocks.next().is_none()
+            && matches!(item, Some(Err(_)))
             && value? == RECORD,
     )
 }
@@ -171,10 +171,8 @@ fn are_terse_parts(parts: Parts<DataDirectory>) -> goblin_base::Result<bool> {
     } = parts;
     let (header, sections) = te?;
     let names_are_right = match (symbols?, strings?) {
-        (Some(symbols), Some(strings)) => {
-            let mut heads = symbols.iter();
-            heads.next().is_some() && heads.next().is_none() && strings.get_at(0) == Some("ab")
-        }
+        (Some(symbols), Some(strings)) => symbols.iter().next().is_some()
+            && strings.get_at(0) == Some("ab"),
         _ => false,
     };
     Ok(
