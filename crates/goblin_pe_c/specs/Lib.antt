@@ -1,0 +1,10 @@
+pub mod Directories
+pub mod Exports
+pub mod Faults
+pub mod Files
+pub mod Filled
+pub mod Headers
+pub mod Imports
+pub mod Options
+pub mod Reads
+pub mod Sections

@@ -1,0 +1,139 @@
+//! The calls that read a whole file.
+
+ghost use Rattle.std.specs.Prelude.{◌≡◌, Some, map};
+ghost use Rattle.goblin_pe_head.specs.CoffHeader.{string_table_offset};
+ghost use Rattle.goblin_pe.specs.Whole.{items_part, whole_file};
+ghost use Rattle.goblin_pe_c.specs.Directories.{directories_of, directory_view};
+ghost use Rattle.goblin_pe_c.specs.Exports.{export_view};
+ghost use Rattle.goblin_pe_c.specs.Files.{entries_of, file_of};
+ghost use Rattle.goblin_pe_c.specs.Filled.{Filled};
+ghost use Rattle.goblin_pe_c.specs.Imports.{import_view};
+ghost use Rattle.goblin_pe_c.specs.Options.{options_of};
+ghost use Rattle.goblin_pe_c.specs.Reads.{Reads, Records, Reported};
+ghost use Rattle.goblin_pe_c.specs.Sections.{section_view};
+
+use crate::directory::{PeDirectory, directories_of, fill_directories};
+use crate::export::{PeExport, fill_exports};
+use crate::fault::{PeFault, fault_of, no_fault};
+use crate::file::{PeFile, file_of};
+use crate::import::{PeImport, fill_imports};
+use crate::options::{PeOptions, options_of};
+use crate::section::{PeSection, fill_sections};
+use goblin_pe::header::CoffHeader;
+use goblin_pe::options::ParseOptions;
+use goblin_pe::{Part, Result, Whole};
+use std::alloc::Global;
+
+// The file offset of the string table.
+fn string_table_offset(header: &CoffHeader) -> usize
+    ensures { result ≡ string_table_offset header.now }
+{
+    header.pointer_to_symbol_table as usize + 18 * header.number_of_symbol_table as usize
+}
+
+// The entries of a table, none where it was not read.
+#[tactic(auto, unfolding(goblin_pe::specs::Whole::part_map))]
+fn entries_of<'b, T>(part: &'b Part<Vec<T>>) -> &'b [T]
+    ensures { result.now ≡ entries_of (items_part part.now) }
+{
+    match part {
+        Part::Read(entries) => entries.as_slice(),
+        Part::Absent | Part::Refused => &[],
+    }
+}
+
+// Fills what is asked for of a file that was read.
+fn fill<'a>(
+    whole: &Whole<'a>,
+    bytes: &'a [u8],
+    opts: &ParseOptions,
+    file: &mut PeFile,
+    directories: &mut [PeDirectory],
+    sections: &mut [PeSection<'a>],
+    imports: &mut [PeImport<'a>],
+    exports: &mut [PeExport<'a>],
+)
+    requires { whole_file opts.now bytes.now ≡ Some whole.now }
+    ensures file { file.new ≡ file_of whole.now }
+    ensures directories { Filled directory_view (map (λ x. x) (directories_of whole.now.header.optional_header)) directories.old directories.new }
+    ensures sections { Filled section_view whole.now.sections sections.old sections.new }
+    ensures imports { Filled import_view (entries_of whole.now.imports) imports.old imports.new }
+    ensures exports { Filled export_view (map (λ x. x) (entries_of whole.now.exports)) exports.old exports.new }
+{
+    let table = string_table_offset(&whole.header.coff_header);
+    *file = file_of(whole);
+    fill_directories(directories, directories_of(&whole.header.optional_header));
+    fill_sections(sections, bytes, &whole.sections, table, opts);
+    fill_imports(imports, entries_of(&whole.imports));
+    fill_exports(exports, entries_of(&whole.exports));
+}
+
+// Reads a file and fills what is asked for.
+fn read<'a>(
+    alloc: Global,
+    bytes: &'a [u8],
+    opts: &ParseOptions,
+    file: &mut PeFile,
+    directories: &mut [PeDirectory],
+    sections: &mut [PeSection<'a>],
+    imports: &mut [PeImport<'a>],
+    exports: &mut [PeExport<'a>],
+) -> Result<()>
+    ensures { let old : Records = record { file = file.old; directories = directories.old; sections = sections.old; imports = imports.old; exports = exports.old } in
+        let new : Records = record { file = file.new; directories = directories.new; sections = sections.new; imports = imports.new; exports = exports.new } in
+        Reads opts.now bytes.now old new result }
+{
+    let whole = Whole::read(alloc, bytes, opts)?;
+    fill(
+        &whole,
+        bytes,
+        opts,
+        file,
+        directories,
+        sections,
+        imports,
+        exports,
+    );
+    Ok(())
+}
+
+/// Reads a whole file: says in `file` what it is, and fills the records of its data directories,
+/// sections, imports and exports as far as there is room. After a refusal nothing is changed.
+#[unsafe(no_mangle)]
+pub extern "C" fn goblin_pe_read<'a>(
+    alloc: Global,
+    bytes: &'a [u8],
+    options: &PeOptions,
+    file: &mut PeFile,
+    directories: &mut [PeDirectory],
+    sections: &mut [PeSection<'a>],
+    imports: &mut [PeImport<'a>],
+    exports: &mut [PeExport<'a>],
+) -> PeFault
+    ensures { let old : Records = record { file = file.old; directories = directories.old; sections = sections.old; imports = imports.old; exports = exports.old } in
+        let new : Records = record { file = file.new; directories = directories.new; sections = sections.new; imports = imports.new; exports = exports.new } in
+        Reported result (Reads (options_of options.now) bytes.now old new) }
+{
+    let opts = options_of(options);
+    match read(
+        alloc,
+        bytes,
+        &opts,
+        file,
+        directories,
+        sections,
+        imports,
+        exports,
+    ) {
+        Ok(()) => no_fault(),
+        Err(error) => fault_of(&error),
+    }
+}
+
+/// The version of this interface. It is raised where a record or a call changes.
+#[unsafe(no_mangle)]
+pub extern "C" fn goblin_pe_interface() -> u32
+    ensures { result ≡ 1 }
+{
+    1
+}
