@@ -6,7 +6,9 @@ use Rattle.goblin_pe.specs.declared.whole.Part.TheVariants as part
 use Rattle.goblin_pe.specs.Whole.{WholeFile}
 use Rattle.goblin_pe_c.specs.declared.file.PeTable.{PeTable}
 use Rattle.goblin_pe_c.specs.declared.file.PeFile.{PeFile}
+use Rattle.goblin_pe_c.specs.Blocks.{relocations_of}
 use Rattle.goblin_pe_c.specs.Headers.{coff_record, dos_record, optional_record}
+use Rattle.goblin_pe_c.specs.RichHeaders.{rich_of}
 
 -- the entries of a table, none where it was not read
 abbrev pub entries_of : {A : Type 0} → Part (List A) → List A
@@ -26,6 +28,8 @@ file_of w = record {
   sections = length w.sections;
   imports = table_of w.imports;
   exports = table_of w.exports;
+  relocations = relocations_of w.relocations;
+  rich_header = rich_of w.header.rich_header;
   dos_header = dos_record w.header.dos_header;
   coff_header = coff_record w.header.coff_header;
 }

@@ -1,3 +1,4 @@
+pub mod Blocks
 pub mod Directories
 pub mod Exports
 pub mod Faults
@@ -5,6 +6,8 @@ pub mod Files
 pub mod Filled
 pub mod Headers
 pub mod Imports
+pub mod Items
 pub mod Options
 pub mod Reads
+pub mod RichHeaders
 pub mod Sections

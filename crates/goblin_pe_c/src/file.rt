@@ -2,11 +2,15 @@
 
 ghost use Rattle.std.specs.Prelude.{◌≡◌};
 ghost use Rattle.goblin_pe.specs.Whole.{items_part};
+ghost use Rattle.goblin_pe_c.specs.Blocks.{relocations_of};
 ghost use Rattle.goblin_pe_c.specs.Files.{file_of, table_of};
+ghost use Rattle.goblin_pe_c.specs.RichHeaders.{rich_of};
 
+use crate::block::PeRelocations;
 use crate::headers::{
     PeCoffHeader, PeDosHeader, PeOptionalHeader, coff_record, dos_record, optional_record,
 };
+use crate::rich::PeRichHeader;
 use goblin_pe::{Part, Whole};
 
 /// A table of the file.
@@ -31,6 +35,10 @@ pub struct PeFile {
     pub imports: PeTable,
     /// The exports.
     pub exports: PeTable,
+    /// The base relocations.
+    pub relocations: PeRelocations,
+    /// The Rich header.
+    pub rich_header: PeRichHeader,
     /// The DOS header.
     pub dos_header: PeDosHeader,
     /// The COFF header.
@@ -52,8 +60,10 @@ fn table_of<T>(part: &Part<Vec<T>>) -> PeTable
     }
 }
 
-/// What is said of a file as a whole.
-pub fn file_of(whole: &Whole) -> PeFile
+/// What is said of a file as a whole, with what is said of its base relocations and its Rich header.
+pub fn file_of(whole: &Whole, relocations: PeRelocations, rich_header: PeRichHeader) -> PeFile
+    requires relocations { relocations ≡ relocations_of whole.now.relocations }
+    requires rich_header { rich_header ≡ rich_of whole.now.header.rich_header }
     ensures { result ≡ file_of whole.now }
 {
     let header = &whole.header;
@@ -62,6 +72,8 @@ pub fn file_of(whole: &Whole) -> PeFile
         sections: whole.sections.len(),
         imports: table_of(&whole.imports),
         exports: table_of(&whole.exports),
+        relocations,
+        rich_header,
         dos_header: dos_record(&header.dos_header),
         coff_header: coff_record(&header.coff_header),
     }

@@ -4,12 +4,15 @@
 //! of those bytes, so nothing is copied, and nothing has to be freed.
 #![tactic(auto)]
 
+mod block;
 mod directory;
 mod export;
 mod fault;
 mod file;
+mod filled;
 mod headers;
 mod import;
 mod options;
 mod read;
+mod rich;
 mod section;
