@@ -20,7 +20,7 @@ unfolding real_name_in
 named-made strict table bytes s value e = rw e refl
 
 -- a section that was read has its name
-section-named : (strict : Bool) (table : ℕ) (bytes : List ℕ) (p : ℕ) (s : Section) → section_at strict table bytes p ≡ Some s → named_in strict bytes table s ≡ s
+pub section-named : (strict : Bool) (table : ℕ) (bytes : List ℕ) (p : ℕ) (s : Section) → section_at strict table bytes p ≡ Some s → named_in strict bytes table s ≡ s
 unfolding section_at
 section-named strict table bytes p s h =
     let first = step (record_at 40 (section_record Little) bytes p) _ s h in

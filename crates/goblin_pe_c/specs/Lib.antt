@@ -1,4 +1,5 @@
 pub mod Blocks
+pub mod Calls
 pub mod Directories
 pub mod Exports
 pub mod Faults
@@ -11,3 +12,4 @@ pub mod Options
 pub mod Reads
 pub mod RichHeaders
 pub mod Sections
+pub mod Te

@@ -1,13 +1,9 @@
--- What a call that reads a whole file says.
-use Rattle.std.specs.Prelude.{◌≡◌, ℕ, List, None, IsSomeAnd, Result, Ok, Err}
-use Rattle.goblin_base.specs.declared.error.ErrorOf.{ErrorOf}
-use Rattle.goblin_base.specs.Answers.{IsMemory}
-use Rattle.goblin_pe_sect.specs.declared.options.ParseOptions.{ParseOptions}
-use Rattle.goblin_pe.specs.Whole.{WholeFile, whole_file, IsWholeFault}
+-- What the records say after a whole file was read.
+use Rattle.std.specs.Prelude.{◌≡◌, List}
+use Rattle.goblin_pe.specs.Whole.{WholeFile}
 use Rattle.goblin_pe_c.specs.declared.block.PeBlock.{PeBlock}
 use Rattle.goblin_pe_c.specs.declared.directory.PeDirectory.{PeDirectory}
 use Rattle.goblin_pe_c.specs.declared.export.PeExport.{PeExport}
-use Rattle.goblin_pe_c.specs.declared.fault.PeFault.{PeFault}
 use Rattle.goblin_pe_c.specs.declared.file.PeFile.{PeFile}
 use Rattle.goblin_pe_c.specs.declared.import.PeImport.{PeImport}
 use Rattle.goblin_pe_c.specs.declared.rich.PeRichEntry.{PeRichEntry}
@@ -15,7 +11,6 @@ use Rattle.goblin_pe_c.specs.declared.section.PeSection.{PeSection}
 use Rattle.goblin_pe_c.specs.Blocks.{block_view, blocks_in}
 use Rattle.goblin_pe_c.specs.Directories.{directories_of, directory_view}
 use Rattle.goblin_pe_c.specs.Exports.{export_view}
-use Rattle.goblin_pe_c.specs.Faults.{status_of}
 use Rattle.goblin_pe_c.specs.Files.{entries_of, file_of}
 use Rattle.goblin_pe_c.specs.Filled.{Filled}
 use Rattle.goblin_pe_c.specs.Imports.{import_view}
@@ -42,12 +37,3 @@ Says w old new =
     × (Filled import_view (entries_of w.imports) old.imports new.imports)
     × (Filled export_view (entries_of w.exports) old.exports new.exports)
     × (Filled block_view (blocks_in w.relocations) old.blocks new.blocks)
-
--- A read gave a value, which there is, and the records say what it has; or there is none, the cause is true, and the records are as they were. Want of memory may refuse any file.
-abbrev pub Reads : ParseOptions → List ℕ → Records → Records → Result Unit ErrorOf → Type 0
-Reads opts bytes old new (Ok x) = IsSomeAnd (whole_file opts bytes) (λ w. Says w old new)
-Reads opts bytes old new (Err e) = (¬ IsMemory e → (whole_file opts bytes ≡ None) × IsWholeFault opts bytes e) × (new ≡ old)
-
--- the numbers are those of an answer of which it holds
-abbrev pub Reported : PeFault → (Result Unit ErrorOf → Type 0) → Type 0
-Reported status Holds = (r : Result Unit ErrorOf) × (status ≡ status_of r) × Holds r

@@ -27,3 +27,7 @@ section_view s = record {
   number_of_linenumbers = s.number_of_linenumbers;
   characteristics = s.characteristics;
 }
+
+-- a section without its name from the string table
+abbrev pub unnamed : Section → Section
+unnamed s = record s { real_name = None }

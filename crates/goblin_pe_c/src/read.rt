@@ -2,15 +2,16 @@
 
 ghost use Rattle.std.specs.Prelude.{◌≡◌, Some, map};
 ghost use Rattle.goblin_pe_head.specs.CoffHeader.{string_table_offset};
-ghost use Rattle.goblin_pe.specs.Whole.{items_part, whole_file};
+ghost use Rattle.goblin_pe.specs.Whole.{IsWholeFault, items_part, whole_file};
 ghost use Rattle.goblin_pe_c.specs.Blocks.{block_view, blocks_in};
+ghost use Rattle.goblin_pe_c.specs.Calls.{Reads, Reported};
 ghost use Rattle.goblin_pe_c.specs.Directories.{directories_of, directory_view};
 ghost use Rattle.goblin_pe_c.specs.Exports.{export_view};
 ghost use Rattle.goblin_pe_c.specs.Files.{entries_of, file_of};
 ghost use Rattle.goblin_pe_c.specs.Filled.{Filled};
 ghost use Rattle.goblin_pe_c.specs.Imports.{import_view};
 ghost use Rattle.goblin_pe_c.specs.Options.{options_of};
-ghost use Rattle.goblin_pe_c.specs.Reads.{Reads, Records, Reported};
+ghost use Rattle.goblin_pe_c.specs.Reads.{Records, Says};
 ghost use Rattle.goblin_pe_c.specs.RichHeaders.{entries_in, entry_view};
 ghost use Rattle.goblin_pe_c.specs.Sections.{section_view};
 
@@ -93,7 +94,7 @@ fn read<'a>(
 ) -> Result<()>
     ensures { let old : Records = record { file = file.old; rich_entries = rich_entries.old; directories = directories.old; sections = sections.old; imports = imports.old; exports = exports.old; blocks = blocks.old } in
         let new : Records = record { file = file.new; rich_entries = rich_entries.new; directories = directories.new; sections = sections.new; imports = imports.new; exports = exports.new; blocks = blocks.new } in
-        Reads opts.now bytes.now old new result }
+        Reads (whole_file opts.now bytes.now) (IsWholeFault opts.now bytes.now) (λ w. Says w old new) (new ≡ old) result }
 {
     let whole = Whole::read(alloc, bytes, opts)?;
     fill(
@@ -129,7 +130,8 @@ pub extern "C" fn goblin_pe_read<'a>(
 ) -> PeFault
     ensures { let old : Records = record { file = file.old; rich_entries = rich_entries.old; directories = directories.old; sections = sections.old; imports = imports.old; exports = exports.old; blocks = blocks.old } in
         let new : Records = record { file = file.new; rich_entries = rich_entries.new; directories = directories.new; sections = sections.new; imports = imports.new; exports = exports.new; blocks = blocks.new } in
-        Reported result (Reads (options_of options.now) bytes.now old new) }
+        let opts = options_of options.now in
+        Reported result (Reads (whole_file opts bytes.now) (IsWholeFault opts bytes.now) (λ w. Says w old new) (new ≡ old)) }
 {
     let opts = options_of(options);
     match read(
