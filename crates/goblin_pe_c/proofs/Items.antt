@@ -1,12 +1,14 @@
 -- A loop that fills records of items, of which the last may be a refusal.
-use Rattle.std.proofs.Common.{◌≡◌, ◌⊎◌, ℕ, zero, suc, ◌+◌, ◌<◌, ◌≤◌, List, [], ◌∷◌, ◌++◌, length, map, take, drop, set, ap, subst, sym, refl, arith, ◌∙◌, inl, inr}
+use Rattle.std.proofs.Common.{◌≡◌, ℕ, suc, ◌+◌, ◌/◌, ◌<◌, ◌≤◌, List, [], ◌∷◌, ◌++◌, length, map, take, drop, set, ap, subst, sym, refl, arith, ◌∙◌, inl, inr}
 use Rattle.std.specs.Prelude.{Result, Ok, Err}
 use Rattle.std.proofs.lemmas.Bool.{cases_lt}
 use Rattle.std.proofs.Math.ListN.{drop_of_length-le}
 use Rattle.std.proofs.lemmas.List.{append_assoc, append-nil, drop-set-lt, length-append, length-drop, length-map, length-set, map-append, set_past, take-append-le, take_all, take_more_set}
 use Rattle.std.proofs.lemmas.Grind.{drop_more_same}
 use Rattle.goblin_base.specs.declared.error.ErrorOf.{ErrorOf}
-use Rattle.goblin_pe_sect.specs.BaseRelocations.{Block, block_items}
+use Rattle.goblin_pe_sect.specs.BaseRelocations.{block_items}
+use Rattle.goblin_pe_sect.specs.Symbols.{SymbolItem, symbols_in}
+use Rattle.goblin_pe_sect.proofs.SymbolHeads.{symbols_most}
 use Rattle.goblin_pe_sect.proofs.BlockItems.{items_most}
 use Rattle.goblin_base.proofs.RecordItems.{record_items-none}
 use Rattle.goblin_pe_head.specs.RichMetadata.{metadata_at, metadata_items}
@@ -143,3 +145,28 @@ unfolding metadata_items
 no-entries key padding bytes h =
     let past : length bytes ≤ padding = omega (arith, h) in
     rw (drop_of_length-le bytes past) (record_items-none 8 (λ (entry : List ℕ). metadata_at key entry 0) [] refl refl)
+
+-- ---- items without a refusal
+
+-- values as items
+abbrev pub as_items : {A B : Type 0} → (A → B) → List A → List (Result B ErrorOf)
+as_items row xs = map (λ x. Ok (row x)) xs
+
+values-all : {A B : Type 0} (row : A → B) (xs : List A) → values_of (as_items row xs) ≡ map row xs
+unfolding values_of
+values-all row [] = refl
+values-all {A} {B} row (x ∷ xs) = ap (λ (ys : List B). row x ∷ ys) (values-all row xs)
+
+-- where no value is left, all have filled the records
+pub all-filled : {R A B : Type 0} (view : R → B) (row : A → B) (xs : List A) (old records : List R) (count : ℕ) (fault : PeFault) → AreFilledItems view (as_items row xs) old records count fault → (Filled view (map row xs) old records) × (count ≡ length (map row xs))
+all-filled {R} {A} {B} view row xs old records count fault h =
+    let same = values-all row xs in
+    (subst (λ (ys : List B). Filled view ys old records) same h.filled, h.counted ∙ ap (λ (ys : List B). length ys) same)
+
+-- there are no more symbols than bytes
+pub symbols_below : {B : Type 0} (row : SymbolItem → B) (table : List ℕ) → length (as_items row (symbols_in table)) ≤ length table + 1
+symbols_below {B} row table =
+    let ok : SymbolItem → Result B ErrorOf = λ x. Ok (row x) in
+    let most = symbols_most (length table / 18) 0 table 0 in
+    let same = length-map (symbols_in table) ok in
+    omega (arith, most, same)

@@ -1,10 +1,10 @@
 -- Sections of a Terse Executable that were read have their names from the front of the file.
-use Rattle.std.proofs.Common.{◌≡◌, ℕ, ◌+◌, ◌*◌, true, List, map, refl, ap, subst, sym, ◌∙◌}
-use Rattle.std.specs.Prelude.{Option, Some, option_map}
+use Rattle.std.proofs.Common.{◌≡◌, ℕ, ◌+◌, ◌*◌, true, List, map, refl, ap, subst, ◌∙◌}
+use Rattle.std.specs.Prelude.{Some, option_map}
 use Rattle.goblin_base.proofs.Steps.{mapped, same_value, step}
 use Rattle.goblin_pe_sect.specs.SectionTable.{Section, section_at}
 use Rattle.goblin_pe_head.specs.declared.header.te.TeHeader.{TeHeader}
-use Rattle.goblin_pe_head.specs.TeHeader.{displacement, moved_sections_at, section_adjusted, section_moved, te_header, te_sections_at}
+use Rattle.goblin_pe_head.specs.TeHeader.{displacement, section_adjusted, section_moved, te_header, te_sections_at}
 use Rattle.goblin_pe_c.specs.Sections.{named_in}
 use Rattle.goblin_pe_c.specs.Te.{TeImage, te_image}
 use Rattle.goblin_pe_c.proofs.Named.{all-kept, section-named}

@@ -1,9 +1,8 @@
 -- Items of which the last may be a refusal.
-use Rattle.std.specs.Prelude.{◌≡◌, ℕ, List, [], ◌∷◌, length, Result, Ok, Err}
+use Rattle.std.specs.Prelude.{List, [], ◌∷◌, Result, Ok, Err}
 use Rattle.goblin_base.specs.declared.error.ErrorOf.{ErrorOf}
 use Rattle.goblin_pe_c.specs.declared.fault.PeFault.{PeFault}
 use Rattle.goblin_pe_c.specs.Faults.{fault_of, no_fault}
-use Rattle.goblin_pe_c.specs.Filled.{Filled}
 
 -- the values before the first refusal
 unfoldable pub values_of : {A : Type 0} → List (Result A ErrorOf) → List A

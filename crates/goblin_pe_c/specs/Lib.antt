@@ -8,8 +8,10 @@ pub mod Filled
 pub mod Headers
 pub mod Imports
 pub mod Items
+pub mod Objects
 pub mod Options
 pub mod Reads
 pub mod RichHeaders
 pub mod Sections
+pub mod Symbols
 pub mod Te

@@ -1,5 +1,5 @@
 -- What is said of a Rich header, and what the records of its entries say.
-use Rattle.std.specs.Prelude.{ℕ, List, [], drop, length, Option, None, Some, Result, true, false}
+use Rattle.std.specs.Prelude.{List, [], drop, length, Option, None, Some, Result, true, false}
 use Rattle.goblin_base.specs.declared.error.ErrorOf.{ErrorOf}
 use Rattle.goblin_pe_head.specs.declared.header.rich.RichMetadata.{RichMetadata}
 use Rattle.goblin_pe_head.specs.RichHeader.{Rich}

@@ -1,7 +1,6 @@
 //! The calls that read a whole file.
 
 ghost use Rattle.std.specs.Prelude.{◌≡◌, Some, map};
-ghost use Rattle.goblin_pe_head.specs.CoffHeader.{string_table_offset};
 ghost use Rattle.goblin_pe.specs.Whole.{IsWholeFault, items_part, whole_file};
 ghost use Rattle.goblin_pe_c.specs.Blocks.{block_view, blocks_in};
 ghost use Rattle.goblin_pe_c.specs.Calls.{Reads, Reported};
@@ -23,18 +22,10 @@ use crate::file::{PeFile, file_of};
 use crate::import::{PeImport, fill_imports};
 use crate::options::{PeOptions, options_of};
 use crate::rich::{PeRichEntry, fill_entries};
-use crate::section::{PeSection, fill_sections};
-use goblin_pe::header::CoffHeader;
+use crate::section::{PeSection, fill_sections, string_table_offset};
 use goblin_pe::options::ParseOptions;
 use goblin_pe::{Part, Result, Whole};
 use std::alloc::Global;
-
-// The file offset of the string table.
-fn string_table_offset(header: &CoffHeader) -> usize
-    ensures { result ≡ string_table_offset header.now }
-{
-    header.pointer_to_symbol_table as usize + 18 * header.number_of_symbol_table as usize
-}
 
 // The entries of a table, none where it was not read.
 #[tactic(auto, unfolding(goblin_pe::specs::Whole::part_map))]

@@ -2,9 +2,11 @@
 
 ghost use Rattle.std.specs.Prelude.{◌≡◌, map, option_map};
 ghost use Rattle.goblin_pe_sect.specs.Options.{is_strict};
+ghost use Rattle.goblin_pe_head.specs.CoffHeader.{string_table_offset};
 ghost use Rattle.goblin_pe_c.specs.Filled.{Filled};
 ghost use Rattle.goblin_pe_c.specs.Sections.{named_in, real_name_in, section_view};
 
+use goblin_pe::header::CoffHeader;
 use goblin_pe::options::ParseOptions;
 use goblin_pe::read::pread_str;
 use goblin_pe::section_table::SectionTable;
@@ -96,4 +98,11 @@ pub fn fill_sections<'a>(
     'records: for i in 0..count {
         records[i] = section_record(bytes, &sections[i], table, opts);
     }
+}
+
+/// The file offset of the string table.
+pub fn string_table_offset(header: &CoffHeader) -> usize
+    ensures { result ≡ string_table_offset header.now }
+{
+    header.pointer_to_symbol_table as usize + 18 * header.number_of_symbol_table as usize
 }

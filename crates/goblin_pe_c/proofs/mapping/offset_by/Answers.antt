@@ -1,4 +1,4 @@
-use Rattle.std.proofs.Common.{arith, sym, ◌∙◌}
+use Rattle.std.proofs.Common.{sym, ◌∙◌}
 use Rattle.goblin_pe_c.proofs.Offsets.{loop-found, loop-next}
 use Rattle.goblin_pe_c.proofs.mapping.offset_by.Goals as goal
 
