@@ -16,5 +16,5 @@ export_view x = record {
   offset = if x.has_offset then Some x.offset else None;
   rva = x.rva;
   size = x.size;
-  reexport = forwarder_by x.forwards x.export.now x.ordinal x.lib.now;
+  reexport = forwarder_by x.forwards x.export_name.now x.ordinal x.lib.now;
 }

@@ -15,7 +15,7 @@ pub struct PeExport<'a> {
     /// Of a forwarder the library, without its ending.
     pub lib: &'a [u8],
     /// Of a forwarder by name the name in that library.
-    pub export: &'a [u8],
+    pub export_name: &'a [u8],
     /// Of a forwarder by ordinal the ordinal in that library.
     pub ordinal: usize,
     /// The file offset of `rva`, where it has one.
@@ -47,7 +47,7 @@ fn export_record<'a>(export: &Export<'a>) -> PeExport<'a>
             None => &[],
         },
         lib,
-        export: name,
+        export_name: name,
         ordinal,
         offset: export.offset.unwrap_or(0),
         rva: export.rva,
