@@ -51,6 +51,21 @@ def headers(path):
         assert tuple(s[1:]) == struct.unpack_from("<8xIIIIIIHHI", data, table + 40 * index), (path, index)
 
 
+def rich_header(path):
+    """A Rich header of two entries, put into the stub of a file."""
+    with open(path, "rb") as file:
+        data = bytearray(file.read())
+    key = 0x1234ABCD
+    entries = [(30159, 261, 7), (0, 1, 0x80000001)]
+    words = [0x536E6144, 0, 0, 0] + [it for build, product, count in entries for it in (product << 16 | build, count)]
+    struct.pack_into("<%dI" % len(words), data, 64, *[word ^ key for word in words])
+    struct.pack_into("<II", data, 64 + 4 * len(words), 0x68636952, key)
+    pe = Pe(data)
+    same(path, pe.rich_header, ["key", "padding_size", "start_offset", "end_offset", "entries"], (key, 12, 64, 64 + 4 * len(words), 2))
+    assert [(it.build, it.product, it.use_count) for it in pe.rich_entries] == entries, pe.rich_entries
+    assert pe.rich_header.rest.status == 0
+
+
 def refused(kind, data, text):
     try:
         kind(data)
@@ -63,6 +78,7 @@ def refused(kind, data, text):
 def main(paths):
     for path in paths:
         headers(path)
+        rich_header(path)
     refused(Pe, b"", "NoDosSignature")
     refused(lambda data: Pe(data, options(is_permissive=True)), b"no image", "DosMagic(28526)")
     refused(ObjectFile, b"", "the offset lies at or past the end")

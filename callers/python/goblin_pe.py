@@ -1,7 +1,7 @@
 """Reads PE files that can't be trusted: images with their headers, sections, imports, exports and base
 relocations, objects with their symbols, and Terse Executables.
 
-The reader is the proved library goblin_pe_c, as a shared library: libgoblin_pe.so beside this file, or
+The reader is the proved library goblin_pe_c, as a shared library: ../lib/libgoblin_pe.so, or
 where the variable GOBLIN_PE_SO says. This module declares it and copies its records. Their fields are
 those of the crate, in the same order; callers/layout.py compares them.
 
@@ -317,7 +317,7 @@ class Object(Record):
     ]
 
 
-_LIB = c.CDLL(os.environ.get("GOBLIN_PE_SO", os.path.join(os.path.dirname(os.path.abspath(__file__)), "libgoblin_pe.so")))
+_LIB = c.CDLL(os.environ.get("GOBLIN_PE_SO", os.path.join(os.path.dirname(os.path.abspath(__file__)), "../lib/libgoblin_pe.so")))
 _BYTES = [c.c_char_p, c.c_size_t]
 
 
