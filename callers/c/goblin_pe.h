@@ -69,7 +69,7 @@ struct goblin_pe_options {
 struct goblin_pe_fault {
     /* 0 nothing is refused, 1 a cause, 2 a magic number, 3 too short, 4 a read, 5 memory. */
     uint32_t status;
-    /* Which cause, or which refusal of a read, from 1 on; else 0. */
+    /* Which cause, which refusal of a read, or what the file is too short for, from 1 on; else 0. */
     uint32_t cause;
     /* The first number of the cause, else 0. */
     uint64_t first;

@@ -1,5 +1,6 @@
 -- Refusals as numbers.
-use Rattle.std.specs.Prelude.{ℕ, Result, Ok, Err}
+use Rattle.std.specs.Prelude.{ℕ, List, codes, if◌then◌else◌, Result, Ok, Err}
+use Rattle.std.specs.Str.{bytes_eq}
 use Rattle.goblin_base.specs.declared.error.ErrorOf.{ErrorOf}
 use Rattle.goblin_base.specs.declared.error.ErrorOf.TheVariants.{Malformed, BadMagic, BufferTooShort, Read, Memory}
 use Rattle.goblin_base.specs.declared.error.ReadFault.TheVariants.{BadOffset, TooBig, BadInput}
@@ -8,6 +9,14 @@ use Rattle.goblin_pe_c.specs.declared.fault.PeFault.{PeFault}
 
 abbrev pub fault : ℕ → ℕ → ℕ → ℕ → PeFault
 fault status cause first second = record { status = status; cause = cause; first = first; second = second }
+
+-- what a file is too short for, by its number
+abbrev pub word_number : List ℕ → ℕ
+word_number what =
+    if bytes_eq what (codes "sections") then 1
+    else if bytes_eq what (codes "name pointers") then 2
+    else if bytes_eq what (codes "address table entries") then 3
+    else 0
 
 -- nothing is refused
 abbrev pub no_fault : PeFault
@@ -50,7 +59,7 @@ fault_of (Malformed (BlockRange begin size)) = fault 1 32 begin size
 fault_of (Malformed Overflow) = fault 1 33 0 0
 fault_of (Malformed (SlotCount entries slots)) = fault 1 34 entries slots
 fault_of (BadMagic magic) = fault 2 0 magic 0
-fault_of (BufferTooShort count what) = fault 3 0 count 0
+fault_of (BufferTooShort count what) = fault 3 (word_number what.now) count 0
 fault_of (Read BadOffset) = fault 4 1 0 0
 fault_of (Read TooBig) = fault 4 2 0 0
 fault_of (Read BadInput) = fault 4 3 0 0

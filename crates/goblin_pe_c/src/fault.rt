@@ -1,7 +1,8 @@
 //! Refusals as numbers.
 
-ghost use Rattle.std.specs.Prelude.{◌≡◌};
-ghost use Rattle.goblin_pe_c.specs.Faults.{fault_of, no_fault};
+ghost use Rattle.std.specs.Prelude.{◌≡◌, List, ℕ, length};
+ghost use Rattle.goblin_pe_c.specs.Faults.{fault_of, no_fault, word_number};
+ghost use Rattle.goblin_pe_c.specs.Filled.{Filled};
 
 use goblin_pe::{Cause, Error, ReadFault, Result};
 use std::alloc::Global;
@@ -12,7 +13,7 @@ use std::alloc::Global;
 pub struct PeFault {
     /// 0 nothing is refused, 1 a cause, 2 a magic number, 3 too short, 4 a read, 5 memory.
     pub status: u32,
-    /// Which cause, or which refusal of a read, from 1 on; else 0.
+    /// Which cause, which refusal of a read, or what the file is too short for, from 1 on; else 0.
     pub cause: u32,
     /// The first number of the cause, else 0.
     pub first: u64,
@@ -29,6 +30,21 @@ fn fault(status: u32, cause: u32, first: u64, second: u64) -> PeFault
         cause,
         first,
         second,
+    }
+}
+
+// What a file is too short for, by its number.
+fn word_number(what: &str) -> u32
+    ensures { result ≡ word_number what.now }
+{
+    if what == "sections" {
+        1
+    } else if what == "name pointers" {
+        2
+    } else if what == "address table entries" {
+        3
+    } else {
+        0
     }
 }
 
@@ -81,7 +97,7 @@ pub fn fault_of(error: &Error) -> PeFault
             Cause::SlotCount(entries, slots) => fault(1, 34, *entries as u64, *slots as u64),
         },
         Error::BadMagic(magic) => fault(2, 0, *magic, 0),
-        Error::BufferTooShort(count, _) => fault(3, 0, *count as u64, 0),
+        Error::BufferTooShort(count, what) => fault(3, word_number(what), *count as u64, 0),
         Error::Read(ReadFault::BadOffset) => fault(4, 1, 0, 0),
         Error::Read(ReadFault::TooBig) => fault(4, 2, 0, 0),
         Error::Read(ReadFault::BadInput) => fault(4, 3, 0, 0),
@@ -133,6 +149,9 @@ fn error_of(fault: &PeFault) -> Option<Error> {
         (1, 34) => Error::Malformed(Cause::SlotCount(fault.first as usize, fault.second as usize)),
         (2, 0) => Error::BadMagic(fault.first),
         (3, 0) => Error::BufferTooShort(fault.first as usize, "entries"),
+        (3, 1) => Error::BufferTooShort(fault.first as usize, "sections"),
+        (3, 2) => Error::BufferTooShort(fault.first as usize, "name pointers"),
+        (3, 3) => Error::BufferTooShort(fault.first as usize, "address table entries"),
         (4, 1) => Error::Read(ReadFault::BadOffset),
         (4, 2) => Error::Read(ReadFault::TooBig),
         (4, 3) => Error::Read(ReadFault::BadInput),
@@ -151,15 +170,24 @@ fn text_of(alloc: Global, fault: &PeFault) -> Result<String> {
     Ok(text)
 }
 
+// Puts a text where there is room for it, and answers how long it is.
+fn put_text(text: &mut [u8], whole: &[u8]) -> usize
+    ensures filled { Filled (λ b. b) whole.now text.old text.new }
+    ensures length { result ≡ length whole.now }
+{
+    let count = whole.len().min(text.len());
+    text[..count].copy_from_slice(&whole[..count]);
+    whole.len()
+}
+
 /// Writes the text of a refusal, as far as there is room, and answers how long the whole text is; 0
 /// where the numbers are of no refusal or memory is refused.
 #[unsafe(no_mangle)]
-pub extern "C" fn goblin_pe_fault_text(alloc: Global, fault: &PeFault, text: &mut [u8]) -> usize {
-    let Ok(whole) = text_of(alloc, fault) else {
-        return 0;
-    };
-    let bytes = whole.as_bytes();
-    let count = bytes.len().min(text.len());
-    text[..count].copy_from_slice(&bytes[..count]);
-    bytes.len()
+pub extern "C" fn goblin_pe_fault_text(alloc: Global, fault: &PeFault, text: &mut [u8]) -> usize
+    ensures { (whole : List ℕ) × (result ≡ length whole) × (Filled (λ b. b) whole text.old text.new) }
+{
+    match text_of(alloc, fault) {
+        Ok(whole) => put_text(text, whole.as_bytes()),
+        Err(_) => put_text(text, &[]),
+    }
 }
