@@ -1,0 +1,489 @@
+/* PE files read by a proved library.
+
+   A call reads a whole file that lies in memory. It borrows the caller's bytes, and fills the caller's
+   records; a text in a record is a pointer into those bytes and a length, so nothing is copied, nothing
+   has to be freed, and the texts stay good as long as the bytes do. Where the file offset of a text is
+   wanted, it is the difference of two pointers.
+
+   What a caller owes, which nothing checks:
+   - Pointers are not null, also where there are no bytes or no records: any other will do then.
+   - The bytes are as many as `length` says, and nothing changes them during the call. What is filled
+     overlaps neither itself nor the bytes.
+   - What is filled holds values before the call and is not uninitialized memory: each text in it
+     points somewhere but to null, each bool is 0 or 1. A file, an object, a header and the records
+     without texts may be zeros; GOBLIN_PE_EMPTY_* are the other records.
+   - malloc, realloc and free are those of one allocator, and no call is made from a signal handler.
+   A call may be made from any thread, and from several at once. After a refusal nothing is changed.
+
+   The fields are those of the crate goblin_pe_c, in the same order; callers/layout.py compares them. */
+#ifndef GOBLIN_PE_H
+#define GOBLIN_PE_H
+
+#include <stdbool.h>
+#include <stddef.h>
+#include <stdint.h>
+
+#ifdef __cplusplus
+extern "C" {
+#endif
+
+/* The version of this interface, which goblin_pe_interface answers. */
+#define GOBLIN_PE_INTERFACE 1
+
+/* The state of a table: the file has none, it was read, or it is refused and was passed over. */
+enum { GOBLIN_PE_ABSENT, GOBLIN_PE_READ, GOBLIN_PE_REFUSED };
+
+/* What an export forwards to. */
+enum { GOBLIN_PE_NO_FORWARDER, GOBLIN_PE_FORWARDS_NAME, GOBLIN_PE_FORWARDS_ORDINAL };
+
+/* The status of a fault. */
+enum {
+    GOBLIN_PE_OK,
+    GOBLIN_PE_MALFORMED,
+    GOBLIN_PE_BAD_MAGIC,
+    GOBLIN_PE_TOO_SHORT,
+    GOBLIN_PE_BAD_READ,
+    GOBLIN_PE_NO_MEMORY
+};
+
+/* Bytes of the file; not ended by a NUL. */
+struct goblin_pe_text {
+    const uint8_t *bytes;
+    size_t length;
+};
+
+/* What a call does and leaves out. */
+struct goblin_pe_options {
+    /* Whether damaged parts are passed over. */
+    bool is_permissive;
+    /* Whether an address is mapped to a file offset by the sections; where not, it is the offset. */
+    bool resolve_rva;
+    /* Whether the mapping rounds the raw pointer of a section down to 512, as the Windows loader
+       does; where not, it takes the pointer as stored. */
+    bool rounds_raw_pointers;
+    /* Whether the imports are read. */
+    bool parse_imports;
+};
+
+/* Why a call gave no value, in numbers; the status 0 is that it gave one. */
+struct goblin_pe_fault {
+    /* 0 nothing is refused, 1 a cause, 2 a magic number, 3 too short, 4 a read, 5 memory. */
+    uint32_t status;
+    /* Which cause, which refusal of a read, or what the file is too short for, from 1 on; else 0. */
+    uint32_t cause;
+    /* The first number of the cause, else 0. */
+    uint64_t first;
+    /* The second number of the cause, else 0. */
+    uint64_t second;
+};
+
+/* The DOS header. */
+struct goblin_pe_dos_header {
+    /* The file offset of the PE header. */
+    uint32_t pe_pointer;
+    /* MZ. */
+    uint16_t signature;
+    /* How many bytes of the last page are used. */
+    uint16_t bytes_on_last_page;
+    /* How many pages of 512 bytes the program has. */
+    uint16_t pages_in_file;
+    /* How many relocations there are. */
+    uint16_t relocations;
+    /* The size of the header in paragraphs of 16 bytes. */
+    uint16_t size_of_header_in_paragraphs;
+    /* The least memory that the program needs behind it, in paragraphs. */
+    uint16_t minimum_extra_paragraphs_needed;
+    /* The most memory that the program asks for behind it, in paragraphs. */
+    uint16_t maximum_extra_paragraphs_needed;
+    /* The stack segment at the start, relative to the program. */
+    uint16_t initial_relative_ss;
+    /* The stack pointer at the start. */
+    uint16_t initial_sp;
+    /* The checksum. */
+    uint16_t checksum;
+    /* The instruction pointer at the start. */
+    uint16_t initial_ip;
+    /* The code segment at the start, relative to the program. */
+    uint16_t initial_relative_cs;
+    /* The file offset of the relocations. */
+    uint16_t file_address_of_relocation_table;
+    /* The overlay's number. */
+    uint16_t overlay_number;
+    /* Reserved. */
+    uint16_t reserved[4];
+    /* The maker's identifier. */
+    uint16_t oem_id;
+    /* What the maker says. */
+    uint16_t oem_info;
+    /* Reserved. */
+    uint16_t reserved2[10];
+};
+
+/* The COFF header. */
+struct goblin_pe_coff_header {
+    /* The machine that the file is for. */
+    uint16_t machine;
+    /* How many section records follow the optional header. */
+    uint16_t number_of_sections;
+    /* When the file was made, in seconds since the start of 1970, or what its maker put there. */
+    uint32_t time_date_stamp;
+    /* The file offset of the symbol table, 0 where there is none. */
+    uint32_t pointer_to_symbol_table;
+    /* How many records the symbol table has. */
+    uint32_t number_of_symbol_table;
+    /* The size of the optional header, in bytes, 0 where there is none. */
+    uint16_t size_of_optional_header;
+    /* What kind of file it is, as bits. */
+    uint16_t characteristics;
+};
+
+/* The optional header; zeros where there is none. */
+struct goblin_pe_optional_header {
+    /* The size of the code, in bytes: the sum of all code sections. */
+    uint64_t size_of_code;
+    /* The size of the initialized data, in bytes: the sum of all such sections. */
+    uint64_t size_of_initialized_data;
+    /* The size of the uninitialized data, in bytes: the sum of all such sections. */
+    uint64_t size_of_uninitialized_data;
+    /* The address at which the code begins, relative to the image's base. */
+    uint64_t base_of_code;
+    /* The address at which the image is best loaded, a multiple of 64 KiB. */
+    uint64_t image_base;
+    /* How much of the stack to reserve, in bytes. */
+    uint64_t size_of_stack_reserve;
+    /* How much of the stack to commit, in bytes. */
+    uint64_t size_of_stack_commit;
+    /* How much of the heap to reserve, in bytes. */
+    uint64_t size_of_heap_reserve;
+    /* How much of the heap to commit, in bytes. */
+    uint64_t size_of_heap_commit;
+    /* The address of the entry point, relative to the image's base; 0 where there is none. */
+    uint32_t address_of_entry_point;
+    /* The address at which the data begins, relative to the image's base; 0 in an image for 64
+       bits. */
+    uint32_t base_of_data;
+    /* The alignment of sections in memory, in bytes. */
+    uint32_t section_alignment;
+    /* The alignment of the raw data of sections in the file, in bytes. */
+    uint32_t file_alignment;
+    /* Reserved, 0. */
+    uint32_t win32_version_value;
+    /* The size of the image in memory with all headers, in bytes. */
+    uint32_t size_of_image;
+    /* The size of all headers together, in bytes, rounded up to the file alignment. */
+    uint32_t size_of_headers;
+    /* The image's checksum. */
+    uint32_t check_sum;
+    /* Reserved, 0. */
+    uint32_t loader_flags;
+    /* How many data directories follow. */
+    uint32_t number_of_rva_and_sizes;
+    /* 0x10b for 32 bits, 0x20b for 64 bits, 0 where there is no optional header. */
+    uint16_t magic;
+    /* The major version of the system that the image needs. */
+    uint16_t major_operating_system_version;
+    /* The minor version of the system that the image needs. */
+    uint16_t minor_operating_system_version;
+    /* The image's major version. */
+    uint16_t major_image_version;
+    /* The image's minor version. */
+    uint16_t minor_image_version;
+    /* The major version of the subsystem that the image needs. */
+    uint16_t major_subsystem_version;
+    /* The minor version of the subsystem that the image needs. */
+    uint16_t minor_subsystem_version;
+    /* The subsystem that runs the image. */
+    uint16_t subsystem;
+    /* What the loader may and has to do, as bits. */
+    uint16_t dll_characteristics;
+    /* The linker's major version. */
+    uint8_t major_linker_version;
+    /* The linker's minor version. */
+    uint8_t minor_linker_version;
+};
+
+/* An entry of the table of data directories. */
+struct goblin_pe_directory {
+    /* Where the entry ends, in bytes from the front of the optional header; 0 where there is none. */
+    size_t end;
+    /* The address of what it leads to, relative to the image's base; of the attribute certificates
+       the file offset. */
+    uint32_t virtual_address;
+    /* The size of what it leads to, in bytes. */
+    uint32_t size;
+    /* Whether there is such an entry, and not all of it is 0. */
+    bool is_present;
+};
+
+/* Where a table of an image lies. */
+struct goblin_pe_data_directory {
+    /* The table's address, relative to the image's base. */
+    uint32_t virtual_address;
+    /* The table's size, in bytes. */
+    uint32_t size;
+};
+
+/* The header of a Terse Executable, its addresses as they are in the stripped file. */
+struct goblin_pe_te_header {
+    /* The address at which the image is best loaded. */
+    uint64_t image_base;
+    /* The address of the entry point. */
+    uint32_t entry_point;
+    /* The address at which the code begins. */
+    uint32_t base_of_code;
+    /* Where the base relocations lie. */
+    struct goblin_pe_data_directory reloc_dir;
+    /* Where the debug data lies. */
+    struct goblin_pe_data_directory debug_dir;
+    /* The first two bytes, VZ in a Terse Executable. */
+    uint16_t signature;
+    /* The machine that the file is for. */
+    uint16_t machine;
+    /* How many bytes were stripped from the front of the PE file. */
+    uint16_t stripped_size;
+    /* How many sections there are. */
+    uint8_t number_of_sections;
+    /* The subsystem that runs the image. */
+    uint8_t subsystem;
+};
+
+/* An entry of the Rich header: a tool, and how often it was used. */
+struct goblin_pe_rich_entry {
+    /* How many files the tool made. */
+    uint32_t use_count;
+    /* The build of the tool. */
+    uint16_t build;
+    /* Which tool it is. */
+    uint16_t product;
+};
+
+/* The Rich header; zeros where there is none. */
+struct goblin_pe_rich_header {
+    /* How many entries there are. */
+    size_t entries;
+    /* The size of the padding in front of the entries, in bytes. */
+    size_t padding_size;
+    /* Why a rest that follows the entries is none; its status is 0 where there is no rest. */
+    struct goblin_pe_fault rest;
+    /* The key, under which the words are stored. */
+    uint32_t key;
+    /* The file offset of the first marker. */
+    uint32_t start_offset;
+    /* The file offset of the second marker. */
+    uint32_t end_offset;
+    /* Whether there is a Rich header. */
+    bool is_present;
+};
+
+/* A section, as its record describes it. */
+struct goblin_pe_section {
+    /* The name from the string table, where there is one. */
+    struct goblin_pe_text real_name;
+    /* The eight bytes of the name, padded with NULs. */
+    uint8_t name[8];
+    /* The section's size in memory, in bytes. */
+    uint32_t virtual_size;
+    /* The section's address in memory, relative to the image's base. */
+    uint32_t virtual_address;
+    /* The size of the section's data in the file, in bytes. */
+    uint32_t size_of_raw_data;
+    /* The file offset of the section's data. */
+    uint32_t pointer_to_raw_data;
+    /* The file offset of the section's relocations, 0 where it has none. */
+    uint32_t pointer_to_relocations;
+    /* The file offset of the section's line numbers, 0 where it has none. */
+    uint32_t pointer_to_linenumbers;
+    /* How many relocations the section has. */
+    uint16_t number_of_relocations;
+    /* How many line numbers the section has. */
+    uint16_t number_of_linenumbers;
+    /* What the section holds and how it may be used. */
+    uint32_t characteristics;
+    /* Whether the section has a name from the string table. */
+    bool has_real_name;
+};
+
+/* An import. */
+struct goblin_pe_import {
+    /* The name that is imported; nothing where the import is by ordinal. */
+    struct goblin_pe_text name;
+    /* The name of the library. */
+    struct goblin_pe_text dll;
+    /* The address of the entry of the address table. */
+    size_t offset;
+    /* The address of the hint and the name, 0 of an import by ordinal. */
+    size_t rva;
+    /* The size of an entry of the address table, in bytes. */
+    size_t size;
+    /* The index of its entry in the lookup table and in the address table, in the file. */
+    size_t slot;
+    /* The ordinal; of an import by name, the hint. */
+    uint16_t ordinal;
+    /* Whether the import is by name. */
+    bool is_by_name;
+};
+
+/* An export. */
+struct goblin_pe_export {
+    /* The export's name, where it can be read. */
+    struct goblin_pe_text name;
+    /* Of a forwarder the library, without its ending. */
+    struct goblin_pe_text lib;
+    /* Of a forwarder by name the name in that library. */
+    struct goblin_pe_text export_name;
+    /* Of a forwarder by ordinal the ordinal in that library. */
+    size_t ordinal;
+    /* The file offset of rva, where it has one. */
+    size_t offset;
+    /* The export's address, or that of its forwarder's text. */
+    size_t rva;
+    /* How many bytes it has: the tables don't say it, so 0. */
+    size_t size;
+    /* Whether the name can be read. */
+    bool has_name;
+    /* Whether the address has a file offset. */
+    bool has_offset;
+    /* 0 no forwarder, 1 a forwarder by name, 2 a forwarder by ordinal. */
+    uint8_t forwards;
+};
+
+/* A block of base relocations, for one page of the image in memory. */
+struct goblin_pe_block {
+    /* The words, of two bytes each: the type in the high four bits, and in the low twelve the
+       place, in bytes from the page's address. A byte that is left is no word. */
+    struct goblin_pe_text words;
+    /* The page's address, relative to the image's base. */
+    uint32_t rva;
+    /* The size of the block with its head, in bytes. */
+    uint32_t size;
+};
+
+/* A table of the file. */
+struct goblin_pe_table {
+    /* How many entries it has. */
+    size_t count;
+    /* 0 the file has no such table, 1 it was read, 2 it is refused and was passed over. */
+    uint32_t state;
+};
+
+/* The base relocations. */
+struct goblin_pe_relocations {
+    /* The blocks. */
+    struct goblin_pe_table blocks;
+    /* Why a rest that follows the blocks is none; its status is 0 where there is no rest. */
+    struct goblin_pe_fault rest;
+};
+
+/* A symbol. */
+struct goblin_pe_symbol {
+    /* The name, from the record or the string table, where it can be read. */
+    struct goblin_pe_text name;
+    /* The index of its record in the symbol table, which also counts auxiliary records. */
+    size_t index;
+    /* The eight bytes of the name in the record. */
+    uint8_t record_name[8];
+    /* What the symbol stands for, by its section and class. */
+    uint32_t value;
+    /* The number of its section, counted from 1; or 0 undefined, -1 absolute, -2 for a debugger. */
+    int16_t section_number;
+    /* Its type. */
+    uint16_t typ;
+    /* Its class. */
+    uint8_t storage_class;
+    /* How many auxiliary records follow it. */
+    uint8_t number_of_aux_symbols;
+    /* Whether the name can be read. */
+    bool has_name;
+};
+
+/* The file as a whole. */
+struct goblin_pe_file {
+    /* The optional header. */
+    struct goblin_pe_optional_header optional_header;
+    /* How many sections there are. */
+    size_t sections;
+    /* The imports. */
+    struct goblin_pe_table imports;
+    /* The exports. */
+    struct goblin_pe_table exports;
+    /* The base relocations. */
+    struct goblin_pe_relocations relocations;
+    /* The Rich header. */
+    struct goblin_pe_rich_header rich_header;
+    /* The DOS header. */
+    struct goblin_pe_dos_header dos_header;
+    /* The COFF header. */
+    struct goblin_pe_coff_header coff_header;
+};
+
+/* An object as a whole. */
+struct goblin_pe_object {
+    /* How many sections there are. */
+    size_t sections;
+    /* The symbols. */
+    struct goblin_pe_table symbols;
+    /* The COFF header. */
+    struct goblin_pe_coff_header coff_header;
+};
+
+/* Strictly, with addresses mapped by the sections from their raw pointers as stored, and imports. */
+#define GOBLIN_PE_DEFAULT_OPTIONS { false, true, false, true }
+
+/* Records that may be filled. */
+static const uint8_t goblin_pe_no_bytes[1] = { 0 };
+#define GOBLIN_PE_NO_TEXT { goblin_pe_no_bytes, 0 }
+#define GOBLIN_PE_EMPTY_SECTION \
+    { GOBLIN_PE_NO_TEXT, { 0 }, 0, 0, 0, 0, 0, 0, 0, 0, 0, false }
+#define GOBLIN_PE_EMPTY_IMPORT \
+    { GOBLIN_PE_NO_TEXT, GOBLIN_PE_NO_TEXT, 0, 0, 0, 0, 0, false }
+#define GOBLIN_PE_EMPTY_EXPORT \
+    { GOBLIN_PE_NO_TEXT, GOBLIN_PE_NO_TEXT, GOBLIN_PE_NO_TEXT, 0, 0, 0, 0, false, false, 0 }
+#define GOBLIN_PE_EMPTY_BLOCK \
+    { GOBLIN_PE_NO_TEXT, 0, 0 }
+#define GOBLIN_PE_EMPTY_SYMBOL \
+    { GOBLIN_PE_NO_TEXT, 0, { 0 }, 0, 0, 0, 0, 0, false }
+
+/* The version of this interface as the library was built with it. */
+uint32_t goblin_pe_interface(void);
+
+/* Reads a whole file: says in `file` what it is and how many entries its tables have, and fills the
+   records as far as there is room. A file has sixteen data directories or none. With no room, a call
+   counts. */
+struct goblin_pe_fault goblin_pe_read(
+    const uint8_t *bytes, size_t length, const struct goblin_pe_options *options,
+    struct goblin_pe_file *file,
+    struct goblin_pe_rich_entry *rich_entries, size_t rich_entry_room,
+    struct goblin_pe_directory *directories, size_t directory_room,
+    struct goblin_pe_section *sections, size_t section_room,
+    struct goblin_pe_import *imports, size_t import_room,
+    struct goblin_pe_export *exports, size_t export_room,
+    struct goblin_pe_block *blocks, size_t block_room);
+
+/* Reads an object, which begins with a COFF header; only the mode of the options counts. */
+struct goblin_pe_fault goblin_pe_read_object(
+    const uint8_t *bytes, size_t length, const struct goblin_pe_options *options,
+    struct goblin_pe_object *object,
+    struct goblin_pe_section *sections, size_t section_room,
+    struct goblin_pe_symbol *symbols, size_t symbol_room);
+
+/* Reads a Terse Executable: its header, which says how many sections there are, and those as far as
+   there is room. The signature is not looked at. */
+struct goblin_pe_fault goblin_pe_read_te(
+    const uint8_t *bytes, size_t length, struct goblin_pe_te_header *header,
+    struct goblin_pe_section *sections, size_t section_room);
+
+/* Puts the file offset of an address into `offset`, and answers whether there is one: by sections that
+   were filled in and the file alignment of the optional header. */
+bool goblin_pe_find_offset(
+    size_t rva, const struct goblin_pe_section *sections, size_t section_count,
+    uint32_t file_alignment, const struct goblin_pe_options *options, size_t *offset);
+
+/* Writes the text of a refusal, without a NUL, as far as there is room, and answers how long the whole
+   text is; 0 where there is none. */
+size_t goblin_pe_fault_text(const struct goblin_pe_fault *fault, uint8_t *text, size_t room);
+
+#ifdef __cplusplus
+}
+#endif
+
+#endif

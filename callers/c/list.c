@@ -1,0 +1,262 @@
+/* Lists a file as pe_list does: list [--permissive] FILE. With --symbols the symbols of an object, and
+   with --te the header of a Terse Executable, as pe_replay shows them. */
+#include "goblin_pe.h"
+
+#include <inttypes.h>
+#include <stdio.h>
+#include <stdlib.h>
+#include <string.h>
+
+/* A label and a text; bytes outside printable ASCII, and the backslash, as \x and two digits. */
+static void put(const char *label, struct goblin_pe_text text)
+{
+    fputs(label, stdout);
+    for (size_t i = 0; i < text.length; i++) {
+        uint8_t byte = text.bytes[i];
+        if (byte < 0x20 || byte > 0x7e || byte == '\\')
+            printf("\\x%02x", byte);
+        else
+            putchar(byte);
+    }
+}
+
+static void put_table(const char *label, struct goblin_pe_table table)
+{
+    if (table.state == GOBLIN_PE_READ)
+        printf("%s %zu\n", label, table.count);
+    else
+        printf("%s %s\n", label, table.state == GOBLIN_PE_ABSENT ? "absent" : "refused");
+}
+
+/* The name from the string table, else the eight bytes up to the first NUL. */
+static struct goblin_pe_text section_name(const struct goblin_pe_section *s)
+{
+    struct goblin_pe_text name = { s->name, 0 };
+    if (s->has_real_name)
+        return s->real_name;
+    while (name.length < sizeof s->name && s->name[name.length])
+        name.length++;
+    return name;
+}
+
+static uint8_t *whole(const char *path, size_t *length)
+{
+    FILE *from = fopen(path, "rb");
+    uint8_t *bytes = NULL;
+    size_t room = 0, had = 0;
+    if (!from)
+        return NULL;
+    do {
+        room = 2 * room + 65536;
+        uint8_t *more = realloc(bytes, room);
+        if (!more) {
+            free(bytes);
+            fclose(from);
+            return NULL;
+        }
+        bytes = more;
+        had += fread(bytes + had, 1, room - had, from);
+    } while (had == room);
+    fclose(from);
+    *length = had;
+    return bytes;
+}
+
+/* Records, one more than asked for so that the pointer is not null, each a copy of an empty one. */
+static void *records(size_t count, const void *empty, size_t size)
+{
+    char *all = malloc((count + 1) * size);
+    if (!all)
+        exit(3);
+    for (size_t i = 0; i <= count; i++)
+        memcpy(all + i * size, empty, size);
+    return all;
+}
+
+static int refused(struct goblin_pe_fault fault)
+{
+    uint8_t text[160];
+    size_t length = goblin_pe_fault_text(&fault, text, sizeof text);
+    fprintf(stderr, "refused: %.*s\n", (int)(length < sizeof text ? length : sizeof text),
+            (const char *)text);
+    return 1;
+}
+
+static const struct goblin_pe_section no_section = GOBLIN_PE_EMPTY_SECTION;
+static const struct goblin_pe_import no_import = GOBLIN_PE_EMPTY_IMPORT;
+static const struct goblin_pe_export no_export = GOBLIN_PE_EMPTY_EXPORT;
+static const struct goblin_pe_block no_block = GOBLIN_PE_EMPTY_BLOCK;
+static const struct goblin_pe_symbol no_symbol = GOBLIN_PE_EMPTY_SYMBOL;
+
+static void put_sections(const struct goblin_pe_section *sections, size_t count)
+{
+    for (size_t i = 0; i < count; i++) {
+        const struct goblin_pe_section *s = &sections[i];
+        printf("section va=0x%x vsize=0x%x raw=0x%x ptr=0x%x", s->virtual_address,
+               s->virtual_size, s->size_of_raw_data, s->pointer_to_raw_data);
+        put(" name=", section_name(s));
+        putchar('\n');
+    }
+}
+
+static void put_imports(const struct goblin_pe_import *imports, size_t count)
+{
+    for (size_t i = 0; i < count; i++) {
+        const struct goblin_pe_import *x = &imports[i];
+        printf("import offset=0x%zx ordinal=%u rva=0x%zx size=%zu slot=%zu", x->offset, x->ordinal,
+               x->rva, x->size, x->slot);
+        put(" dll=", x->dll);
+        if (x->is_by_name)
+            put(" name=", x->name);
+        else
+            printf(" name=ORDINAL %u", x->ordinal);
+        putchar('\n');
+    }
+}
+
+static void put_exports(const struct goblin_pe_export *exports, size_t count)
+{
+    for (size_t i = 0; i < count; i++) {
+        const struct goblin_pe_export *x = &exports[i];
+        printf("export rva=0x%zx", x->rva);
+        if (x->has_offset)
+            printf(" offset=0x%zx", x->offset);
+        if (x->forwards)
+            put(" forward=", x->lib);
+        if (x->forwards == GOBLIN_PE_FORWARDS_NAME)
+            put(".", x->export_name);
+        if (x->forwards == GOBLIN_PE_FORWARDS_ORDINAL)
+            printf(".#%zu", x->ordinal);
+        if (x->has_name)
+            put(" name=", x->name);
+        putchar('\n');
+    }
+}
+
+static int list_image(const uint8_t *bytes, size_t length, bool is_permissive)
+{
+    struct goblin_pe_options options = GOBLIN_PE_DEFAULT_OPTIONS;
+    struct goblin_pe_file file = { 0 };
+    struct goblin_pe_rich_entry no_entry = { 0 };
+    struct goblin_pe_directory no_directory = { 0 };
+    options.is_permissive = is_permissive;
+    struct goblin_pe_section *sections = records(0, &no_section, sizeof no_section);
+    struct goblin_pe_import *imports = records(0, &no_import, sizeof no_import);
+    struct goblin_pe_export *exports = records(0, &no_export, sizeof no_export);
+    struct goblin_pe_block *blocks = records(0, &no_block, sizeof no_block);
+    /* how many there are, and then the records */
+    struct goblin_pe_fault fault = goblin_pe_read(
+        bytes, length, &options, &file, &no_entry, 0, &no_directory, 0, sections, 0, imports, 0,
+        exports, 0, blocks, 0);
+    if (fault.status == GOBLIN_PE_OK) {
+        free(sections);
+        free(imports);
+        free(exports);
+        free(blocks);
+        sections = records(file.sections, &no_section, sizeof no_section);
+        imports = records(file.imports.count, &no_import, sizeof no_import);
+        exports = records(file.exports.count, &no_export, sizeof no_export);
+        blocks = records(file.relocations.blocks.count, &no_block, sizeof no_block);
+        fault = goblin_pe_read(bytes, length, &options, &file, &no_entry, 0, &no_directory, 0,
+                               sections, file.sections, imports, file.imports.count, exports,
+                               file.exports.count, blocks, file.relocations.blocks.count);
+    }
+    if (fault.status == GOBLIN_PE_OK) {
+        printf("header machine=0x%x sections=%zu", file.coff_header.machine, file.sections);
+        if (file.coff_header.size_of_optional_header)
+            printf(" magic=0x%x entry=0x%x", file.optional_header.magic,
+                   file.optional_header.address_of_entry_point);
+        putchar('\n');
+        put_sections(sections, file.sections);
+        put_table("imports", file.imports);
+        put_imports(imports, file.imports.count);
+        put_table("exports", file.exports);
+        put_exports(exports, file.exports.count);
+        put_table("relocations", file.relocations.blocks);
+        for (size_t i = 0; i < file.relocations.blocks.count; i++)
+            printf("block rva=0x%x size=0x%x words=%zu\n", blocks[i].rva, blocks[i].size,
+                   blocks[i].words.length / 2);
+        if (file.relocations.rest.status != GOBLIN_PE_OK)
+            puts("block refused");
+    }
+    free(sections);
+    free(imports);
+    free(exports);
+    free(blocks);
+    return fault.status == GOBLIN_PE_OK ? 0 : refused(fault);
+}
+
+static int list_symbols(const uint8_t *bytes, size_t length)
+{
+    struct goblin_pe_options options = GOBLIN_PE_DEFAULT_OPTIONS;
+    struct goblin_pe_object object = { 0 };
+    struct goblin_pe_section *sections = records(0, &no_section, sizeof no_section);
+    struct goblin_pe_symbol *symbols = records(0, &no_symbol, sizeof no_symbol);
+    struct goblin_pe_fault fault =
+        goblin_pe_read_object(bytes, length, &options, &object, sections, 0, symbols, 0);
+    if (fault.status == GOBLIN_PE_OK) {
+        free(sections);
+        free(symbols);
+        sections = records(object.sections, &no_section, sizeof no_section);
+        symbols = records(object.symbols.count, &no_symbol, sizeof no_symbol);
+        fault = goblin_pe_read_object(bytes, length, &options, &object, sections, object.sections,
+                                      symbols, object.symbols.count);
+    }
+    for (size_t i = 0; fault.status == GOBLIN_PE_OK && i < object.symbols.count; i++) {
+        const struct goblin_pe_symbol *s = &symbols[i];
+        printf("symbol %zu value=%u section=%d class=%u aux=%u", s->index, s->value,
+               s->section_number, s->storage_class, s->number_of_aux_symbols);
+        put(" name=", s->name);
+        putchar('\n');
+    }
+    for (size_t i = 0; fault.status == GOBLIN_PE_OK && i < object.sections; i++)
+        if (sections[i].number_of_relocations) {
+            put("relocations ", section_name(&sections[i]));
+            printf(" %u\n", sections[i].number_of_relocations);
+        }
+    free(sections);
+    free(symbols);
+    return fault.status == GOBLIN_PE_OK ? 0 : refused(fault);
+}
+
+static int list_te(const uint8_t *bytes, size_t length)
+{
+    struct goblin_pe_te_header h = { 0 };
+    struct goblin_pe_section *sections = records(255, &no_section, sizeof no_section);
+    struct goblin_pe_fault fault = goblin_pe_read_te(bytes, length, &h, sections, 255);
+    if (fault.status == GOBLIN_PE_OK)
+        printf("signature %#x\nmachine %#x\nnumber_of_sections %#x\nsubsystem %#x\n"
+               "stripped_size %#x\nentry_point %#x\nbase_of_code %#x\nimage_base %#" PRIx64 "\n"
+               "reloc_dir %#x %u\ndebug_dir %#x %u\n",
+               h.signature, h.machine, h.number_of_sections, h.subsystem, h.stripped_size,
+               h.entry_point, h.base_of_code, h.image_base, h.reloc_dir.virtual_address,
+               h.reloc_dir.size, h.debug_dir.virtual_address, h.debug_dir.size);
+    for (size_t i = 0; fault.status == GOBLIN_PE_OK && i < h.number_of_sections; i++) {
+        const struct goblin_pe_section *s = &sections[i];
+        put("section ", section_name(s));
+        printf(" va=%#x vsize=%#x raw=%#x ptr=%#x characteristics=%#x\n", s->virtual_address,
+               s->virtual_size, s->size_of_raw_data, s->pointer_to_raw_data, s->characteristics);
+    }
+    free(sections);
+    return fault.status == GOBLIN_PE_OK ? 0 : refused(fault);
+}
+
+int main(int argc, char **argv)
+{
+    const char *word = argc == 3 ? argv[1] : "";
+    size_t length = 0;
+    int status = 2;
+    if (argc < 2 || goblin_pe_interface() != GOBLIN_PE_INTERFACE)
+        return status;
+    uint8_t *bytes = whole(argv[argc - 1], &length);
+    if (!bytes)
+        return 3;
+    if (argc == 2 || !strcmp(word, "--permissive"))
+        status = list_image(bytes, length, argc == 3);
+    else if (!strcmp(word, "--symbols"))
+        status = list_symbols(bytes, length);
+    else if (!strcmp(word, "--te"))
+        status = list_te(bytes, length);
+    free(bytes);
+    return status;
+}

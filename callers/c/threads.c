@@ -1,0 +1,58 @@
+/* Reads one file in eight threads at once, each with a small stack: threads KIB IMPORTS FILE. The
+   status is 0 where each read finds so many imports. */
+#include "goblin_pe.h"
+
+#include <pthread.h>
+#include <stdio.h>
+#include <stdlib.h>
+
+static uint8_t bytes[1 << 20];
+static size_t length;
+
+static void *reads(void *imports_wanted)
+{
+    static const struct goblin_pe_options options = GOBLIN_PE_DEFAULT_OPTIONS;
+    for (int i = 0; i < 200; i++) {
+        struct goblin_pe_rich_entry entry = { 0 };
+        struct goblin_pe_directory directory = { 0 };
+        struct goblin_pe_section section = GOBLIN_PE_EMPTY_SECTION;
+        struct goblin_pe_import import = GOBLIN_PE_EMPTY_IMPORT;
+        struct goblin_pe_export export = GOBLIN_PE_EMPTY_EXPORT;
+        struct goblin_pe_block block = GOBLIN_PE_EMPTY_BLOCK;
+        struct goblin_pe_file file = { 0 };
+        struct goblin_pe_fault fault =
+            goblin_pe_read(bytes, length, &options, &file, &entry, 1, &directory, 1, &section, 1,
+                           &import, 1, &export, 1, &block, 1);
+        if (fault.status != GOBLIN_PE_OK || file.imports.count != *(const size_t *)imports_wanted)
+            return NULL;
+    }
+    return imports_wanted;
+}
+
+int main(int argc, char **argv)
+{
+    pthread_t threads[8];
+    pthread_attr_t attributes;
+    if (argc != 4)
+        return 2;
+    size_t imports = strtoul(argv[2], NULL, 10);
+    FILE *from = fopen(argv[3], "rb");
+    if (!from)
+        return 3;
+    length = fread(bytes, 1, sizeof bytes, from);
+    fclose(from);
+    pthread_attr_init(&attributes);
+    if (pthread_attr_setstacksize(&attributes, strtoul(argv[1], NULL, 10) * 1024))
+        return 4;
+    for (int i = 0; i < 8; i++)
+        if (pthread_create(&threads[i], &attributes, reads, &imports))
+            return 5;
+    int status = 0;
+    for (int i = 0; i < 8; i++) {
+        void *answer = NULL;
+        pthread_join(threads[i], &answer);
+        if (!answer)
+            status = 1;
+    }
+    return status;
+}

@@ -1,0 +1,479 @@
+"""Reads PE files that can't be trusted: images with their headers, sections, imports, exports and base
+relocations, objects with their symbols, and Terse Executables.
+
+The reader is the proved library goblin_pe_c, as a shared library: ../lib/libgoblin_pe.so, or
+where the variable GOBLIN_PE_SO says. This module declares it and copies its records. Their fields are
+those of the crate, in the same order; callers/layout.py compares them.
+
+    pe = Pe(open("some.dll", "rb").read())
+    for x in pe.imports:
+        print(x.dll, x.name, x.ordinal)
+"""
+import ctypes as c
+import os
+from collections import namedtuple
+
+_INTERFACE = 1
+_STATES = ("absent", "read", "refused")
+
+
+class Text(c.Structure):
+    """Bytes of the file that was read."""
+
+    _fields_ = [
+        ("bytes", c.c_void_p),
+        ("length", c.c_size_t),
+    ]
+
+    def get(self):
+        return c.string_at(self.bytes, self.length)
+
+
+class Record(c.Structure):
+    """A record whose fields are shown by their names."""
+
+    def __repr__(self):
+        fields = ", ".join("%s=%r" % (field[0], getattr(self, field[0])) for field in self._fields_)
+        return "%s(%s)" % (type(self).__name__, fields)
+
+
+class Options(Record):
+    """What a call does and leaves out."""
+
+    _fields_ = [
+        ("is_permissive", c.c_bool),
+        ("resolve_rva", c.c_bool),
+        ("rounds_raw_pointers", c.c_bool),
+        ("parse_imports", c.c_bool),
+    ]
+
+
+class Fault(Record):
+    """Why a call gave no value, in numbers; the status 0 is that it gave one."""
+
+    _fields_ = [
+        ("status", c.c_uint32),
+        ("cause", c.c_uint32),
+        ("first", c.c_uint64),
+        ("second", c.c_uint64),
+    ]
+
+
+class DosHeader(Record):
+    """The DOS header."""
+
+    _fields_ = [
+        ("pe_pointer", c.c_uint32),
+        ("signature", c.c_uint16),
+        ("bytes_on_last_page", c.c_uint16),
+        ("pages_in_file", c.c_uint16),
+        ("relocations", c.c_uint16),
+        ("size_of_header_in_paragraphs", c.c_uint16),
+        ("minimum_extra_paragraphs_needed", c.c_uint16),
+        ("maximum_extra_paragraphs_needed", c.c_uint16),
+        ("initial_relative_ss", c.c_uint16),
+        ("initial_sp", c.c_uint16),
+        ("checksum", c.c_uint16),
+        ("initial_ip", c.c_uint16),
+        ("initial_relative_cs", c.c_uint16),
+        ("file_address_of_relocation_table", c.c_uint16),
+        ("overlay_number", c.c_uint16),
+        ("reserved", c.c_uint16 * 4),
+        ("oem_id", c.c_uint16),
+        ("oem_info", c.c_uint16),
+        ("reserved2", c.c_uint16 * 10),
+    ]
+
+
+class CoffHeader(Record):
+    """The COFF header."""
+
+    _fields_ = [
+        ("machine", c.c_uint16),
+        ("number_of_sections", c.c_uint16),
+        ("time_date_stamp", c.c_uint32),
+        ("pointer_to_symbol_table", c.c_uint32),
+        ("number_of_symbol_table", c.c_uint32),
+        ("size_of_optional_header", c.c_uint16),
+        ("characteristics", c.c_uint16),
+    ]
+
+
+class OptionalHeader(Record):
+    """The optional header; zeros where there is none."""
+
+    _fields_ = [
+        ("size_of_code", c.c_uint64),
+        ("size_of_initialized_data", c.c_uint64),
+        ("size_of_uninitialized_data", c.c_uint64),
+        ("base_of_code", c.c_uint64),
+        ("image_base", c.c_uint64),
+        ("size_of_stack_reserve", c.c_uint64),
+        ("size_of_stack_commit", c.c_uint64),
+        ("size_of_heap_reserve", c.c_uint64),
+        ("size_of_heap_commit", c.c_uint64),
+        ("address_of_entry_point", c.c_uint32),
+        ("base_of_data", c.c_uint32),
+        ("section_alignment", c.c_uint32),
+        ("file_alignment", c.c_uint32),
+        ("win32_version_value", c.c_uint32),
+        ("size_of_image", c.c_uint32),
+        ("size_of_headers", c.c_uint32),
+        ("check_sum", c.c_uint32),
+        ("loader_flags", c.c_uint32),
+        ("number_of_rva_and_sizes", c.c_uint32),
+        ("magic", c.c_uint16),
+        ("major_operating_system_version", c.c_uint16),
+        ("minor_operating_system_version", c.c_uint16),
+        ("major_image_version", c.c_uint16),
+        ("minor_image_version", c.c_uint16),
+        ("major_subsystem_version", c.c_uint16),
+        ("minor_subsystem_version", c.c_uint16),
+        ("subsystem", c.c_uint16),
+        ("dll_characteristics", c.c_uint16),
+        ("major_linker_version", c.c_uint8),
+        ("minor_linker_version", c.c_uint8),
+    ]
+
+
+class Directory(Record):
+    """An entry of the table of data directories."""
+
+    _fields_ = [
+        ("end", c.c_size_t),
+        ("virtual_address", c.c_uint32),
+        ("size", c.c_uint32),
+        ("is_present", c.c_bool),
+    ]
+
+
+class DataDirectory(Record):
+    """Where a table of an image lies."""
+
+    _fields_ = [
+        ("virtual_address", c.c_uint32),
+        ("size", c.c_uint32),
+    ]
+
+
+class TeHeader(Record):
+    """The header of a Terse Executable, its addresses as they are in the stripped file."""
+
+    _fields_ = [
+        ("image_base", c.c_uint64),
+        ("entry_point", c.c_uint32),
+        ("base_of_code", c.c_uint32),
+        ("reloc_dir", DataDirectory),
+        ("debug_dir", DataDirectory),
+        ("signature", c.c_uint16),
+        ("machine", c.c_uint16),
+        ("stripped_size", c.c_uint16),
+        ("number_of_sections", c.c_uint8),
+        ("subsystem", c.c_uint8),
+    ]
+
+
+class RichEntry(Record):
+    """An entry of the Rich header: a tool, and how often it was used."""
+
+    _fields_ = [
+        ("use_count", c.c_uint32),
+        ("build", c.c_uint16),
+        ("product", c.c_uint16),
+    ]
+
+
+class RichHeader(Record):
+    """The Rich header; zeros where there is none."""
+
+    _fields_ = [
+        ("entries", c.c_size_t),
+        ("padding_size", c.c_size_t),
+        ("rest", Fault),
+        ("key", c.c_uint32),
+        ("start_offset", c.c_uint32),
+        ("end_offset", c.c_uint32),
+        ("is_present", c.c_bool),
+    ]
+
+
+class Section(Record):
+    """A section, as its record describes it."""
+
+    _fields_ = [
+        ("real_name", Text),
+        ("name", c.c_uint8 * 8),
+        ("virtual_size", c.c_uint32),
+        ("virtual_address", c.c_uint32),
+        ("size_of_raw_data", c.c_uint32),
+        ("pointer_to_raw_data", c.c_uint32),
+        ("pointer_to_relocations", c.c_uint32),
+        ("pointer_to_linenumbers", c.c_uint32),
+        ("number_of_relocations", c.c_uint16),
+        ("number_of_linenumbers", c.c_uint16),
+        ("characteristics", c.c_uint32),
+        ("has_real_name", c.c_bool),
+    ]
+
+
+class Import(Record):
+    """An import."""
+
+    _fields_ = [
+        ("name", Text),
+        ("dll", Text),
+        ("offset", c.c_size_t),
+        ("rva", c.c_size_t),
+        ("size", c.c_size_t),
+        ("slot", c.c_size_t),
+        ("ordinal", c.c_uint16),
+        ("is_by_name", c.c_bool),
+    ]
+
+
+class Export(Record):
+    """An export."""
+
+    _fields_ = [
+        ("name", Text),
+        ("lib", Text),
+        ("export_name", Text),
+        ("ordinal", c.c_size_t),
+        ("offset", c.c_size_t),
+        ("rva", c.c_size_t),
+        ("size", c.c_size_t),
+        ("has_name", c.c_bool),
+        ("has_offset", c.c_bool),
+        ("forwards", c.c_uint8),
+    ]
+
+
+class Block(Record):
+    """A block of base relocations, for one page of the image in memory."""
+
+    _fields_ = [
+        ("words", Text),
+        ("rva", c.c_uint32),
+        ("size", c.c_uint32),
+    ]
+
+
+class Table(Record):
+    """A table of the file."""
+
+    _fields_ = [
+        ("count", c.c_size_t),
+        ("state", c.c_uint32),
+    ]
+
+
+class Relocations(Record):
+    """The base relocations."""
+
+    _fields_ = [
+        ("blocks", Table),
+        ("rest", Fault),
+    ]
+
+
+class Symbol(Record):
+    """A symbol."""
+
+    _fields_ = [
+        ("name", Text),
+        ("index", c.c_size_t),
+        ("record_name", c.c_uint8 * 8),
+        ("value", c.c_uint32),
+        ("section_number", c.c_int16),
+        ("typ", c.c_uint16),
+        ("storage_class", c.c_uint8),
+        ("number_of_aux_symbols", c.c_uint8),
+        ("has_name", c.c_bool),
+    ]
+
+
+class File(Record):
+    """The file as a whole."""
+
+    _fields_ = [
+        ("optional_header", OptionalHeader),
+        ("sections", c.c_size_t),
+        ("imports", Table),
+        ("exports", Table),
+        ("relocations", Relocations),
+        ("rich_header", RichHeader),
+        ("dos_header", DosHeader),
+        ("coff_header", CoffHeader),
+    ]
+
+
+class Object(Record):
+    """An object as a whole."""
+
+    _fields_ = [
+        ("sections", c.c_size_t),
+        ("symbols", Table),
+        ("coff_header", CoffHeader),
+    ]
+
+
+_LIB = c.CDLL(os.environ.get("GOBLIN_PE_SO", os.path.join(os.path.dirname(os.path.abspath(__file__)), "../lib/libgoblin_pe.so")))
+_BYTES = [c.c_char_p, c.c_size_t]
+
+
+def _records_of(*kinds):
+    return [it for kind in kinds for it in (c.POINTER(kind), c.c_size_t)]
+
+
+_LIB.goblin_pe_interface.restype = c.c_uint32
+_LIB.goblin_pe_interface.argtypes = []
+_LIB.goblin_pe_read.restype = Fault
+_LIB.goblin_pe_read.argtypes = (_BYTES + [c.POINTER(Options), c.POINTER(File)]
+                                + _records_of(RichEntry, Directory, Section, Import, Export, Block))
+_LIB.goblin_pe_read_object.restype = Fault
+_LIB.goblin_pe_read_object.argtypes = (_BYTES + [c.POINTER(Options), c.POINTER(Object)]
+                                       + _records_of(Section, Symbol))
+_LIB.goblin_pe_read_te.restype = Fault
+_LIB.goblin_pe_read_te.argtypes = _BYTES + [c.POINTER(TeHeader)] + _records_of(Section)
+_LIB.goblin_pe_find_offset.restype = c.c_bool
+_LIB.goblin_pe_find_offset.argtypes = ([c.c_size_t] + _records_of(Section)
+                                       + [c.c_uint32, c.POINTER(Options), c.POINTER(c.c_size_t)])
+_LIB.goblin_pe_fault_text.restype = c.c_size_t
+_LIB.goblin_pe_fault_text.argtypes = [c.POINTER(Fault), c.c_char_p, c.c_size_t]
+if _LIB.goblin_pe_interface() != _INTERFACE:
+    raise ImportError("libgoblin_pe.so has another interface than this module")
+
+
+class Refused(ValueError):
+    """The file was refused: the fault's text, and its numbers."""
+
+    def __init__(self, fault):
+        text = c.create_string_buffer(160)
+        length = _LIB.goblin_pe_fault_text(c.byref(fault), text, len(text))
+        super().__init__(text.raw[: min(length, len(text))].decode())
+        self.status, self.cause = fault.status, fault.cause
+        self.first, self.second = fault.first, fault.second
+
+
+def _test(fault):
+    if fault.status:
+        raise Refused(fault)
+
+
+_NO_BYTES = c.create_string_buffer(1)
+
+
+def _empty(kind):
+    # a record whose texts are none, but point somewhere
+    record = kind()
+    for field in kind._fields_:
+        if field[1] is Text:
+            setattr(record, field[0], Text(c.addressof(_NO_BYTES), 0))
+    return bytes(record)
+
+
+def _records(kind, count):
+    # one more than asked for, so that the pointer is never null
+    return (kind * (count + 1)).from_buffer_copy(_empty(kind) * (count + 1))
+
+
+def options(is_permissive=False, resolve_rva=True, rounds_raw_pointers=False, parse_imports=True):
+    """How a file is read; by default strictly."""
+    return Options(is_permissive, resolve_rva, rounds_raw_pointers, parse_imports)
+
+
+SectionRow = namedtuple("SectionRow", "name virtual_size virtual_address size_of_raw_data pointer_to_raw_data pointer_to_relocations "
+                        "pointer_to_linenumbers number_of_relocations number_of_linenumbers characteristics")
+ImportRow = namedtuple("ImportRow", "dll name ordinal offset rva size slot")
+ExportRow = namedtuple("ExportRow", "name rva offset forwarder")
+BlockRow = namedtuple("BlockRow", "rva size words")
+SymbolRow = namedtuple("SymbolRow", "index name value section_number typ storage_class number_of_aux_symbols")
+
+
+def _section(s):
+    name = s.real_name.get() if s.has_real_name else bytes(s.name).split(b"\0")[0]
+    return SectionRow(name, *(getattr(s, field) for field in SectionRow._fields[1:]))
+
+
+def _import(x):
+    return ImportRow(x.dll.get(), x.name.get() if x.is_by_name else None, x.ordinal, x.offset, x.rva, x.size, x.slot)
+
+
+def _export(x):
+    forwarder = (x.lib.get(), x.export_name.get() if x.forwards == 1 else x.ordinal) if x.forwards else None
+    return ExportRow(x.name.get() if x.has_name else None, x.rva, x.offset if x.has_offset else None, forwarder)
+
+
+def _block(b):
+    words = b.words.get()
+    return BlockRow(b.rva, b.size, [int.from_bytes(words[i:i + 2], "little") for i in range(0, len(words) // 2 * 2, 2)])
+
+
+def _symbol(s):
+    return SymbolRow(s.index, s.name.get() if s.has_name else None, *(getattr(s, field) for field in SymbolRow._fields[2:]))
+
+
+class Pe:
+    """An image that was read. Texts are bytes. An import by ordinal has no name, and of one by name the
+    ordinal is the hint; a forwarder is the library with a name or an ordinal. The lists are empty where
+    their tables are absent or refused."""
+
+    _KINDS = (RichEntry, Directory, Section, Import, Export, Block)
+
+    def __init__(self, data, how=None):
+        data, self._options, file = bytes(data), how or options(), File()
+        counts = (16, 16, 16, 256, 64, 16)
+        for _ in range(2):
+            records = [_records(kind, count) for kind, count in zip(self._KINDS, counts)]
+            rooms = [it for pair in zip(records, counts) for it in pair]
+            _test(_LIB.goblin_pe_read(data, len(data), c.byref(self._options), c.byref(file), *rooms))
+            wanted = (file.rich_header.entries, 16, file.sections, file.imports.count, file.exports.count, file.relocations.blocks.count)
+            if all(want <= had for want, had in zip(wanted, counts)):
+                break
+            counts = wanted
+        entries, directories, self._sections, imports, exports, blocks = records
+        self._count = file.sections
+        # the records below borrow from these bytes until they are copied
+        self._data = data
+        self.dos_header, self.coff_header = file.dos_header, file.coff_header
+        self.optional_header = file.optional_header if file.coff_header.size_of_optional_header else None
+        self.rich_header = file.rich_header if file.rich_header.is_present else None
+        self.rich_entries = list(entries[: file.rich_header.entries])
+        self.data_directories = {index: d for index, d in enumerate(directories[:16]) if d.is_present}
+        self.sections = [_section(s) for s in self._sections[: file.sections]]
+        self.import_table, self.imports = _STATES[file.imports.state], [_import(x) for x in imports[: file.imports.count]]
+        self.export_table, self.exports = _STATES[file.exports.state], [_export(x) for x in exports[: file.exports.count]]
+        self.relocation_table = _STATES[file.relocations.blocks.state]
+        self.blocks = [_block(b) for b in blocks[: file.relocations.blocks.count]]
+        self.block_rest = Refused(file.relocations.rest) if file.relocations.rest.status else None
+
+    def find_offset(self, rva):
+        """The file offset of an address, or None, by the sections and the file alignment."""
+        offset = c.c_size_t()
+        alignment = self.optional_header.file_alignment if self.optional_header else 0
+        is_found = _LIB.goblin_pe_find_offset(rva, self._sections, self._count, alignment, c.byref(self._options), c.byref(offset))
+        return offset.value if is_found else None
+
+
+class ObjectFile:
+    """An object that was read; of the options only the mode counts."""
+
+    def __init__(self, data, how=None):
+        data, how, found = bytes(data), how or options(), Object()
+        counts = (0, 0)
+        for _ in range(2):
+            sections, symbols = _records(Section, counts[0]), _records(Symbol, counts[1])
+            _test(_LIB.goblin_pe_read_object(data, len(data), c.byref(how), c.byref(found), sections, counts[0], symbols, counts[1]))
+            counts = (found.sections, found.symbols.count)
+        self.coff_header = found.coff_header
+        self.sections = [_section(s) for s in sections[: found.sections]]
+        self.symbols = [_symbol(s) for s in symbols[: found.symbols.count]]
+
+
+class Te:
+    """A Terse Executable that was read. Its signature is not looked at."""
+
+    def __init__(self, data):
+        data, self.header, sections = bytes(data), TeHeader(), _records(Section, 255)
+        _test(_LIB.goblin_pe_read_te(data, len(data), c.byref(self.header), sections, 255))
+        self.sections = [_section(s) for s in sections[: self.header.number_of_sections]]

@@ -1,0 +1,81 @@
+"""Lists a file as pe_list does: list.py [--permissive] FILE. With --symbols the symbols of an object, and
+with --te the header of a Terse Executable, as pe_replay shows them."""
+import sys
+
+from goblin_pe import ObjectFile, Pe, Refused, Te, options
+
+
+def shown(text):
+    return "".join(chr(it) if 0x20 <= it <= 0x7E and it != 0x5C else "\\x%02x" % it for it in text)
+
+
+def heading(label, state, entries):
+    return "%s %s" % (label, len(entries) if state == "read" else state)
+
+
+def image(data, is_permissive):
+    pe = Pe(data, options(is_permissive=is_permissive))
+    line = "header machine=%#x sections=%d" % (pe.coff_header.machine, len(pe.sections))
+    if pe.optional_header:
+        line += " magic=%#x entry=%#x" % (pe.optional_header.magic, pe.optional_header.address_of_entry_point)
+    yield line
+    for s in pe.sections:
+        yield "section va=%#x vsize=%#x raw=%#x ptr=%#x name=%s" % (
+            s.virtual_address, s.virtual_size, s.size_of_raw_data, s.pointer_to_raw_data, shown(s.name))
+    yield heading("imports", pe.import_table, pe.imports)
+    for x in pe.imports:
+        name = shown(x.name) if x.name is not None else "ORDINAL %d" % x.ordinal
+        yield "import offset=%#x ordinal=%d rva=%#x size=%d slot=%d dll=%s name=%s" % (
+            x.offset, x.ordinal, x.rva, x.size, x.slot, shown(x.dll), name)
+    yield heading("exports", pe.export_table, pe.exports)
+    for x in pe.exports:
+        line = "export rva=%#x" % x.rva
+        if x.offset is not None:
+            line += " offset=%#x" % x.offset
+        if x.forwarder:
+            lib, what = x.forwarder
+            line += " forward=%s.%s" % (shown(lib), "#%d" % what if isinstance(what, int) else shown(what))
+        yield line + (" name=" + shown(x.name) if x.name is not None else "")
+    yield heading("relocations", pe.relocation_table, pe.blocks)
+    for b in pe.blocks:
+        yield "block rva=%#x size=%#x words=%d" % (b.rva, b.size, len(b.words))
+    if pe.block_rest:
+        yield "block refused"
+
+
+def symbols(data):
+    found = ObjectFile(data)
+    for s in found.symbols:
+        yield "symbol %d value=%d section=%d class=%d aux=%d name=%s" % (
+            s.index, s.value, s.section_number, s.storage_class, s.number_of_aux_symbols, shown(s.name or b""))
+    for s in found.sections:
+        if s.number_of_relocations:
+            yield "relocations %s %d" % (shown(s.name), s.number_of_relocations)
+
+
+def te(data):
+    found = Te(data)
+    h = found.header
+    for field in ("signature", "machine", "number_of_sections", "subsystem", "stripped_size", "entry_point", "base_of_code", "image_base"):
+        yield "%s %#x" % (field, getattr(h, field))
+    for field in ("reloc_dir", "debug_dir"):
+        yield "%s %#x %d" % (field, getattr(h, field).virtual_address, getattr(h, field).size)
+    for s in found.sections:
+        yield "section %s va=%#x vsize=%#x raw=%#x ptr=%#x characteristics=%#x" % (
+            shown(s.name), s.virtual_address, s.virtual_size, s.size_of_raw_data, s.pointer_to_raw_data, s.characteristics)
+
+
+def main(words):
+    with open(words[-1], "rb") as file:
+        data = file.read()
+    lines = {"--symbols": symbols, "--te": te}.get(words[0], lambda it: image(it, words[0] == "--permissive"))
+    try:
+        print("\n".join(lines(data)))
+    except Refused as refused:
+        print("refused: %s" % refused, file=sys.stderr)
+        return 1
+    return 0
+
+
+if __name__ == "__main__":
+    sys.exit(main(sys.argv[1:]))

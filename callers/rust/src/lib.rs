@@ -1,0 +1,679 @@
+//! Reads PE files that can't be trusted: images with their headers, sections, imports, exports and base
+//! relocations, objects with their symbols, and Terse Executables.
+//!
+//! The reader is the proved library `goblin_pe_c`; this crate declares it and gives its records types.
+//! All names and texts borrow from the bytes.
+//!
+//! ```no_run
+//! use goblin_pe::{Options, Pe};
+//! let bytes = std::fs::read("some.dll").unwrap();
+//! let pe = Pe::read(&bytes, &Options::default())?;
+//! for import in pe.imports() {
+//!     println!("{} from {}", import.name, import.dll);
+//! }
+//! # Ok::<(), goblin_pe::Error>(())
+//! ```
+#![deny(unsafe_code)]
+#![warn(missing_docs)]
+
+#[allow(unsafe_code)]
+mod raw;
+
+use std::cell::Cell;
+use std::fmt;
+
+pub use raw::{CoffHeader, DataDirectory, DosHeader, OptionalHeader, Options, RichEntry, TeHeader};
+
+/// How a table of the file stands.
+#[derive(Clone, Copy, Debug, PartialEq, Eq)]
+pub enum Part {
+    /// The file has no such table, or it was not asked for.
+    Absent,
+    /// It was read.
+    Read,
+    /// It is refused and was passed over.
+    Refused,
+}
+
+impl From<raw::Table> for Part {
+    fn from(table: raw::Table) -> Part {
+        match table.state {
+            0 => Part::Absent,
+            1 => Part::Read,
+            _ => Part::Refused,
+        }
+    }
+}
+
+/// A text of the file. It is shown with each byte outside printable ASCII, and the backslash, as `\x`
+/// and two hexadecimal digits.
+#[derive(Clone, Copy, PartialEq, Eq, PartialOrd, Ord, Hash)]
+pub struct Text<'a>(pub &'a [u8]);
+
+impl<'a> Text<'a> {
+    /// The text, where it is UTF-8: all but the short names of sections are.
+    pub fn as_str(self) -> Option<&'a str> {
+        std::str::from_utf8(self.0).ok()
+    }
+}
+
+impl fmt::Display for Text<'_> {
+    fn fmt(&self, f: &mut fmt::Formatter<'_>) -> fmt::Result {
+        for &byte in self.0 {
+            match byte {
+                b'\\' | 0..=0x1F | 0x7F..=0xFF => write!(f, "\\x{byte:02x}")?,
+                _ => write!(f, "{}", byte as char)?,
+            }
+        }
+        Ok(())
+    }
+}
+
+impl fmt::Debug for Text<'_> {
+    fn fmt(&self, f: &mut fmt::Formatter<'_>) -> fmt::Result {
+        write!(f, "\"{self}\"")
+    }
+}
+
+/// The Rich header, which says by which tools a file was made.
+#[derive(Clone, Copy, Debug)]
+pub struct RichHeader {
+    /// The key, under which the words are stored.
+    pub key: u32,
+    /// The size of the padding in front of the entries, in bytes.
+    pub padding_size: usize,
+    /// The file offset of the first marker.
+    pub start_offset: u32,
+    /// The file offset of the second marker.
+    pub end_offset: u32,
+}
+
+/// A section.
+#[derive(Clone, Copy, Debug)]
+pub struct Section<'a> {
+    /// The name from the string table, else the eight bytes up to the first NUL.
+    pub name: Text<'a>,
+    /// The size in memory, in bytes.
+    pub virtual_size: u32,
+    /// The address in memory, relative to the image's base.
+    pub virtual_address: u32,
+    /// The size of the data in the file, in bytes.
+    pub size_of_raw_data: u32,
+    /// The file offset of the data.
+    pub pointer_to_raw_data: u32,
+    /// The file offset of the relocations of an object, 0 where there are none.
+    pub pointer_to_relocations: u32,
+    /// The file offset of the line numbers, 0 where there are none.
+    pub pointer_to_linenumbers: u32,
+    /// How many relocations there are.
+    pub number_of_relocations: u16,
+    /// How many line numbers there are.
+    pub number_of_linenumbers: u16,
+    /// What the section holds and how it may be used, as bits.
+    pub characteristics: u32,
+}
+
+impl Section<'_> {
+    /// The data in the file `bytes`, and how many zeros follow them in memory; `None` where the data
+    /// pass the file.
+    pub fn data<'c>(&self, bytes: &'c [u8]) -> Option<(&'c [u8], u32)> {
+        let begin = self.pointer_to_raw_data as usize;
+        let end = begin.checked_add(self.size_of_raw_data as usize)?;
+        let zeros = self.virtual_size.saturating_sub(self.size_of_raw_data);
+        Some((bytes.get(begin..end)?, zeros))
+    }
+}
+
+impl<'b> From<&'b raw::Section<'_>> for Section<'b> {
+    fn from(s: &'b raw::Section<'_>) -> Section<'b> {
+        let short = s.name.split(|&byte| byte == 0).next().unwrap_or_default();
+        Section {
+            name: Text(if s.has_real_name {
+                s.real_name.get()
+            } else {
+                short
+            }),
+            virtual_size: s.virtual_size,
+            virtual_address: s.virtual_address,
+            size_of_raw_data: s.size_of_raw_data,
+            pointer_to_raw_data: s.pointer_to_raw_data,
+            pointer_to_relocations: s.pointer_to_relocations,
+            pointer_to_linenumbers: s.pointer_to_linenumbers,
+            number_of_relocations: s.number_of_relocations,
+            number_of_linenumbers: s.number_of_linenumbers,
+            characteristics: s.characteristics,
+        }
+    }
+}
+
+/// What is imported.
+#[derive(Clone, Copy, Debug, PartialEq, Eq)]
+pub enum Imported<'a> {
+    /// By a name.
+    Name {
+        /// The name.
+        name: Text<'a>,
+        /// Where the name may stand in the library's table of names.
+        hint: u16,
+    },
+    /// By an ordinal.
+    Ordinal(u16),
+}
+
+impl Imported<'_> {
+    /// The ordinal; of an import by name, the hint.
+    pub fn ordinal(&self) -> u16 {
+        match *self {
+            Imported::Name { hint, .. } => hint,
+            Imported::Ordinal(ordinal) => ordinal,
+        }
+    }
+}
+
+impl fmt::Display for Imported<'_> {
+    fn fmt(&self, f: &mut fmt::Formatter<'_>) -> fmt::Result {
+        match self {
+            Imported::Name { name, .. } => write!(f, "{name}"),
+            Imported::Ordinal(ordinal) => write!(f, "ORDINAL {ordinal}"),
+        }
+    }
+}
+
+/// An import.
+#[derive(Clone, Copy, Debug, PartialEq, Eq)]
+pub struct Import<'a> {
+    /// What is imported.
+    pub name: Imported<'a>,
+    /// The name of the library.
+    pub dll: Text<'a>,
+    /// The address of its entry in the address table.
+    pub offset: usize,
+    /// The address of the hint and the name, 0 of an import by ordinal.
+    pub rva: usize,
+    /// The size of an entry of the address table, in bytes.
+    pub size: usize,
+    /// The index of its entry in the lookup table and in the address table, in the file.
+    pub slot: usize,
+}
+
+impl<'a> From<&raw::Import<'a>> for Import<'a> {
+    fn from(x: &raw::Import<'a>) -> Import<'a> {
+        let named = Imported::Name {
+            name: Text(x.name.get()),
+            hint: x.ordinal,
+        };
+        Import {
+            name: if x.is_by_name {
+                named
+            } else {
+                Imported::Ordinal(x.ordinal)
+            },
+            dll: Text(x.dll.get()),
+            offset: x.offset,
+            rva: x.rva,
+            size: x.size,
+            slot: x.slot,
+        }
+    }
+}
+
+/// What an export that is a forwarder stands for.
+#[derive(Clone, Copy, Debug, PartialEq, Eq)]
+pub enum Forwarder<'a> {
+    /// An export by its name.
+    Name {
+        /// The library, without its ending.
+        lib: Text<'a>,
+        /// The export's name.
+        export: Text<'a>,
+    },
+    /// An export by its ordinal.
+    Ordinal {
+        /// The library, without its ending.
+        lib: Text<'a>,
+        /// The ordinal.
+        ordinal: usize,
+    },
+}
+
+/// An export.
+#[derive(Clone, Copy, Debug, PartialEq, Eq)]
+pub struct Export<'a> {
+    /// The name, where it can be read.
+    pub name: Option<Text<'a>>,
+    /// The file offset of `rva`, where it has one.
+    pub offset: Option<usize>,
+    /// The address, or that of the forwarder's text.
+    pub rva: usize,
+    /// What a forwarder stands for.
+    pub forwarder: Option<Forwarder<'a>>,
+}
+
+impl<'a> From<&raw::Export<'a>> for Export<'a> {
+    fn from(x: &raw::Export<'a>) -> Export<'a> {
+        let lib = Text(x.lib.get());
+        let export = Text(x.export_name.get());
+        let ordinal = x.ordinal;
+        Export {
+            name: x.has_name.then(|| Text(x.name.get())),
+            offset: x.has_offset.then_some(x.offset),
+            rva: x.rva,
+            forwarder: match x.forwards {
+                0 => None,
+                1 => Some(Forwarder::Name { lib, export }),
+                _ => Some(Forwarder::Ordinal { lib, ordinal }),
+            },
+        }
+    }
+}
+
+/// A block of base relocations, for one page of the image in memory.
+#[derive(Clone, Copy, Debug, PartialEq, Eq)]
+pub struct Block<'a> {
+    /// The page's address, relative to the image's base.
+    pub rva: u32,
+    /// The size of the block with its head, in bytes.
+    pub size: u32,
+    bytes: &'a [u8],
+}
+
+impl<'a> Block<'a> {
+    /// The words: of each its type, and its place in bytes from the page's address.
+    pub fn words(&self) -> impl ExactSizeIterator<Item = (u8, u16)> + use<'a> {
+        self.bytes.chunks_exact(2).map(|bytes| {
+            let word = u16::from_le_bytes([bytes[0], bytes[1]]);
+            ((word >> 12) as u8, word & 0xFFF)
+        })
+    }
+}
+
+impl<'a> From<&raw::Block<'a>> for Block<'a> {
+    fn from(b: &raw::Block<'a>) -> Block<'a> {
+        Block {
+            rva: b.rva,
+            size: b.size,
+            bytes: b.words.get(),
+        }
+    }
+}
+
+/// What kind of refusal it is.
+#[derive(Clone, Copy, Debug, PartialEq, Eq)]
+pub enum ErrorKind {
+    /// The bytes are not what the format says.
+    Malformed,
+    /// A magic number that no format has.
+    BadMagic,
+    /// The file is too short for as many entries as it counts.
+    BufferTooShort,
+    /// A read at an offset was refused.
+    Read,
+    /// Memory was refused.
+    Memory,
+}
+
+/// Why a file was refused.
+#[derive(Clone, Copy, PartialEq, Eq)]
+pub struct Error(raw::Fault);
+
+impl Error {
+    // The refusal that a fault says, where it says one.
+    fn of(fault: raw::Fault) -> Option<Error> {
+        (fault.status != 0).then_some(Error(fault))
+    }
+
+    // The refusal of a call, where there is one.
+    fn test(fault: raw::Fault) -> Result<(), Error> {
+        Error::of(fault).map_or(Ok(()), Err)
+    }
+
+    /// What kind of refusal it is.
+    pub fn kind(&self) -> ErrorKind {
+        match self.0.status {
+            1 => ErrorKind::Malformed,
+            2 => ErrorKind::BadMagic,
+            3 => ErrorKind::BufferTooShort,
+            4 => ErrorKind::Read,
+            _ => ErrorKind::Memory,
+        }
+    }
+
+    /// Which cause, by its number (0: the kind says all), and the cause's numbers.
+    pub fn cause(&self) -> (u32, u64, u64) {
+        (self.0.cause, self.0.first, self.0.second)
+    }
+}
+
+impl fmt::Display for Error {
+    fn fmt(&self, f: &mut fmt::Formatter<'_>) -> fmt::Result {
+        let mut text = [0; 160];
+        let length = raw::fault_text(&self.0, &mut text).min(text.len());
+        f.write_str(&String::from_utf8_lossy(&text[..length]))
+    }
+}
+
+impl fmt::Debug for Error {
+    fn fmt(&self, f: &mut fmt::Formatter<'_>) -> fmt::Result {
+        write!(f, "Error({self})")
+    }
+}
+
+impl std::error::Error for Error {}
+
+// The records of the last file that a thread let go, so that the next one is read in one pass and
+// needs no fresh memory.
+thread_local! {
+    static SPARE: Cell<Option<raw::Records<'static>>> = const { Cell::new(None) };
+}
+
+// The room of a thread's first try: entries of the Rich header, sections, imports, exports, blocks.
+const FIRST: [usize; 5] = [32, 16, 256, 64, 16];
+
+// The most records of a kind that are kept.
+const KEPT: usize = 8192;
+
+/// An image that was read.
+pub struct Pe<'a> {
+    options: Options,
+    file: raw::File,
+    records: raw::Records<'a>,
+}
+
+impl<'a> Pe<'a> {
+    /// Reads an image that lies in memory.
+    ///
+    /// # Errors
+    /// Why it was refused.
+    pub fn read(bytes: &'a [u8], options: &Options) -> Result<Pe<'a>, Error> {
+        let mut pe = Pe {
+            options: *options,
+            file: raw::File::default(),
+            records: SPARE.take().unwrap_or_default(),
+        };
+        pe.make_room(FIRST);
+        pe.fill(bytes)?;
+        if pe.make_room(pe.counts()) {
+            pe.fill(bytes)?;
+        }
+        Ok(pe)
+    }
+
+    fn fill(&mut self, bytes: &'a [u8]) -> Result<(), Error> {
+        Error::test(raw::read(
+            bytes,
+            &self.options,
+            &mut self.file,
+            &mut self.records,
+        ))
+    }
+
+    // How many records of each kind the file asks for.
+    fn counts(&self) -> [usize; 5] {
+        let file = &self.file;
+        [
+            file.rich_header.entries,
+            file.sections,
+            file.imports.count,
+            file.exports.count,
+            file.relocations.blocks.count,
+        ]
+    }
+
+    // Makes room for so many records, and answers whether there was less.
+    fn make_room(&mut self, room: [usize; 5]) -> bool {
+        let records = &mut self.records;
+        let grown = [
+            grow(&mut records.rich_entries, room[0], RichEntry::default()),
+            grow(&mut records.sections, room[1], raw::Section::EMPTY),
+            grow(&mut records.imports, room[2], raw::Import::EMPTY),
+            grow(&mut records.exports, room[3], raw::Export::EMPTY),
+            grow(&mut records.blocks, room[4], raw::Block::EMPTY),
+        ];
+        grown.contains(&true)
+    }
+
+    /// The DOS header.
+    pub fn dos_header(&self) -> &DosHeader {
+        &self.file.dos_header
+    }
+
+    /// The COFF header.
+    pub fn coff_header(&self) -> &CoffHeader {
+        &self.file.coff_header
+    }
+
+    /// The optional header, where there is one.
+    pub fn optional_header(&self) -> Option<&OptionalHeader> {
+        (self.file.coff_header.size_of_optional_header != 0).then_some(&self.file.optional_header)
+    }
+
+    /// The Rich header, where there is one.
+    pub fn rich_header(&self) -> Option<RichHeader> {
+        let rich = &self.file.rich_header;
+        rich.is_present.then_some(RichHeader {
+            key: rich.key,
+            padding_size: rich.padding_size,
+            start_offset: rich.start_offset,
+            end_offset: rich.end_offset,
+        })
+    }
+
+    /// The entries of the Rich header.
+    pub fn rich_entries(&self) -> &[RichEntry] {
+        &self.records.rich_entries[..self.file.rich_header.entries]
+    }
+
+    /// Why a rest that follows the entries of the Rich header is none, where there is a rest.
+    pub fn rich_rest(&self) -> Option<Error> {
+        Error::of(self.file.rich_header.rest)
+    }
+
+    /// The data directories that are there, each with its index.
+    pub fn data_directories(&self) -> impl Iterator<Item = (usize, DataDirectory)> + '_ {
+        let directories = self.records.directories.iter().enumerate();
+        directories.filter(|(_, d)| d.is_present).map(|(index, d)| {
+            let directory = DataDirectory {
+                virtual_address: d.virtual_address,
+                size: d.size,
+            };
+            (index, directory)
+        })
+    }
+
+    /// The sections.
+    pub fn sections(&self) -> impl ExactSizeIterator<Item = Section<'_>> {
+        self.section_records().iter().map(Section::from)
+    }
+
+    fn section_records(&self) -> &[raw::Section<'a>] {
+        &self.records.sections[..self.file.sections]
+    }
+
+    /// How the imports stand.
+    pub fn import_table(&self) -> Part {
+        Part::from(self.file.imports)
+    }
+
+    /// The imports.
+    pub fn imports(&self) -> impl ExactSizeIterator<Item = Import<'a>> + '_ {
+        self.records.imports[..self.file.imports.count]
+            .iter()
+            .map(Import::from)
+    }
+
+    /// How the exports stand.
+    pub fn export_table(&self) -> Part {
+        Part::from(self.file.exports)
+    }
+
+    /// The exports.
+    pub fn exports(&self) -> impl ExactSizeIterator<Item = Export<'a>> + '_ {
+        self.records.exports[..self.file.exports.count]
+            .iter()
+            .map(Export::from)
+    }
+
+    /// How the base relocations stand.
+    pub fn relocation_table(&self) -> Part {
+        Part::from(self.file.relocations.blocks)
+    }
+
+    /// The blocks of base relocations.
+    pub fn blocks(&self) -> impl ExactSizeIterator<Item = Block<'a>> + '_ {
+        self.records.blocks[..self.file.relocations.blocks.count]
+            .iter()
+            .map(Block::from)
+    }
+
+    /// Why a rest that follows the blocks is none, where there is a rest.
+    pub fn block_rest(&self) -> Option<Error> {
+        Error::of(self.file.relocations.rest)
+    }
+
+    /// The file offset of an address, by the sections and the file alignment.
+    pub fn find_offset(&self, rva: usize) -> Option<usize> {
+        let alignment = self.file.optional_header.file_alignment;
+        raw::find_offset(rva, self.section_records(), alignment, &self.options)
+    }
+}
+
+impl Drop for Pe<'_> {
+    fn drop(&mut self) {
+        let records = std::mem::take(&mut self.records);
+        let most = [
+            records.sections.len(),
+            records.imports.len(),
+            records.exports.len(),
+            records.blocks.len(),
+        ];
+        if most.iter().all(|&count| count <= KEPT) {
+            let spare = records.emptied();
+            // A thread that ends keeps nothing.
+            let _ = SPARE.try_with(|kept| kept.set(Some(spare)));
+        }
+    }
+}
+
+// Grows a list to a length, and answers whether it was shorter.
+fn grow<T: Copy>(records: &mut Vec<T>, length: usize, empty: T) -> bool {
+    let is_shorter = records.len() < length;
+    if is_shorter {
+        records.resize(length, empty);
+    }
+    is_shorter
+}
+
+/// A symbol of an object.
+#[derive(Clone, Copy, Debug, PartialEq, Eq)]
+pub struct Symbol<'a> {
+    /// The index of its record in the symbol table, which also counts auxiliary records.
+    pub index: usize,
+    /// The name, where it can be read.
+    pub name: Option<Text<'a>>,
+    /// What it stands for, by its section and class.
+    pub value: u32,
+    /// The number of its section, counted from 1; or 0 undefined, -1 absolute, -2 for a debugger.
+    pub section_number: i16,
+    /// Its type.
+    pub typ: u16,
+    /// Its class.
+    pub storage_class: u8,
+    /// How many auxiliary records follow it.
+    pub number_of_aux_symbols: u8,
+}
+
+/// An object that was read.
+pub struct Object<'a> {
+    object: raw::Object,
+    sections: Vec<raw::Section<'a>>,
+    symbols: Vec<raw::Symbol<'a>>,
+}
+
+impl<'a> Object<'a> {
+    /// Reads an object that lies in memory; of the options only the mode counts.
+    ///
+    /// # Errors
+    /// Why it was refused.
+    pub fn read(bytes: &'a [u8], options: &Options) -> Result<Object<'a>, Error> {
+        let mut object = raw::Object::default();
+        Error::test(raw::read_object(
+            bytes,
+            options,
+            &mut object,
+            &mut [],
+            &mut [],
+        ))?;
+        let mut sections = vec![raw::Section::EMPTY; object.sections];
+        let mut symbols = vec![raw::Symbol::EMPTY; object.symbols.count];
+        Error::test(raw::read_object(
+            bytes,
+            options,
+            &mut object,
+            &mut sections,
+            &mut symbols,
+        ))?;
+        Ok(Object {
+            object,
+            sections,
+            symbols,
+        })
+    }
+
+    /// The COFF header.
+    pub fn coff_header(&self) -> &CoffHeader {
+        &self.object.coff_header
+    }
+
+    /// The sections.
+    pub fn sections(&self) -> impl ExactSizeIterator<Item = Section<'_>> {
+        self.sections.iter().map(Section::from)
+    }
+
+    /// The symbols.
+    pub fn symbols(&self) -> impl ExactSizeIterator<Item = Symbol<'a>> + '_ {
+        self.symbols.iter().map(|s| Symbol {
+            index: s.index,
+            name: s.has_name.then(|| Text(s.name.get())),
+            value: s.value,
+            section_number: s.section_number,
+            typ: s.typ,
+            storage_class: s.storage_class,
+            number_of_aux_symbols: s.number_of_aux_symbols,
+        })
+    }
+}
+
+/// A Terse Executable that was read.
+pub struct Te<'a> {
+    header: TeHeader,
+    sections: Vec<raw::Section<'a>>,
+}
+
+impl<'a> Te<'a> {
+    /// Reads a Terse Executable that lies in memory. Its signature is not looked at.
+    ///
+    /// # Errors
+    /// Why it was refused.
+    pub fn read(bytes: &'a [u8]) -> Result<Te<'a>, Error> {
+        let mut header = TeHeader::default();
+        let mut sections = vec![raw::Section::EMPTY; u8::MAX.into()];
+        Error::test(raw::read_te(bytes, &mut header, &mut sections))?;
+        sections.truncate(header.number_of_sections.into());
+        Ok(Te { header, sections })
+    }
+
+    /// The header.
+    pub fn header(&self) -> &TeHeader {
+        &self.header
+    }
+
+    /// The sections.
+    pub fn sections(&self) -> impl ExactSizeIterator<Item = Section<'_>> {
+        self.sections.iter().map(Section::from)
+    }
+}
+
+/// Whether the library that is linked has the interface that this crate declares.
+pub fn is_linked_as_declared() -> bool {
+    raw::interface() == raw::INTERFACE
+}

@@ -1,0 +1,751 @@
+//! The library's interface, and all that is unsafe. The records' fields are those of the crate
+//! `goblin_pe_c`, in the same order; callers/layout.py compares them.
+
+use std::marker::PhantomData;
+use std::ptr::NonNull;
+
+/// The version of the interface that is declared here.
+pub const INTERFACE: u32 = 1;
+
+/// Bytes of the file that was read.
+#[repr(C)]
+#[derive(Clone, Copy)]
+pub struct Slice<'a> {
+    bytes: NonNull<u8>,
+    length: usize,
+    of: PhantomData<&'a [u8]>,
+}
+
+// SAFETY: it is a `&[u8]`.
+unsafe impl Send for Slice<'_> {}
+// SAFETY: it is a `&[u8]`.
+unsafe impl Sync for Slice<'_> {}
+
+impl<'a> Slice<'a> {
+    /// No bytes.
+    pub const EMPTY: Slice<'a> = Slice {
+        bytes: NonNull::dangling(),
+        length: 0,
+        of: PhantomData,
+    };
+
+    /// The bytes.
+    pub fn get(self) -> &'a [u8] {
+        // SAFETY: it is `EMPTY`, or was filled in by the library, which stores slices of the bytes
+        // that live for `'a`.
+        unsafe { std::slice::from_raw_parts(self.bytes.as_ptr(), self.length) }
+    }
+}
+
+/// What a call does and leaves out.
+#[repr(C)]
+#[derive(Clone, Copy, Debug, PartialEq, Eq)]
+pub struct Options {
+    /// Whether damaged parts are passed over.
+    pub is_permissive: bool,
+    /// Whether an address is mapped to a file offset by the sections; where not, it is the
+    /// offset.
+    pub resolve_rva: bool,
+    /// Whether the mapping rounds the raw pointer of a section down to 512, as the Windows loader
+    /// does; where not, it takes the pointer as stored.
+    pub rounds_raw_pointers: bool,
+    /// Whether the imports are read.
+    pub parse_imports: bool,
+}
+
+/// Why a call gave no value, in numbers; the status 0 is that it gave one.
+#[repr(C)]
+#[derive(Clone, Copy, Debug, Default, PartialEq, Eq)]
+pub struct Fault {
+    /// 0 nothing is refused, 1 a cause, 2 a magic number, 3 too short, 4 a read, 5 memory.
+    pub status: u32,
+    /// Which cause, which refusal of a read, or what the file is too short for, from 1 on; else 0.
+    pub cause: u32,
+    /// The first number of the cause, else 0.
+    pub first: u64,
+    /// The second number of the cause, else 0.
+    pub second: u64,
+}
+
+/// The DOS header.
+#[repr(C)]
+#[derive(Clone, Copy, Debug, Default, PartialEq, Eq)]
+pub struct DosHeader {
+    /// The file offset of the PE header.
+    pub pe_pointer: u32,
+    /// `MZ`.
+    pub signature: u16,
+    /// How many bytes of the last page are used.
+    pub bytes_on_last_page: u16,
+    /// How many pages of 512 bytes the program has.
+    pub pages_in_file: u16,
+    /// How many relocations there are.
+    pub relocations: u16,
+    /// The size of the header in paragraphs of 16 bytes.
+    pub size_of_header_in_paragraphs: u16,
+    /// The least memory that the program needs behind it, in paragraphs.
+    pub minimum_extra_paragraphs_needed: u16,
+    /// The most memory that the program asks for behind it, in paragraphs.
+    pub maximum_extra_paragraphs_needed: u16,
+    /// The stack segment at the start, relative to the program.
+    pub initial_relative_ss: u16,
+    /// The stack pointer at the start.
+    pub initial_sp: u16,
+    /// The checksum.
+    pub checksum: u16,
+    /// The instruction pointer at the start.
+    pub initial_ip: u16,
+    /// The code segment at the start, relative to the program.
+    pub initial_relative_cs: u16,
+    /// The file offset of the relocations.
+    pub file_address_of_relocation_table: u16,
+    /// The overlay's number.
+    pub overlay_number: u16,
+    /// Reserved.
+    pub reserved: [u16; 4],
+    /// The maker's identifier.
+    pub oem_id: u16,
+    /// What the maker says.
+    pub oem_info: u16,
+    /// Reserved.
+    pub reserved2: [u16; 10],
+}
+
+/// The COFF header.
+#[repr(C)]
+#[derive(Clone, Copy, Debug, Default, PartialEq, Eq)]
+pub struct CoffHeader {
+    /// The machine that the file is for.
+    pub machine: u16,
+    /// How many section records follow the optional header.
+    pub number_of_sections: u16,
+    /// When the file was made, in seconds since the start of 1970, or what its maker put there.
+    pub time_date_stamp: u32,
+    /// The file offset of the symbol table, 0 where there is none.
+    pub pointer_to_symbol_table: u32,
+    /// How many records the symbol table has.
+    pub number_of_symbol_table: u32,
+    /// The size of the optional header, in bytes, 0 where there is none.
+    pub size_of_optional_header: u16,
+    /// What kind of file it is, as bits.
+    pub characteristics: u16,
+}
+
+/// The optional header; zeros where there is none.
+#[repr(C)]
+#[derive(Clone, Copy, Debug, Default, PartialEq, Eq)]
+pub struct OptionalHeader {
+    /// The size of the code, in bytes: the sum of all code sections.
+    pub size_of_code: u64,
+    /// The size of the initialized data, in bytes: the sum of all such sections.
+    pub size_of_initialized_data: u64,
+    /// The size of the uninitialized data, in bytes: the sum of all such sections.
+    pub size_of_uninitialized_data: u64,
+    /// The address at which the code begins, relative to the image's base.
+    pub base_of_code: u64,
+    /// The address at which the image is best loaded, a multiple of 64 KiB.
+    pub image_base: u64,
+    /// How much of the stack to reserve, in bytes.
+    pub size_of_stack_reserve: u64,
+    /// How much of the stack to commit, in bytes.
+    pub size_of_stack_commit: u64,
+    /// How much of the heap to reserve, in bytes.
+    pub size_of_heap_reserve: u64,
+    /// How much of the heap to commit, in bytes.
+    pub size_of_heap_commit: u64,
+    /// The address of the entry point, relative to the image's base; 0 where there is none.
+    pub address_of_entry_point: u32,
+    /// The address at which the data begins, relative to the image's base; 0 in an image for 64
+    /// bits.
+    pub base_of_data: u32,
+    /// The alignment of sections in memory, in bytes.
+    pub section_alignment: u32,
+    /// The alignment of the raw data of sections in the file, in bytes.
+    pub file_alignment: u32,
+    /// Reserved, 0.
+    pub win32_version_value: u32,
+    /// The size of the image in memory with all headers, in bytes.
+    pub size_of_image: u32,
+    /// The size of all headers together, in bytes, rounded up to the file alignment.
+    pub size_of_headers: u32,
+    /// The image's checksum.
+    pub check_sum: u32,
+    /// Reserved, 0.
+    pub loader_flags: u32,
+    /// How many data directories follow.
+    pub number_of_rva_and_sizes: u32,
+    /// 0x10b for 32 bits, 0x20b for 64 bits, 0 where there is no optional header.
+    pub magic: u16,
+    /// The major version of the system that the image needs.
+    pub major_operating_system_version: u16,
+    /// The minor version of the system that the image needs.
+    pub minor_operating_system_version: u16,
+    /// The image's major version.
+    pub major_image_version: u16,
+    /// The image's minor version.
+    pub minor_image_version: u16,
+    /// The major version of the subsystem that the image needs.
+    pub major_subsystem_version: u16,
+    /// The minor version of the subsystem that the image needs.
+    pub minor_subsystem_version: u16,
+    /// The subsystem that runs the image.
+    pub subsystem: u16,
+    /// What the loader may and has to do, as bits.
+    pub dll_characteristics: u16,
+    /// The linker's major version.
+    pub major_linker_version: u8,
+    /// The linker's minor version.
+    pub minor_linker_version: u8,
+}
+
+/// An entry of the table of data directories.
+#[repr(C)]
+#[derive(Clone, Copy, Debug, Default, PartialEq, Eq)]
+pub struct Directory {
+    /// Where the entry ends, in bytes from the front of the optional header; 0 where there is
+    /// none.
+    pub end: usize,
+    /// The address of what it leads to, relative to the image's base; of the attribute
+    /// certificates the file offset.
+    pub virtual_address: u32,
+    /// The size of what it leads to, in bytes.
+    pub size: u32,
+    /// Whether there is such an entry, and not all of it is 0.
+    pub is_present: bool,
+}
+
+/// Where a table of an image lies.
+#[repr(C)]
+#[derive(Clone, Copy, Debug, Default, PartialEq, Eq)]
+pub struct DataDirectory {
+    /// The table's address, relative to the image's base.
+    pub virtual_address: u32,
+    /// The table's size, in bytes.
+    pub size: u32,
+}
+
+/// The header of a Terse Executable, its addresses as they are in the stripped file.
+#[repr(C)]
+#[derive(Clone, Copy, Debug, Default, PartialEq, Eq)]
+pub struct TeHeader {
+    /// The address at which the image is best loaded.
+    pub image_base: u64,
+    /// The address of the entry point.
+    pub entry_point: u32,
+    /// The address at which the code begins.
+    pub base_of_code: u32,
+    /// Where the base relocations lie.
+    pub reloc_dir: DataDirectory,
+    /// Where the debug data lies.
+    pub debug_dir: DataDirectory,
+    /// The first two bytes, `VZ` in a Terse Executable.
+    pub signature: u16,
+    /// The machine that the file is for.
+    pub machine: u16,
+    /// How many bytes were stripped from the front of the PE file.
+    pub stripped_size: u16,
+    /// How many sections there are.
+    pub number_of_sections: u8,
+    /// The subsystem that runs the image.
+    pub subsystem: u8,
+}
+
+/// An entry of the Rich header: a tool, and how often it was used.
+#[repr(C)]
+#[derive(Clone, Copy, Debug, Default, PartialEq, Eq)]
+pub struct RichEntry {
+    /// How many files the tool made.
+    pub use_count: u32,
+    /// The build of the tool.
+    pub build: u16,
+    /// Which tool it is.
+    pub product: u16,
+}
+
+/// The Rich header; zeros where there is none.
+#[repr(C)]
+#[derive(Clone, Copy, Debug, Default, PartialEq, Eq)]
+pub struct RichHeader {
+    /// How many entries there are.
+    pub entries: usize,
+    /// The size of the padding in front of the entries, in bytes.
+    pub padding_size: usize,
+    /// Why a rest that follows the entries is none; its status is 0 where there is no rest.
+    pub rest: Fault,
+    /// The key, under which the words are stored.
+    pub key: u32,
+    /// The file offset of the first marker.
+    pub start_offset: u32,
+    /// The file offset of the second marker.
+    pub end_offset: u32,
+    /// Whether there is a Rich header.
+    pub is_present: bool,
+}
+
+/// A section, as its record describes it.
+#[repr(C)]
+#[derive(Clone, Copy)]
+pub struct Section<'a> {
+    /// The name from the string table, where there is one.
+    pub real_name: Slice<'a>,
+    /// The eight bytes of the name, padded with NULs.
+    pub name: [u8; 8],
+    /// The section's size in memory, in bytes.
+    pub virtual_size: u32,
+    /// The section's address in memory, relative to the image's base.
+    pub virtual_address: u32,
+    /// The size of the section's data in the file, in bytes.
+    pub size_of_raw_data: u32,
+    /// The file offset of the section's data.
+    pub pointer_to_raw_data: u32,
+    /// The file offset of the section's relocations, 0 where it has none.
+    pub pointer_to_relocations: u32,
+    /// The file offset of the section's line numbers, 0 where it has none.
+    pub pointer_to_linenumbers: u32,
+    /// How many relocations the section has.
+    pub number_of_relocations: u16,
+    /// How many line numbers the section has.
+    pub number_of_linenumbers: u16,
+    /// What the section holds and how it may be used.
+    pub characteristics: u32,
+    /// Whether the section has a name from the string table.
+    pub has_real_name: bool,
+}
+
+/// An import.
+#[repr(C)]
+#[derive(Clone, Copy)]
+pub struct Import<'a> {
+    /// The name that is imported; nothing where the import is by ordinal.
+    pub name: Slice<'a>,
+    /// The name of the library.
+    pub dll: Slice<'a>,
+    /// The address of the entry of the address table.
+    pub offset: usize,
+    /// The address of the hint and the name, 0 of an import by ordinal.
+    pub rva: usize,
+    /// The size of an entry of the address table, in bytes.
+    pub size: usize,
+    /// The index of its entry in the lookup table and in the address table, in the file.
+    pub slot: usize,
+    /// The ordinal; of an import by name, the hint.
+    pub ordinal: u16,
+    /// Whether the import is by name.
+    pub is_by_name: bool,
+}
+
+/// An export.
+#[repr(C)]
+#[derive(Clone, Copy)]
+pub struct Export<'a> {
+    /// The export's name, where it can be read.
+    pub name: Slice<'a>,
+    /// Of a forwarder the library, without its ending.
+    pub lib: Slice<'a>,
+    /// Of a forwarder by name the name in that library.
+    pub export_name: Slice<'a>,
+    /// Of a forwarder by ordinal the ordinal in that library.
+    pub ordinal: usize,
+    /// The file offset of `rva`, where it has one.
+    pub offset: usize,
+    /// The export's address, or that of its forwarder's text.
+    pub rva: usize,
+    /// How many bytes it has: the tables don't say it, so 0.
+    pub size: usize,
+    /// Whether the name can be read.
+    pub has_name: bool,
+    /// Whether the address has a file offset.
+    pub has_offset: bool,
+    /// 0 no forwarder, 1 a forwarder by name, 2 a forwarder by ordinal.
+    pub forwards: u8,
+}
+
+/// A block of base relocations, for one page of the image in memory.
+#[repr(C)]
+#[derive(Clone, Copy)]
+pub struct Block<'a> {
+    /// The words, of two bytes each: the type in the high four bits, and in the low twelve the
+    /// place, in bytes from the page's address. A byte that is left is no word.
+    pub words: Slice<'a>,
+    /// The page's address, relative to the image's base.
+    pub rva: u32,
+    /// The size of the block with its head, in bytes.
+    pub size: u32,
+}
+
+/// A table of the file.
+#[repr(C)]
+#[derive(Clone, Copy, Debug, Default, PartialEq, Eq)]
+pub struct Table {
+    /// How many entries it has.
+    pub count: usize,
+    /// 0 the file has no such table, 1 it was read, 2 it is refused and was passed over.
+    pub state: u32,
+}
+
+/// The base relocations.
+#[repr(C)]
+#[derive(Clone, Copy, Debug, Default, PartialEq, Eq)]
+pub struct Relocations {
+    /// The blocks.
+    pub blocks: Table,
+    /// Why a rest that follows the blocks is none; its status is 0 where there is no rest.
+    pub rest: Fault,
+}
+
+/// A symbol.
+#[repr(C)]
+#[derive(Clone, Copy)]
+pub struct Symbol<'a> {
+    /// The name, from the record or the string table, where it can be read.
+    pub name: Slice<'a>,
+    /// The index of its record in the symbol table, which also counts auxiliary records.
+    pub index: usize,
+    /// The eight bytes of the name in the record.
+    pub record_name: [u8; 8],
+    /// What the symbol stands for, by its section and class.
+    pub value: u32,
+    /// The number of its section, counted from 1; or 0 undefined, -1 absolute, -2 for a debugger.
+    pub section_number: i16,
+    /// Its type.
+    pub typ: u16,
+    /// Its class.
+    pub storage_class: u8,
+    /// How many auxiliary records follow it.
+    pub number_of_aux_symbols: u8,
+    /// Whether the name can be read.
+    pub has_name: bool,
+}
+
+/// The file as a whole.
+#[repr(C)]
+#[derive(Clone, Copy, Debug, Default, PartialEq, Eq)]
+pub struct File {
+    /// The optional header.
+    pub optional_header: OptionalHeader,
+    /// How many sections there are.
+    pub sections: usize,
+    /// The imports.
+    pub imports: Table,
+    /// The exports.
+    pub exports: Table,
+    /// The base relocations.
+    pub relocations: Relocations,
+    /// The Rich header.
+    pub rich_header: RichHeader,
+    /// The DOS header.
+    pub dos_header: DosHeader,
+    /// The COFF header.
+    pub coff_header: CoffHeader,
+}
+
+/// An object as a whole.
+#[repr(C)]
+#[derive(Clone, Copy, Debug, Default, PartialEq, Eq)]
+pub struct Object {
+    /// How many sections there are.
+    pub sections: usize,
+    /// The symbols.
+    pub symbols: Table,
+    /// The COFF header.
+    pub coff_header: CoffHeader,
+}
+
+impl Section<'_> {
+    /// A record that says nothing.
+    pub const EMPTY: Self = Section {
+        real_name: Slice::EMPTY,
+        name: [0; 8],
+        virtual_size: 0,
+        virtual_address: 0,
+        size_of_raw_data: 0,
+        pointer_to_raw_data: 0,
+        pointer_to_relocations: 0,
+        pointer_to_linenumbers: 0,
+        number_of_relocations: 0,
+        number_of_linenumbers: 0,
+        characteristics: 0,
+        has_real_name: false,
+    };
+}
+
+impl Import<'_> {
+    /// A record that says nothing.
+    pub const EMPTY: Self = Import {
+        name: Slice::EMPTY,
+        dll: Slice::EMPTY,
+        offset: 0,
+        rva: 0,
+        size: 0,
+        slot: 0,
+        ordinal: 0,
+        is_by_name: false,
+    };
+}
+
+impl Export<'_> {
+    /// A record that says nothing.
+    pub const EMPTY: Self = Export {
+        name: Slice::EMPTY,
+        lib: Slice::EMPTY,
+        export_name: Slice::EMPTY,
+        ordinal: 0,
+        offset: 0,
+        rva: 0,
+        size: 0,
+        has_name: false,
+        has_offset: false,
+        forwards: 0,
+    };
+}
+
+impl Block<'_> {
+    /// A record that says nothing.
+    pub const EMPTY: Self = Block {
+        words: Slice::EMPTY,
+        rva: 0,
+        size: 0,
+    };
+}
+
+impl Symbol<'_> {
+    /// A record that says nothing.
+    pub const EMPTY: Self = Symbol {
+        name: Slice::EMPTY,
+        index: 0,
+        record_name: [0; 8],
+        value: 0,
+        section_number: 0,
+        typ: 0,
+        storage_class: 0,
+        number_of_aux_symbols: 0,
+        has_name: false,
+    };
+}
+
+impl Default for Options {
+    /// Strictly, with addresses mapped by the sections from their raw pointers as stored, and imports.
+    fn default() -> Options {
+        Options {
+            is_permissive: false,
+            resolve_rva: true,
+            rounds_raw_pointers: false,
+            parse_imports: true,
+        }
+    }
+}
+
+/// The records of a file.
+#[derive(Default)]
+pub struct Records<'a> {
+    /// Those of the Rich header's entries.
+    pub rich_entries: Vec<RichEntry>,
+    /// Those of the data directories.
+    pub directories: [Directory; 16],
+    /// Those of the sections.
+    pub sections: Vec<Section<'a>>,
+    /// Those of the imports.
+    pub imports: Vec<Import<'a>>,
+    /// Those of the exports.
+    pub exports: Vec<Export<'a>>,
+    /// Those of the base relocation blocks.
+    pub blocks: Vec<Block<'a>>,
+    // How many sections, imports, exports and blocks may be filled; the others are empty.
+    used: [usize; 4],
+}
+
+impl Records<'_> {
+    /// The same records, all of them empty, for another file.
+    pub fn emptied(mut self) -> Records<'static> {
+        self.sections
+            .iter_mut()
+            .take(self.used[0])
+            .for_each(|s| *s = Section::EMPTY);
+        self.imports
+            .iter_mut()
+            .take(self.used[1])
+            .for_each(|x| *x = Import::EMPTY);
+        self.exports
+            .iter_mut()
+            .take(self.used[2])
+            .for_each(|x| *x = Export::EMPTY);
+        self.blocks
+            .iter_mut()
+            .take(self.used[3])
+            .for_each(|b| *b = Block::EMPTY);
+        self.used = [0; 4];
+        // SAFETY: only the lifetime changes, and no record has a slice of the file any more.
+        unsafe { std::mem::transmute::<Records<'_>, Records<'static>>(self) }
+    }
+
+    // Notes that a call filled as much as a file has.
+    fn note(&mut self, file: &File) {
+        let counts = [
+            file.sections,
+            file.imports.count,
+            file.exports.count,
+            file.relocations.blocks.count,
+        ];
+        for (used, count) in self.used.iter_mut().zip(counts) {
+            *used = count.max(*used);
+        }
+    }
+}
+
+unsafe extern "C" {
+    safe fn goblin_pe_interface() -> u32;
+
+    fn goblin_pe_read<'a>(
+        bytes: *const u8,
+        length: usize,
+        options: &Options,
+        file: &mut File,
+        rich_entries: *mut RichEntry,
+        rich_entry_room: usize,
+        directories: *mut Directory,
+        directory_room: usize,
+        sections: *mut Section<'a>,
+        section_room: usize,
+        imports: *mut Import<'a>,
+        import_room: usize,
+        exports: *mut Export<'a>,
+        export_room: usize,
+        blocks: *mut Block<'a>,
+        block_room: usize,
+    ) -> Fault;
+
+    fn goblin_pe_read_object<'a>(
+        bytes: *const u8,
+        length: usize,
+        options: &Options,
+        object: &mut Object,
+        sections: *mut Section<'a>,
+        section_room: usize,
+        symbols: *mut Symbol<'a>,
+        symbol_room: usize,
+    ) -> Fault;
+
+    fn goblin_pe_read_te<'a>(
+        bytes: *const u8,
+        length: usize,
+        header: &mut TeHeader,
+        sections: *mut Section<'a>,
+        section_room: usize,
+    ) -> Fault;
+
+    fn goblin_pe_find_offset(
+        rva: usize,
+        sections: *const Section<'_>,
+        section_count: usize,
+        file_alignment: u32,
+        options: &Options,
+        offset: &mut usize,
+    ) -> bool;
+
+    fn goblin_pe_fault_text(fault: &Fault, text: *mut u8, room: usize) -> usize;
+}
+
+/// The version of the interface that the library was built with.
+pub fn interface() -> u32 {
+    goblin_pe_interface()
+}
+
+/// Reads a whole file; fills the records as far as there is room.
+pub fn read<'a>(
+    bytes: &'a [u8],
+    options: &Options,
+    file: &mut File,
+    records: &mut Records<'a>,
+) -> Fault {
+    // SAFETY: the declaration fits the library's, which asks for nothing more; each pointer and length
+    // are those of one slice, borrowed for the call; what is stored in the records lives for `'a`.
+    let fault = unsafe {
+        goblin_pe_read(
+            bytes.as_ptr(),
+            bytes.len(),
+            options,
+            file,
+            records.rich_entries.as_mut_ptr(),
+            records.rich_entries.len(),
+            records.directories.as_mut_ptr(),
+            records.directories.len(),
+            records.sections.as_mut_ptr(),
+            records.sections.len(),
+            records.imports.as_mut_ptr(),
+            records.imports.len(),
+            records.exports.as_mut_ptr(),
+            records.exports.len(),
+            records.blocks.as_mut_ptr(),
+            records.blocks.len(),
+        )
+    };
+    if fault.status == 0 {
+        records.note(file);
+    }
+    fault
+}
+
+/// Reads an object; fills the records as far as there is room.
+pub fn read_object<'a>(
+    bytes: &'a [u8],
+    options: &Options,
+    object: &mut Object,
+    sections: &mut [Section<'a>],
+    symbols: &mut [Symbol<'a>],
+) -> Fault {
+    // SAFETY: as in `read`.
+    unsafe {
+        goblin_pe_read_object(
+            bytes.as_ptr(),
+            bytes.len(),
+            options,
+            object,
+            sections.as_mut_ptr(),
+            sections.len(),
+            symbols.as_mut_ptr(),
+            symbols.len(),
+        )
+    }
+}
+
+/// Reads a Terse Executable; fills the records as far as there is room.
+pub fn read_te<'a>(bytes: &'a [u8], header: &mut TeHeader, sections: &mut [Section<'a>]) -> Fault {
+    // SAFETY: as in `read`.
+    unsafe {
+        goblin_pe_read_te(
+            bytes.as_ptr(),
+            bytes.len(),
+            header,
+            sections.as_mut_ptr(),
+            sections.len(),
+        )
+    }
+}
+
+/// The file offset of an address, by the records of a file's sections.
+pub fn find_offset(
+    rva: usize,
+    sections: &[Section<'_>],
+    file_alignment: u32,
+    options: &Options,
+) -> Option<usize> {
+    let mut offset = 0;
+    // SAFETY: as in `read`; the records are only read.
+    let is_found = unsafe {
+        goblin_pe_find_offset(
+            rva,
+            sections.as_ptr(),
+            sections.len(),
+            file_alignment,
+            options,
+            &mut offset,
+        )
+    };
+    is_found.then_some(offset)
+}
+
+/// Writes the text of a refusal as far as there is room; answers how long it is.
+pub fn fault_text(fault: &Fault, text: &mut [u8]) -> usize {
+    // SAFETY: as in `read`.
+    unsafe { goblin_pe_fault_text(fault, text.as_mut_ptr(), text.len()) }
+}

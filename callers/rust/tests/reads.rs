@@ -1,0 +1,194 @@
+//! Reads samples, and what is no image.
+use goblin_pe::{ErrorKind, Forwarder, Imported, Object, Options, Part, Pe, Te, Text};
+
+fn sample(name: &str) -> Vec<u8> {
+    let folder = std::env::var("GOBLIN_PE_SAMPLES").expect("GOBLIN_PE_SAMPLES names the samples");
+    std::fs::read(format!("{folder}/{name}")).expect("the sample is there")
+}
+
+fn number(bytes: &[u8], offset: usize, width: usize) -> u64 {
+    let digits = bytes[offset..offset + width].iter().rev();
+    digits.fold(0, |number, &byte| number << 8 | u64::from(byte))
+}
+
+#[test]
+fn the_library_is_the_one_declared() {
+    assert!(goblin_pe::is_linked_as_declared());
+}
+
+#[test]
+fn imports_by_name_and_by_ordinal() {
+    let bytes = sample("imports_by_name_x64.dll");
+    let pe = Pe::read(&bytes, &Options::default()).unwrap();
+    let names: Vec<_> = pe.sections().map(|s| s.name.to_string()).collect();
+    assert_eq!(names, [".text", ".rdata", ".data", ".reloc"]);
+    let import = pe.imports().next().unwrap();
+    assert!(matches!(
+        import.name,
+        Imported::Name {
+            name: Text(b"GetTickCount"),
+            ..
+        }
+    ));
+    assert_eq!((import.dll, import.slot), (Text(b"KERNEL32.dll"), 0));
+    let bytes = sample("imports_by_ordinal_x86.dll");
+    let pe = Pe::read(&bytes, &Options::default()).unwrap();
+    assert_eq!(pe.imports().next().unwrap().name, Imported::Ordinal(901));
+}
+
+#[test]
+fn forwarders() {
+    let bytes = sample("forwarders_x64.dll");
+    let options = Options {
+        is_permissive: true,
+        ..Options::default()
+    };
+    let pe = Pe::read(&bytes, &options).unwrap();
+    assert_eq!(pe.import_table(), Part::Absent);
+    let forwarders: Vec<_> = pe.exports().filter_map(|x| x.forwarder).collect();
+    let (ws2, ntdll) = (Text(b"WS2_32"), Text(b"NTDLL"));
+    assert_eq!(
+        forwarders[0],
+        Forwarder::Ordinal {
+            lib: ws2,
+            ordinal: 3
+        }
+    );
+    assert_eq!(
+        forwarders[1],
+        Forwarder::Name {
+            lib: ntdll,
+            export: Text(b"RtlZeroMemory")
+        }
+    );
+}
+
+// Fields of the headers at the places that the PE/COFF specification names, directories among them.
+#[test]
+fn fields_stand_where_the_format_says() {
+    let bytes = sample("program_x64.exe");
+    let pe = Pe::read(&bytes, &Options::default()).unwrap();
+    let header = number(&bytes, 0x3C, 4) as usize;
+    let optional = header + 24;
+    let fields = pe.optional_header().unwrap();
+    assert_eq!(
+        u64::from(pe.dos_header().pe_pointer),
+        number(&bytes, 0x3C, 4)
+    );
+    assert_eq!(u64::from(pe.dos_header().signature), number(&bytes, 0, 2));
+    assert_eq!(
+        u64::from(pe.coff_header().characteristics),
+        number(&bytes, header + 22, 2)
+    );
+    assert_eq!(fields.image_base, number(&bytes, optional + 24, 8));
+    assert_eq!(
+        u64::from(fields.subsystem),
+        number(&bytes, optional + 68, 2)
+    );
+    assert_eq!(fields.size_of_heap_commit, number(&bytes, optional + 96, 8));
+    assert_eq!(
+        u64::from(fields.number_of_rva_and_sizes),
+        number(&bytes, optional + 108, 4)
+    );
+    for (index, directory) in pe.data_directories() {
+        let place = optional + 112 + 8 * index;
+        assert_eq!(
+            u64::from(directory.virtual_address),
+            number(&bytes, place, 4)
+        );
+        assert_eq!(u64::from(directory.size), number(&bytes, place + 4, 4));
+    }
+}
+
+#[test]
+fn addresses_are_mapped() {
+    let bytes = sample("imports_by_name_x64.dll");
+    let pe = Pe::read(&bytes, &Options::default()).unwrap();
+    for export in pe.exports() {
+        assert_eq!(pe.find_offset(export.rva), export.offset);
+    }
+    assert_eq!(pe.find_offset(0x1020), Some(0x420));
+    assert_eq!(pe.find_offset(0x9000), None);
+    // unmapped: the address itself
+    let options = Options {
+        is_permissive: true,
+        resolve_rva: false,
+        ..Options::default()
+    };
+    let pe = Pe::read(&bytes, &options).unwrap();
+    assert_eq!(pe.find_offset(0x9000), Some(0x9000));
+    // by the rule of the Windows loader: from the raw pointer rounded down to 512
+    let bytes = sample("align16_x64.dll");
+    let options = Options {
+        is_permissive: true,
+        rounds_raw_pointers: true,
+        ..Options::default()
+    };
+    let pe = Pe::read(&bytes, &options).unwrap();
+    let section = pe.sections().next().unwrap();
+    let pointer = section.pointer_to_raw_data as usize;
+    assert_ne!(pointer % 512, 0);
+    let offset = pe.find_offset(section.virtual_address as usize);
+    assert_eq!(offset, Some(pointer / 512 * 512));
+}
+
+#[test]
+fn objects_and_terse_executables() {
+    let bytes = sample("object_x64.obj");
+    let object = Object::read(&bytes, &Options::default()).unwrap();
+    assert_eq!(
+        u64::from(object.coff_header().machine),
+        number(&bytes, 0, 2)
+    );
+    assert!(object.symbols().all(|s| s.name.is_some()));
+    let bytes = sample("firmware_x64.te");
+    let te = Te::read(&bytes).unwrap();
+    assert_eq!(
+        (te.header().signature, te.sections().len()),
+        (0x5A56, usize::from(bytes[4]))
+    );
+}
+
+#[test]
+fn refusals() {
+    let error = Pe::read(b"", &Options::default()).err().unwrap();
+    assert_eq!(
+        (error.kind(), error.to_string().as_str()),
+        (ErrorKind::Malformed, "NoDosSignature")
+    );
+    let options = Options {
+        is_permissive: true,
+        ..Options::default()
+    };
+    let error = Pe::read(b"no image", &options).err().unwrap();
+    assert_eq!(error.to_string(), "DosMagic(28526)");
+    assert_eq!(Te::read(b"VZ").err().unwrap().kind(), ErrorKind::Read);
+}
+
+// The records of one file are taken over by the next: no text of the first may come out again.
+#[test]
+fn one_after_the_other_and_at_once() {
+    let names = [
+        "imports_by_name_x64.dll",
+        "forwarders_x64.dll",
+        "align16_x86.dll",
+        "program_x64.exe",
+    ];
+    let shown = |pe: &Pe| {
+        let imports: Vec<_> = pe.imports().map(|x| format!("{x:?}")).collect();
+        let exports: Vec<_> = pe.exports().map(|x| format!("{x:?}")).collect();
+        (imports, exports)
+    };
+    std::thread::scope(|scope| {
+        for _ in 0..4 {
+            scope.spawn(|| {
+                for name in names.iter().cycle().take(400) {
+                    let bytes = sample(name);
+                    let alone = Pe::read(&bytes, &Options::default()).unwrap();
+                    let again = Pe::read(&bytes, &Options::default()).unwrap();
+                    assert_eq!(shown(&alone), shown(&again));
+                }
+            });
+        }
+    });
+}

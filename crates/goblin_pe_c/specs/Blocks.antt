@@ -1,0 +1,26 @@
+-- What the records of base relocation blocks say.
+use Rattle.std.specs.Prelude.{ℕ, List, [], length}
+use Rattle.goblin_pe_sect.specs.BaseRelocations.{Block, block_items}
+use Rattle.goblin_pe.specs.declared.whole.Part.{Part}
+use Rattle.goblin_pe.specs.declared.whole.Part.TheVariants.{Absent, Refused}
+use Rattle.goblin_pe.specs.declared.whole.Part.TheVariants as part
+use Rattle.goblin_pe_c.specs.declared.block.PeBlock.{PeBlock}
+use Rattle.goblin_pe_c.specs.declared.block.PeRelocations.{PeRelocations}
+use Rattle.goblin_pe_c.specs.Faults.{no_fault}
+use Rattle.goblin_pe_c.specs.Items.{rest_of, values_of}
+
+-- what a record says of a block
+abbrev pub block_view : PeBlock → Block
+block_view b = record { rva = b.rva; size = b.size; words = b.words.now }
+
+-- the blocks of a directory's bytes, none where it was not read
+abbrev pub blocks_in : Part (List ℕ) → List Block
+blocks_in Absent = []
+blocks_in (part.Read directory) = values_of (block_items directory 0)
+blocks_in Refused = []
+
+-- what is said of base relocations as a whole
+abbrev pub relocations_of : Part (List ℕ) → PeRelocations
+relocations_of Absent = record { blocks = record { count = 0; state = 0 }; rest = no_fault }
+relocations_of (part.Read directory) = record { blocks = record { count = length (values_of (block_items directory 0)); state = 1 }; rest = rest_of (block_items directory 0) }
+relocations_of Refused = record { blocks = record { count = 0; state = 2 }; rest = no_fault }

@@ -1,0 +1,71 @@
+-- Refusals as numbers.
+use Rattle.std.specs.Prelude.{ℕ, List, codes, if◌then◌else◌, Result, Ok, Err}
+use Rattle.std.specs.Str.{bytes_eq}
+use Rattle.goblin_base.specs.declared.error.ErrorOf.{ErrorOf}
+use Rattle.goblin_base.specs.declared.error.ErrorOf.TheVariants.{Malformed, BadMagic, BufferTooShort, Read, Memory}
+use Rattle.goblin_base.specs.declared.error.ReadFault.TheVariants.{BadOffset, TooBig, BadInput}
+use Rattle.goblin_base.specs.declared.error.CauseOf.TheVariants.{Message, NoDosSignature, DosMagic, NoPePointer, NoPeSignature, PeMagic, StubBeforeStart, StubPastEnd, NoDans, RichBounds, StrippedSize, CoffLength, DirectoryIndex, DirectoryCount, NameText, NameBase64, NameDecimal, NameOffset, SymbolName, StringTable, FieldTooWide, Unmapped, NameRead, HintEntry, LookupEnd, ImportRecordEnd, ExportTable, Forwarder, ForwarderOrdinal, RelocRange, BlockSize, BlockRange, Overflow, SlotCount}
+use Rattle.goblin_pe_c.specs.declared.fault.PeFault.{PeFault}
+
+abbrev pub fault : ℕ → ℕ → ℕ → ℕ → PeFault
+fault status cause first second = record { status = status; cause = cause; first = first; second = second }
+
+-- what a file is too short for, by its number
+abbrev pub word_number : List ℕ → ℕ
+word_number what =
+    if bytes_eq what (codes "sections") then 1
+    else if bytes_eq what (codes "name pointers") then 2
+    else if bytes_eq what (codes "address table entries") then 3
+    else 0
+
+-- nothing is refused
+abbrev pub no_fault : PeFault
+no_fault = fault 0 0 0 0
+
+-- the numbers of a refusal
+abbrev pub fault_of : ErrorOf → PeFault
+fault_of (Malformed (Message text)) = fault 1 1 0 0
+fault_of (Malformed NoDosSignature) = fault 1 2 0 0
+fault_of (Malformed (DosMagic magic)) = fault 1 3 magic 0
+fault_of (Malformed NoPePointer) = fault 1 4 0 0
+fault_of (Malformed (NoPeSignature offset)) = fault 1 5 offset 0
+fault_of (Malformed (PeMagic magic)) = fault 1 6 magic 0
+fault_of (Malformed (StubBeforeStart offset)) = fault 1 7 offset 0
+fault_of (Malformed (StubPastEnd length end)) = fault 1 8 length end
+fault_of (Malformed NoDans) = fault 1 9 0 0
+fault_of (Malformed (RichBounds begin end)) = fault 1 10 begin end
+fault_of (Malformed (StrippedSize size)) = fault 1 11 size 0
+fault_of (Malformed CoffLength) = fault 1 12 0 0
+fault_of (Malformed (DirectoryIndex index)) = fault 1 13 index 0
+fault_of (Malformed (DirectoryCount count)) = fault 1 14 count 0
+fault_of (Malformed NameText) = fault 1 15 0 0
+fault_of (Malformed NameBase64) = fault 1 16 0 0
+fault_of (Malformed NameDecimal) = fault 1 17 0 0
+fault_of (Malformed (NameOffset offset)) = fault 1 18 offset 0
+fault_of (Malformed (SymbolName offset)) = fault 1 19 offset 0
+fault_of (Malformed (StringTable offset length)) = fault 1 20 offset length
+fault_of (Malformed FieldTooWide) = fault 1 21 0 0
+fault_of (Malformed (Unmapped rva)) = fault 1 22 rva 0
+fault_of (Malformed (NameRead offset)) = fault 1 23 offset 0
+fault_of (Malformed (HintEntry offset)) = fault 1 24 offset 0
+fault_of (Malformed (LookupEnd offset)) = fault 1 25 offset 0
+fault_of (Malformed (ImportRecordEnd offset)) = fault 1 26 offset 0
+fault_of (Malformed (ExportTable offset)) = fault 1 27 offset 0
+fault_of (Malformed Forwarder) = fault 1 28 0 0
+fault_of (Malformed ForwarderOrdinal) = fault 1 29 0 0
+fault_of (Malformed (RelocRange offset size)) = fault 1 30 offset size
+fault_of (Malformed (BlockSize size)) = fault 1 31 size 0
+fault_of (Malformed (BlockRange begin size)) = fault 1 32 begin size
+fault_of (Malformed Overflow) = fault 1 33 0 0
+fault_of (Malformed (SlotCount entries slots)) = fault 1 34 entries slots
+fault_of (BadMagic magic) = fault 2 0 magic 0
+fault_of (BufferTooShort count what) = fault 3 (word_number what.now) count 0
+fault_of (Read BadOffset) = fault 4 1 0 0
+fault_of (Read TooBig) = fault 4 2 0 0
+fault_of (Read BadInput) = fault 4 3 0 0
+fault_of (Memory e) = fault 5 0 0 0
+
+-- the numbers of what a call answers
+abbrev pub status_of : {A : Type 0} → Result A ErrorOf → PeFault
+status_of (Ok x) = no_fault
+status_of (Err e) = fault_of e

@@ -1,0 +1,21 @@
+-- What the records of imports say.
+use Rattle.std.specs.Prelude.{if◌then◌else◌}
+use Rattle.goblin_pe.specs.Imports.{ImportValue, ordinal_name}
+use Rattle.goblin_pe_c.specs.declared.import.PeImport.{PeImport}
+
+-- an import, of which a record by ordinal has no text
+abbrev pub with_ordinal_name : ImportValue → ImportValue
+with_ordinal_name x = record x { name = if x.is_borrowed then x.name else ordinal_name x.ordinal }
+
+-- what a record says of an import
+abbrev pub import_view : PeImport → ImportValue
+import_view x = record {
+  name = if x.is_by_name then x.name.now else ordinal_name x.ordinal;
+  is_borrowed = x.is_by_name;
+  dll = x.dll.now;
+  ordinal = x.ordinal;
+  offset = x.offset;
+  rva = x.rva;
+  size = x.size;
+  slot = x.slot;
+}

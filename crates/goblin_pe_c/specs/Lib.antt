@@ -1,0 +1,17 @@
+pub mod Blocks
+pub mod Calls
+pub mod Directories
+pub mod Exports
+pub mod Faults
+pub mod Files
+pub mod Filled
+pub mod Headers
+pub mod Imports
+pub mod Items
+pub mod Objects
+pub mod Options
+pub mod Reads
+pub mod RichHeaders
+pub mod Sections
+pub mod Symbols
+pub mod Te

@@ -1,0 +1,63 @@
+//! The records of data directories.
+
+ghost use Rattle.std.specs.Prelude.{◌≡◌, map};
+ghost use Rattle.goblin_pe_c.specs.Filled.{Filled};
+ghost use Rattle.goblin_pe_c.specs.Directories.{directories_of, directory_view};
+
+use goblin_pe::data_directories::DataDirectory;
+use goblin_pe::optional_header::OptionalHeader;
+
+/// An entry of the table of data directories.
+#[repr(C)]
+#[derive(Copy, Clone)]
+pub struct PeDirectory {
+    /// Where the entry ends, in bytes from the front of the optional header; 0 where there is none.
+    pub end: usize,
+    /// The address of what it leads to, relative to the image's base; of the attribute certificates
+    /// the file offset.
+    pub virtual_address: u32,
+    /// The size of what it leads to, in bytes.
+    pub size: u32,
+    /// Whether there is such an entry, and not all of it is 0.
+    pub is_present: bool,
+}
+
+// The record of an entry.
+fn directory_record(directory: &Option<(usize, DataDirectory)>) -> PeDirectory
+    ensures { directory_view result ≡ directory.now }
+{
+    match directory {
+        None => PeDirectory {
+            end: 0,
+            virtual_address: 0,
+            size: 0,
+            is_present: false,
+        },
+        Some((end, directory)) => PeDirectory {
+            end: *end,
+            virtual_address: directory.virtual_address,
+            size: directory.size,
+            is_present: true,
+        },
+    }
+}
+
+/// The entries of an optional header, none where there is no such header.
+pub fn directories_of(header: &Option<OptionalHeader>) -> &[Option<(usize, DataDirectory)>]
+    ensures { result.now ≡ directories_of header.now }
+{
+    match header {
+        Some(header) => &header.data_directories.data_directories,
+        None => &[],
+    }
+}
+
+/// Fills the records of data directories, as far as there is room.
+pub fn fill_directories(records: &mut [PeDirectory], directories: &[Option<(usize, DataDirectory)>])
+    ensures { Filled directory_view (map (λ x. x) directories.now) records.old records.new }
+{
+    let count = directories.len().min(records.len());
+    'records: for i in 0..count {
+        records[i] = directory_record(&directories[i]);
+    }
+}

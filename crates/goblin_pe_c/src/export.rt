@@ -1,0 +1,69 @@
+//! The records of exports.
+
+ghost use Rattle.std.specs.Prelude.{◌≡◌, map};
+ghost use Rattle.goblin_pe_c.specs.Filled.{Filled};
+ghost use Rattle.goblin_pe_c.specs.Exports.{export_view};
+
+use goblin_pe::export::{Export, Reexport};
+
+/// An export.
+#[repr(C)]
+#[derive(Copy, Clone)]
+pub struct PeExport<'a> {
+    /// The export's name, where it can be read.
+    pub name: &'a [u8],
+    /// Of a forwarder the library, without its ending.
+    pub lib: &'a [u8],
+    /// Of a forwarder by name the name in that library.
+    pub export_name: &'a [u8],
+    /// Of a forwarder by ordinal the ordinal in that library.
+    pub ordinal: usize,
+    /// The file offset of `rva`, where it has one.
+    pub offset: usize,
+    /// The export's address, or that of its forwarder's text.
+    pub rva: usize,
+    /// How many bytes it has: the tables don't say it, so 0.
+    pub size: usize,
+    /// Whether the name can be read.
+    pub has_name: bool,
+    /// Whether the address has a file offset.
+    pub has_offset: bool,
+    /// 0 no forwarder, 1 a forwarder by name, 2 a forwarder by ordinal.
+    pub forwards: u8,
+}
+
+// The record of an export.
+fn export_record<'a>(export: &Export<'a>) -> PeExport<'a>
+    ensures { export_view result ≡ export.now }
+{
+    let (forwards, name, ordinal, lib): (u8, &'a [u8], usize, &'a [u8]) = match &export.reexport {
+        None => (0, &[], 0, &[]),
+        Some(Reexport::DLLName { export, lib }) => (1, export.as_bytes(), 0, lib.as_bytes()),
+        Some(Reexport::DLLOrdinal { ordinal, lib }) => (2, &[], *ordinal, lib.as_bytes()),
+    };
+    PeExport {
+        name: match export.name {
+            Some(name) => name.as_bytes(),
+            None => &[],
+        },
+        lib,
+        export_name: name,
+        ordinal,
+        offset: export.offset.unwrap_or(0),
+        rva: export.rva,
+        size: export.size,
+        has_name: export.name.is_some(),
+        has_offset: export.offset.is_some(),
+        forwards,
+    }
+}
+
+/// Fills the records of exports, as far as there is room.
+pub fn fill_exports<'a>(records: &mut [PeExport<'a>], exports: &[Export<'a>])
+    ensures { Filled export_view (map (λ x. x) exports.now) records.old records.new }
+{
+    let count = exports.len().min(records.len());
+    'records: for i in 0..count {
+        records[i] = export_record(&exports[i]);
+    }
+}

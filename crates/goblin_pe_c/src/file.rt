@@ -1,0 +1,80 @@
+//! What a call says of the file as a whole.
+
+ghost use Rattle.std.specs.Prelude.{◌≡◌};
+ghost use Rattle.goblin_pe.specs.Whole.{items_part};
+ghost use Rattle.goblin_pe_c.specs.Blocks.{relocations_of};
+ghost use Rattle.goblin_pe_c.specs.Files.{file_of, table_of};
+ghost use Rattle.goblin_pe_c.specs.RichHeaders.{rich_of};
+
+use crate::block::PeRelocations;
+use crate::headers::{
+    PeCoffHeader, PeDosHeader, PeOptionalHeader, coff_record, dos_record, optional_record,
+};
+use crate::rich::PeRichHeader;
+use goblin_pe::{Part, Whole};
+
+/// A table of the file.
+#[repr(C)]
+#[derive(Copy, Clone)]
+pub struct PeTable {
+    /// How many entries it has.
+    pub count: usize,
+    /// 0 the file has no such table, 1 it was read, 2 it is refused and was passed over.
+    pub state: u32,
+}
+
+/// The file as a whole.
+#[repr(C)]
+#[derive(Copy, Clone)]
+pub struct PeFile {
+    /// The optional header.
+    pub optional_header: PeOptionalHeader,
+    /// How many sections there are.
+    pub sections: usize,
+    /// The imports.
+    pub imports: PeTable,
+    /// The exports.
+    pub exports: PeTable,
+    /// The base relocations.
+    pub relocations: PeRelocations,
+    /// The Rich header.
+    pub rich_header: PeRichHeader,
+    /// The DOS header.
+    pub dos_header: PeDosHeader,
+    /// The COFF header.
+    pub coff_header: PeCoffHeader,
+}
+
+// How a table stands.
+#[tactic(auto, unfolding(goblin_pe::specs::Whole::part_map))]
+fn table_of<T>(part: &Part<Vec<T>>) -> PeTable
+    ensures { result ≡ table_of (items_part part.now) }
+{
+    match part {
+        Part::Absent => PeTable { count: 0, state: 0 },
+        Part::Read(items) => PeTable {
+            count: items.len(),
+            state: 1,
+        },
+        Part::Refused => PeTable { count: 0, state: 2 },
+    }
+}
+
+/// What is said of a file as a whole, with what is said of its base relocations and its Rich header.
+pub fn file_of(whole: &Whole, relocations: PeRelocations, rich_header: PeRichHeader) -> PeFile
+    requires relocations { relocations ≡ relocations_of whole.now.relocations }
+    requires rich_header { rich_header ≡ rich_of whole.now.header.rich_header }
+    ensures { result ≡ file_of whole.now }
+{
+    let header = &whole.header;
+    PeFile {
+        optional_header: optional_record(&header.optional_header),
+        sections: whole.sections.len(),
+        imports: table_of(&whole.imports),
+        exports: table_of(&whole.exports),
+        relocations,
+        rich_header,
+        dos_header: dos_record(&header.dos_header),
+        coff_header: coff_record(&header.coff_header),
+    }
+}

@@ -1,0 +1,72 @@
+//! The call that maps an address.
+
+ghost use Rattle.std.specs.Prelude.{◌≡◌, None, Some, if◌then◌else◌, map, option_map};
+ghost use Rattle.goblin_pe_sect.specs.Mapping.{file_offset};
+ghost use Rattle.goblin_pe_c.specs.Options.{options_of};
+ghost use Rattle.goblin_pe_c.specs.Sections.{section_view, unnamed};
+
+use crate::options::{PeOptions, options_of};
+use crate::section::PeSection;
+use goblin_pe::options::ParseOptions;
+use goblin_pe::section_table::SectionTable;
+use goblin_pe::utils::find_offset;
+
+// The section of a record, without its name from the string table, which no mapping asks for.
+fn section_of(section: &PeSection) -> SectionTable
+    ensures { result ≡ unnamed (section_view section.now) }
+{
+    SectionTable {
+        name: section.name,
+        real_name: None,
+        virtual_size: section.virtual_size,
+        virtual_address: section.virtual_address,
+        size_of_raw_data: section.size_of_raw_data,
+        pointer_to_raw_data: section.pointer_to_raw_data,
+        pointer_to_relocations: section.pointer_to_relocations,
+        pointer_to_linenumbers: section.pointer_to_linenumbers,
+        number_of_relocations: section.number_of_relocations,
+        number_of_linenumbers: section.number_of_linenumbers,
+        characteristics: section.characteristics,
+    }
+}
+
+// The file offset of an address by the first record whose section maps it.
+fn offset_by(
+    rva: usize,
+    sections: &[PeSection],
+    file_alignment: u32,
+    opts: &ParseOptions,
+) -> Option<usize>
+    ensures { result ≡ file_offset opts.now (map section_view sections.now) file_alignment rva }
+{
+    'records: for section in sections {
+        let alone = [section_of(section)];
+        if let Some(offset) = find_offset(rva, &alone, file_alignment, opts) {
+            return Some(offset);
+        }
+    }
+    find_offset(rva, &[], file_alignment, opts)
+}
+
+/// The file offset of the address `rva`, by the records of a file's sections and its file alignment, as
+/// the file's readers map it. It is put into `offset`, and whether there is one is the answer; where
+/// there is none, `offset` stays.
+#[unsafe(no_mangle)]
+pub extern "C" fn goblin_pe_find_offset(
+    rva: usize,
+    sections: &[PeSection],
+    file_alignment: u32,
+    options: &PeOptions,
+    offset: &mut usize,
+) -> bool
+    ensures answer { (if result then Some offset.new else None) ≡ file_offset (options_of options.now) (map section_view sections.now) file_alignment rva }
+    ensures left { (if result then offset.old else offset.new) ≡ offset.old }
+{
+    match offset_by(rva, sections, file_alignment, &options_of(options)) {
+        Some(found) => {
+            *offset = found;
+            true
+        }
+        None => false,
+    }
+}

@@ -1,0 +1,169 @@
+//! The call that reads an object.
+
+ghost use Rattle.std.specs.Prelude.{◌≡◌, Some, option_map};
+ghost use Rattle.goblin_base.specs.Answers.{AnswersOrMemory};
+ghost use Rattle.goblin_pe_sect.specs.Options.{is_strict};
+ghost use Rattle.goblin_pe_sect.specs.Symbols.{table_bytes};
+ghost use Rattle.goblin_pe_head.specs.CoffHeader.{string_table_offset};
+ghost use Rattle.goblin_pe_c.specs.Calls.{Reads, Reported};
+ghost use Rattle.goblin_pe_c.specs.Filled.{Filled};
+ghost use Rattle.goblin_pe_c.specs.Objects.{IsObjectFault, ObjectRecords, SaysObject, object_file, object_record, symbols_table, symbol_rows};
+ghost use Rattle.goblin_pe_c.specs.Options.{options_of};
+ghost use Rattle.goblin_pe_c.specs.Sections.{section_view};
+ghost use Rattle.goblin_pe_c.specs.Symbols.{symbol_view};
+
+use crate::fault::{PeFault, fault_of, no_fault};
+use crate::file::PeTable;
+use crate::headers::{PeCoffHeader, coff_record};
+use crate::options::{PeOptions, options_of};
+use crate::section::{PeSection, fill_sections, string_table_offset};
+use crate::symbol::{PeSymbol, fill_symbols};
+use goblin_pe::header::CoffHeader;
+use goblin_pe::options::ParseOptions;
+use goblin_pe::section_table::SectionTable;
+use goblin_pe::symbol::SymbolTable;
+use goblin_pe::{Result, Strtab};
+use std::alloc::Global;
+use std::marker::Model;
+
+/// An object as a whole.
+#[repr(C)]
+#[derive(Copy, Clone)]
+pub struct PeObject {
+    /// How many sections there are.
+    pub sections: usize,
+    /// The symbols.
+    pub symbols: PeTable,
+    /// The COFF header.
+    pub coff_header: PeCoffHeader,
+}
+
+// An object.
+#[derive(Drop)]
+struct Object<'a> {
+    header: CoffHeader,
+    sections: Vec<SectionTable>,
+    symbols: Option<SymbolTable<'a>>,
+    strings: Option<Strtab<'a>>,
+}
+
+impl<'a> Model for Object<'a> {
+    ghost use Rattle.std.specs.Prelude.{option_map};
+    ghost use Rattle.goblin_pe_sect.specs.Symbols.{table_bytes};
+    ghost use Rattle.goblin_pe_c.specs.Objects.{ObjectFile};
+
+    ghost Value = { ObjectFile };
+
+    ghost view = { λ x. record {
+      header = x.header;
+      sections = x.sections.items;
+      symbols = option_map table_bytes x.symbols;
+      strings = x.strings;
+    } };
+}
+
+impl<'a> Object<'a> {
+    // Reads the COFF header at the front of a file, and what it leads to.
+    #[tactic(auto, unfolding(crate::specs::Objects::object_file, crate::specs::Objects::IsObjectFault))]
+    fn read(alloc: Global, bytes: &'a [u8], opts: &ParseOptions) -> Result<Object<'a>>
+        ensures { let strict = is_strict opts.now.parse_mode in
+            AnswersOrMemory (λ x. x) result (object_file strict bytes.now) (IsObjectFault strict bytes.now) }
+    {
+        let mut offset = 0;
+        let header = CoffHeader::parse(bytes, &mut offset)?;
+        offset += header.size_of_optional_header as usize;
+        let sections = header.sections_with_opts(alloc, bytes, &mut offset, opts)?;
+        let symbols = header.symbols(bytes)?;
+        let strings = header.strings(alloc, bytes)?;
+        Ok(Object {
+            header,
+            sections,
+            symbols,
+            strings,
+        })
+    }
+}
+
+// Fills the records of symbols, as far as there is room, and answers how the table stands.
+fn fill_table<'a>(
+    records: &mut [PeSymbol<'a>],
+    symbols: &Option<SymbolTable<'a>>,
+    strings: &Option<Strtab<'a>>,
+) -> PeTable
+    ensures filled { Filled symbol_view (symbol_rows (option_map table_bytes symbols.now) strings.now) records.old records.new }
+    ensures value { result ≡ symbols_table (option_map table_bytes symbols.now) strings.now }
+{
+    match (symbols, strings) {
+        (Some(symbols), Some(strings)) => PeTable {
+            count: fill_symbols(records, symbols, strings),
+            state: 1,
+        },
+        _ => PeTable { count: 0, state: 0 },
+    }
+}
+
+// Fills what is asked for of an object that was read.
+fn fill<'a>(
+    whole: &Object<'a>,
+    bytes: &'a [u8],
+    opts: &ParseOptions,
+    object: &mut PeObject,
+    sections: &mut [PeSection<'a>],
+    symbols: &mut [PeSymbol<'a>],
+)
+    requires { object_file (is_strict opts.now.parse_mode) bytes.now ≡ Some whole.now }
+    ensures object { object.new ≡ object_record whole.now }
+    ensures sections { Filled section_view whole.now.sections sections.old sections.new }
+    ensures symbols { Filled symbol_view (symbol_rows whole.now.symbols whole.now.strings) symbols.old symbols.new }
+{
+    let table = string_table_offset(&whole.header);
+    fill_sections(sections, bytes, &whole.sections, table, opts);
+    let symbols = fill_table(symbols, &whole.symbols, &whole.strings);
+    *object = PeObject {
+        sections: whole.sections.len(),
+        symbols,
+        coff_header: coff_record(&whole.header),
+    };
+}
+
+// Reads an object and fills what is asked for.
+fn read<'a>(
+    alloc: Global,
+    bytes: &'a [u8],
+    opts: &ParseOptions,
+    object: &mut PeObject,
+    sections: &mut [PeSection<'a>],
+    symbols: &mut [PeSymbol<'a>],
+) -> Result<()>
+    ensures { let old : ObjectRecords = record { object = object.old; sections = sections.old; symbols = symbols.old } in
+        let new : ObjectRecords = record { object = object.new; sections = sections.new; symbols = symbols.new } in
+        let strict = is_strict opts.now.parse_mode in
+        Reads (object_file strict bytes.now) (IsObjectFault strict bytes.now) (λ x. SaysObject x old new) (new ≡ old) result }
+{
+    let whole = Object::read(alloc, bytes, opts)?;
+    fill(&whole, bytes, opts, object, sections, symbols);
+    Ok(())
+}
+
+/// Reads an object, which begins with a COFF header: says in `object` what it is, and fills the records
+/// of its sections and symbols as far as there is room. After a refusal nothing is changed.
+#[unsafe(no_mangle)]
+pub extern "C" fn goblin_pe_read_object<'a>(
+    alloc: Global,
+    bytes: &'a [u8],
+    options: &PeOptions,
+    object: &mut PeObject,
+    sections: &mut [PeSection<'a>],
+    symbols: &mut [PeSymbol<'a>],
+) -> PeFault
+    ensures { let old : ObjectRecords = record { object = object.old; sections = sections.old; symbols = symbols.old } in
+        let new : ObjectRecords = record { object = object.new; sections = sections.new; symbols = symbols.new } in
+        let strict = is_strict (options_of options.now).parse_mode in
+        Reported result (Reads (object_file strict bytes.now) (IsObjectFault strict bytes.now) (λ x. SaysObject x old new) (new ≡ old)) }
+{
+    let opts = options_of(options);
+    match read(alloc, bytes, &opts, object, sections, symbols) {
+        Ok(()) => no_fault(),
+        Err(error) => fault_of(&error),
+    }
+}

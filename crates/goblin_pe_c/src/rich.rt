@@ -1,0 +1,110 @@
+//! The Rich header and the records of its entries.
+
+ghost use Rattle.std.specs.Prelude.{◌≡◌, drop, length, map, option_map};
+ghost use Rattle.goblin_pe_head.specs.RichHeader.{rich_value};
+ghost use Rattle.goblin_pe_head.specs.RichMetadata.{metadata_items};
+ghost use Rattle.goblin_pe_c.specs.Filled.{Filled};
+ghost use Rattle.goblin_pe_c.specs.Items.{rest_of, values_of};
+ghost use Rattle.goblin_pe_c.specs.RichHeaders.{entries_in, entry_items, entry_view, rich_of};
+
+use crate::fault::{PeFault, fault_of, no_fault};
+use crate::filled::put;
+use goblin_pe::header::{RichHeader, RichMetadata};
+
+/// An entry of the Rich header: a tool, and how often it was used.
+#[repr(C)]
+#[derive(Copy, Clone)]
+pub struct PeRichEntry {
+    /// How many files the tool made.
+    pub use_count: u32,
+    /// The build of the tool.
+    pub build: u16,
+    /// Which tool it is.
+    pub product: u16,
+}
+
+/// The Rich header; zeros where there is none.
+#[repr(C)]
+#[derive(Copy, Clone)]
+pub struct PeRichHeader {
+    /// How many entries there are.
+    pub entries: usize,
+    /// The size of the padding in front of the entries, in bytes.
+    pub padding_size: usize,
+    /// Why a rest that follows the entries is none; its status is 0 where there is no rest.
+    pub rest: PeFault,
+    /// The key, under which the words are stored.
+    pub key: u32,
+    /// The file offset of the first marker.
+    pub start_offset: u32,
+    /// The file offset of the second marker.
+    pub end_offset: u32,
+    /// Whether there is a Rich header.
+    pub is_present: bool,
+}
+
+// The record of an entry.
+fn entry_record(entry: &RichMetadata) -> PeRichEntry
+    ensures { entry_view result ≡ entry.now }
+{
+    PeRichEntry {
+        use_count: entry.use_count,
+        build: entry.build,
+        product: entry.product,
+    }
+}
+
+// Fills the records of the entries, as far as there is room, and answers how many there are, and why a
+// rest is none.
+fn fill_items(records: &mut [PeRichEntry], rich: &RichHeader) -> (usize, PeFault)
+    ensures filled { Filled entry_view (values_of (entry_items (rich_value rich.now))) records.old records.new }
+    ensures count { result.0 ≡ length (values_of (entry_items (rich_value rich.now))) }
+    ensures rest { result.1 ≡ rest_of (entry_items (rich_value rich.now)) }
+{
+    let mut count = 0usize;
+    // No header that was read has more padding than data.
+    if rich.padding_size > rich.bytes.len() {
+        return (count, no_fault());
+    }
+    'entries: for entry in rich.metadatas() {
+        match entry {
+            Ok(entry) => {
+                put(records, count, entry_record(&entry));
+                count += 1;
+            }
+            Err(error) => return (count, fault_of(&error)),
+        }
+    }
+    (count, no_fault())
+}
+
+/// Fills the records of the entries, as far as there is room, and answers what is said of the Rich
+/// header as a whole.
+pub fn fill_entries(records: &mut [PeRichEntry], rich: &Option<RichHeader>) -> PeRichHeader
+    ensures filled { Filled entry_view (entries_in (option_map rich_value rich.now)) records.old records.new }
+    ensures value { result ≡ rich_of (option_map rich_value rich.now) }
+{
+    match rich {
+        None => PeRichHeader {
+            entries: 0,
+            padding_size: 0,
+            rest: no_fault(),
+            key: 0,
+            start_offset: 0,
+            end_offset: 0,
+            is_present: false,
+        },
+        Some(rich) => {
+            let (entries, rest) = fill_items(records, rich);
+            PeRichHeader {
+                entries,
+                padding_size: rich.padding_size,
+                rest,
+                key: rich.key,
+                start_offset: rich.start_offset,
+                end_offset: rich.end_offset,
+                is_present: true,
+            }
+        }
+    }
+}

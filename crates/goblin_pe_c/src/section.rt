@@ -1,0 +1,108 @@
+//! The records of sections.
+
+ghost use Rattle.std.specs.Prelude.{◌≡◌, map, option_map};
+ghost use Rattle.goblin_pe_sect.specs.Options.{is_strict};
+ghost use Rattle.goblin_pe_head.specs.CoffHeader.{string_table_offset};
+ghost use Rattle.goblin_pe_c.specs.Filled.{Filled};
+ghost use Rattle.goblin_pe_c.specs.Sections.{named_in, real_name_in, section_view};
+
+use goblin_pe::header::CoffHeader;
+use goblin_pe::options::ParseOptions;
+use goblin_pe::read::pread_str;
+use goblin_pe::section_table::SectionTable;
+
+/// A section, as its record describes it.
+#[repr(C)]
+#[derive(Copy, Clone)]
+pub struct PeSection<'a> {
+    /// The name from the string table, where there is one.
+    pub real_name: &'a [u8],
+    /// The eight bytes of the name, padded with NULs.
+    pub name: [u8; 8],
+    /// The section's size in memory, in bytes.
+    pub virtual_size: u32,
+    /// The section's address in memory, relative to the image's base.
+    pub virtual_address: u32,
+    /// The size of the section's data in the file, in bytes.
+    pub size_of_raw_data: u32,
+    /// The file offset of the section's data.
+    pub pointer_to_raw_data: u32,
+    /// The file offset of the section's relocations, 0 where it has none.
+    pub pointer_to_relocations: u32,
+    /// The file offset of the section's line numbers, 0 where it has none.
+    pub pointer_to_linenumbers: u32,
+    /// How many relocations the section has.
+    pub number_of_relocations: u16,
+    /// How many line numbers the section has.
+    pub number_of_linenumbers: u16,
+    /// What the section holds and how it may be used.
+    pub characteristics: u32,
+    /// Whether the section has a name from the string table.
+    pub has_real_name: bool,
+}
+
+// The name of a section from the string table at `table`.
+#[tactic(auto, unfolding(crate::specs::Sections::real_name_in))]
+fn real_name<'a>(
+    bytes: &'a [u8],
+    section: &SectionTable,
+    table: usize,
+    opts: &ParseOptions,
+) -> Option<&'a str>
+    ensures { option_map (λ s. s.now) result ≡ real_name_in (is_strict opts.now.parse_mode) bytes.now table section.now.name }
+{
+    let offset = section.name_offset_with_opts(opts).ok()??;
+    pread_str(bytes, table.checked_add(offset)?).ok()
+}
+
+// The record of a section.
+fn section_record<'a>(
+    bytes: &'a [u8],
+    section: &SectionTable,
+    table: usize,
+    opts: &ParseOptions,
+) -> PeSection<'a>
+    ensures { section_view result ≡ named_in (is_strict opts.now.parse_mode) bytes.now table section.now }
+{
+    let real_name = real_name(bytes, section, table, opts);
+    PeSection {
+        real_name: match real_name {
+            Some(name) => name.as_bytes(),
+            None => &[],
+        },
+        name: section.name,
+        virtual_size: section.virtual_size,
+        virtual_address: section.virtual_address,
+        size_of_raw_data: section.size_of_raw_data,
+        pointer_to_raw_data: section.pointer_to_raw_data,
+        pointer_to_relocations: section.pointer_to_relocations,
+        pointer_to_linenumbers: section.pointer_to_linenumbers,
+        number_of_relocations: section.number_of_relocations,
+        number_of_linenumbers: section.number_of_linenumbers,
+        characteristics: section.characteristics,
+        has_real_name: real_name.is_some(),
+    }
+}
+
+/// Fills the records of sections, as far as there is room.
+pub fn fill_sections<'a>(
+    records: &mut [PeSection<'a>],
+    bytes: &'a [u8],
+    sections: &[SectionTable],
+    table: usize,
+    opts: &ParseOptions,
+)
+    ensures { Filled section_view (map (named_in (is_strict opts.now.parse_mode) bytes.now table) sections.now) records.old records.new }
+{
+    let count = sections.len().min(records.len());
+    'records: for i in 0..count {
+        records[i] = section_record(bytes, &sections[i], table, opts);
+    }
+}
+
+/// The file offset of the string table.
+pub fn string_table_offset(header: &CoffHeader) -> usize
+    ensures { result ≡ string_table_offset header.now }
+{
+    header.pointer_to_symbol_table as usize + 18 * header.number_of_symbol_table as usize
+}

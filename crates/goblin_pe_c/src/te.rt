@@ -1,0 +1,162 @@
+//! The call that reads a Terse Executable.
+
+ghost use Rattle.std.specs.Prelude.{◌≡◌, Some};
+ghost use Rattle.goblin_base.specs.Answers.{AnswersOrMemory};
+ghost use Rattle.goblin_pe_c.specs.Calls.{Reads, Reported};
+ghost use Rattle.goblin_pe_c.specs.Filled.{Filled};
+ghost use Rattle.goblin_pe_c.specs.Sections.{section_view};
+ghost use Rattle.goblin_pe_c.specs.Te.{IsImageFault, SaysImage, TeRecords, te_header_record, te_image};
+
+use crate::fault::{PeFault, fault_of, no_fault};
+use crate::section::{PeSection, fill_sections};
+use goblin_pe::Result;
+use goblin_pe::data_directories::DataDirectory;
+use goblin_pe::header::TeHeader;
+use goblin_pe::options::ParseOptions;
+use goblin_pe::section_table::SectionTable;
+use std::alloc::Global;
+use std::marker::Model;
+
+/// Where a table of an image lies.
+#[repr(C)]
+#[derive(Copy, Clone)]
+pub struct PeDataDirectory {
+    /// The table's address, relative to the image's base.
+    pub virtual_address: u32,
+    /// The table's size, in bytes.
+    pub size: u32,
+}
+
+/// The header of a Terse Executable, its addresses as they are in the stripped file.
+#[repr(C)]
+#[derive(Copy, Clone)]
+pub struct PeTeHeader {
+    /// The address at which the image is best loaded.
+    pub image_base: u64,
+    /// The address of the entry point.
+    pub entry_point: u32,
+    /// The address at which the code begins.
+    pub base_of_code: u32,
+    /// Where the base relocations lie.
+    pub reloc_dir: PeDataDirectory,
+    /// Where the debug data lies.
+    pub debug_dir: PeDataDirectory,
+    /// The first two bytes, `VZ` in a Terse Executable.
+    pub signature: u16,
+    /// The machine that the file is for.
+    pub machine: u16,
+    /// How many bytes were stripped from the front of the PE file.
+    pub stripped_size: u16,
+    /// How many sections there are.
+    pub number_of_sections: u8,
+    /// The subsystem that runs the image.
+    pub subsystem: u8,
+}
+
+// A Terse Executable.
+#[derive(Drop)]
+struct Image {
+    header: TeHeader,
+    sections: Vec<SectionTable>,
+}
+
+impl Model for Image {
+    ghost use Rattle.goblin_pe_c.specs.Te.{TeImage};
+
+    ghost Value = { TeImage };
+
+    ghost view = { λ x. record { header = x.header; sections = x.sections.items } };
+}
+
+impl Image {
+    // Reads the header at the front of a file, and the sections that follow it.
+    #[tactic(auto, unfolding(crate::specs::Te::te_image, crate::specs::Te::IsImageFault))]
+    fn read(alloc: Global, bytes: &[u8]) -> Result<Image>
+        ensures { AnswersOrMemory (λ x. x) result (te_image bytes.now) (IsImageFault bytes.now) }
+    {
+        let mut offset = 0;
+        let header = TeHeader::parse(bytes, &mut offset)?;
+        let sections = header.sections(alloc, bytes, &mut offset)?;
+        Ok(Image { header, sections })
+    }
+}
+
+// The record of a directory.
+fn directory_record(directory: &DataDirectory) -> PeDataDirectory
+    ensures { result ≡ record { virtual_address = directory.now.virtual_address; size = directory.now.size } }
+{
+    PeDataDirectory {
+        virtual_address: directory.virtual_address,
+        size: directory.size,
+    }
+}
+
+// The record of a header.
+fn te_header_record(header: &TeHeader) -> PeTeHeader
+    ensures { result ≡ te_header_record header.now }
+{
+    PeTeHeader {
+        image_base: header.image_base,
+        entry_point: header.entry_point,
+        base_of_code: header.base_of_code,
+        reloc_dir: directory_record(&header.reloc_dir),
+        debug_dir: directory_record(&header.debug_dir),
+        signature: header.signature,
+        machine: header.machine,
+        stripped_size: header.stripped_size,
+        number_of_sections: header.number_of_sections,
+        subsystem: header.subsystem,
+    }
+}
+
+// Fills what is asked for of an image that was read.
+fn fill<'a>(image: &Image, bytes: &'a [u8], header: &mut PeTeHeader, sections: &mut [PeSection<'a>])
+    requires { te_image bytes.now ≡ Some image.now }
+    ensures header { header.new ≡ te_header_record image.now.header }
+    ensures sections { Filled section_view image.now.sections sections.old sections.new }
+{
+    *header = te_header_record(&image.header);
+    fill_sections(
+        sections,
+        bytes,
+        &image.sections,
+        0,
+        &ParseOptions::default(),
+    );
+}
+
+// Reads an image and fills what is asked for.
+fn read<'a>(
+    alloc: Global,
+    bytes: &'a [u8],
+    header: &mut PeTeHeader,
+    sections: &mut [PeSection<'a>],
+) -> Result<()>
+    ensures { let old : TeRecords = record { header = header.old; sections = sections.old } in
+        let new : TeRecords = record { header = header.new; sections = sections.new } in
+        Reads (te_image bytes.now) (IsImageFault bytes.now) (λ x. SaysImage x old new) (new ≡ old) result }
+{
+    let image = Image::read(alloc, bytes)?;
+    fill(&image, bytes, header, sections);
+    Ok(())
+}
+
+/// Reads the header at the front of a Terse Executable and the sections that follow it, and fills the
+/// records of sections as far as there is room; `header` says how many there are. The signature is not
+/// looked at. After a refusal nothing is changed.
+#[unsafe(no_mangle)]
+pub extern "C" fn goblin_pe_read_te<'a>(
+    alloc: Global,
+    bytes: &'a [u8],
+    header: &mut PeTeHeader,
+    sections: &mut [PeSection<'a>],
+) -> PeFault
+    ensures { let old : TeRecords = record { header = header.old; sections = sections.old } in
+        let new : TeRecords = record { header = header.new; sections = sections.new } in
+        Reported result (Reads (te_image bytes.now) (IsImageFault bytes.now) (λ x. SaysImage x old new) (new ≡ old)) }
+{
+    match read(alloc, bytes, header, sections) {
+        Ok(()) => no_fault(),
+        Err(error) => fault_of(&error),
+    }
+}
