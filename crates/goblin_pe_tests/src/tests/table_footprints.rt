@@ -426,10 +426,13 @@ fn each_growth_refused_stands_in_its_place(rt: HostRuntime) -> Result<(), Fail> 
             ALIGNMENT,
             &opts,
         );
-        let still_runs = matches!(&second, Err(Error::Malformed(_)));
+        // The second file has no directory; that is told where its own index has memory.
+        let is_told = matches!(&second, Err(Error::Malformed(_)));
+        let is_refused = matches!(&second, Err(Error::Memory(_)));
         match first {
-            Ok(data) if still_runs && are_sample_imports(&data) => Outcome::Right,
-            Err(Error::Memory(_)) if still_runs => Outcome::Refused,
+            Ok(data) if is_told && are_sample_imports(&data) => Outcome::Right,
+            Ok(_) if is_refused => Outcome::Refused,
+            Err(Error::Memory(_)) if is_told || is_refused => Outcome::Refused,
             _ => Outcome::Wrong,
         }
     })?;
