@@ -63,3 +63,24 @@ fn a_whole_file_is_refused_at_each_growth_in_both_modes(rt: HostRuntime) -> Resu
     }
     Ok(())
 }
+
+#[test]
+fn sections_that_pass_the_file_are_refused_by_count_or_by_record(
+    rt: HostRuntime,
+) -> Result<(), Fail> {
+    let alloc = rt.alloc();
+    let mut file = sample(alloc)?;
+    // The file has room for 19 records, but not from where they stand.
+    for mode in [ParseMode::Strict, ParseMode::Permissive] {
+        let opts = ParseOptions::default().with_parse_mode(mode);
+        put(&mut file, 0x46, &[20]);
+        let is_counted = matches!(
+            Whole::read(alloc, &file, &opts),
+            Err(Error::BufferTooShort(20, "sections"))
+        );
+        put(&mut file, 0x46, &[19]);
+        let is_read = matches!(Whole::read(alloc, &file, &opts), Err(Error::Read(_)));
+        assert!(rt; is_counted && is_read, "{mode:?}");
+    }
+    Ok(())
+}
