@@ -44,7 +44,7 @@ pub or_left_out-kept : {A : Type 0} (first second : Option A) → Keeps first se
 or_left_out-kept None second kept xs e = absurd cc
 or_left_out-kept (Some x) second kept xs e = rw (kept x refl) e
 
-without_test : {A : Type 0} (test : Bool) (value : Option A) (x : A) → cond test None value ≡ Some x → value ≡ Some x
+pub without_test : {A : Type 0} (test : Bool) (value : Option A) (x : A) → cond test None value ≡ Some x → value ≡ Some x
 without_test true value x e = absurd cc
 without_test false value x e = e
 

@@ -82,7 +82,8 @@ pub number_bytes-number : (endian : Endian) (n : ℕ) (bytes : List ℕ) (k : �
 number_bytes-number endian n bytes k h le =
     ap (number_bytes endian n) (number-slice endian n bytes k) ∙ read_back endian n (slice_range bytes k (k + n)) (IsBytes-slice bytes k n h) (length-slice bytes k n le)
 
-slice_then : (bytes : List ℕ) (k a b : ℕ) → slice_range bytes k (k + a) ++ slice_range bytes (k + a) (k + a + b) ≡ slice_range bytes k (k + (a + b))
+-- a slice and what follows it are a longer slice
+pub slice_then : (bytes : List ℕ) (k a b : ℕ) → slice_range bytes k (k + a) ++ slice_range bytes (k + a) (k + a + b) ≡ slice_range bytes k (k + (a + b))
 slice_then bytes k a b =
     let e1 : k + a - k ≡ a = omega arith in
     let e2 : k + a + b - (k + a) ≡ b = omega arith in
@@ -93,12 +94,12 @@ slice_then bytes k a b =
 pub slice-is : (bytes : List ℕ) (p n : ℕ) → slice_range bytes p (p + n) ≡ take n (drop p bytes)
 slice-is bytes p n = let e : p + n - p ≡ n = omega arith in rw e refl
 
--- a front with what stands behind it is a longer front
+-- a front with what stands after it is a longer front
 pub front_more : (bytes : List ℕ) (n k : ℕ) (xs rest : List ℕ) → xs ≡ take k (drop n bytes) → take n bytes ++ (xs ++ rest) ≡ take (n + k) bytes ++ rest
 front_more bytes n k xs rest is =
     ap (λ (ys : List ℕ). take n bytes ++ (ys ++ rest)) is ∙ sym (append_assoc (take n bytes) (take k (drop n bytes)) rest) ∙ ap (λ (ys : List ℕ). ys ++ rest) (sym (take-add n k bytes))
 
--- how a field lies in a record: a number of so many bytes, or so many bytes as they are
+-- how a field lies in a record: a number of a width, or a number of bytes as they are
 pub data Slot : Type 0 where
   uint_slot : ℕ → Slot
   octets_slot : ℕ → Slot

@@ -6,3 +6,4 @@ pub mod Record
 pub mod RecordLaws
 pub mod Strtab
 pub mod Tables
+pub mod Values

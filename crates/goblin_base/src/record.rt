@@ -33,7 +33,7 @@ pub trait TryFromCtx<'a>: Sized {
     /// Which cause is true of bytes that are refused.
     ghost refusal: { Endian → List ℕ → ErrorOf → Type 0 };
 
-    /// Reads a value from the front of `bytes`, and says how many of them it takes.
+    /// Reads a value from the front of `bytes`: the answer is (the value, how many bytes it takes).
     ///
     /// # Errors
     /// Each type says which; never [`Error::Memory`](crate::Error::Memory).
@@ -67,12 +67,12 @@ pub trait Record: Copy {
     fn size() -> usize
         ensures { result ≡ width };
 
-    /// The record that `bytes` are, which are as many as its size.
+    /// The record that `bytes` are. They must be as many as its size.
     fn in_record(bytes: &[u8], endian: Endian) -> Self
         requires { length bytes.now ≡ width }
         ensures { result ≡ value endian bytes.now };
 
-    /// Puts the record to the front of `bytes`, where there is room for it.
+    /// Puts the record to the front of `bytes`, which must have room for it.
     fn put(self, bytes: &mut [u8], endian: Endian)
         requires { width ≤ length bytes.old }
         ensures long { length (encoding endian (fields self)) ≡ width }
@@ -83,7 +83,7 @@ pub trait Record: Copy {
     /// Reads the record at `offset`.
     ///
     /// # Errors
-    /// [`Error::Read`](crate::Error::Read) where the record is not all there.
+    /// [`Error::Read`](crate::Error::Read) where the record passes the end.
     fn read_at(bytes: &[u8], offset: usize, endian: Endian) -> Result<Self>
         ensures { Answers (λ r. r) result (record_at width (value endian) bytes.now offset) (IsSliceFault bytes.now offset width) }
     {
@@ -108,7 +108,7 @@ pub trait Record: Copy {
         Ok(Self::size())
     }
 
-    /// The size of the record in bytes, the same in either order.
+    /// The size of the record in bytes, the same in either order. The reference is not looked at.
     fn size_with(_endian: &Endian) -> usize
         ensures { result ≡ width }
     {
@@ -132,7 +132,7 @@ impl<R: Record> TryFromCtx<'_> for R {
     /// Reads the record at the front of `bytes`.
     ///
     /// # Errors
-    /// [`Error::Read`](crate::Error::Read) where the record is not all there.
+    /// [`Error::Read`](crate::Error::Read) where the record passes the end.
     fn try_from_ctx(bytes: &[u8], endian: Endian) -> Result<(R, usize)> {
         let record = R::read_at(bytes, 0, endian)?;
         Ok((record, R::size()))

@@ -14,7 +14,7 @@ use Rattle.goblin_pe_sect.specs.Mapping.{name_at}
 use Rattle.goblin_pe.specs.declared.export.tables.ExportAddressTableEntry.{ExportAddressTableEntry}
 use Rattle.goblin_pe.specs.declared.export.tables.ExportAddressTableEntry.TheVariants.{ExportRVA, ForwarderRVA}
 use Rattle.goblin_pe.specs.declared.export.tables.ExportDirectoryTable.{ExportDirectoryTable}
-use Rattle.goblin_pe.specs.Exports.{ExportRow, ExportTables, addresses, counts_fit, export_data, export_directory_at, export_directory_record, export_row, exports, name_pointers, ordinals, reexport_of, tables_if, tables_of}
+use Rattle.goblin_pe.specs.Exports.{ExportRow, ExportTables, addresses, counts_fit, export_data, export_directory_at, export_directory_record, export_row, exports, name_pointers, ordinals, reexport_of, tables_if, export_tables}
 use Rattle.goblin_pe.specs.Forwarders.{forwarder_at, forwarder_of}
 use Rattle.goblin_pe.specs.ExportFootprints.{export_data_footprint, export_footprint, export_read, export_row_footprint, exports_footprint, name_footprint, reexport_footprint, tables_footprint, tables_if_footprint}
 
@@ -23,9 +23,9 @@ same-name_at offset_of a b rva h = same-led (offset_of rva) (offset_of rva) (tex
 
 -- ---- export data
 
-same_tables_of : (offset_of : ℕ → Option ℕ) (d : DataDirectory) (a b : List ℕ) (t : ExportDirectoryTable) → Agree (tables_footprint offset_of d a t) a b → tables_of offset_of d a t ≡ tables_of offset_of d b t
-unfolding tables_of tables_footprint
-same_tables_of offset_of d a b t h =
+same_export_tables : (offset_of : ℕ → Option ℕ) (d : DataDirectory) (a b : List ℕ) (t : ExportDirectoryTable) → Agree (tables_footprint offset_of d a t) a b → export_tables offset_of d a t ≡ export_tables offset_of d b t
+unfolding export_tables tables_footprint
+same_export_tables offset_of d a b t h =
     let n = t.number_of_name_pointers in
     let of_pointers = led_to (offset_of t.name_pointer_rva) (counted_footprint name_pointers n a) in
     let of_ordinals = led_to (offset_of t.ordinal_table_rva) (counted_footprint ordinals n a) in
@@ -49,7 +49,7 @@ same_tables_if offset_of d a b t long h =
       | inl fit ↦
           let fit_again : counts_fit b t ≡ true = sym alike ∙ fit in
           let here : Agree (tables_footprint offset_of d a t) a b = subst (λ x. Agree (cond x (tables_footprint offset_of d a t) []) a b) fit h in
-          let same : tables_of offset_of d a t ≡ tables_of offset_of d b t = same_tables_of offset_of d a b t here in
+          let same : export_tables offset_of d a t ≡ export_tables offset_of d b t = same_export_tables offset_of d a b t here in
           rw (fit, fit_again, same) refl
       | inr many ↦
           let many_again : counts_fit b t ≡ false = sym alike ∙ many in

@@ -20,6 +20,7 @@ use Rattle.goblin_pe.specs.ImportDirectory.{ImportedLibrary, import_data, addres
 use Rattle.goblin_pe.specs.ImportLookup.{EntryValue, LookupEntry, address_table, entry_slots, kept_entry, kept_name, lookup_table}
 use Rattle.goblin_pe.specs.ImportLookup.LookupEntry.{ByOrdinal}
 use Rattle.goblin_pe.specs.Imports.{ImportValue, has_slots, import_at, imports_by, imports_of, kept_count, kept_entries, library_imports}
+use Rattle.goblin_base.proofs.Kept.{without_test}
 
 -- ---- tables of slots
 
@@ -34,15 +35,15 @@ module _ {A : Type 0} (count : List A → ℕ) (none : count [] ≡ 0) (adds : (
       let last = few n parts.1 parts.3 in
       omega (arith, before, last, adds parts.0 parts.1, ap count parts.4)
 
-there : {V : Type 0} (is_last : V → Bool) (slot : Option V) → ends_table is_last slot ≡ false → (v : V) × (slot ≡ Some v)
-there is_last None e = absurd cc
-there is_last (Some v) e = (v, refl)
+slot_there : {V : Type 0} (is_last : V → Bool) (slot : Option V) → ends_table is_last slot ≡ false → (v : V) × (slot ≡ Some v)
+slot_there is_last None e = absurd cc
+slot_there is_last (Some v) e = (v, refl)
 
 -- the slots before n lie in the file, where none of them ends the table
 slots_fit : {V : Type 0} (slots : SlotFormat V) (bytes : List ℕ) (o n : ℕ) → ((j : ℕ) → j < n → ends_table slots.is_last (slot_at slots bytes o j) ≡ false) → n * slots.entry.width ≤ length bytes
 slots_fit slots bytes o zero going = omega arith
 slots_fit slots bytes o (suc n) going =
-    let last = there slots.is_last (slot_at slots bytes o n) (going n (omega arith)) in
+    let last = slot_there slots.is_last (slot_at slots bytes o n) (going n (omega arith)) in
     let is = record_at-some slots.entry.width slots.entry.value_of bytes (slot_place slots o n) last.0 last.1 in
     omega (arith, is.end)
 
@@ -52,10 +53,6 @@ unfolding stop
 stop_fits slots bytes o some =
     let test : ℕ → Bool = λ i. ends_table slots.is_last (slot_at slots bytes o i) in
     le-div (least test (length bytes)) (length bytes) slots.entry.width some (slots_fit slots bytes o (least test (length bytes)) (least-before test (length bytes)))
-
-without_test : {A : Type 0} (test : Bool) (value : Option A) (x : A) → cond test None value ≡ Some x → value ≡ Some x
-without_test true value x e = absurd cc
-without_test false value x e = e
 
 module _ {V A : Type 0} (count : List A → ℕ) (none : count [] ≡ 0) (adds : (xs ys : List A) → count (xs ++ ys) ≡ count xs + count ys) where
   slot_table-count : (slots : SlotFormat V) (needs_end : Bool) (piece : V → Option (List A)) (bytes : List ℕ) (o m : ℕ) → 0 < slots.entry.width → ((v : V) (xs : List A) → piece v ≡ Some xs → count xs ≤ m)

@@ -5,9 +5,9 @@ use Rattle.goblin_base.proofs.RecordRoundTrip.{reads_back, writes_back}
 use Rattle.goblin_pe.specs.declared.import.directory_entry.ImportDirectoryEntry.{ImportDirectoryEntry}
 use Rattle.goblin_pe.specs.ImportDirectory.{import_fields, import_record}
 
-pub record_back : WritesBack 20 import_record import_fields
+pub import_record_back : WritesBack 20 import_record import_fields
 unfolding import_record import_fields
-record_back = writes_back 20 import_record import_fields refl (λ endian own h. refl)
+import_record_back = writes_back 20 import_record import_fields refl (λ endian own h. refl)
 
 pub record_again : (r : ImportDirectoryEntry) → FieldsFit (import_fields r) → ReadsBack 20 import_record import_fields r
 unfolding import_record import_fields

@@ -1,7 +1,9 @@
 -- The loops that list imports: over the entries of a table, and over libraries.
-use Rattle.std.proofs.Common.{◌≡◌, ◌<◌, ℕ, zero, suc, ◌+◌, Bool, true, false, cond, not, List, [], ◌∷◌, ◌++◌, length, Option, Some, None, refl, sym, ap, subst, inl, ◌∙◌, append-nil, append_assoc}
-use Rattle.std.specs.List.{find}
+use Rattle.std.proofs.Common.{◌≡◌, ◌<◌, ◌≤◌, ℕ, zero, suc, ◌+◌, Bool, true, false, cond, not, List, [], ◌∷◌, ◌++◌, length, Option, Some, None, arith, refl, sym, ap, subst, inl, ◌∙◌, append-nil, append_assoc}
+use Rattle.std.specs.List.{position_or_len}
+use Rattle.std.proofs.lemmas.Bool.{not-false, not-true}
 use Rattle.std.specs.Prelude.{IsSomeAnd, map, get_or, slice_get, option_map}
+use Rattle.std.proofs.lemmas.List.Sums.{sum_by-cons}
 use Rattle.std.proofs.lemmas.Option.{slice_get-get_or, slice_get-map, slice_get_within}
 use Rattle.goblin_base.specs.declared.error.ErrorOf.TheVariants.{Malformed}
 use Rattle.goblin_base.specs.declared.error.CauseOf.TheVariants.{SlotCount}
@@ -9,9 +11,10 @@ use Rattle.goblin_base.specs.Tables.{each_below, join}
 use Rattle.goblin_base.proofs.Below.{each_below-missing, each_below-next}
 use Rattle.goblin_base.specs.Answers.{◌>>=◌, all_at}
 use Rattle.goblin_base.proofs.Steps.{all_at-more, all_at-none, all_at-zero}
+use Rattle.goblin_pe_sect.proofs.First.{found_at_first, found_passes, none_passes}
 use Rattle.goblin_pe.specs.ImportLookup.{LookupEntry}
 use Rattle.goblin_pe.specs.ImportDirectory.{ImportedLibrary}
-use Rattle.goblin_pe.specs.Imports.{ImportValue, IsImportsFault, IsSlotCount, first_without_slots, has_slots, import_at, import_of, import_offset, imports_by, imports_of, kept_entries, library_imports}
+use Rattle.goblin_pe.specs.Imports.{ImportValue, IsImportsFault, IsSlotCount, first_without_slots, has_slots, import_at, import_of, import_offset, imports_by, imports_of, kept_count, kept_entries, library_imports}
 
 -- what a test says of that whose opposite it is
 pub opposite : (last valid v : Bool) → valid ≡ not last → valid ≡ not v → last ≡ v
@@ -22,7 +25,7 @@ opposite false valid false is test = refl
 
 -- over a table's entries and slots
 module _ (size : ℕ) (dll : List ℕ) (rva : ℕ) (entries : List LookupEntry) (slots : List ℕ) where
-  -- `now` is `old` with the imports of the entries before a position behind it
+  -- `now` is `old` with the imports of the entries before a position after it
   pub record AtEntry (position : ℕ) (old now : List ImportValue) : Type 0 where
     pub made : List ImportValue
     pub so_far : all_at (import_at size dll rva entries slots) position ≡ Some made
@@ -97,49 +100,35 @@ library-refused size libraries i library old is none =
 
 -- ---- slots
 
-module _ {X : Type 0} (p : X → Bool) where
-  found_by : (x : X) (xs : List X) (y : X) (b : Bool) → p x ≡ b → ((find p xs ≡ Some y) → (i : ℕ) × (slice_get xs i ≡ Some y) × (p y ≡ true)) → cond b (Some x) (find p xs) ≡ Some y → (i : ℕ) × (slice_get (x ∷ xs) i ≡ Some y) × (p y ≡ true)
-  found_by x xs y true e rest is = let same : x ≡ y = cc in (0, is, subst (λ z. p z ≡ true) same e)
-  found_by x xs y false e rest is = let later = rest is in (suc later.0, later.1, later.2)
-
-  -- what is found stands at an index, and passes
-  found : (xs : List X) (y : X) → find p xs ≡ Some y → (i : ℕ) × (slice_get xs i ≡ Some y) × (p y ≡ true)
-  found [] y h = absurd cc
-  found (x ∷ xs) y h = found_by x xs y (p x) refl (λ is. found xs y is) h
-
-  not_found_by : (x : X) (xs : List X) (y : X) (b : Bool) → p x ≡ b → ((i : ℕ) → find p xs ≡ None → slice_get xs i ≡ Some y → p y ≡ false) → cond b (Some x) (find p xs) ≡ None → (i : ℕ) → slice_get (x ∷ xs) i ≡ Some y → p y ≡ false
-  not_found_by x xs y true e rest none i is = absurd cc
-  not_found_by x xs y false e rest none zero is = let same : x ≡ y = cc in subst (λ z. p z ≡ false) same e
-  not_found_by x xs y false e rest none (suc i) is = rest i none is
-
-  -- where nothing is found no element passes
-  not_found : (xs : List X) (i : ℕ) (y : X) → find p xs ≡ None → slice_get xs i ≡ Some y → p y ≡ false
-  not_found [] i y none is = absurd cc
-  not_found (x ∷ xs) i y none is = not_found_by x xs y (p x) refl (λ j. not_found xs j y) none i is
-
-true_negated : (b : Bool) → not b ≡ true → b ≡ false
-true_negated true h = absurd cc
-true_negated false h = refl
-
-false_negated : (b : Bool) → not b ≡ false → b ≡ true
-false_negated true h = refl
-false_negated false h = absurd cc
-
 -- a library that has not as many entries as slots: there is no list
 slots-missing : (size : ℕ) (libraries : List ImportedLibrary) (library : ImportedLibrary) → first_without_slots libraries ≡ Some library → imports_of size libraries ≡ None
 unfolding imports_of
 slots-missing size libraries library is =
-    let there = found (λ l. not (has_slots l)) libraries library is in
-    let fails = true_negated (has_slots library) there.2 in
-    let this : imported_at size libraries there.0 ≡ None = rw (there.1, fails) refl in
-    each_below-missing (imported_at size libraries) (length libraries) there.0 (slice_get_within libraries there.0 library there.1) this
+    let test : ImportedLibrary → Bool = λ l. not (has_slots l) in
+    let i = position_or_len test libraries in
+    let here = found_at_first test libraries library is in
+    let fails = not-true (has_slots library) (found_passes test libraries library is) in
+    let this : imported_at size libraries i ≡ None = rw (here, fails) refl in
+    each_below-missing (imported_at size libraries) (length libraries) i (slice_get_within libraries i library here) this
 
 -- else each library has
 pub slots-there : (libraries : List ImportedLibrary) (i : ℕ) (library : ImportedLibrary) → first_without_slots libraries ≡ None → slice_get libraries i ≡ Some library → has_slots library ≡ true
-slots-there libraries i library none here = false_negated (has_slots library) (not_found (λ l. not (has_slots l)) libraries i library none here)
+slots-there libraries i library none here = not-false (has_slots library) (none_passes (λ l. not (has_slots l)) libraries none i library here)
 
 -- and that is a true cause
 pub slots-refused : (size : ℕ) (libraries : List ImportedLibrary) (library : ImportedLibrary) (entries slots : ℕ) → first_without_slots libraries ≡ Some library → entries ≡ length (kept_entries library) → slots ≡ length library.import_lookup_slots
     → (imports_of size libraries ≡ None) × IsImportsFault libraries (Malformed (SlotCount entries slots))
 slots-refused size libraries library entries slots is e s =
     (slots-missing size libraries library is, inl (subst (λ o. IsSomeAnd o (λ l. IsSlotCount l (Malformed (SlotCount entries slots)))) (sym is) (e, s)))
+
+-- no library has more entries than all libraries
+pub entries-counted : (libraries : List ImportedLibrary) (i : ℕ) (library : ImportedLibrary) → slice_get libraries i ≡ Some library → length (kept_entries library) ≤ kept_count libraries
+entries-counted [] i library is = absurd cc
+entries-counted (x ∷ xs) zero library is =
+    let same : x ≡ library = cc in
+    let all = sum_by-cons (λ (l : ImportedLibrary). length (kept_entries l)) x xs in
+    subst (λ (l : ImportedLibrary). length (kept_entries l) ≤ kept_count (x ∷ xs)) same (omega (arith, all))
+entries-counted (x ∷ xs) (suc i) library is =
+    let rest = entries-counted xs i library is in
+    let all = sum_by-cons (λ (l : ImportedLibrary). length (kept_entries l)) x xs in
+    omega (arith, rest, all)

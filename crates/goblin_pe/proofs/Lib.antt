@@ -2,6 +2,7 @@ pub mod ExportDirectoryRoundTrip
 pub mod ExportFootprints
 mod ExportRows
 mod Grammar
+pub mod Growths
 pub mod ImportBound
 pub mod ImportDirectoryRoundTrip
 pub mod ImportFootprints
@@ -10,6 +11,7 @@ pub mod LookupSlots
 pub mod Modes
 pub mod Parts
 pub mod PermissiveReads
+pub mod RangesInFile
 pub mod TableRuns
 pub mod TwinParts
 pub mod WholeFootprints

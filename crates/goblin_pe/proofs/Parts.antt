@@ -54,9 +54,9 @@ pub becomes_same : {X : Type 0} (strict : Bool) (asked : Result X ErrorOf) (made
 becomes_same strict asked made value IsCause h is = same_part made (part_of strict value) (λ e. (strict ≡ true) × IsCause e) (becomes_part (λ x. x) strict asked made value IsCause h is)
 
 -- base relocations are never refused for want of memory
-no_memory : (o : Option ℕ) (directory : DataDirectory) (m : AllocError) → FirstFault o (IsUnmapped directory.virtual_address) (IsRelocRange directory) (Memory m) → ⊥
-no_memory None directory m fault = fault
-no_memory (Some p) directory m fault = fault
+relocations_no_memory : (o : Option ℕ) (directory : DataDirectory) (m : AllocError) → FirstFault o (IsUnmapped directory.virtual_address) (IsRelocRange directory) (Memory m) → ⊥
+relocations_no_memory None directory m fault = fault
+relocations_no_memory (Some p) directory m fault = fault
 
 -- nor is what becomes of them
 module _ (offset_of : ℕ → Option ℕ) (bytes : List ℕ) (directory : DataDirectory) (e : ErrorOf) where
@@ -75,7 +75,7 @@ pub become_relocations : (strict : Bool) (asked : Result RelocationData ErrorOf)
     → Answers (part_map relocation_bytes) made (part_of strict (relocation_data offset_of bytes directory)) (λ e. (strict ≡ true) × IsRelocationDataFault offset_of bytes directory e)
 unfolding part_of part_map
 become_relocations strict (Ok x) made offset_of bytes directory h is = rw (is, h) refl
-become_relocations strict (Err (Memory m)) made offset_of bytes directory h is = absurd (no_memory (offset_of directory.virtual_address) directory m h.1)
+become_relocations strict (Err (Memory m)) made offset_of bytes directory h is = absurd (relocations_no_memory (offset_of directory.virtual_address) directory m h.1)
 become_relocations true (Err (Malformed c)) made offset_of bytes directory h is = relocations_refused offset_of bytes directory (Malformed c) made is h
 become_relocations false (Err (Malformed c)) made offset_of bytes directory h is = relocations_kept offset_of bytes directory (Malformed c) made is h.0
 become_relocations true (Err (BadMagic n)) made offset_of bytes directory h is = relocations_refused offset_of bytes directory (BadMagic n) made is h

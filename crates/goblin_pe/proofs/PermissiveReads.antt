@@ -17,7 +17,7 @@ use Rattle.goblin_pe_sect.specs.Mapping.{file_offset, name_at, name_or_none}
 use Rattle.goblin_pe_sect.specs.SectionTable.{Section}
 use Rattle.goblin_pe_sect.specs.BaseRelocations.{relocation_data}
 use Rattle.goblin_pe_sect.proofs.PermissiveReads.{name_or_none-kept}
-use Rattle.goblin_pe_head.specs.CoffHeader.{string_table_offset}
+use Rattle.goblin_pe_head.specs.CoffHeader.{symbols_end}
 use Rattle.goblin_pe_head.specs.PeHeader.{PeHeader, pe_header}
 use Rattle.goblin_pe_head.proofs.PermissiveReads.{header-kept, sections_at-kept}
 use Rattle.goblin_pe.specs.declared.import.directory_entry.ImportDirectoryEntry.{ImportDirectoryEntry}
@@ -71,14 +71,14 @@ kept_name-kept bytes rva None xs e = e
 kept_name-kept bytes rva (Some p) xs e =
     or_left_out-kept (option_map (ByName rva) (hint_name true bytes p)) (option_map (ByName rva) (hint_name false bytes p)) (map-kept (ByName rva) (hint_name true bytes p) (hint_name false bytes p) (hint_name-kept bytes p)) xs e
 
-by_test : {A : Type 0} (test : Bool) (own x y : Option A) → Keeps x y → Keeps (cond test own x) (cond test own y)
-by_test true own x y kept z e = e
-by_test false own x y kept z e = kept z e
+kept_by_test : {A : Type 0} (test : Bool) (own x y : Option A) → Keeps x y → Keeps (cond test own x) (cond test own y)
+kept_by_test true own x y kept z e = e
+kept_by_test false own x y kept z e = kept z e
 
 kept_entry-kept : (offset_of : ℕ → Option ℕ) (bytes : List ℕ) (entry : EntryValue) → Keeps (kept_entry true offset_of bytes entry) (kept_entry false offset_of bytes entry)
 unfolding kept_entry
 kept_entry-kept offset_of bytes entry =
-    by_test entry.is_ordinal _ (kept_name true bytes entry.rva (offset_of entry.rva)) (kept_name false bytes entry.rva (offset_of entry.rva)) (kept_name-kept bytes entry.rva (offset_of entry.rva))
+    kept_by_test entry.is_ordinal _ (kept_name true bytes entry.rva (offset_of entry.rva)) (kept_name false bytes entry.rva (offset_of entry.rva)) (kept_name-kept bytes entry.rva (offset_of entry.rva))
 
 pub lookup_table-kept : (format : Format EntryValue) (offset_of : ℕ → Option ℕ) (bytes : List ℕ) (o : ℕ) → Keeps (lookup_table true format offset_of bytes o) (lookup_table false format offset_of bytes o)
 lookup_table-kept format offset_of bytes o = slot_table-kept (entry_slots format) (kept_entry true offset_of bytes) (kept_entry false offset_of bytes) bytes o (kept_entry-kept offset_of bytes)
@@ -135,14 +135,14 @@ unfolding part_of
 part_of-some None p e = absurd cc
 part_of-some (Some table) p e = record { table = table; is = refl; read = cc }
 
-read_again : {A : Type 0} (table : A) (p : Part A) → p ≡ part.Read table → part_of false (Some table) ≡ Some p
+part_again : {A : Type 0} (table : A) (p : Part A) → p ≡ part.Read table → part_of false (Some table) ≡ Some p
 unfolding part_of
-read_again table p is = ap (λ q. Some q) (sym is)
+part_again table p is = ap (λ q. Some q) (sym is)
 
 pub part_of-kept : {A : Type 0} (first second : Option A) → Keeps first second → Keeps (part_of true first) (part_of false second)
 part_of-kept first second kept p e =
     let own = part_of-some first p e in
-    rw (kept own.table own.is) (read_again own.table p own.read)
+    rw (kept own.table own.is) (part_again own.table p own.read)
 
 pub part_at-kept : {A : Type 0} (first second : DataDirectory → Option A) (directory : Option DataDirectory) → ((d : DataDirectory) → Keeps (first d) (second d)) → Keeps (part_at true first directory) (part_at false second directory)
 unfolding part_at
@@ -222,7 +222,7 @@ module _ (opts : ParseOptions) (sections : List Section) (bytes : List ℕ) (pla
 
 file_sections-kept : (bytes : List ℕ) (h : PeHeader) → Keeps (file_sections true bytes h) (file_sections false bytes h)
 unfolding file_sections
-file_sections-kept bytes h = sections_at-kept (string_table_offset h.coff_header) h.coff_header.number_of_sections bytes (section_table_offset h)
+file_sections-kept bytes h = sections_at-kept (symbols_end h.coff_header) h.coff_header.number_of_sections bytes (section_table_offset h)
 
 -- What strict mode has of a file, permissive mode has, too, but for imports from the front of the file.
 pub whole_file-kept : (opts : ParseOptions) (bytes : List ℕ) (whole : WholeFile) → whole_file (in_mode Strict opts) bytes ≡ Some whole → whole_file (in_mode Permissive opts) bytes ≡ Some (in_permissive_mode opts whole)

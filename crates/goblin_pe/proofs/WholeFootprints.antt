@@ -10,7 +10,7 @@ use Rattle.goblin_pe_sect.specs.Footprints.{relocation_footprint}
 use Rattle.goblin_pe_sect.specs.Options.{is_strict}
 use Rattle.goblin_pe_sect.specs.SectionTable.{Section}
 use Rattle.goblin_pe_sect.proofs.Footprints.{same-relocation_data}
-use Rattle.goblin_pe_head.specs.CoffHeader.{string_table_offset}
+use Rattle.goblin_pe_head.specs.CoffHeader.{symbols_end}
 use Rattle.goblin_pe_head.specs.Footprints.{header_footprint}
 use Rattle.goblin_pe_head.specs.PeHeader.{pe_header}
 use Rattle.goblin_pe_head.proofs.Footprints.{same-header, same-sections_at}
@@ -34,9 +34,9 @@ same_part_at strict table again None leads_to a b same h = refl
 same_part_at strict table again (Some d) leads_to a b same h = ap (part_of strict) (same d h)
 
 -- what is asked for or not
-same_if : {A : Type 0} → (asked : Bool) (value again other : A) (ranges : List Range) (a b : List ℕ) → (Agree ranges a b → value ≡ again) → Agree (cond asked ranges []) a b → cond asked value other ≡ cond asked again other
-same_if true value again other ranges a b same h = same h
-same_if false value again other ranges a b same h = refl
+same_if_asked : {A : Type 0} → (asked : Bool) (value again other : A) (ranges : List Range) (a b : List ℕ) → (Agree ranges a b → value ≡ again) → Agree (cond asked ranges []) a b → cond asked value other ≡ cond asked again other
+same_if_asked true value again other ranges a b same h = same h
+same_if_asked false value again other ranges a b same h = refl
 
 same_import_part : (opts : ParseOptions) (sections : List Section) (a b : List ℕ) (places : TablePlaces) → Agree (import_part_footprint opts sections a places) a b → import_data_part opts sections a places ≡ import_data_part opts sections b places
 unfolding import_data_part import_part_footprint
@@ -45,7 +45,7 @@ same_import_part opts sections a b places h =
     let format = entry_format places.magic in
     let offset_of = offset_by opts sections places in
     let leads_to : DataDirectory → List Range = λ d. import_footprint strict format offset_of a d.virtual_address in
-    same_if opts.parse_imports (part_at strict (λ d. import_data strict format offset_of a d.virtual_address) places.imports) (part_at strict (λ d. import_data strict format offset_of b d.virtual_address) places.imports) (Some Absent) (led_to places.imports leads_to) a b
+    same_if_asked opts.parse_imports (part_at strict (λ d. import_data strict format offset_of a d.virtual_address) places.imports) (part_at strict (λ d. import_data strict format offset_of b d.virtual_address) places.imports) (Some Absent) (led_to places.imports leads_to) a b
     (same_part_at strict (λ d. import_data strict format offset_of a d.virtual_address) (λ d. import_data strict format offset_of b d.virtual_address) places.imports leads_to a b (λ d here. same-import_data strict format offset_of a b d.virtual_address here)) h
 
 -- the exports of export data that was read
@@ -102,7 +102,7 @@ same-whole_file opts a b h =
     same-led (pe_header strict a) (pe_header strict b) _ _ _ a b (same-header strict a b (agree-left _ _ a b h))
     (λ header is_header at_header.
     same-led (file_sections strict a header) (file_sections strict b header) _ _ _ a b
-    (same-sections_at strict (string_table_offset header.coff_header) header.coff_header.number_of_sections a b (section_table_offset header) (agree-left _ _ a b at_header))
+    (same-sections_at strict (symbols_end header.coff_header) header.coff_header.number_of_sections a b (section_table_offset header) (agree-left _ _ a b at_header))
     (λ sections is_sections at_tables.
     same-then (tables_of opts sections a (places_in header.optional_header)) (tables_of opts sections b (places_in header.optional_header)) _ _
     (same_tables_of opts sections a b (places_in header.optional_header) at_tables) (λ tables is_tables. refl))

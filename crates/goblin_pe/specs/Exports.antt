@@ -1,5 +1,5 @@
 -- Export directories, the tables that they lead to, and the exports that these list. A file offset stands for an address by a map, `offset_of`.
-use Rattle.std.specs.Prelude.{◌≡◌, ◌≤◌, ◌⊎◌, ℕ, ◌+◌, ◌==◌, ◌&&◌, nat_le, nat_lt, if◌then◌else◌, Bool, List, [], ◌∷◌, length, codes, slice_get, Option, Some, None, option_map, option_to_list}
+use Rattle.std.specs.Prelude.{◌≡◌, ◌≤◌, ◌<◌, ◌⊎◌, ℕ, ◌+◌, ◌==◌, ◌&&◌, nat_le, nat_lt, if◌then◌else◌, Bool, List, [], ◌∷◌, length, codes, slice_get, IsSome, Option, Some, None, option_map, option_to_list}
 use Rattle.goblin_base.specs.declared.endian.Endian.{Endian}
 use Rattle.goblin_base.specs.declared.endian.Endian.TheVariants.{Little}
 use Rattle.goblin_base.specs.declared.error.ErrorOf.{ErrorOf}
@@ -15,6 +15,8 @@ use Rattle.goblin_pe.specs.declared.export.tables.ExportAddressTableEntry.{Expor
 use Rattle.goblin_pe.specs.declared.export.tables.ExportAddressTableEntry.TheVariants.{ExportRVA, ForwarderRVA}
 use Rattle.goblin_pe.specs.declared.export.tables.ExportDirectoryTable.{ExportDirectoryTable}
 use Rattle.goblin_pe.specs.Forwarders.{Forwarder, forwarder_at}
+
+-- Source: PE Format, "The .edata Section (Image Only)".
 
 -- ---- the record
 
@@ -80,8 +82,8 @@ pub record ExportTables : Type 0 where
   pub export_address_table : List ExportAddressTableEntry
 
 -- What a record leads to. There are as many ordinals as name pointers by the record's number, not by the pointers that are whole.
-unfoldable pub tables_of : (ℕ → Option ℕ) → DataDirectory → List ℕ → ExportDirectoryTable → ExportTables
-tables_of offset_of d bytes t = record {
+unfoldable pub export_tables : (ℕ → Option ℕ) → DataDirectory → List ℕ → ExportDirectoryTable → ExportTables
+export_tables offset_of d bytes t = record {
   name = name_at offset_of bytes t.name_rva;
   export_directory_table = t;
   export_name_pointer_table = counted_table_if name_pointers t.number_of_name_pointers bytes (offset_of t.name_pointer_rva);
@@ -93,9 +95,13 @@ tables_of offset_of d bytes t = record {
 abbrev pub counts_fit : List ℕ → ExportDirectoryTable → Bool
 counts_fit bytes t = nat_le t.number_of_name_pointers (length bytes) && nat_le t.address_table_entries (length bytes)
 
+-- a record counts entries of a table
+abbrev pub HasEntries : ExportTables → Type 0
+HasEntries tables = (0 < tables.export_directory_table.number_of_name_pointers) ⊎ (0 < tables.export_directory_table.address_table_entries)
+
 -- what a record leads to, where its counts fit
 unfoldable pub tables_if : (ℕ → Option ℕ) → DataDirectory → List ℕ → ExportDirectoryTable → Option ExportTables
-tables_if offset_of d bytes t = if counts_fit bytes t then Some (tables_of offset_of d bytes t) else None
+tables_if offset_of d bytes t = if counts_fit bytes t then Some (export_tables offset_of d bytes t) else None
 
 -- the export data of a directory: what the record at its address leads to
 abbrev pub export_data : (ℕ → Option ℕ) → DataDirectory → List ℕ → Option ExportTables
@@ -142,6 +148,10 @@ export_row offset_of bytes tables x = do
   address ← slice_get tables.export_address_table ordinal
   reexport ← reexport_of offset_of bytes address
   Some (record { name = name_at offset_of bytes pointer; offset = offset_of (rva_of address); rva = rva_of address; size = 0; reexport = reexport })
+
+-- there is an export: a name pointer has a row
+abbrev pub HasExports : (ℕ → Option ℕ) → List ℕ → ExportTables → Type 0
+HasExports offset_of bytes tables = (x : ℕ) × (x < length tables.export_name_pointer_table) × IsSome (export_row offset_of bytes tables x)
 
 -- the exports: the rows that are there, in the order of the name pointers; none in an empty file
 unfoldable pub exports : (ℕ → Option ℕ) → List ℕ → ExportTables → List ExportRow

@@ -9,22 +9,22 @@ use Rattle.goblin_base.specs.Answers.{IsMemory, IsTextFault, ◌>>=◌, FirstFau
 use Rattle.goblin_base.specs.Bytes.{text_at}
 use Rattle.goblin_pe.specs.Forwarders.{Forwarder, IsForwarderAtFault, IsForwarderFault, forwarder_in, forwarder_of}
 
-at_most : (n len : ℕ) (forwarder : Option Forwarder) → IfSome {T = Forwarder × ℕ} (forwarder >>= (λ f. Some (f, min n len))) (λ x. x.1 ≤ len)
-at_most n len None = tt
-at_most n len (Some f) = min-le_right n len
+min_within : (n len : ℕ) (forwarder : Option Forwarder) → IfSome {T = Forwarder × ℕ} (forwarder >>= (λ f. Some (f, min n len))) (λ x. x.1 ≤ len)
+min_within n len None = tt
+min_within n len (Some f) = min-le_right n len
 
 length_within : (len : ℕ) (text : Option (List ℕ)) → IfSome {T = Forwarder × ℕ} (text >>= (λ t. forwarder_of t >>= (λ f. Some (f, min (length t + 1) len)))) (λ x. x.1 ≤ len)
 length_within len None = tt
-length_within len (Some t) = at_most (length t + 1) len (forwarder_of t)
+length_within len (Some t) = min_within (length t + 1) len (forwarder_of t)
 
 pub forwarder_in-within : (endian : Endian) (bytes : List ℕ) → IfSome (forwarder_in endian bytes) (λ x. x.1 ≤ length bytes)
 forwarder_in-within endian bytes = length_within (length bytes) (text_at bytes 0)
 
-no_memory : (text : Option (List ℕ)) (bytes : List ℕ) (e : ErrorOf) → IsMemory e → FirstFault text (IsTextFault bytes 0) IsForwarderFault e → ⊥
-no_memory None bytes (Memory m) h fault = fault
-no_memory None bytes e h fault = h
-no_memory (Some t) bytes (Memory m) h fault = fault
-no_memory (Some t) bytes e h fault = h
+forwarder_no_memory : (text : Option (List ℕ)) (bytes : List ℕ) (e : ErrorOf) → IsMemory e → FirstFault text (IsTextFault bytes 0) IsForwarderFault e → ⊥
+forwarder_no_memory None bytes (Memory m) h fault = fault
+forwarder_no_memory None bytes e h fault = h
+forwarder_no_memory (Some t) bytes (Memory m) h fault = fault
+forwarder_no_memory (Some t) bytes e h fault = h
 
 pub forwarder_fault-no_memory : (bytes : List ℕ) (e : ErrorOf) → IsMemory e → IsForwarderAtFault bytes 0 e → ⊥
-forwarder_fault-no_memory bytes e h fault = no_memory (text_at bytes 0) bytes e h fault
+forwarder_fault-no_memory bytes e h fault = forwarder_no_memory (text_at bytes 0) bytes e h fault

@@ -1,5 +1,5 @@
 -- The import directory: its records, and the libraries that they lead to, over a map of addresses to file offsets.
-use Rattle.std.specs.Prelude.{◌≡◌, ℕ, ◌==◌, Bool, ◌&&◌, ◌||◌, not, if◌then◌else◌, List, [], ◌∷◌, Option, Some, None, option_map, unwrap_or}
+use Rattle.std.specs.Prelude.{◌≡◌, ◌<◌, ◌⊎◌, ℕ, ◌==◌, Bool, ◌&&◌, ◌||◌, not, if◌then◌else◌, List, [], ◌∷◌, Option, Some, None, option_map, unwrap_or, IsSomeAnd}
 use Rattle.std.specs.Option.{option_or}
 use Rattle.goblin_base.specs.declared.endian.Endian.{Endian}
 use Rattle.goblin_base.specs.declared.endian.Endian.TheVariants.{Little}
@@ -9,10 +9,12 @@ use Rattle.goblin_base.specs.declared.error.CauseOf.TheVariants.{ImportRecordEnd
 use Rattle.goblin_base.specs.Bytes.{number}
 use Rattle.goblin_base.specs.Record.{FieldValue, uint}
 use Rattle.goblin_base.specs.Answers.{◌>>=◌, FirstFault}
-use Rattle.goblin_base.specs.Tables.{SlotFormat, slot_table, or_left_out, IsTableFault, Format}
+use Rattle.goblin_base.specs.Tables.{SlotFormat, stop, slot_table, or_left_out, IsTableFault, Format}
 use Rattle.goblin_pe_sect.specs.Mapping.{name_at, name_or_none, IsSafeNameFault, IsUnmapped}
-use Rattle.goblin_pe.specs.ImportLookup.{EntryValue, LookupEntry, lookup_table, lookup_slots, address_table, IsLookupTableFault, IsAddressTableFault}
+use Rattle.goblin_pe.specs.ImportLookup.{EntryValue, HasAddresses, KeepsEntries, LookupEntry, lookup_table, lookup_slots, address_table, IsLookupTableFault, IsAddressTableFault}
 use Rattle.goblin_pe.specs.declared.import.directory_entry.ImportDirectoryEntry.{ImportDirectoryEntry}
+
+-- Source: PE Format, "Import Directory Table".
 
 -- the record in its 20 bytes
 unfoldable pub import_record : Endian → List ℕ → ImportDirectoryEntry
@@ -78,6 +80,15 @@ library_of strict format offset_of bytes r = do
     import_address_table = addresses;
   })
 
+-- something is kept of what a record leads to: an entry of its lookup table, or an address
+abbrev pub HasImports : Bool → Format EntryValue → (ℕ → Option ℕ) → List ℕ → ImportDirectoryEntry → Type 0
+HasImports strict format offset_of bytes r =
+    IsSomeAnd (lookup_offset offset_of r) (KeepsEntries strict format offset_of bytes) ⊎ IsSomeAnd (offset_of (address_table_rva r)) (HasAddresses format bytes)
+
+-- the directory at an offset has a record
+abbrev pub HasRecords : List ℕ → ℕ → Type 0
+HasRecords bytes o = 0 < stop import_slots bytes o
+
 -- The libraries of the directory at an offset: those of the records before the first that is not in the file or is a last one. Strict mode needs that record, and a library of each; permissive mode leaves out records that lead to none.
 abbrev pub libraries_at : Bool → Format EntryValue → (ℕ → Option ℕ) → List ℕ → ℕ → Option (List ImportedLibrary)
 libraries_at strict format offset_of bytes o =
@@ -108,13 +119,15 @@ IsLookupIfFault strict format offset_of bytes (Some o) e = IsLookupTableFault st
 abbrev pub IsLibraryFault : Bool → Format EntryValue → (ℕ → Option ℕ) → List ℕ → ImportDirectoryEntry → ErrorOf → Type 0
 IsLibraryFault strict format offset_of bytes r =
     FirstFault (name_or_none strict (name_at offset_of bytes r.name_rva)) (IsSafeNameFault offset_of r.name_rva) (λ _.
-    FirstFault (lookup_table_if strict format offset_of bytes (lookup_offset offset_of r)) (IsLookupIfFault strict format offset_of bytes (lookup_offset offset_of r)) (λ _.
+    let o = lookup_offset offset_of r in
+    FirstFault (lookup_table_if strict format offset_of bytes o) (IsLookupIfFault strict format offset_of bytes o) (λ _.
     FirstFault (offset_of (address_table_rva r)) (IsUnmapped (address_table_rva r)) (IsAddressTableFault format bytes)))
 
 -- which cause is true of a directory at an offset that is refused: it meets the end of the file, or a record leads to no library
 abbrev pub IsLibrariesFault : Bool → Format EntryValue → (ℕ → Option ℕ) → List ℕ → ℕ → ErrorOf → Type 0
 IsLibrariesFault strict format offset_of bytes o =
-    IsTableFault import_slots strict (λ r. or_left_out strict (library_of strict format offset_of bytes r)) IsImportRecordEnd (IsLibraryFault strict format offset_of bytes) bytes o
+    let piece : ImportDirectoryEntry → Option (List ImportedLibrary) = λ r. or_left_out strict (library_of strict format offset_of bytes r) in
+    IsTableFault import_slots strict piece IsImportRecordEnd (IsLibraryFault strict format offset_of bytes) bytes o
 
 -- which cause is true of a directory at an address that is refused
 abbrev pub IsImportDataFault : Bool → Format EntryValue → (ℕ → Option ℕ) → List ℕ → ℕ → ErrorOf → Type 0

@@ -1,5 +1,5 @@
 -- The lookup tables and the address tables of imports, over a map of addresses to file offsets.
-use Rattle.std.specs.Prelude.{◌≡◌, ℕ, ◌+◌, ◌%◌, ◌^◌, ◌==◌, nat_le, Bool, true, false, if◌then◌else◌, List, [], ◌∷◌, Option, Some, None, option_map, map, option_to_list}
+use Rattle.std.specs.Prelude.{◌≡◌, ◌<◌, ℕ, ◌+◌, ◌%◌, ◌^◌, ◌==◌, nat_le, Bool, true, false, if◌then◌else◌, List, [], ◌∷◌, Option, Some, None, option_map, map, option_to_list}
 use Rattle.std.specs.declared.borrow.CowStr.{CowStr}
 use Rattle.std.specs.declared.borrow.CowStr.TheVariants.{Borrowed, Owned}
 use Rattle.goblin_base.specs.declared.endian.Endian.TheVariants.{Little}
@@ -8,10 +8,12 @@ use Rattle.goblin_base.specs.declared.error.ErrorOf.TheVariants.{Malformed}
 use Rattle.goblin_base.specs.declared.error.CauseOf.TheVariants.{HintEntry, LookupEnd}
 use Rattle.goblin_base.specs.Bytes.{number, number_at, text_at}
 use Rattle.goblin_base.specs.Answers.{IsSliceFault, IsTextFault, ◌>>=◌, FirstFault}
-use Rattle.goblin_base.specs.Tables.{SlotFormat, slot_table, kept_slots, or_left_out, IsTableFault, IsEndFault, Format}
+use Rattle.goblin_base.specs.Tables.{SlotFormat, slot_at, stop, is_kept, slot_table, kept_slots, or_left_out, IsTableFault, IsEndFault, Format}
 use Rattle.goblin_pe.specs.declared.import.lookup_table.HintNameTableEntry.{HintNameTableEntry}
 use Rattle.goblin_pe.specs.declared.import.lookup_table.SyntheticImportLookupTableEntry.{SyntheticImportLookupTableEntry}
 use Rattle.goblin_pe.specs.declared.import.lookup_table.SyntheticImportLookupTableEntry.TheVariants.{OrdinalNumber, HintNameTableRVA}
+
+-- Source: PE Format, "Import Lookup Table", "Hint/Name Table" and "Import Address Table".
 
 -- what an entry says: its number; whether it imports by ordinal; the ordinal; and the address of a hint and a name
 pub record EntryValue : Type 0 where
@@ -35,7 +37,7 @@ entries_64 = record { width = 8; value_of = λ bytes. entry_value (2 ^ 63) (numb
 abbrev pub entry_slots : Format EntryValue → SlotFormat EntryValue
 entry_slots format = record { entry = format; is_last = λ entry. entry.number == 0 }
 
--- a hint, and the name behind it
+-- a hint, and the name after it
 pub record HintName : Type 0 where
   pub hint : ℕ
   pub name : List ℕ
@@ -76,6 +78,11 @@ lookup_table strict format offset_of bytes o = slot_table (entry_slots format) s
 abbrev pub lookup_slots : Bool → Format EntryValue → (ℕ → Option ℕ) → List ℕ → ℕ → List ℕ
 lookup_slots strict format offset_of bytes o = kept_slots (entry_slots format) (kept_entry strict offset_of bytes) bytes o
 
+-- something is kept of an entry of the lookup table at an offset
+abbrev pub KeepsEntries : Bool → Format EntryValue → (ℕ → Option ℕ) → List ℕ → ℕ → Type 0
+KeepsEntries strict format offset_of bytes o =
+    (i : ℕ) × (i < stop (entry_slots format) bytes o) × (is_kept (slot_at (entry_slots format) bytes o i >>= kept_entry strict offset_of bytes) ≡ true)
+
 -- an entry's number, which an address table always keeps
 abbrev pub kept_number : EntryValue → Option (List ℕ)
 kept_number entry = Some (entry.number ∷ [])
@@ -83,6 +90,10 @@ kept_number entry = Some (entry.number ∷ [])
 -- The address table at an offset: the numbers before the first slot that is not in the file or has number 0. That slot is needed in both modes.
 abbrev pub address_table : Format EntryValue → List ℕ → ℕ → Option (List ℕ)
 address_table format bytes o = slot_table (entry_slots format) true kept_number bytes o
+
+-- the address table at an offset has an entry
+abbrev pub HasAddresses : Format EntryValue → List ℕ → ℕ → Type 0
+HasAddresses format bytes o = 0 < stop (entry_slots format) bytes o
 
 -- ---- causes
 

@@ -11,6 +11,8 @@ use Rattle.goblin_pe.specs.ImportLookup.{LookupEntry}
 use Rattle.goblin_pe.specs.ImportLookup.LookupEntry.{ByOrdinal, ByName}
 use Rattle.goblin_pe.specs.ImportDirectory.{ImportedLibrary}
 
+-- Source: PE Format, "The .idata Section".
+
 -- an import, its texts as their bytes; and whether its name is a text of the file, not a copy
 pub record ImportValue : Type 0 where
   pub name : List ℕ
@@ -79,7 +81,7 @@ IsOverflow e = ⊥
 abbrev pub first_without_slots : List ImportedLibrary → Option ImportedLibrary
 first_without_slots libraries = find (λ library. not (has_slots library)) libraries
 
--- the refusal is that a library has so many entries and so many slots
+-- the refusal says how many entries and how many slots a library has
 abbrev pub IsSlotCount : ImportedLibrary → ErrorOf → Type 0
 IsSlotCount library (Malformed (SlotCount entries slots)) = (entries ≡ length (kept_entries library)) × (slots ≡ length library.import_lookup_slots)
 IsSlotCount library e = ⊥

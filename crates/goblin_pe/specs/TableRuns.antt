@@ -16,9 +16,12 @@ use Rattle.goblin_pe.specs.ImportLookup.{EntryValue, IsLookupTableFault, entry_v
 use Rattle.goblin_pe.specs.Modes.{Repeats, RepeatsOrMemory, unless_front}
 
 -- Each answer is its reader's own value, over a map of addresses to file offsets.
-pub record AreTables {D Y : Type 0} (format : Format EntryValue) (plain : D → Y) (value_of : Endian → List ℕ → Option (Y × ℕ)) (refusal : Endian → List ℕ → ErrorOf → Type 0) (strict : Bool) (offset_of : ℕ → Option ℕ) (bytes : List ℕ) (request : Request) (tables : TablesOf D) : Type 0 where
-  pub lookup : AnswersOrMemory (map entry_view) tables.lookup (lookup_table strict format offset_of bytes request.lookup) (IsLookupTableFault strict format offset_of bytes request.lookup)
-  pub imports : AnswersOrMemory (λ x. x) tables.imports (import_data strict format offset_of bytes request.imports.virtual_address) (IsImportDataFault strict format offset_of bytes request.imports.virtual_address)
+pub record AreTables {D Y : Type 0} (format : Format EntryValue) (plain : D → Y) (value_of : Endian → List ℕ → Option (Y × ℕ))
+    (refusal : Endian → List ℕ → ErrorOf → Type 0) (strict : Bool) (offset_of : ℕ → Option ℕ) (bytes : List ℕ) (request : Request) (tables : TablesOf D) : Type 0 where
+  pub lookup : AnswersOrMemory (map entry_view) tables.lookup (lookup_table strict format offset_of bytes request.lookup)
+      (IsLookupTableFault strict format offset_of bytes request.lookup)
+  pub imports : (let rva = request.imports.virtual_address in
+      AnswersOrMemory (λ x. x) tables.imports (import_data strict format offset_of bytes rva) (IsImportDataFault strict format offset_of bytes rva))
   pub exports : AnswersOrMemory export_read_view tables.exports (export_read offset_of request.exports bytes) (IsExportDataFault offset_of request.exports bytes)
   pub relocations : Answers relocation_bytes tables.relocations (relocation_data offset_of bytes request.relocations) (IsRelocationDataFault offset_of bytes request.relocations)
   pub name : Answers (option_map (λ s. s.now)) tables.name (name_or_none strict (name_at offset_of bytes request.name)) (IsSafeNameFault offset_of request.name)

@@ -9,17 +9,16 @@ use Rattle.goblin_pe_sect.specs.declared.data_directories.DataDirectory.{DataDir
 use Rattle.goblin_pe_sect.specs.declared.options.ParseOptions.{ParseOptions}
 use Rattle.goblin_pe_sect.specs.BaseRelocations.{IsRelocationDataFault, relocation_data}
 use Rattle.goblin_pe_sect.specs.DataDirectories.{directory_in}
-use Rattle.goblin_pe_sect.specs.Mapping.{file_offset}
 use Rattle.goblin_pe_sect.specs.Options.{is_strict}
 use Rattle.goblin_pe_sect.specs.SectionTable.{Section}
 use Rattle.goblin_pe_head.specs.declared.optional_header.OptionalHeader.{OptionalHeader}
 use Rattle.goblin_pe_head.specs.PeHeader.{PeHeader, pe_header, IsHeaderFault}
-use Rattle.goblin_pe_head.specs.CoffHeader.{IsSectionsFault, sections_at, string_table_offset}
+use Rattle.goblin_pe_head.specs.CoffHeader.{IsSectionsFault, sections_at, symbols_end}
 use Rattle.goblin_pe.specs.declared.whole.Part.{Part}
 use Rattle.goblin_pe.specs.declared.whole.Part.TheVariants.{Absent, Refused}
 use Rattle.goblin_pe.specs.declared.whole.Part.TheVariants as part
 use Rattle.goblin_pe.specs.declared.whole.Tables.{Tables}
-use Rattle.goblin_pe.specs.Addresses.{Mapping}
+use Rattle.goblin_pe.specs.Addresses.{MapOfAddresses, offset_of}
 use Rattle.goblin_pe.specs.Exports.{ExportRow, ExportTables, IsExportDataFault, export_data, exports}
 use Rattle.goblin_pe.specs.ImportDirectory.{ImportedLibrary, IsImportDataFault, import_data}
 use Rattle.goblin_pe.specs.ImportLookup.{EntryValue, entries_32, entries_64}
@@ -83,8 +82,8 @@ abbrev pub table_places : Tables → TablePlaces
 table_places t = record { magic = t.magic; file_alignment = t.file_alignment; exports = t.exports; imports = t.imports; relocations = t.relocations }
 
 -- the same, read by the file alignment of a map of addresses
-abbrev pub places_by : Mapping → Tables → TablePlaces
-places_by m t = record { magic = t.magic; file_alignment = m.file_alignment; exports = t.exports; imports = t.imports; relocations = t.relocations }
+abbrev pub places_by : MapOfAddresses → Tables → TablePlaces
+places_by m t = record (table_places t) { file_alignment = m.file_alignment }
 
 -- where the tables lie by an optional header; without one there are no tables
 unfoldable pub places_in : Option OptionalHeader → TablePlaces
@@ -103,13 +102,15 @@ entry_format magic = if magic == 0x10B then entries_32 else entries_64
 
 -- the file offset of an address
 abbrev pub offset_by : ParseOptions → List Section → TablePlaces → ℕ → Option ℕ
-offset_by opts sections tables = file_offset opts sections tables.file_alignment
+offset_by opts sections tables = offset_of (record { sections = sections; file_alignment = tables.file_alignment; opts = opts })
 
 -- the import data; there is none where imports are not asked for
 unfoldable pub import_data_part : ParseOptions → List Section → List ℕ → TablePlaces → Option (Part (List ImportedLibrary))
 import_data_part opts sections bytes tables =
+    let strict = is_strict opts.parse_mode in
+    let m = offset_by opts sections tables in
     if opts.parse_imports
-    then part_at (is_strict opts.parse_mode) (λ d. import_data (is_strict opts.parse_mode) (entry_format tables.magic) (offset_by opts sections tables) bytes d.virtual_address) tables.imports
+    then part_at strict (λ d. import_data strict (entry_format tables.magic) m bytes d.virtual_address) tables.imports
     else Some Absent
 
 -- the list of imports
@@ -140,13 +141,13 @@ pub record WholeFile : Type 0 where
   pub exports : Part (List ExportRow)
   pub relocations : Part (List ℕ)
 
--- where the section table stands: behind the optional header, by the size that the COFF header says
+-- where the section table stands: after the optional header, by the size that the COFF header says
 abbrev pub section_table_offset : PeHeader → ℕ
 section_table_offset h = h.dos_header.pe_pointer + 24 + h.coff_header.size_of_optional_header
 
 -- the sections of a file with this header
 unfoldable pub file_sections : Bool → List ℕ → PeHeader → Option (List Section)
-file_sections strict bytes h = sections_at strict (string_table_offset h.coff_header) h.coff_header.number_of_sections bytes (section_table_offset h)
+file_sections strict bytes h = sections_at strict (symbols_end h.coff_header) h.coff_header.number_of_sections bytes (section_table_offset h)
 
 -- the tables of a file, and the lists that are made from them
 pub record FileTables : Type 0 where
@@ -190,7 +191,9 @@ whole_file opts bytes = do
 -- which cause is true of import data that refuses all
 abbrev pub IsImportPartFault : ParseOptions → List Section → List ℕ → TablePlaces → ErrorOf → Type 0
 IsImportPartFault opts sections bytes tables =
-    IsPartAtFault (is_strict opts.parse_mode) (λ d. IsImportDataFault (is_strict opts.parse_mode) (entry_format tables.magic) (offset_by opts sections tables) bytes d.virtual_address) tables.imports
+    let strict = is_strict opts.parse_mode in
+    let m = offset_by opts sections tables in
+    IsPartAtFault strict (λ d. IsImportDataFault strict (entry_format tables.magic) m bytes d.virtual_address) tables.imports
 
 -- which cause is true of export data that refuses all
 abbrev pub IsExportPartFault : ParseOptions → List Section → List ℕ → TablePlaces → ErrorOf → Type 0
@@ -198,7 +201,8 @@ IsExportPartFault opts sections bytes tables = IsPartAtFault (is_strict opts.par
 
 -- which cause is true of base relocations that refuse all
 abbrev pub IsRelocationsPartFault : ParseOptions → List Section → List ℕ → TablePlaces → ErrorOf → Type 0
-IsRelocationsPartFault opts sections bytes tables = IsPartAtFault (is_strict opts.parse_mode) (IsRelocationDataFault (offset_by opts sections tables) bytes) tables.relocations
+IsRelocationsPartFault opts sections bytes tables =
+    IsPartAtFault (is_strict opts.parse_mode) (IsRelocationDataFault (offset_by opts sections tables) bytes) tables.relocations
 
 -- which cause is true of tables that refuse all: that of the first
 unfoldable pub IsTablesFault : ParseOptions → List Section → List ℕ → TablePlaces → ErrorOf → Type 0
@@ -210,7 +214,7 @@ IsTablesFault opts sections bytes places =
 
 -- which cause is true of sections that are refused
 abbrev pub IsFileSectionsFault : Bool → List ℕ → PeHeader → ErrorOf → Type 0
-IsFileSectionsFault strict bytes h = IsSectionsFault strict (string_table_offset h.coff_header) h.coff_header.number_of_sections bytes (section_table_offset h)
+IsFileSectionsFault strict bytes h = IsSectionsFault strict (symbols_end h.coff_header) h.coff_header.number_of_sections bytes (section_table_offset h)
 
 -- which cause is true of a file that is refused: that of the first part that is not there
 unfoldable pub IsWholeFault : ParseOptions → List ℕ → ErrorOf → Type 0

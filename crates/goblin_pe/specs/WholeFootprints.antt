@@ -5,7 +5,7 @@ use Rattle.goblin_pe_sect.specs.declared.options.ParseOptions.{ParseOptions}
 use Rattle.goblin_pe_sect.specs.Footprints.{relocation_footprint}
 use Rattle.goblin_pe_sect.specs.Options.{is_strict}
 use Rattle.goblin_pe_sect.specs.SectionTable.{Section}
-use Rattle.goblin_pe_head.specs.CoffHeader.{string_table_offset}
+use Rattle.goblin_pe_head.specs.CoffHeader.{symbols_end}
 use Rattle.goblin_pe_head.specs.Footprints.{header_footprint, sections_footprint}
 use Rattle.goblin_pe_head.specs.PeHeader.{PeHeader, pe_header}
 use Rattle.goblin_pe.specs.ExportFootprints.{export_footprint}
@@ -29,7 +29,7 @@ file_tables_footprint opts sections bytes places =
 -- the sections of a file with this header
 unfoldable pub file_sections_footprint : ParseOptions → List ℕ → PeHeader → List Range
 file_sections_footprint opts bytes h =
-    sections_footprint (is_strict opts.parse_mode) (string_table_offset h.coff_header) h.coff_header.number_of_sections bytes (section_table_offset h)
+    sections_footprint (is_strict opts.parse_mode) (symbols_end h.coff_header) h.coff_header.number_of_sections bytes (section_table_offset h)
 
 -- A whole file: its header; where that is there, its sections; and where these are there, its tables.
 unfoldable pub whole_footprint : ParseOptions → List ℕ → List Range

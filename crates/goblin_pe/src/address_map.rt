@@ -1,12 +1,11 @@
 //! Where addresses lie in the file, by an index that is prepared once.
 
 ghost use Rattle.std.specs.Prelude.{◌≡◌, ◌↔◌, IfErr, IsTrue, option_map};
-ghost use Rattle.std.specs.Int.{is_power_of_two};
 ghost use Rattle.goblin_base.specs.Answers.{Answers, GivesOrMemory};
 ghost use Rattle.goblin_pe_sect.specs.Mapping.{IsSafeNameFault, name_at, name_or_none};
 ghost use Rattle.goblin_base.specs.declared.permissive.ParseMode.TheVariants.{Permissive};
-ghost use Rattle.goblin_pe_sect.specs.Options.{is_strict};
-ghost use Rattle.goblin_pe.specs.Addresses.{offset_of};
+ghost use Rattle.goblin_pe.specs.Addresses.{offset_of, reads_strictly};
+ghost use Rattle.goblin_pe_sect.specs.WindowIndex.{HasPieces};
 
 use crate::options::ParseOptions;
 use crate::section_table::SectionTable;
@@ -30,9 +29,9 @@ impl<'s> Model for AddressMap<'s> {
     ghost use Rattle.std.specs.Prelude.{◌≡◌, ℕ};
     ghost use Rattle.goblin_pe_sect.specs.Mapping.{file_offset};
     ghost use Rattle.goblin_pe_sect.specs.WindowIndex.{located};
-    ghost use Rattle.goblin_pe.specs.Addresses.{Mapping};
+    ghost use Rattle.goblin_pe.specs.Addresses.{MapOfAddresses};
 
-    ghost Value = { Mapping };
+    ghost Value = { MapOfAddresses };
 
     ghost view = { λ x. record { sections = x.sections.now; file_alignment = x.file_alignment; opts = x.opts } };
 
@@ -48,7 +47,7 @@ impl<'s> AddressMap<'s> {
         opts: &ParseOptions,
     ) -> Result<AddressMap<'s>>
         ensures made { GivesOrMemory (λ x. x) result (record { sections = sections.now; file_alignment = file_alignment; opts = opts.now }) }
-        ensures grown { IfErr result (λ e. IsTrue opts.now.resolve_rva × IsTrue (is_power_of_two file_alignment)) }
+        ensures grown { IfErr result (λ e. HasPieces opts.now file_alignment) }
     {
         let index = WindowIndex::prepare(alloc, sections, file_alignment, opts)?;
         Ok(AddressMap {
@@ -84,7 +83,7 @@ impl<'s> AddressMap<'s> {
     // is none.
     pub(crate) fn name_at<'a>(&self, bytes: &'a [u8], rva: u32) -> Result<Option<&'a str>>
         ensures { let m = offset_of self.now in
-            Answers (option_map (λ s. s.now)) result (name_or_none (is_strict self.now.opts.parse_mode) (name_at m bytes.now rva)) (IsSafeNameFault m rva) }
+            Answers (option_map (λ s. s.now)) result (name_or_none (reads_strictly self.now) (name_at m bytes.now rva)) (IsSafeNameFault m rva) }
     {
         safe_name_at(bytes, rva as usize, self.offset_of(rva), &self.opts)
     }

@@ -1,14 +1,18 @@
 //! The exports of an image: what its export directory leads to, and the forwarders among them.
+//!
+//! Source: PE Format, "The .edata Section (Image Only)". The export directory's record leads to
+//! three tables. A name pointer and the ordinal with its index are a named export; the ordinal is
+//! the index of its address. An address inside the directory is that of a forwarder's text.
 
-ghost use Rattle.std.specs.Prelude.{◌≡◌, ◌++◌, ◌⊎◌, IfErr, IsOk, IsSome, IsTrue, OnOk, length, option_and_then, option_map, option_to_list};
-ghost use Rattle.std.specs.Int.{is_power_of_two};
+ghost use Rattle.std.specs.Prelude.{◌≡◌, ◌++◌, ◌⊎◌, IfErr, IsOk, IsSome, IsSomeAnd, OnErr, OnOk, length, option_and_then, option_map, option_to_list};
 ghost use Rattle.goblin_base.specs.Answers.{AnswersOrMemory, GivesOrMemory, IsMemory};
 ghost use Rattle.goblin_base.specs.Bytes.{text_at};
 ghost use Rattle.goblin_pe_sect.specs.Mapping.{file_offset};
 ghost use Rattle.goblin_pe_sect.specs.Options.{default_options};
 ghost use Rattle.goblin_pe.specs.Addresses.{offset_of};
-ghost use Rattle.goblin_pe.specs.Exports.{IsExportDataFault, export_data, export_row, exports};
+ghost use Rattle.goblin_pe.specs.Exports.{HasEntries, HasExports, IsExportDataFault, export_data, export_row, exports};
 ghost use Rattle.goblin_pe.specs.Forwarders.{forwarder_at, forwarder_value};
+ghost use Rattle.goblin_pe_sect.specs.WindowIndex.{HasPieces};
 
 use crate::address_map::AddressMap;
 use goblin_base::{Cause, Error, Result, pread_str};
@@ -45,15 +49,18 @@ fn forwarder_at(bytes: &[u8], offset: Option<usize>) -> Option<Reexport<'_>>
 /// Source: PE Format, "The .edata Section (Image Only)".
 #[derive(Debug, Drop)]
 pub struct ExportData<'a> {
-    /// The library's name, where it can be read.
+    /// The library's own name, as it was linked; `None` where no text stands at its address.
     pub name: Option<&'a str>,
-    /// The record itself.
+    /// The record itself, as it stands in the file.
     pub export_directory_table: ExportDirectoryTable,
-    /// The addresses of the exports' names.
+    /// The addresses of the exports' names. The format asks for them in the order of the names, by
+    /// which the loader searches; no reader here relies on that.
     pub export_name_pointer_table: ExportNamePointerTable,
-    /// For each name pointer the index of its address.
+    /// For each name pointer the index of its address in the address table, without the ordinal
+    /// base.
     pub export_ordinal_table: ExportOrdinalTable,
-    /// The exports' addresses.
+    /// The exports' addresses, by index: the ordinal of an export is its index plus the ordinal
+    /// base. Here are also those without a name.
     pub export_address_table: ExportAddressTable,
 }
 
@@ -85,25 +92,26 @@ impl<'a> ExportData<'a> {
         sections: &[SectionTable],
         file_alignment: u32,
     ) -> Result<ExportData<'a>>
-        ensures value { let offset_of = file_offset default_options sections.now file_alignment in
-            AnswersOrMemory (λ x. x) result (export_data offset_of directory bytes.now) (IsExportDataFault offset_of directory bytes.now) }
-        ensures grown { let offset_of = file_offset default_options sections.now file_alignment in
-            IfErr result (λ e. IsMemory e → IsSome (export_data offset_of directory bytes.now) ⊎ IsTrue (is_power_of_two file_alignment)) }
+        ensures value { let m = file_offset default_options sections.now file_alignment in
+            AnswersOrMemory (λ x. x) result (export_data m directory bytes.now) (IsExportDataFault m directory bytes.now) }
+        ensures grown { let m = file_offset default_options sections.now file_alignment in
+            IfErr result (λ e. IsMemory e → IsSomeAnd (export_data m directory bytes.now) HasEntries ⊎ HasPieces default_options file_alignment) }
     {
         let opts = ParseOptions::default();
         ExportData::parse_with_opts(alloc, bytes, directory, sections, file_alignment, &opts)
     }
 
     /// Reads the export data of an export directory: the record at its address, and what the record
-    /// leads to. A table is empty where its address has no file offset, and is cut at the first entry
-    /// that is not whole. An address is a forwarder's where it lies in the directory. The library's
-    /// name is `None` where it can't be read. Both modes give the same answer.
+    /// leads to. A table is empty where its address has no file offset, and is cut at the first
+    /// entry that is not whole. An address is a forwarder's where it lies in the directory, by the
+    /// directory's address and size. The library's name is `None` where it can't be read. Both
+    /// modes give the same answer.
     ///
     /// # Errors
     /// [`Error::Malformed`]: [`Cause::Unmapped`] where the directory's address has no file offset,
-    /// [`Cause::ExportTable`] where no whole record stands there; [`Error::BufferTooShort`] where the
-    /// record counts more name pointers, or else more addresses, than the file has bytes;
-    /// [`Error::Memory`].
+    /// [`Cause::ExportTable`] where the record there passes the end of the file;
+    /// [`Error::BufferTooShort`] where the record counts more name pointers, or else more
+    /// addresses, than the file has bytes; [`Error::Memory`] where memory is refused.
     pub fn parse_with_opts(
         alloc: Global,
         bytes: &'a [u8],
@@ -112,18 +120,17 @@ impl<'a> ExportData<'a> {
         file_alignment: u32,
         opts: &ParseOptions,
     ) -> Result<ExportData<'a>>
-        ensures value { let offset_of = file_offset opts.now sections.now file_alignment in
-            AnswersOrMemory (λ x. x) result (export_data offset_of directory bytes.now) (IsExportDataFault offset_of directory bytes.now) }
-        ensures grown { let offset_of = file_offset opts.now sections.now file_alignment in
-            let indexes = IsTrue opts.now.resolve_rva × IsTrue (is_power_of_two file_alignment) in
-            IfErr result (λ e. IsMemory e → IsSome (export_data offset_of directory bytes.now) ⊎ indexes) }
+        ensures value { let m = file_offset opts.now sections.now file_alignment in
+            AnswersOrMemory (λ x. x) result (export_data m directory bytes.now) (IsExportDataFault m directory bytes.now) }
+        ensures grown { let m = file_offset opts.now sections.now file_alignment in
+            IfErr result (λ e. IsMemory e → IsSomeAnd (export_data m directory bytes.now) HasEntries ⊎ HasPieces opts.now file_alignment) }
     {
         let address_map = AddressMap::prepare(alloc, sections, file_alignment, opts)?;
         ExportData::parse_by(alloc, bytes, directory, &address_map)
     }
 
     // Reads the export data of an export directory.
-    #[tactic(auto, unfolding(crate::specs::Exports::tables_if, crate::specs::Exports::tables_of))]
+    #[tactic(auto, unfolding(crate::specs::Exports::tables_if, crate::specs::Exports::export_tables))]
     pub(crate) fn parse_by(
         alloc: Global,
         bytes: &'a [u8],
@@ -132,22 +139,22 @@ impl<'a> ExportData<'a> {
     ) -> Result<ExportData<'a>>
         ensures value { let m = offset_of address_map.now in
             AnswersOrMemory (λ x. x) result (export_data m directory bytes.now) (IsExportDataFault m directory bytes.now) }
-        ensures grown { IfErr result (λ e. IsMemory e → IsSome (export_data (offset_of address_map.now) directory bytes.now)) }
+        ensures grown { IfErr result (λ e. IsMemory e → IsSomeAnd (export_data (offset_of address_map.now) directory bytes.now) HasEntries) }
     {
-        let offset_of = |rva: u32| address_map.offset_of(rva);
-        let Some(offset) = offset_of(directory.virtual_address) else {
+        let mapped = |rva: u32| address_map.offset_of(rva);
+        let Some(offset) = mapped(directory.virtual_address) else {
             let rva = directory.virtual_address as usize;
             return Err(Error::Malformed(Cause::Unmapped(rva)));
         };
         let table = ExportDirectoryTable::parse(bytes, offset)?;
         test_counts(bytes, &table)?;
         let names = table.number_of_name_pointers;
-        let pointer_table = name_pointers(alloc, bytes, offset_of(table.name_pointer_rva), names)?;
-        let ordinal_table = ordinals(alloc, bytes, offset_of(table.ordinal_table_rva), names)?;
-        let place = offset_of(table.export_address_table_rva);
+        let pointer_table = name_pointers(alloc, bytes, mapped(table.name_pointer_rva), names)?;
+        let ordinal_table = ordinals(alloc, bytes, mapped(table.ordinal_table_rva), names)?;
+        let place = mapped(table.export_address_table_rva);
         let address_table = addresses(alloc, bytes, place, table.address_table_entries, directory)?;
         Ok(ExportData {
-            name: text_at(bytes, offset_of(table.name_rva)),
+            name: text_at(bytes, mapped(table.name_rva)),
             export_directory_table: table,
             export_name_pointer_table: pointer_table,
             export_ordinal_table: ordinal_table,
@@ -156,20 +163,22 @@ impl<'a> ExportData<'a> {
     }
 }
 
-/// An export of an image.
+/// An export that has a name pointer. Those without one, which are imported by ordinal alone, stand
+/// in the address table of [`ExportData`].
 ///
 /// Source: PE Format, "The .edata Section (Image Only)".
 #[derive(Debug, Default, Drop)]
 pub struct Export<'a> {
-    /// The export's name, where it can be read.
+    /// The export's name; `None` where no text stands at its address.
     pub name: Option<&'a str>,
-    /// The file offset of `rva`, where it has one.
+    /// The file offset of `rva`; `None` where no section maps it.
     pub offset: Option<usize>,
-    /// The export's address, or that of its forwarder's text.
+    /// The export's address, relative to the image's base; of a forwarder that of its text.
     pub rva: usize,
     /// How many bytes it has: the tables don't say it, so 0.
     pub size: usize,
-    /// What it stands for in another library, where it is a forwarder.
+    /// What it stands for in another library, which the loader then loads; `None` where it is no
+    /// forwarder.
     pub reexport: Option<Reexport<'a>>,
 }
 
@@ -193,6 +202,7 @@ impl<'a> Model for Export<'a> {
 fn add_row<'a>(exports: &mut Vec<Export<'a>>, row: Option<Export<'a>>) -> Result<()>
     ensures added { OnOk result (exports.new.items ≡ exports.old.items ++ option_to_list row.entry) }
     ensures refused { IfErr result IsMemory }
+    ensures grown { OnErr result (IsSome row.entry) }
 {
     if let Some(export) = row {
         exports.push(export)?;
@@ -218,17 +228,17 @@ impl<'a> Export<'a> {
             .export_address_table
             .as_slice()
             .get(usize::from(ordinal))?;
-        let offset_of = |rva: u32| address_map.offset_of(rva);
+        let mapped = |rva: u32| address_map.offset_of(rva);
         let (rva, reexport) = match address {
             ExportAddressTableEntry::ExportRVA(rva) => (rva, None),
             ExportAddressTableEntry::ForwarderRVA(rva) => (
                 rva,
-                Some(forwarder_at(bytes, offset_of(rva))?),
+                Some(forwarder_at(bytes, mapped(rva))?),
             ),
         };
         Some(Export {
-            name: text_at(bytes, offset_of(pointer)),
-            offset: offset_of(rva),
+            name: text_at(bytes, mapped(pointer)),
+            offset: mapped(rva),
             rva: rva as usize,
             size: 0,
             reexport,
@@ -249,6 +259,7 @@ impl<'a> Export<'a> {
     ) -> Result<Vec<Export<'a>>>
         ensures value { GivesOrMemory (λ v. v.items) result (exports (file_offset default_options sections.now file_alignment) bytes.now export_data.now) }
         ensures empty { length bytes.now ≡ 0 → IsOk result }
+        ensures grown { OnErr result (HasExports (file_offset default_options sections.now file_alignment) bytes.now export_data.now ⊎ HasPieces default_options file_alignment) }
     {
         let opts = ParseOptions::default();
         Export::parse_with_opts(alloc, bytes, export_data, sections, file_alignment, &opts)
@@ -260,7 +271,8 @@ impl<'a> Export<'a> {
     /// it. An empty file has no exports. Both modes give the same answer.
     ///
     /// # Errors
-    /// [`Error::Memory`] alone, and never on an empty file, for which no memory is taken.
+    /// [`Error::Memory`] alone, and never on an empty file, for which no memory is taken. Else it comes
+    /// where there is an export, or where addresses are mapped.
     #[tactic(auto, unfolding(crate::specs::Exports::exports))]
     pub fn parse_with_opts(
         alloc: Global,
@@ -272,6 +284,7 @@ impl<'a> Export<'a> {
     ) -> Result<Vec<Export<'a>>>
         ensures value { GivesOrMemory (λ v. v.items) result (exports (file_offset opts.now sections.now file_alignment) bytes.now export_data.now) }
         ensures empty { length bytes.now ≡ 0 → IsOk result }
+        ensures grown { OnErr result (HasExports (file_offset opts.now sections.now file_alignment) bytes.now export_data.now ⊎ HasPieces opts.now file_alignment) }
     {
         if bytes.is_empty() {
             return Ok(Vec::new(alloc));
@@ -289,7 +302,7 @@ impl<'a> Export<'a> {
         address_map: &AddressMap,
     ) -> Result<Vec<Export<'a>>>
         ensures value { GivesOrMemory (λ v. v.items) result (exports (offset_of address_map.now) bytes.now export_data.now) }
-        ensures empty { length bytes.now ≡ 0 → IsOk result }
+        ensures grown { OnErr result (HasExports (offset_of address_map.now) bytes.now export_data.now) }
     {
         let mut exports = Vec::new(alloc);
         if bytes.is_empty() {

@@ -1,12 +1,17 @@
 //! The imports of an image: what it takes from which libraries.
+//!
+//! Source: PE Format, "The .idata Section". An import directory is a list of records, one a
+//! library. Each leads to a lookup table and an address table, whose entries with one index are one
+//! import: the lookup table says which, and the loader puts its address into the other.
 
-ghost use Rattle.std.specs.Prelude.{◌≡◌, IfErr, false, option_to_list, true};
+ghost use Rattle.std.specs.Prelude.{◌≡◌, ◌⊎◌, IfErr, IsSomeAnd, false, option_to_list, true};
 ghost use Rattle.goblin_base.specs.Answers.{AnswersOrMemory, IsMemory};
 ghost use Rattle.goblin_base.specs.Tables.{or_left_out};
 ghost use Rattle.goblin_pe_sect.specs.Mapping.{file_offset};
 ghost use Rattle.goblin_pe_sect.specs.Options.{default_options, is_strict};
-ghost use Rattle.goblin_pe.specs.Addresses.{offset_of};
-ghost use Rattle.goblin_pe.specs.ImportDirectory.{IsImportDataFault, IsLibrariesFault, IsLibraryFault, import_data, libraries_at, library_of};
+ghost use Rattle.goblin_pe_sect.specs.WindowIndex.{HasPieces};
+ghost use Rattle.goblin_pe.specs.Addresses.{offset_of, reads_strictly};
+ghost use Rattle.goblin_pe.specs.ImportDirectory.{HasRecords, IsImportDataFault, IsLibrariesFault, IsLibraryFault, import_data, libraries_at, library_of};
 
 use crate::address_map::AddressMap;
 use crate::data_directories::DataDirectory;
@@ -36,12 +41,12 @@ pub use lookup_table::{
     HintNameTableEntry, ImportLookupSlots, ImportLookupTable, SyntheticImportLookupTableEntry,
 };
 
-/// The imports of an image.
+/// The imports of an image, library by library.
 ///
-/// Source: PE Format, "The .idata Section".
+/// Source: PE Format, "The .idata Section" and "Import Directory Table".
 #[derive(Debug, Drop)]
 pub struct ImportData<'a> {
-    /// The libraries, in order.
+    /// The libraries, in the order of their records. One library may have several.
     pub import_data: Vec<SyntheticImportDirectoryEntry<'a>>,
 }
 
@@ -62,7 +67,7 @@ fn kept_library<'a, 'e, T: Bitfield<'a>>(
     address_map: &AddressMap,
 ) -> ResultOf<'e, Option<SyntheticImportDirectoryEntry<'a>>>
     ensures { let m = offset_of address_map.now in
-        let strict = is_strict address_map.now.opts.parse_mode in
+        let strict = reads_strictly address_map.now in
         AnswersOrMemory option_to_list result (or_left_out strict (library_of strict T.format m bytes.now entry)) (IsLibraryFault strict T.format m bytes.now entry) }
 {
     match SyntheticImportDirectoryEntry::parse_by::<T>(alloc, bytes, entry, address_map) {
@@ -79,9 +84,10 @@ fn libraries<'a, 'e, T: Bitfield<'a>>(
     offset: usize,
     address_map: &AddressMap,
 ) -> ResultOf<'e, ImportData<'a>>
-    ensures { let m = offset_of address_map.now in
-        let strict = is_strict address_map.now.opts.parse_mode in
+    ensures value { let m = offset_of address_map.now in
+        let strict = reads_strictly address_map.now in
         AnswersOrMemory (λ x. x) result (libraries_at strict T.format m bytes.now offset) (IsLibrariesFault strict T.format m bytes.now offset) }
+    ensures grown { IfErr result (λ e. IsMemory e → HasRecords bytes.now offset) }
 {
     let mut import_data = Vec::new(alloc);
     let mut place = offset;
@@ -117,27 +123,30 @@ impl<'a> ImportData<'a> {
         sections: &[SectionTable],
         file_alignment: u32,
     ) -> ResultOf<'e, ImportData<'a>>
-        ensures { let m = file_offset default_options sections.now file_alignment in
+        ensures value { let m = file_offset default_options sections.now file_alignment in
             let rva = directory.virtual_address in
             AnswersOrMemory (λ x. x) result (import_data true T.format m bytes.now rva) (IsImportDataFault true T.format m bytes.now rva) }
+        ensures grown { let place = file_offset default_options sections.now file_alignment directory.virtual_address in
+            IfErr result (λ e. IsMemory e → IsSomeAnd place (HasRecords bytes.now) ⊎ HasPieces default_options file_alignment) }
     {
         let opts = ParseOptions::default();
         ImportData::parse_with_opts::<T>(alloc, bytes, directory, sections, file_alignment, &opts)
     }
 
-    /// The imports of the directory at the address of `directory`, whose tables have entries of type
-    /// `T`: the libraries of its records, up to the first record that has no name or no address table,
-    /// whatever the directory's size.
+    /// The imports of the directory at the address of `directory`, whose tables have entries of
+    /// type `T`: the libraries of its records, up to the first record that has no name or no
+    /// address table. The directory's size is not looked at, nor does the loader look at it.
     ///
     /// In permissive mode a record is left out where its library is refused for another cause than
     /// memory, the directory ends where it meets the end of the file, and it is empty where its
     /// address has no file offset, or the offset 0.
     ///
     /// # Errors
-    /// In strict mode [`Error::Malformed`] with [`Cause::Unmapped`] where the directory's address has
-    /// no file offset, and with [`Cause::ImportRecordEnd`] where it meets the end of the file; and as
-    /// [`SyntheticImportDirectoryEntry::parse_with_opts`] of a record. In both modes
-    /// [`Error::Memory`] where memory is refused.
+    /// In strict mode [`Error::Malformed`] with [`Cause::Unmapped`] where the directory's address
+    /// has no file offset, and with [`Cause::ImportRecordEnd`] where it meets the end of the file;
+    /// and as [`SyntheticImportDirectoryEntry::parse_with_opts`] of a record. In both modes
+    /// [`Error::Memory`] where memory is refused, which is asked for where addresses are mapped, and
+    /// where the directory has a record.
     pub fn parse_with_opts<'e, T: Bitfield<'a>>(
         alloc: Global,
         bytes: &'a [u8],
@@ -151,6 +160,8 @@ impl<'a> ImportData<'a> {
             let rva = directory.virtual_address in
             AnswersOrMemory (λ x. x) result (import_data strict T.format m bytes.now rva) (IsImportDataFault strict T.format m bytes.now rva) }
         ensures permissive { is_strict opts.now.parse_mode ≡ false → IfErr result IsMemory }
+        ensures grown { let place = file_offset opts.now sections.now file_alignment directory.virtual_address in
+            IfErr result (λ e. IsMemory e → IsSomeAnd place (HasRecords bytes.now) ⊎ HasPieces opts.now file_alignment) }
     {
         let address_map = AddressMap::prepare(alloc, sections, file_alignment, opts)?;
         ImportData::parse_by::<T>(alloc, bytes, directory, &address_map)
@@ -164,10 +175,11 @@ impl<'a> ImportData<'a> {
         address_map: &AddressMap,
     ) -> ResultOf<'e, ImportData<'a>>
         ensures value { let m = offset_of address_map.now in
-            let strict = is_strict address_map.now.opts.parse_mode in
+            let strict = reads_strictly address_map.now in
             let rva = directory.virtual_address in
             AnswersOrMemory (λ x. x) result (import_data strict T.format m bytes.now rva) (IsImportDataFault strict T.format m bytes.now rva) }
-        ensures permissive { is_strict address_map.now.opts.parse_mode ≡ false → IfErr result IsMemory }
+        ensures permissive { reads_strictly address_map.now ≡ false → IfErr result IsMemory }
+        ensures grown { IfErr result (λ e. IsMemory e → IsSomeAnd (offset_of address_map.now directory.virtual_address) (HasRecords bytes.now)) }
     {
         let rva = directory.virtual_address;
         let is_permissive = address_map.is_permissive();

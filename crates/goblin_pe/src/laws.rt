@@ -2,7 +2,7 @@
 //!
 //! The footprint of a read is the set of positions of the file that it depends on, whether or not the
 //! read has a value. It stands beside the definition of each reader as a list of ranges: each record
-//! whose place the layout gives, each slot of a table up to and with the one that ends it, each text
+//! whose offset the layout gives, each slot of a table up to and with the one that ends it, each text
 //! through its NUL or to the end of the file. What does not lie in the file adds nothing.
 //!
 //! Two files agree on a footprint where they have one length and the same byte at every position of

@@ -10,8 +10,8 @@ pub mod table;
 pub mod whole;
 
 pub use goblin_base::{
-    Cause, Container, Endian, Error, Permissive, ReadFault, Record, Result, Strtab, TryFromCtx,
-    container, endian, error, permissive, read, record, strtab, write,
+    Cause, Container, Endian, Error, Permissive, ReadFault, Record, Result, ResultOf, Strtab,
+    TryFromCtx, container, endian, error, permissive, read, record, strtab, write,
 };
 pub use goblin_pe_head::{header, optional_header};
 pub use goblin_pe_sect::{

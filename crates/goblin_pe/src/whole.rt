@@ -1,19 +1,21 @@
 //! A whole file: its header, its sections, and the tables to which its directories lead.
 
-ghost use Rattle.std.specs.Prelude.{◌≡◌, ◌<◌, ◌/◌, IfSome, IsErrAnd, length};
-ghost use Rattle.goblin_base.specs.Answers.{Answers, AnswersOrMemory, GivesOrMemory};
+ghost use Rattle.std.specs.Prelude.{◌≡◌, ◌<◌, ◌/◌, IfErr, IfSome, IsErrAnd, IsSome, length};
+ghost use Rattle.goblin_base.specs.Answers.{Answers, AnswersOrMemory, GivesOrMemory, IsMemory};
 ghost use Rattle.goblin_pe_sect.specs.BaseRelocations.{relocation_bytes};
+ghost use Rattle.goblin_pe_sect.specs.Mapping.{IsNameAtFault, name_at};
 ghost use Rattle.goblin_pe_sect.specs.Options.{is_strict};
 ghost use Rattle.goblin_pe_head.specs.PeHeader.{header_value, pe_header};
 ghost use Rattle.goblin_pe_head.specs.CoffHeader.{IsTooManySections};
 ghost use Rattle.goblin_pe.specs.ImportDirectory.{IsImportDataFault, import_data};
 ghost use Rattle.goblin_pe.specs.Imports.{IsImportsFault, imports_of};
-ghost use Rattle.goblin_pe.specs.Addresses.{offset_of};
-ghost use Rattle.goblin_pe.specs.Whole.{BecomesPart, IsExportPartFault, IsFileSectionsFault, IsImportPartFault, IsPartThenFault, IsRelocationsPartFault, IsWholeFault, entry_format, export_data_part, exports_part, file_sections, import_data_part, imports_part, items_part, part_map, places_by, relocations_part, table_places, places_in, whole_file};
+ghost use Rattle.goblin_pe.specs.Addresses.{offset_of, reads_strictly};
+ghost use Rattle.goblin_pe.specs.Whole.{BecomesPart, IsExportPartFault, IsFileSectionsFault, IsImportPartFault, IsPartThenFault, IsRelocationsPartFault, IsWholeFault, entry_format, export_data_part, exports_part, file_sections, import_data_part, imports_part, items_part, offset_by, part_map, places_by, relocations_part, table_places, places_in, whole_file};
 
 use crate::address_map::AddressMap;
 use crate::export::{Export, ExportData};
 use crate::import::{Import, ImportData};
+use crate::utils::{find_offset, try_name};
 use goblin_base::{Result, is_passed_over};
 use goblin_pe_head::header::{Header, SIZEOF_COFF_HEADER, SIZEOF_PE_MAGIC};
 use goblin_pe_head::optional_header::{MAGIC_32, OptionalHeader};
@@ -22,35 +24,39 @@ use goblin_pe_sect::{DataDirectory, ParseOptions, SectionTable};
 use std::alloc::Global;
 use std::marker::Model;
 
-/// A table of a file.
+/// A table of a file, as [`Whole::read`] found it.
 #[derive(Debug, Drop)]
 pub enum Part<T> {
-    /// The file has no such table, or it was not asked for.
+    /// The file has no such table, since it has no optional header or no directory for it; or the
+    /// table was not asked for.
     Absent,
-    /// The table.
+    /// The table, which may be empty.
     Read(T),
-    /// The table is refused.
+    /// The file has such a table, and it is damaged; in permissive mode alone. Why it was refused,
+    /// its own reader says.
     Refused,
 }
 
-/// A whole file.
+/// A whole file: its header, its sections, and the tables for a loader.
 ///
-/// Source: PE Format, "Overview".
+/// Source: PE Format, "Overview". Names and data borrow from the file, but for those names of
+/// sections that stand in the string table, which are copies.
 #[derive(Debug, Drop)]
 pub struct Whole<'a> {
-    /// The header.
+    /// The header: all that stands before the section table.
     pub header: Header<'a>,
-    /// The sections, in the order of their records.
+    /// The sections, in the order of their records, by which addresses are mapped.
     pub sections: Vec<SectionTable>,
-    /// What the import directory leads to.
+    /// What the import directory leads to, library by library. It is never refused: permissive mode
+    /// makes it an empty list.
     pub import_data: Part<ImportData<'a>>,
-    /// The imports of the import data.
+    /// The imports of the import data, one for each entry that a lookup table keeps.
     pub imports: Part<Vec<Import<'a>>>,
     /// What the export directory leads to.
     pub export_data: Part<ExportData<'a>>,
-    /// The exports of the export data.
+    /// The exports of the export data, one for each name pointer that leads to an address.
     pub exports: Part<Vec<Export<'a>>>,
-    /// The base relocations.
+    /// The base relocations: the bytes of their directory, whose blocks are read one by one.
     pub relocations: Part<RelocationData<'a>>,
 }
 
@@ -128,7 +134,7 @@ impl Tables {
         directory: DataDirectory,
         address_map: &AddressMap,
     ) -> Result<ImportData<'a>>
-        ensures { let strict = is_strict address_map.now.opts.parse_mode in
+        ensures { let strict = reads_strictly address_map.now in
             let m = offset_of address_map.now in
             let format = entry_format self.now.magic in
             let rva = directory.virtual_address in
@@ -267,7 +273,7 @@ impl Tables {
     }
 }
 
-// The sections of a file with this header, whose records stand behind the optional header.
+// The sections of a file with this header, whose records follow the optional header.
 #[tactic(auto, unfolding(crate::specs::Whole::file_sections))]
 fn sections_of(
     alloc: Global,
@@ -289,7 +295,8 @@ fn sections_of(
 
 impl<'a> Whole<'a> {
     /// Reads a whole file: its header, its sections, its imports, exports and base relocations. The
-    /// entries of its import tables have four bytes by the magic of 32 bits, else eight; addresses
+    /// section table stands after the optional header, by the size that the COFF header says. The
+    /// entries of the import tables have four bytes by the magic of 32 bits, else eight; addresses
     /// are mapped by the header's file alignment.
     ///
     /// A table is absent where there is no optional header or no directory for it; the imports also
@@ -299,13 +306,15 @@ impl<'a> Whole<'a> {
     /// # Errors
     /// As [`Header::parse_with_opts`]; as
     /// [`CoffHeader::sections_with_opts`](goblin_pe_head::CoffHeader::sections_with_opts); in strict
-    /// mode as the readers of the tables; [`Error::Memory`] where memory is refused, in both modes.
-    #[tactic(auto, unfolding(crate::specs::Whole::whole_file, crate::specs::Whole::tables_of, crate::specs::Whole::IsWholeFault, crate::specs::Whole::IsTablesFault))]
+    /// mode as the readers of the tables; [`Error::Memory`] where memory is refused, in both modes, and
+    /// never of a file whose header is refused.
+    #[tactic(auto, unfolding(crate::specs::Whole::whole_file, crate::specs::Whole::tables_of, crate::specs::Whole::IsWholeFault, crate::specs::Whole::IsTablesFault), using(goblin_pe_head::proofs::HeaderFaults::header_there))]
     pub fn read(alloc: Global, bytes: &'a [u8], opts: &ParseOptions) -> Result<Whole<'a>>
         ensures value { AnswersOrMemory (λ x. x) result (whole_file opts.now bytes.now) (IsWholeFault opts.now bytes.now) }
         ensures first { IfSome (pe_header (is_strict opts.now.parse_mode) bytes.now) (λ header.
             let count = header.coff_header.number_of_sections in
             length bytes.now / 40 < count → IsErrAnd result (IsTooManySections count bytes.now)) }
+        ensures grown { IfErr result (λ e. IsMemory e → IsSome (pe_header (is_strict opts.now.parse_mode) bytes.now)) }
     {
         let header = Header::parse_with_opts(bytes, opts)?;
         let sections = sections_of(alloc, bytes, &header, opts)?;
@@ -326,5 +335,31 @@ impl<'a> Whole<'a> {
             exports,
             relocations,
         })
+    }
+
+    /// The file offset of the address `rva`, as [`find_offset`] gives it by the file's own sections and
+    /// the file alignment of its optional header. Without an optional header no address has one, unless
+    /// `opts` says that addresses are offsets.
+    pub fn find_offset(&self, rva: usize, opts: &ParseOptions) -> Option<usize>
+        ensures { result ≡ offset_by opts.now self.now.sections (places_in self.now.header.optional_header) rva }
+    {
+        let tables = Tables::of(&self.header.optional_header);
+        find_offset(rva, &self.sections, tables.file_alignment, opts)
+    }
+
+    /// The text at the address `rva` of the file, whose bytes are `bytes`, up to its first NUL or the
+    /// end of the file, as [`try_name`] gives it by the file's own sections and the file alignment of
+    /// its optional header.
+    ///
+    /// # Errors
+    /// In both modes: [`Error::Malformed`](goblin_base::Error::Malformed) with
+    /// [`Cause::Unmapped`](goblin_base::Cause::Unmapped) where the address has no file offset, and
+    /// [`Error::Read`](goblin_base::Error::Read) where no text stands there.
+    pub fn try_name<'b>(&self, bytes: &'b [u8], rva: usize, opts: &ParseOptions) -> Result<&'b str>
+        ensures { let m = offset_by opts.now self.now.sections (places_in self.now.header.optional_header) in
+            Answers (λ s. s.now) result (name_at m bytes.now rva) (IsNameAtFault m bytes.now rva) }
+    {
+        let tables = Tables::of(&self.header.optional_header);
+        try_name(bytes, rva, &self.sections, tables.file_alignment, opts)
     }
 }

@@ -11,7 +11,7 @@ use Rattle.goblin_pe_sect.specs.Options.{is_strict}
 use Rattle.goblin_pe_sect.specs.SectionName.{name_value, real_name_at}
 use Rattle.goblin_pe_sect.specs.SectionTable.{Section, section_at, section_record}
 use Rattle.goblin_pe_head.specs.PeHeader.{pe_header}
-use Rattle.goblin_pe_head.specs.CoffHeader.{string_table_offset}
+use Rattle.goblin_pe_head.specs.CoffHeader.{symbols_end}
 use Rattle.goblin_pe.specs.Whole.{FileTables, TablePlaces, WholeFile, export_data_part, exports_part, file_sections, import_data_part, imports_part, places_in, relocations_part, section_table_offset, tables_of, whole_file}
 use Rattle.goblin_pe_c.specs.Sections.{named_in, real_name_in}
 
@@ -69,11 +69,11 @@ read-from opts bytes w h =
     subst (IsRead opts bytes) (same_value whole w s3.then) parts
 
 -- the sections of a file
-pub sections-named : (opts : ParseOptions) (bytes : List ℕ) (w : WholeFile) → whole_file opts bytes ≡ Some w → map (named_in (is_strict opts.parse_mode) bytes (string_table_offset w.header.coff_header)) w.sections ≡ w.sections
+pub sections-named : (opts : ParseOptions) (bytes : List ℕ) (w : WholeFile) → whole_file opts bytes ≡ Some w → map (named_in (is_strict opts.parse_mode) bytes (symbols_end w.header.coff_header)) w.sections ≡ w.sections
 unfolding file_sections
 sections-named opts bytes w h =
     let strict = is_strict opts.parse_mode in
-    let table = string_table_offset w.header.coff_header in
+    let table = symbols_end w.header.coff_header in
     all-kept (named_in strict bytes table) (λ i. section_at strict table bytes (section_table_offset w.header + 40 * i)) w.header.coff_header.number_of_sections 0 w.sections
     (λ i s is. section-named strict table bytes (section_table_offset w.header + 40 * i) s is)
     (read-from opts bytes w h).sections

@@ -1,12 +1,13 @@
 -- What the records of data directories say.
-use Rattle.std.specs.Prelude.{ℕ, if◌then◌else◌, List, [], Option, Some, None}
+use Rattle.std.specs.Prelude.{ℕ, List, [], Option, Some, None, false, true}
 use Rattle.goblin_pe_sect.specs.declared.data_directories.DataDirectory.{DataDirectory}
 use Rattle.goblin_pe_head.specs.declared.optional_header.OptionalHeader.{OptionalHeader}
 use Rattle.goblin_pe_c.specs.declared.directory.PeDirectory.{PeDirectory}
 
--- what a record says of an entry: where it ends, and what it leads to
-abbrev pub directory_view : PeDirectory → Option (ℕ × DataDirectory)
-directory_view d = if d.is_present then Some (d.end, record { virtual_address = d.virtual_address; size = d.size }) else None
+-- the record of an entry: where it ends, and what it leads to; zeros where there is none
+abbrev pub directory_record : Option (ℕ × DataDirectory) → PeDirectory
+directory_record None = record { end = 0; virtual_address = 0; size = 0; is_present = false }
+directory_record (Some entry) = record { end = entry.0; virtual_address = entry.1.virtual_address; size = entry.1.size; is_present = true }
 
 -- the entries of an optional header
 abbrev pub directories_of : Option OptionalHeader → List (Option (ℕ × DataDirectory))

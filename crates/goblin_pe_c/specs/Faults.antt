@@ -1,6 +1,9 @@
 -- Refusals as numbers.
-use Rattle.std.specs.Prelude.{ℕ, List, codes, if◌then◌else◌, Result, Ok, Err}
+use Rattle.std.specs.Prelude.{◌≡◌, ◌⊎◌, ℕ, ◌-◌, ◌%◌, ◌^◌, ◌==◌, nat_lt, List, [], ◌∷◌, codes, if◌then◌else◌, Option, Some, None, Result, Ok, Err, slice_get, option_map, ⊤}
 use Rattle.std.specs.Str.{bytes_eq}
+use Rattle.goblin_base.specs.ErrorText.{cause_text, fault_text, magic_text, memory_text, short_text}
+use Rattle.goblin_base.specs.declared.error.CauseOf.{CauseOf}
+use Rattle.goblin_base.specs.declared.error.ReadFault.{ReadFault}
 use Rattle.goblin_base.specs.declared.error.ErrorOf.{ErrorOf}
 use Rattle.goblin_base.specs.declared.error.ErrorOf.TheVariants.{Malformed, BadMagic, BufferTooShort, Read, Memory}
 use Rattle.goblin_base.specs.declared.error.ReadFault.TheVariants.{BadOffset, TooBig, BadInput}
@@ -69,3 +72,83 @@ fault_of (Memory e) = fault 5 0 0 0
 abbrev pub status_of : {A : Type 0} → Result A ErrorOf → PeFault
 status_of (Ok x) = no_fault
 status_of (Err e) = fault_of e
+
+-- The causes from number 2 on, in the order of their numbers, with these numbers of their own. Number 1 is a message of the
+-- caller's, which no numbers say.
+abbrev pub causes : ℕ → ℕ → List CauseOf
+causes first second =
+    NoDosSignature
+    ∷ DosMagic (first % 2 ^ 16)
+    ∷ NoPePointer
+    ∷ NoPeSignature first
+    ∷ PeMagic (first % 2 ^ 32)
+    ∷ StubBeforeStart (first % 2 ^ 32)
+    ∷ StubPastEnd first second
+    ∷ NoDans
+    ∷ RichBounds first second
+    ∷ StrippedSize (first % 2 ^ 32)
+    ∷ CoffLength
+    ∷ DirectoryIndex first
+    ∷ DirectoryCount first
+    ∷ NameText
+    ∷ NameBase64
+    ∷ NameDecimal
+    ∷ NameOffset first
+    ∷ SymbolName (first % 2 ^ 32)
+    ∷ StringTable first second
+    ∷ FieldTooWide
+    ∷ Unmapped first
+    ∷ NameRead first
+    ∷ HintEntry first
+    ∷ LookupEnd first
+    ∷ ImportRecordEnd first
+    ∷ ExportTable first
+    ∷ Forwarder
+    ∷ ForwarderOrdinal
+    ∷ RelocRange first (second % 2 ^ 32)
+    ∷ BlockSize (first % 2 ^ 32)
+    ∷ BlockRange first second
+    ∷ Overflow
+    ∷ SlotCount first second
+    ∷ []
+
+-- the cause with these numbers
+abbrev pub cause_of : PeFault → Option CauseOf
+cause_of fault = if nat_lt fault.cause 2 then None else slice_get (causes fault.first fault.second) (fault.cause - 2)
+
+-- what a file is too short for, by its number
+abbrev pub word_of : ℕ → Option (List ℕ)
+word_of number =
+    if number == 0 then Some (codes "entries")
+    else if number == 1 then Some (codes "sections")
+    else if number == 2 then Some (codes "name pointers")
+    else if number == 3 then Some (codes "address table entries")
+    else None
+
+-- why a read was refused, by its number
+abbrev pub read_fault_of : ℕ → Option ReadFault
+read_fault_of number =
+    if number == 1 then Some BadOffset
+    else if number == 2 then Some TooBig
+    else if number == 3 then Some BadInput
+    else None
+
+-- the text of the refusal with these numbers
+abbrev pub refusal_text : PeFault → Option (List ℕ)
+refusal_text fault =
+    if fault.status == 1 then option_map cause_text (cause_of fault)
+    else if fault.status == 2 then Some (magic_text fault.first)
+    else if fault.status == 3 then option_map (short_text fault.first) (word_of fault.cause)
+    else if fault.status == 4 then option_map fault_text (read_fault_of fault.cause)
+    else if fault.status == 5 then Some memory_text
+    else None
+
+-- a refusal of which its numbers say all: no message of the caller's, and no text but those that have a number
+abbrev pub IsNumbered : ErrorOf → Type 0
+IsNumbered (Malformed (Message text)) = ⊥
+IsNumbered (BufferTooShort count what) = word_of (word_number what.now) ≡ Some what.now
+IsNumbered e = ⊤
+
+-- the text of the refusal with these numbers, or no text
+abbrev pub IsTextOf : PeFault → List ℕ → Type 0
+IsTextOf fault text = (refusal_text fault ≡ Some text) ⊎ (text ≡ [])

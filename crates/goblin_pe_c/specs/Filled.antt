@@ -1,5 +1,9 @@
 -- What a call does to the records of its caller.
-use Rattle.std.specs.Prelude.{◌≡◌, List, length, map, take, drop}
+use Rattle.std.specs.Prelude.{◌≡◌, ℕ, List, [], length, map, take, drop}
+
+-- a value, and nothing in the place of a text that it does not have
+abbrev pub alone : {A : Type 0} → A → A × List ℕ
+alone x = (x, [])
 
 -- The records after a call: the front says what was made, as far as there is room, and what follows are the caller's own.
 abbrev pub Filled : {A B : Type 0} → (A → B) → List B → List A → List A → Type 0

@@ -1,5 +1,5 @@
 -- What the records of imports say.
-use Rattle.std.specs.Prelude.{if◌then◌else◌}
+use Rattle.std.specs.Prelude.{ℕ, List, [], if◌then◌else◌}
 use Rattle.goblin_pe.specs.Imports.{ImportValue, ordinal_name}
 use Rattle.goblin_pe_c.specs.declared.import.PeImport.{PeImport}
 
@@ -7,15 +7,18 @@ use Rattle.goblin_pe_c.specs.declared.import.PeImport.{PeImport}
 abbrev pub with_ordinal_name : ImportValue → ImportValue
 with_ordinal_name x = record x { name = if x.is_borrowed then x.name else ordinal_name x.ordinal }
 
--- what a record says of an import
-abbrev pub import_view : PeImport → ImportValue
-import_view x = record {
-  name = if x.is_by_name then x.name.now else ordinal_name x.ordinal;
-  is_borrowed = x.is_by_name;
-  dll = x.dll.now;
-  ordinal = x.ordinal;
-  offset = x.offset;
-  rva = x.rva;
-  size = x.size;
-  slot = x.slot;
-}
+-- what a record says of an import, and what stands in the place of a name where the import is by ordinal
+abbrev pub import_view : PeImport → ImportValue × List ℕ
+import_view x = (
+  record {
+    name = if x.is_by_name then x.name.now else ordinal_name x.ordinal;
+    is_borrowed = x.is_by_name;
+    dll = x.dll.now;
+    ordinal = x.ordinal;
+    offset = x.offset;
+    rva = x.rva;
+    size = x.size;
+    slot = x.slot;
+  },
+  if x.is_by_name then [] else x.name.now,
+)

@@ -7,14 +7,14 @@ use Rattle.goblin_base.specs.Record.{record_at}
 use Rattle.goblin_pe_sect.specs.SectionTable.{Section}
 use Rattle.goblin_pe_sect.specs.Symbols.{symbols_in}
 use Rattle.goblin_pe_head.specs.declared.header.coff.CoffHeader.{CoffHeader}
-use Rattle.goblin_pe_head.specs.CoffHeader.{coff_header, sections_at, string_table_offset, strings_of, symbols_of, IsNoStrings, IsNoSymbols, IsSectionsFault}
+use Rattle.goblin_pe_head.specs.CoffHeader.{coff_header, sections_at, symbols_end, strings_of, symbols_of, IsNoStrings, IsNoSymbols, IsSectionsFault}
 use Rattle.goblin_pe_c.specs.declared.file.PeTable.{PeTable}
 use Rattle.goblin_pe_c.specs.declared.object.PeObject.{PeObject}
 use Rattle.goblin_pe_c.specs.declared.section.PeSection.{PeSection}
 use Rattle.goblin_pe_c.specs.declared.symbol.PeSymbol.{PeSymbol}
-use Rattle.goblin_pe_c.specs.Filled.{Filled}
+use Rattle.goblin_pe_c.specs.Filled.{Filled, alone}
 use Rattle.goblin_pe_c.specs.Headers.{coff_record}
-use Rattle.goblin_pe_c.specs.Sections.{section_view}
+use Rattle.goblin_pe_c.specs.Sections.{section_said}
 use Rattle.goblin_pe_c.specs.Symbols.{SymbolRow, symbol_row, symbol_view}
 
 -- an object: its header, its sections, and the bytes of its symbol table and its string table
@@ -26,16 +26,20 @@ pub record ObjectFile : Type 0 where
 
 -- the sections of an object, which follow the header and what it says of an optional header
 abbrev pub object_sections : Bool → List ℕ → CoffHeader → Option (List Section)
-object_sections strict bytes h = sections_at strict (string_table_offset h) h.number_of_sections bytes (20 + h.size_of_optional_header)
+object_sections strict bytes h = sections_at strict (symbols_end h) h.number_of_sections bytes (20 + h.size_of_optional_header)
 
 -- which cause is true of sections that are refused
 abbrev pub IsObjectSectionsFault : Bool → List ℕ → CoffHeader → ErrorOf → Type 0
-IsObjectSectionsFault strict bytes h = IsSectionsFault strict (string_table_offset h) h.number_of_sections bytes (20 + h.size_of_optional_header)
+IsObjectSectionsFault strict bytes h = IsSectionsFault strict (symbols_end h) h.number_of_sections bytes (20 + h.size_of_optional_header)
+
+-- the header at the front of a file
+abbrev pub object_header : List ℕ → Option CoffHeader
+object_header bytes = record_at 20 (coff_header Little) bytes 0
 
 -- the header stands at the front of the file
 unfoldable pub object_file : Bool → List ℕ → Option ObjectFile
 object_file strict bytes = do
-  header ← record_at 20 (coff_header Little) bytes 0
+  header ← object_header bytes
   sections ← object_sections strict bytes header
   symbols ← symbols_of header bytes
   strings ← strings_of header bytes
@@ -44,13 +48,13 @@ object_file strict bytes = do
 -- which cause is true of an object that is refused: that of the first part that is not there
 unfoldable pub IsObjectFault : Bool → List ℕ → ErrorOf → Type 0
 IsObjectFault strict bytes =
-    FirstFault (record_at 20 (coff_header Little) bytes 0) (IsSliceFault bytes 0 20) (λ header.
+    FirstFault (object_header bytes) (IsSliceFault bytes 0 20) (λ header.
     FirstFault (object_sections strict bytes header) (IsObjectSectionsFault strict bytes header) (λ sections.
     FirstFault (symbols_of header bytes) (IsNoSymbols header bytes) (λ symbols.
     FirstFault (strings_of header bytes) (IsNoStrings header bytes) (λ strings e. ⊥))))
 
 -- the symbols of a table, with their names from a string table; none where there are no such tables
-abbrev pub symbol_rows : Option (List ℕ) → Option (List ℕ) → List SymbolRow
+abbrev pub symbol_rows : Option (List ℕ) → Option (List ℕ) → List (SymbolRow × List ℕ)
 symbol_rows (Some table) (Some strings) = map (symbol_row strings) (symbols_in table)
 symbol_rows (Some table) None = []
 symbol_rows None strings = []
@@ -74,5 +78,5 @@ pub record ObjectRecords : Type 0 where
 abbrev pub SaysObject : ObjectFile → ObjectRecords → ObjectRecords → Type 0
 SaysObject x old new =
     (new.object ≡ object_record x)
-    × (Filled section_view x.sections old.sections new.sections)
+    × (Filled section_said (map alone x.sections) old.sections new.sections)
     × (Filled symbol_view (symbol_rows x.symbols x.strings) old.symbols new.symbols)

@@ -1,5 +1,5 @@
 -- What the records of sections say.
-use Rattle.std.specs.Prelude.{ℕ, Bool, if◌then◌else◌, List, Option, Some, None, option_and_then}
+use Rattle.std.specs.Prelude.{ℕ, Bool, if◌then◌else◌, List, [], Option, Some, None, option_and_then}
 use Rattle.goblin_pe_sect.specs.SectionName.{name_value, real_name_at}
 use Rattle.goblin_pe_sect.specs.SectionTable.{Section}
 use Rattle.goblin_pe_c.specs.declared.section.PeSection.{PeSection}
@@ -27,6 +27,10 @@ section_view s = record {
   number_of_linenumbers = s.number_of_linenumbers;
   characteristics = s.characteristics;
 }
+
+-- the same, and what stands in the place of a name where the section has none from the string table
+abbrev pub section_said : PeSection → Section × List ℕ
+section_said s = (section_view s, if s.has_real_name then [] else s.real_name.now)
 
 -- a section without its name from the string table
 abbrev pub unnamed : Section → Section

@@ -1,5 +1,5 @@
 -- What a call says of a Terse Executable.
-use Rattle.std.specs.Prelude.{◌≡◌, ℕ, List, Option, Some}
+use Rattle.std.specs.Prelude.{◌≡◌, ℕ, List, map, Option, Some}
 use Rattle.goblin_base.specs.declared.error.ErrorOf.{ErrorOf}
 use Rattle.goblin_base.specs.Answers.{◌>>=◌, FirstFault}
 use Rattle.goblin_pe_sect.specs.SectionTable.{Section}
@@ -7,8 +7,8 @@ use Rattle.goblin_pe_head.specs.declared.header.te.TeHeader.{TeHeader}
 use Rattle.goblin_pe_head.specs.TeHeader.{te_header, te_sections_at, IsTeFault, IsTeSectionsFault}
 use Rattle.goblin_pe_c.specs.declared.section.PeSection.{PeSection}
 use Rattle.goblin_pe_c.specs.declared.te.PeTeHeader.{PeTeHeader}
-use Rattle.goblin_pe_c.specs.Filled.{Filled}
-use Rattle.goblin_pe_c.specs.Sections.{section_view}
+use Rattle.goblin_pe_c.specs.Filled.{Filled, alone}
+use Rattle.goblin_pe_c.specs.Sections.{section_said}
 
 -- a Terse Executable
 pub record TeImage : Type 0 where
@@ -49,4 +49,4 @@ pub record TeRecords : Type 0 where
 
 -- the records say what an image has, the sections as far as there is room
 abbrev pub SaysImage : TeImage → TeRecords → TeRecords → Type 0
-SaysImage x old new = (new.header ≡ te_header_record x.header) × (Filled section_view x.sections old.sections new.sections)
+SaysImage x old new = (new.header ≡ te_header_record x.header) × (Filled section_said (map alone x.sections) old.sections new.sections)

@@ -20,7 +20,7 @@ pub struct PeBlock<'a> {
     /// The words, of two bytes each: the type in the high four bits, and in the low twelve the place,
     /// in bytes from the page's address. A byte that is left is no word.
     pub words: &'a [u8],
-    /// The page's address, relative to the image's base.
+    /// The page's address, relative to the image's base, to which each place is added.
     pub rva: u32,
     /// The size of the block with its head, in bytes.
     pub size: u32,
@@ -32,7 +32,7 @@ pub struct PeBlock<'a> {
 pub struct PeRelocations {
     /// The blocks.
     pub blocks: PeTable,
-    /// Why a rest that follows the blocks is none; its status is 0 where there is no rest.
+    /// Why the rest that follows the blocks is no block; its status is 0 where there is no rest.
     pub rest: PeFault,
 }
 

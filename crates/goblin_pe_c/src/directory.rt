@@ -2,7 +2,7 @@
 
 ghost use Rattle.std.specs.Prelude.{◌≡◌, map};
 ghost use Rattle.goblin_pe_c.specs.Filled.{Filled};
-ghost use Rattle.goblin_pe_c.specs.Directories.{directories_of, directory_view};
+ghost use Rattle.goblin_pe_c.specs.Directories.{directories_of, directory_record};
 
 use goblin_pe::data_directories::DataDirectory;
 use goblin_pe::optional_header::OptionalHeader;
@@ -11,12 +11,14 @@ use goblin_pe::optional_header::OptionalHeader;
 #[repr(C)]
 #[derive(Copy, Clone)]
 pub struct PeDirectory {
-    /// Where the entry ends, in bytes from the front of the optional header; 0 where there is none.
+    /// Where the entry's record ends, in bytes from the front of the optional header; 0 where there
+    /// is no entry.
     pub end: usize,
-    /// The address of what it leads to, relative to the image's base; of the attribute certificates
-    /// the file offset.
+    /// The address of what it leads to, relative to the image's base. That of the attribute
+    /// certificates is a file offset, since they are not loaded.
     pub virtual_address: u32,
-    /// The size of what it leads to, in bytes.
+    /// The size of what it leads to, in bytes. An import directory ends at its own last record,
+    /// whatever the size.
     pub size: u32,
     /// Whether there is such an entry, and not all of it is 0.
     pub is_present: bool,
@@ -24,7 +26,7 @@ pub struct PeDirectory {
 
 // The record of an entry.
 fn directory_record(directory: &Option<(usize, DataDirectory)>) -> PeDirectory
-    ensures { directory_view result ≡ directory.now }
+    ensures { result ≡ directory_record directory.now }
 {
     match directory {
         None => PeDirectory {
@@ -54,7 +56,7 @@ pub fn directories_of(header: &Option<OptionalHeader>) -> &[Option<(usize, DataD
 
 /// Fills the records of data directories, as far as there is room.
 pub fn fill_directories(records: &mut [PeDirectory], directories: &[Option<(usize, DataDirectory)>])
-    ensures { Filled directory_view (map (λ x. x) directories.now) records.old records.new }
+    ensures { Filled (λ d. d) (map directory_record directories.now) records.old records.new }
 {
     let count = directories.len().min(records.len());
     'records: for i in 0..count {

@@ -2,7 +2,7 @@
 
 ghost use Rattle.std.specs.Prelude.{◌≡◌, map};
 ghost use Rattle.goblin_pe_c.specs.Filled.{Filled};
-ghost use Rattle.goblin_pe_c.specs.Exports.{export_view};
+ghost use Rattle.goblin_pe_c.specs.Exports.{export_said, export_view};
 
 use goblin_pe::export::{Export, Reexport};
 
@@ -20,7 +20,7 @@ pub struct PeExport<'a> {
     pub ordinal: usize,
     /// The file offset of `rva`, where it has one.
     pub offset: usize,
-    /// The export's address, or that of its forwarder's text.
+    /// The export's address, relative to the image's base; of a forwarder that of its text.
     pub rva: usize,
     /// How many bytes it has: the tables don't say it, so 0.
     pub size: usize,
@@ -34,7 +34,7 @@ pub struct PeExport<'a> {
 
 // The record of an export.
 fn export_record<'a>(export: &Export<'a>) -> PeExport<'a>
-    ensures { export_view result ≡ export.now }
+    ensures { export_view result ≡ export_said export.now }
 {
     let (forwards, name, ordinal, lib): (u8, &'a [u8], usize, &'a [u8]) = match &export.reexport {
         None => (0, &[], 0, &[]),
@@ -60,7 +60,7 @@ fn export_record<'a>(export: &Export<'a>) -> PeExport<'a>
 
 /// Fills the records of exports, as far as there is room.
 pub fn fill_exports<'a>(records: &mut [PeExport<'a>], exports: &[Export<'a>])
-    ensures { Filled export_view (map (λ x. x) exports.now) records.old records.new }
+    ensures { Filled export_view (map export_said exports.now) records.old records.new }
 {
     let count = exports.len().min(records.len());
     'records: for i in 0..count {

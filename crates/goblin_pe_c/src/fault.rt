@@ -1,11 +1,23 @@
 //! Refusals as numbers.
 
-ghost use Rattle.std.specs.Prelude.{◌≡◌, List, ℕ, length};
-ghost use Rattle.goblin_pe_c.specs.Faults.{fault_of, no_fault, word_number};
+ghost use Rattle.std.specs.Prelude.{◌≡◌, List, ℕ, Some, length, option_map};
+ghost use Rattle.std.specs.Fmt.InlineText.{inline_text};
+ghost use Rattle.goblin_base.specs.ErrorText.{error_text};
+ghost use Rattle.goblin_pe_c.specs.Faults.{IsNumbered, IsTextOf, cause_of, causes, fault_of, no_fault, read_fault_of, refusal_text, word_number, word_of};
 ghost use Rattle.goblin_pe_c.specs.Filled.{Filled};
 
-use goblin_pe::{Cause, Error, ReadFault, Result};
-use std::alloc::Global;
+use goblin_pe::{Cause, Error, ReadFault};
+use std::alloc::AllocError;
+use std::fmt::{InlineText, Write};
+
+// The number of the first cause that numbers say in full.
+const FIRST_CAUSE: u32 = 2;
+
+// How many causes there are from it on.
+const CAUSES: usize = 33;
+
+// No text of a refusal that numbers say is longer.
+const TEXT_ROOM: usize = 160;
 
 /// Why a call gave no value, in numbers; the status 0 is that it gave one.
 #[repr(C)]
@@ -57,7 +69,8 @@ pub fn no_fault() -> PeFault
 
 /// The numbers of a refusal.
 pub fn fault_of(error: &Error) -> PeFault
-    ensures { result ≡ fault_of error.now }
+    ensures value { result ≡ fault_of error.now }
+    ensures text { IsNumbered error.now → refusal_text result ≡ Some (error_text error.now) }
 {
     match error {
         Error::Malformed(cause) => match cause {
@@ -105,69 +118,112 @@ pub fn fault_of(error: &Error) -> PeFault
     }
 }
 
-// A refusal with these numbers, where there is one.
-fn error_of(fault: &PeFault) -> Option<Error> {
-    Some(match (fault.status, fault.cause) {
-        (1, 2) => Error::Malformed(Cause::NoDosSignature),
-        (1, 3) => Error::Malformed(Cause::DosMagic(u16::try_from(fault.first).ok()?)),
-        (1, 4) => Error::Malformed(Cause::NoPePointer),
-        (1, 5) => Error::Malformed(Cause::NoPeSignature(fault.first as usize)),
-        (1, 6) => Error::Malformed(Cause::PeMagic(u32::try_from(fault.first).ok()?)),
-        (1, 7) => Error::Malformed(Cause::StubBeforeStart(u32::try_from(fault.first).ok()?)),
-        (1, 8) => Error::Malformed(Cause::StubPastEnd(fault.first as usize, fault.second as usize)),
-        (1, 9) => Error::Malformed(Cause::NoDans),
-        (1, 10) => Error::Malformed(Cause::RichBounds(fault.first as usize, fault.second as usize)),
-        (1, 11) => Error::Malformed(Cause::StrippedSize(u32::try_from(fault.first).ok()?)),
-        (1, 12) => Error::Malformed(Cause::CoffLength),
-        (1, 13) => Error::Malformed(Cause::DirectoryIndex(fault.first as usize)),
-        (1, 14) => Error::Malformed(Cause::DirectoryCount(fault.first as usize)),
-        (1, 15) => Error::Malformed(Cause::NameText),
-        (1, 16) => Error::Malformed(Cause::NameBase64),
-        (1, 17) => Error::Malformed(Cause::NameDecimal),
-        (1, 18) => Error::Malformed(Cause::NameOffset(fault.first as usize)),
-        (1, 19) => Error::Malformed(Cause::SymbolName(u32::try_from(fault.first).ok()?)),
-        (1, 20) => Error::Malformed(Cause::StringTable(
-            fault.first as usize,
-            fault.second as usize,
-        )),
-        (1, 21) => Error::Malformed(Cause::FieldTooWide),
-        (1, 22) => Error::Malformed(Cause::Unmapped(fault.first as usize)),
-        (1, 23) => Error::Malformed(Cause::NameRead(fault.first as usize)),
-        (1, 24) => Error::Malformed(Cause::HintEntry(fault.first as usize)),
-        (1, 25) => Error::Malformed(Cause::LookupEnd(fault.first as usize)),
-        (1, 26) => Error::Malformed(Cause::ImportRecordEnd(fault.first as usize)),
-        (1, 27) => Error::Malformed(Cause::ExportTable(fault.first as usize)),
-        (1, 28) => Error::Malformed(Cause::Forwarder),
-        (1, 29) => Error::Malformed(Cause::ForwarderOrdinal),
-        (1, 30) => Error::Malformed(Cause::RelocRange(
-            fault.first as usize,
-            u32::try_from(fault.second).ok()?,
-        )),
-        (1, 31) => Error::Malformed(Cause::BlockSize(u32::try_from(fault.first).ok()?)),
-        (1, 32) => Error::Malformed(Cause::BlockRange(fault.first as usize, fault.second as usize)),
-        (1, 33) => Error::Malformed(Cause::Overflow),
-        (1, 34) => Error::Malformed(Cause::SlotCount(fault.first as usize, fault.second as usize)),
-        (2, 0) => Error::BadMagic(fault.first),
-        (3, 0) => Error::BufferTooShort(fault.first as usize, "entries"),
-        (3, 1) => Error::BufferTooShort(fault.first as usize, "sections"),
-        (3, 2) => Error::BufferTooShort(fault.first as usize, "name pointers"),
-        (3, 3) => Error::BufferTooShort(fault.first as usize, "address table entries"),
-        (4, 1) => Error::Read(ReadFault::BadOffset),
-        (4, 2) => Error::Read(ReadFault::TooBig),
-        (4, 3) => Error::Read(ReadFault::BadInput),
+// The causes from the second on, in the order of their numbers, with these numbers of their own. The
+// first is a message of the caller's, which no numbers say.
+fn causes(first: u64, second: u64) -> [Cause; CAUSES]
+    ensures { result ≡ causes first second }
+{
+    let number = first as usize;
+    let other = second as usize;
+    let short = (first % 0x1_0000) as u16;
+    let half = (first % 0x1_0000_0000) as u32;
+    let other_half = (second % 0x1_0000_0000) as u32;
+    [
+        Cause::NoDosSignature,
+        Cause::DosMagic(short),
+        Cause::NoPePointer,
+        Cause::NoPeSignature(number),
+        Cause::PeMagic(half),
+        Cause::StubBeforeStart(half),
+        Cause::StubPastEnd(number, other),
+        Cause::NoDans,
+        Cause::RichBounds(number, other),
+        Cause::StrippedSize(half),
+        Cause::CoffLength,
+        Cause::DirectoryIndex(number),
+        Cause::DirectoryCount(number),
+        Cause::NameText,
+        Cause::NameBase64,
+        Cause::NameDecimal,
+        Cause::NameOffset(number),
+        Cause::SymbolName(half),
+        Cause::StringTable(number, other),
+        Cause::FieldTooWide,
+        Cause::Unmapped(number),
+        Cause::NameRead(number),
+        Cause::HintEntry(number),
+        Cause::LookupEnd(number),
+        Cause::ImportRecordEnd(number),
+        Cause::ExportTable(number),
+        Cause::Forwarder,
+        Cause::ForwarderOrdinal,
+        Cause::RelocRange(number, other_half),
+        Cause::BlockSize(half),
+        Cause::BlockRange(number, other),
+        Cause::Overflow,
+        Cause::SlotCount(number, other),
+    ]
+}
+
+// The cause with these numbers.
+fn cause_of(fault: &PeFault) -> Option<Cause>
+    ensures { result ≡ cause_of fault.now }
+{
+    if fault.cause < FIRST_CAUSE {
+        return None;
+    }
+    let causes = causes(fault.first, fault.second);
+    Some(*causes.get((fault.cause - FIRST_CAUSE) as usize)?)
+}
+
+// What a file is too short for, by its number.
+fn word_of(number: u32) -> Option<&'static str>
+    ensures { option_map (λ s. s.now) result ≡ word_of number }
+{
+    match number {
+        0 => Some("entries"),
+        1 => Some("sections"),
+        2 => Some("name pointers"),
+        3 => Some("address table entries"),
+        _ => None,
+    }
+}
+
+// Why a read was refused, by its number.
+fn read_fault_of(number: u32) -> Option<ReadFault>
+    ensures { result ≡ read_fault_of number }
+{
+    match number {
+        1 => Some(ReadFault::BadOffset),
+        2 => Some(ReadFault::TooBig),
+        3 => Some(ReadFault::BadInput),
+        _ => None,
+    }
+}
+
+// The refusal with these numbers.
+fn error_of(fault: &PeFault) -> Option<Error>
+    ensures { option_map error_text result ≡ refusal_text fault.now }
+{
+    Some(match fault.status {
+        1 => Error::Malformed(cause_of(fault)?),
+        2 => Error::BadMagic(fault.first),
+        3 => Error::BufferTooShort(fault.first as usize, word_of(fault.cause)?),
+        4 => Error::Read(read_fault_of(fault.cause)?),
+        5 => Error::Memory(AllocError),
         _ => return None,
     })
 }
 
-// The text of a refusal.
-fn text_of(alloc: Global, fault: &PeFault) -> Result<String> {
-    let mut text = String::new(alloc);
+// The text of the refusal with these numbers, or none.
+fn text_of(fault: &PeFault) -> InlineText<TEXT_ROOM>
+    ensures { IsTextOf fault.now (inline_text result) }
+{
+    let mut text = InlineText::new();
     match error_of(fault) {
-        Some(error) => write!(text, "{error}")?,
-        None if fault.status == 5 => write!(text, "out of memory")?,
-        None => (),
+        Some(error) if write!(text, "{error}").is_ok() => text,
+        _ => InlineText::new(),
     }
-    Ok(text)
 }
 
 // Puts a text where there is room for it, and answers how long it is.
@@ -180,14 +236,12 @@ fn put_text(text: &mut [u8], whole: &[u8]) -> usize
     whole.len()
 }
 
-/// Writes the text of a refusal, as far as there is room, and answers how long the whole text is; 0
-/// where the numbers are of no refusal or memory is refused.
+/// Writes the text of the refusal with these numbers, as far as there is room, and answers how long
+/// the whole text is; 0 where the numbers are of no refusal. It takes no memory.
 #[unsafe(no_mangle)]
-pub extern "C" fn goblin_pe_fault_text(alloc: Global, fault: &PeFault, text: &mut [u8]) -> usize
-    ensures { (whole : List ℕ) × (result ≡ length whole) × (Filled (λ b. b) whole text.old text.new) }
+pub extern "C" fn goblin_pe_fault_text(fault: &PeFault, text: &mut [u8]) -> usize
+    ensures { (whole : List ℕ) × IsTextOf fault.now whole × (result ≡ length whole) × Filled (λ b. b) whole text.old text.new }
 {
-    match text_of(alloc, fault) {
-        Ok(whole) => put_text(text, whole.as_bytes()),
-        Err(_) => put_text(text, &[]),
-    }
+    let whole = text_of(fault);
+    put_text(text, whole.as_str().as_bytes())
 }

@@ -17,7 +17,7 @@ use goblin_pe::{Part, Whole};
 #[repr(C)]
 #[derive(Copy, Clone)]
 pub struct PeTable {
-    /// How many entries it has.
+    /// How many entries it has, whatever the room.
     pub count: usize,
     /// 0 the file has no such table, 1 it was read, 2 it is refused and was passed over.
     pub state: u32,
@@ -29,7 +29,7 @@ pub struct PeTable {
 pub struct PeFile {
     /// The optional header.
     pub optional_header: PeOptionalHeader,
-    /// How many sections there are.
+    /// How many sections there are, whatever the room.
     pub sections: usize,
     /// The imports.
     pub imports: PeTable,

@@ -10,7 +10,7 @@ use goblin_pe::optional_header::OptionalHeader;
 #[repr(C)]
 #[derive(Copy, Clone)]
 pub struct PeDosHeader {
-    /// The file offset of the PE header.
+    /// The file offset of the PE signature.
     pub pe_pointer: u32,
     /// `MZ`.
     pub signature: u16,
@@ -22,9 +22,9 @@ pub struct PeDosHeader {
     pub relocations: u16,
     /// The size of the header in paragraphs of 16 bytes.
     pub size_of_header_in_paragraphs: u16,
-    /// The least memory that the program needs behind it, in paragraphs.
+    /// The least memory that the program needs after it, in paragraphs.
     pub minimum_extra_paragraphs_needed: u16,
-    /// The most memory that the program asks for behind it, in paragraphs.
+    /// The most memory that the program asks for after it, in paragraphs.
     pub maximum_extra_paragraphs_needed: u16,
     /// The stack segment at the start, relative to the program.
     pub initial_relative_ss: u16,
@@ -54,19 +54,21 @@ pub struct PeDosHeader {
 #[repr(C)]
 #[derive(Copy, Clone)]
 pub struct PeCoffHeader {
-    /// The machine that the file is for.
+    /// The machine that the file is for: 0x14c is x86, 0x8664 x86-64, 0xaa64 ARM64.
     pub machine: u16,
     /// How many section records follow the optional header.
     pub number_of_sections: u16,
-    /// When the file was made, in seconds since the start of 1970, or what its maker put there.
+    /// When the file was made, in seconds since the start of 1970, or what its maker put there,
+    /// such as a hash.
     pub time_date_stamp: u32,
     /// The file offset of the symbol table, 0 where there is none.
     pub pointer_to_symbol_table: u32,
-    /// How many records the symbol table has.
+    /// How many records the symbol table has, the auxiliary ones too.
     pub number_of_symbol_table: u32,
-    /// The size of the optional header, in bytes, 0 where there is none.
+    /// The size of the optional header, in bytes; 0 where there is none, as in an object. It says
+    /// where the section table begins.
     pub size_of_optional_header: u16,
-    /// What kind of file it is, as bits.
+    /// What kind of file it is, as bits `IMAGE_FILE_*`.
     pub characteristics: u16,
 }
 
@@ -82,35 +84,42 @@ pub struct PeOptionalHeader {
     pub size_of_uninitialized_data: u64,
     /// The address at which the code begins, relative to the image's base.
     pub base_of_code: u64,
-    /// The address at which the image is best loaded, a multiple of 64 KiB.
+    /// The address at which the image is best loaded, a multiple of 64 KiB. Where the loader takes
+    /// another, it applies the base relocations.
     pub image_base: u64,
     /// How much of the stack to reserve, in bytes.
     pub size_of_stack_reserve: u64,
-    /// How much of the stack to commit, in bytes.
+    /// How much of the stack to commit, in bytes; the rest follows page by page.
     pub size_of_stack_commit: u64,
     /// How much of the heap to reserve, in bytes.
     pub size_of_heap_reserve: u64,
-    /// How much of the heap to commit, in bytes.
+    /// How much of the heap to commit, in bytes; the rest follows page by page.
     pub size_of_heap_commit: u64,
-    /// The address of the entry point, relative to the image's base; 0 where there is none.
+    /// The address of the entry point, relative to the image's base; 0 where there is none, as in
+    /// some libraries. The loader starts there, in whatever section it lies.
     pub address_of_entry_point: u32,
     /// The address at which the data begins, relative to the image's base; 0 in an image for 64 bits.
     pub base_of_data: u32,
-    /// The alignment of sections in memory, in bytes.
+    /// The alignment of sections in memory, in bytes: at least the file alignment, mostly a page.
     pub section_alignment: u32,
-    /// The alignment of the raw data of sections in the file, in bytes.
+    /// The alignment of the raw data of sections in the file, in bytes: a power of two, mostly 512.
+    /// The mapping of addresses to file offsets goes by it.
     pub file_alignment: u32,
     /// Reserved, 0.
     pub win32_version_value: u32,
-    /// The size of the image in memory with all headers, in bytes.
+    /// The size of the image in memory with all headers, in bytes: how much the loader reserves, a
+    /// multiple of the section alignment.
     pub size_of_image: u32,
-    /// The size of all headers together, in bytes, rounded up to the file alignment.
+    /// The size of all headers together, in bytes, rounded up to the file alignment. So much of the
+    /// file's front is loaded at the image's base.
     pub size_of_headers: u32,
-    /// The image's checksum.
+    /// The image's checksum. The loader tests that of drivers and of what is loaded at boot; no
+    /// reader does.
     pub check_sum: u32,
     /// Reserved, 0.
     pub loader_flags: u32,
-    /// How many data directories follow.
+    /// How many data directories follow. Readers take at most sixteen; directories past this number
+    /// are not there, whatever bytes follow.
     pub number_of_rva_and_sizes: u32,
     /// 0x10b for 32 bits, 0x20b for 64 bits, 0 where there is no optional header.
     pub magic: u16,
@@ -126,9 +135,10 @@ pub struct PeOptionalHeader {
     pub major_subsystem_version: u16,
     /// The minor version of the subsystem that the image needs.
     pub minor_subsystem_version: u16,
-    /// The subsystem that runs the image.
+    /// The subsystem that runs the image, an `IMAGE_SUBSYSTEM_*`.
     pub subsystem: u16,
-    /// What the loader may and has to do, as bits.
+    /// What the loader may and has to do, as bits `IMAGE_DLLCHARACTERISTICS_*`: whether it may move
+    /// the image, and which guards it turns on.
     pub dll_characteristics: u16,
     /// The linker's major version.
     pub major_linker_version: u8,

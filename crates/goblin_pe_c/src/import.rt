@@ -1,7 +1,7 @@
 //! The records of imports.
 
 ghost use Rattle.std.specs.Prelude.{◌≡◌, map};
-ghost use Rattle.goblin_pe_c.specs.Filled.{Filled};
+ghost use Rattle.goblin_pe_c.specs.Filled.{Filled, alone};
 ghost use Rattle.goblin_pe_c.specs.Imports.{import_view, with_ordinal_name};
 
 use goblin_pe::import::Import;
@@ -11,19 +11,22 @@ use std::borrow::CowStr;
 #[repr(C)]
 #[derive(Copy, Clone)]
 pub struct PeImport<'a> {
-    /// The name that is imported; nothing where the import is by ordinal.
+    /// The name that is imported, where the import is by name.
     pub name: &'a [u8],
-    /// The name of the library.
+    /// The name of the library; empty where permissive mode could not read it.
     pub dll: &'a [u8],
-    /// The address of the entry of the address table.
+    /// The address (not the file offset) of its own entry in the address table, where the loader
+    /// puts the address of what is imported.
     pub offset: usize,
-    /// The address of the hint and the name, 0 of an import by ordinal.
+    /// The address of the hint and the name; 0 of an import by ordinal.
     pub rva: usize,
-    /// The size of an entry of the address table, in bytes.
+    /// The size of an entry of the address table, in bytes: 4 in an image for 32 bits, else 8.
     pub size: usize,
-    /// The index of its entry in the lookup table and in the address table, in the file.
+    /// The index of its entry, in the file, in the lookup table and in the address table. Entries
+    /// that are left out count.
     pub slot: usize,
-    /// The ordinal; of an import by name, the hint.
+    /// The ordinal; of an import by name, the hint, at which index of the library's names the
+    /// loader looks first.
     pub ordinal: u16,
     /// Whether the import is by name.
     pub is_by_name: bool,
@@ -31,7 +34,7 @@ pub struct PeImport<'a> {
 
 // The record of an import.
 fn import_record<'a>(import: &Import<'a>) -> PeImport<'a>
-    ensures { import_view result ≡ with_ordinal_name import.now }
+    ensures { import_view result ≡ alone (with_ordinal_name import.now) }
 {
     let (name, is_by_name): (&'a [u8], bool) = match &import.name {
         CowStr::Borrowed(name) => (name.as_bytes(), true),
@@ -51,7 +54,7 @@ fn import_record<'a>(import: &Import<'a>) -> PeImport<'a>
 
 /// Fills the records of imports, as far as there is room.
 pub fn fill_imports<'a>(records: &mut [PeImport<'a>], imports: &[Import<'a>])
-    ensures { Filled import_view (map with_ordinal_name imports.now) records.old records.new }
+    ensures { Filled import_view (map (λ x. alone (with_ordinal_name x)) imports.now) records.old records.new }
 {
     let count = imports.len().min(records.len());
     'records: for i in 0..count {

@@ -1,22 +1,21 @@
 //! The call that reads an object.
 
-ghost use Rattle.std.specs.Prelude.{◌≡◌, Some, option_map};
-ghost use Rattle.goblin_base.specs.Answers.{AnswersOrMemory};
+ghost use Rattle.std.specs.Prelude.{◌≡◌, IfErr, IsSome, Some, map, option_map};
+ghost use Rattle.goblin_base.specs.Answers.{AnswersOrMemory, IsMemory};
 ghost use Rattle.goblin_pe_sect.specs.Options.{is_strict};
 ghost use Rattle.goblin_pe_sect.specs.Symbols.{table_bytes};
-ghost use Rattle.goblin_pe_head.specs.CoffHeader.{string_table_offset};
 ghost use Rattle.goblin_pe_c.specs.Calls.{Reads, Reported};
-ghost use Rattle.goblin_pe_c.specs.Filled.{Filled};
-ghost use Rattle.goblin_pe_c.specs.Objects.{IsObjectFault, ObjectRecords, SaysObject, object_file, object_record, symbols_table, symbol_rows};
+ghost use Rattle.goblin_pe_c.specs.Filled.{Filled, alone};
+ghost use Rattle.goblin_pe_c.specs.Objects.{IsObjectFault, ObjectRecords, SaysObject, object_file, object_header, object_record, symbols_table, symbol_rows};
 ghost use Rattle.goblin_pe_c.specs.Options.{options_of};
-ghost use Rattle.goblin_pe_c.specs.Sections.{section_view};
+ghost use Rattle.goblin_pe_c.specs.Sections.{section_said};
 ghost use Rattle.goblin_pe_c.specs.Symbols.{symbol_view};
 
 use crate::fault::{PeFault, fault_of, no_fault};
 use crate::file::PeTable;
 use crate::headers::{PeCoffHeader, coff_record};
 use crate::options::{PeOptions, options_of};
-use crate::section::{PeSection, fill_sections, string_table_offset};
+use crate::section::{PeSection, fill_sections};
 use crate::symbol::{PeSymbol, fill_symbols};
 use goblin_pe::header::CoffHeader;
 use goblin_pe::options::ParseOptions;
@@ -30,7 +29,7 @@ use std::marker::Model;
 #[repr(C)]
 #[derive(Copy, Clone)]
 pub struct PeObject {
-    /// How many sections there are.
+    /// How many sections there are, whatever the room.
     pub sections: usize,
     /// The symbols.
     pub symbols: PeTable,
@@ -64,10 +63,11 @@ impl<'a> Model for Object<'a> {
 
 impl<'a> Object<'a> {
     // Reads the COFF header at the front of a file, and what it leads to.
-    #[tactic(auto, unfolding(crate::specs::Objects::object_file, crate::specs::Objects::IsObjectFault))]
+    #[tactic(auto, unfolding(crate::specs::Objects::object_file, crate::specs::Objects::IsObjectFault), using(crate::proofs::Refusals::header_there))]
     fn read(alloc: Global, bytes: &'a [u8], opts: &ParseOptions) -> Result<Object<'a>>
-        ensures { let strict = is_strict opts.now.parse_mode in
+        ensures value { let strict = is_strict opts.now.parse_mode in
             AnswersOrMemory (λ x. x) result (object_file strict bytes.now) (IsObjectFault strict bytes.now) }
+        ensures grown { IfErr result (λ e. IsMemory e → IsSome (object_header bytes.now)) }
     {
         let mut offset = 0;
         let header = CoffHeader::parse(bytes, &mut offset)?;
@@ -113,10 +113,10 @@ fn fill<'a>(
 )
     requires { object_file (is_strict opts.now.parse_mode) bytes.now ≡ Some whole.now }
     ensures object { object.new ≡ object_record whole.now }
-    ensures sections { Filled section_view whole.now.sections sections.old sections.new }
+    ensures sections { Filled section_said (map alone whole.now.sections) sections.old sections.new }
     ensures symbols { Filled symbol_view (symbol_rows whole.now.symbols whole.now.strings) symbols.old symbols.new }
 {
-    let table = string_table_offset(&whole.header);
+    let table = whole.header.symbols_end();
     fill_sections(sections, bytes, &whole.sections, table, opts);
     let symbols = fill_table(symbols, &whole.symbols, &whole.strings);
     *object = PeObject {
@@ -138,7 +138,7 @@ fn read<'a>(
     ensures { let old : ObjectRecords = record { object = object.old; sections = sections.old; symbols = symbols.old } in
         let new : ObjectRecords = record { object = object.new; sections = sections.new; symbols = symbols.new } in
         let strict = is_strict opts.now.parse_mode in
-        Reads (object_file strict bytes.now) (IsObjectFault strict bytes.now) (λ x. SaysObject x old new) (new ≡ old) result }
+        Reads (object_header bytes.now) (object_file strict bytes.now) (IsObjectFault strict bytes.now) (λ x. SaysObject x old new) (new ≡ old) result }
 {
     let whole = Object::read(alloc, bytes, opts)?;
     fill(&whole, bytes, opts, object, sections, symbols);
@@ -146,7 +146,8 @@ fn read<'a>(
 }
 
 /// Reads an object, which begins with a COFF header: says in `object` what it is, and fills the records
-/// of its sections and symbols as far as there is room. After a refusal nothing is changed.
+/// of its sections and symbols as far as there is room. After a refusal nothing is changed; one for want
+/// of memory comes only where the header is there.
 #[unsafe(no_mangle)]
 pub extern "C" fn goblin_pe_read_object<'a>(
     alloc: Global,
@@ -159,7 +160,7 @@ pub extern "C" fn goblin_pe_read_object<'a>(
     ensures { let old : ObjectRecords = record { object = object.old; sections = sections.old; symbols = symbols.old } in
         let new : ObjectRecords = record { object = object.new; sections = sections.new; symbols = symbols.new } in
         let strict = is_strict (options_of options.now).parse_mode in
-        Reported result (Reads (object_file strict bytes.now) (IsObjectFault strict bytes.now) (λ x. SaysObject x old new) (new ≡ old)) }
+        Reported result (Reads (object_header bytes.now) (object_file strict bytes.now) (IsObjectFault strict bytes.now) (λ x. SaysObject x old new) (new ≡ old)) }
 {
     let opts = options_of(options);
     match read(alloc, bytes, &opts, object, sections, symbols) {

@@ -29,15 +29,15 @@ pub struct PeRichEntry {
 pub struct PeRichHeader {
     /// How many entries there are.
     pub entries: usize,
-    /// The size of the padding in front of the entries, in bytes.
+    /// The size of the padding before the entries, in bytes.
     pub padding_size: usize,
-    /// Why a rest that follows the entries is none; its status is 0 where there is no rest.
+    /// Why the rest that follows the entries is no entry; its status is 0 where there is no rest.
     pub rest: PeFault,
-    /// The key, under which the words are stored.
+    /// The key, with which each stored word is the exclusive or.
     pub key: u32,
-    /// The file offset of the first marker.
+    /// The file offset of the first marker, `DanS` under the key.
     pub start_offset: u32,
-    /// The file offset of the second marker.
+    /// The file offset of the second marker, `Rich`.
     pub end_offset: u32,
     /// Whether there is a Rich header.
     pub is_present: bool,

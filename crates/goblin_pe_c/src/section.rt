@@ -2,11 +2,9 @@
 
 ghost use Rattle.std.specs.Prelude.{◌≡◌, map, option_map};
 ghost use Rattle.goblin_pe_sect.specs.Options.{is_strict};
-ghost use Rattle.goblin_pe_head.specs.CoffHeader.{string_table_offset};
-ghost use Rattle.goblin_pe_c.specs.Filled.{Filled};
-ghost use Rattle.goblin_pe_c.specs.Sections.{named_in, real_name_in, section_view};
+ghost use Rattle.goblin_pe_c.specs.Filled.{Filled, alone};
+ghost use Rattle.goblin_pe_c.specs.Sections.{named_in, real_name_in, section_said};
 
-use goblin_pe::header::CoffHeader;
 use goblin_pe::options::ParseOptions;
 use goblin_pe::read::pread_str;
 use goblin_pe::section_table::SectionTable;
@@ -15,27 +13,30 @@ use goblin_pe::section_table::SectionTable;
 #[repr(C)]
 #[derive(Copy, Clone)]
 pub struct PeSection<'a> {
-    /// The name from the string table, where there is one.
+    /// The name from the string table, where there is one; a name of more than eight bytes stands
+    /// there.
     pub real_name: &'a [u8],
     /// The eight bytes of the name, padded with NULs.
     pub name: [u8; 8],
-    /// The section's size in memory, in bytes.
+    /// The section's size in memory, in bytes: what the raw data lacks of it is zeros.
     pub virtual_size: u32,
     /// The section's address in memory, relative to the image's base.
     pub virtual_address: u32,
-    /// The size of the section's data in the file, in bytes.
+    /// The size of the section's data in the file, in bytes; in an image rounded up, so it may be
+    /// above the virtual size.
     pub size_of_raw_data: u32,
-    /// The file offset of the section's data.
+    /// The file offset of the section's data, as stored.
     pub pointer_to_raw_data: u32,
     /// The file offset of the section's relocations, 0 where it has none.
     pub pointer_to_relocations: u32,
     /// The file offset of the section's line numbers, 0 where it has none.
     pub pointer_to_linenumbers: u32,
-    /// How many relocations the section has.
+    /// How many relocations the section has, as its record says.
     pub number_of_relocations: u16,
     /// How many line numbers the section has.
     pub number_of_linenumbers: u16,
-    /// What the section holds and how it may be used.
+    /// What the section holds and how it may be used, as bits `IMAGE_SCN_*`; the loader protects
+    /// its pages by them.
     pub characteristics: u32,
     /// Whether the section has a name from the string table.
     pub has_real_name: bool,
@@ -62,7 +63,7 @@ fn section_record<'a>(
     table: usize,
     opts: &ParseOptions,
 ) -> PeSection<'a>
-    ensures { section_view result ≡ named_in (is_strict opts.now.parse_mode) bytes.now table section.now }
+    ensures { section_said result ≡ alone (named_in (is_strict opts.now.parse_mode) bytes.now table section.now) }
 {
     let real_name = real_name(bytes, section, table, opts);
     PeSection {
@@ -92,17 +93,10 @@ pub fn fill_sections<'a>(
     table: usize,
     opts: &ParseOptions,
 )
-    ensures { Filled section_view (map (named_in (is_strict opts.now.parse_mode) bytes.now table) sections.now) records.old records.new }
+    ensures { Filled section_said (map (λ s. alone (named_in (is_strict opts.now.parse_mode) bytes.now table s)) sections.now) records.old records.new }
 {
     let count = sections.len().min(records.len());
     'records: for i in 0..count {
         records[i] = section_record(bytes, &sections[i], table, opts);
     }
-}
-
-/// The file offset of the string table.
-pub fn string_table_offset(header: &CoffHeader) -> usize
-    ensures { result ≡ string_table_offset header.now }
-{
-    header.pointer_to_symbol_table as usize + 18 * header.number_of_symbol_table as usize
 }

@@ -19,13 +19,14 @@ pub struct PeSymbol<'a> {
     pub index: usize,
     /// The eight bytes of the name in the record.
     pub record_name: [u8; 8],
-    /// What the symbol stands for, by its section and class.
+    /// What the symbol stands for, by its section and class: mostly an offset in its section.
     pub value: u32,
     /// The number of its section, counted from 1; or 0 undefined, -1 absolute, -2 for a debugger.
     pub section_number: i16,
-    /// Its type.
+    /// Its type: the base type in the low four bits, the derived type above them; 0x20 is a
+    /// function.
     pub typ: u16,
-    /// Its class.
+    /// Its class: 2 external, 3 static, 103 a source file, 105 weak external.
     pub storage_class: u8,
     /// How many auxiliary records follow it.
     pub number_of_aux_symbols: u8,

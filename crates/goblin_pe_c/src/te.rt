@@ -1,10 +1,11 @@
 //! The call that reads a Terse Executable.
 
-ghost use Rattle.std.specs.Prelude.{◌≡◌, Some};
-ghost use Rattle.goblin_base.specs.Answers.{AnswersOrMemory};
+ghost use Rattle.std.specs.Prelude.{◌≡◌, IfErr, IsSome, Some, map};
+ghost use Rattle.goblin_base.specs.Answers.{AnswersOrMemory, IsMemory};
+ghost use Rattle.goblin_pe_head.specs.TeHeader.{te_header};
 ghost use Rattle.goblin_pe_c.specs.Calls.{Reads, Reported};
-ghost use Rattle.goblin_pe_c.specs.Filled.{Filled};
-ghost use Rattle.goblin_pe_c.specs.Sections.{section_view};
+ghost use Rattle.goblin_pe_c.specs.Filled.{Filled, alone};
+ghost use Rattle.goblin_pe_c.specs.Sections.{section_said};
 ghost use Rattle.goblin_pe_c.specs.Te.{IsImageFault, SaysImage, TeRecords, te_header_record, te_image};
 
 use crate::fault::{PeFault, fault_of, no_fault};
@@ -33,9 +34,9 @@ pub struct PeDataDirectory {
 pub struct PeTeHeader {
     /// The address at which the image is best loaded.
     pub image_base: u64,
-    /// The address of the entry point.
+    /// The address of the entry point, relative to the image's base.
     pub entry_point: u32,
-    /// The address at which the code begins.
+    /// The address at which the code begins, relative to the image's base.
     pub base_of_code: u32,
     /// Where the base relocations lie.
     pub reloc_dir: PeDataDirectory,
@@ -45,7 +46,7 @@ pub struct PeTeHeader {
     pub signature: u16,
     /// The machine that the file is for.
     pub machine: u16,
-    /// How many bytes were stripped from the front of the PE file.
+    /// How many bytes were stripped from the front of the PE file; this header's 40 stand for them.
     pub stripped_size: u16,
     /// How many sections there are.
     pub number_of_sections: u8,
@@ -70,9 +71,10 @@ impl Model for Image {
 
 impl Image {
     // Reads the header at the front of a file, and the sections that follow it.
-    #[tactic(auto, unfolding(crate::specs::Te::te_image, crate::specs::Te::IsImageFault))]
+    #[tactic(auto, unfolding(crate::specs::Te::te_image, crate::specs::Te::IsImageFault), using(crate::proofs::Refusals::te_header_there))]
     fn read(alloc: Global, bytes: &[u8]) -> Result<Image>
-        ensures { AnswersOrMemory (λ x. x) result (te_image bytes.now) (IsImageFault bytes.now) }
+        ensures value { AnswersOrMemory (λ x. x) result (te_image bytes.now) (IsImageFault bytes.now) }
+        ensures grown { IfErr result (λ e. IsMemory e → IsSome (te_header bytes.now 0)) }
     {
         let mut offset = 0;
         let header = TeHeader::parse(bytes, &mut offset)?;
@@ -113,7 +115,7 @@ fn te_header_record(header: &TeHeader) -> PeTeHeader
 fn fill<'a>(image: &Image, bytes: &'a [u8], header: &mut PeTeHeader, sections: &mut [PeSection<'a>])
     requires { te_image bytes.now ≡ Some image.now }
     ensures header { header.new ≡ te_header_record image.now.header }
-    ensures sections { Filled section_view image.now.sections sections.old sections.new }
+    ensures sections { Filled section_said (map alone image.now.sections) sections.old sections.new }
 {
     *header = te_header_record(&image.header);
     fill_sections(
@@ -134,7 +136,7 @@ fn read<'a>(
 ) -> Result<()>
     ensures { let old : TeRecords = record { header = header.old; sections = sections.old } in
         let new : TeRecords = record { header = header.new; sections = sections.new } in
-        Reads (te_image bytes.now) (IsImageFault bytes.now) (λ x. SaysImage x old new) (new ≡ old) result }
+        Reads (te_header bytes.now 0) (te_image bytes.now) (IsImageFault bytes.now) (λ x. SaysImage x old new) (new ≡ old) result }
 {
     let image = Image::read(alloc, bytes)?;
     fill(&image, bytes, header, sections);
@@ -143,7 +145,8 @@ fn read<'a>(
 
 /// Reads the header at the front of a Terse Executable and the sections that follow it, and fills the
 /// records of sections as far as there is room; `header` says how many there are. The signature is not
-/// looked at. After a refusal nothing is changed.
+/// looked at. After a refusal nothing is changed; one for want of memory comes only where the header is
+/// there.
 #[unsafe(no_mangle)]
 pub extern "C" fn goblin_pe_read_te<'a>(
     alloc: Global,
@@ -153,7 +156,7 @@ pub extern "C" fn goblin_pe_read_te<'a>(
 ) -> PeFault
     ensures { let old : TeRecords = record { header = header.old; sections = sections.old } in
         let new : TeRecords = record { header = header.new; sections = sections.new } in
-        Reported result (Reads (te_image bytes.now) (IsImageFault bytes.now) (λ x. SaysImage x old new) (new ≡ old)) }
+        Reported result (Reads (te_header bytes.now 0) (te_image bytes.now) (IsImageFault bytes.now) (λ x. SaysImage x old new) (new ≡ old)) }
 {
     match read(alloc, bytes, header, sections) {
         Ok(()) => no_fault(),

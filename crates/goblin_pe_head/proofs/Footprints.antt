@@ -19,7 +19,7 @@ use Rattle.goblin_pe_head.specs.declared.header.dos.DosHeader.{DosHeader}
 use Rattle.goblin_pe_head.specs.declared.header.te.TeHeader.{TeHeader}
 use Rattle.goblin_pe_head.specs.declared.optional_header.FixedFields.{FixedFields}
 use Rattle.goblin_pe_head.specs.declared.optional_header.OptionalHeader.{OptionalHeader}
-use Rattle.goblin_pe_head.specs.CoffHeader.{coff_header, sections_at, string_table_offset, strings_at, strings_of, symbols_of}
+use Rattle.goblin_pe_head.specs.CoffHeader.{coff_header, sections_at, string_table_offset, strings_at, strings_of, strings_where, symbols_of}
 use Rattle.goblin_pe_head.specs.DosHeader.{dos_header, dos_record}
 use Rattle.goblin_pe_head.specs.DosStub.{default_stub, stub_at}
 use Rattle.goblin_pe_head.specs.Footprints.{dos_footprint, fixed_footprint, header_at_footprint, header_footprint, moved_by, optional_at_footprint, optional_footprint, rich_footprint, sections_footprint, strings_at_footprint, strings_footprint, stub_footprint, symbols_footprint}
@@ -30,7 +30,7 @@ use Rattle.goblin_pe_head.specs.TeHeader.{displacement, section_moved, te_header
 use Rattle.goblin_pe_head.proofs.PeHeaderRoundTrip.{dos_of}
 use Rattle.goblin_pe_head.proofs.RichFootprint.{same-rich_at}
 
--- ---- the DOS header, and the parts in front of the PE signature
+-- ---- the DOS header, and the parts before the PE signature
 
 same-dos_header : (a b : List ℕ) → Agree (dos_footprint a) a b → dos_header a ≡ dos_header b
 unfolding dos_header dos_footprint
@@ -91,17 +91,17 @@ same-fields_64 a b h =
     same-then (record_at 24 (standard_64_record Little) a 0) (record_at 24 (standard_64_record Little) b 0) _ _ one (λ standard _.
     same-then (record_at 88 (windows_64_record Little) a 24) (record_at 88 (windows_64_record Little) b 24) _ _ two (λ windows _. refl))
 
-same_fields : (narrow wide : Bool) (ours theirs more_ours more_theirs : Option FixedFields) (xs ys : List Range) (a b : List ℕ)
+same_by_magic : (narrow wide : Bool) (ours theirs more_ours more_theirs : Option FixedFields) (xs ys : List Range) (a b : List ℕ)
     → (Agree xs a b → ours ≡ theirs) → (Agree ys a b → more_ours ≡ more_theirs) → Agree (cond narrow xs (cond wide ys [])) a b
     → cond narrow ours (cond wide more_ours None) ≡ cond narrow theirs (cond wide more_theirs None)
-same_fields true wide ours theirs more_ours more_theirs xs ys a b one two h = one h
-same_fields false true ours theirs more_ours more_theirs xs ys a b one two h = two h
-same_fields false false ours theirs more_ours more_theirs xs ys a b one two h = refl
+same_by_magic true wide ours theirs more_ours more_theirs xs ys a b one two h = one h
+same_by_magic false true ours theirs more_ours more_theirs xs ys a b one two h = two h
+same_by_magic false false ours theirs more_ours more_theirs xs ys a b one two h = refl
 
 same-fixed_fields : (magic : ℕ) (a b : List ℕ) → Agree (fixed_footprint magic a) a b → fixed_fields magic a ≡ fixed_fields magic b
 unfolding fixed_fields fixed_footprint
 same-fixed_fields magic a b h =
-    same_fields (nat_eq magic 0x10B) (nat_eq magic 0x20B) (fields_32 a) (fields_32 b) (fields_64 a) (fields_64 b)
+    same_by_magic (nat_eq magic 0x10B) (nat_eq magic 0x20B) (fields_32 a) (fields_32 b) (fields_64 a) (fields_64 b)
     (slice_footprint a 0 28 ++ slice_footprint a 28 68) (slice_footprint a 0 24 ++ slice_footprint a 24 88) a b (same-fields_32 a b) (same-fields_64 a b) h
 
 pub same-optional_header : (a b : List ℕ) → Agree (optional_footprint a) a b → optional_header a ≡ optional_header b
@@ -118,15 +118,15 @@ same-optional_header a b h =
     let count = fields.windows_fields.number_of_rva_and_sizes in
     same-then (directories_at count a fields.size) (directories_at count b fields.size) _ _ (same-directories_at count a b fields.size own) (λ entries _. refl)) entries) behind
 
-same_if : {A : Type 0} (none : Bool) (x y z : A) (ranges : List Range) (a b : List ℕ) → (Agree ranges a b → x ≡ y) → Agree (cond none [] ranges) a b → cond none z x ≡ cond none z y
-same_if true x y z ranges a b same h = refl
-same_if false x y z ranges a b same h = same h
+same_unless : {A : Type 0} (none : Bool) (x y z : A) (ranges : List Range) (a b : List ℕ) → (Agree ranges a b → x ≡ y) → Agree (cond none [] ranges) a b → cond none z x ≡ cond none z y
+same_unless true x y z ranges a b same h = refl
+same_unless false x y z ranges a b same h = same h
 
 same-optional_at : (size : ℕ) (a b : List ℕ) (p : ℕ) → Agree (optional_at_footprint size a p) a b → optional_at size a p ≡ optional_at size b p
 unfolding optional_at optional_at_footprint
 same-optional_at size a b p h =
     let Value : List ℕ → Option (Option OptionalHeader) = λ own. option_map (λ (header : OptionalHeader × ℕ). Some header.0) (optional_header own) in
-    same_if (nat_eq size 0) (Value (drop p a)) (Value (drop p b)) (Some None) (moved_by p (optional_footprint (drop p a))) a b
+    same_unless (nat_eq size 0) (Value (drop p a)) (Value (drop p b)) (Some None) (moved_by p (optional_footprint (drop p a))) a b
     (λ own. ap (option_map (λ (header : OptionalHeader × ℕ). Some header.0)) (same-optional_header (drop p a) (drop p b) (agree-moved p (optional_footprint (drop p a)) a b own))) h
 
 -- ---- the header of a file
@@ -184,7 +184,7 @@ unfolding symbols_footprint
 same-symbols_of header a b h =
     let p = header.pointer_to_symbol_table in
     let n = 18 * header.number_of_symbol_table in
-    same_if (nat_eq p 0) _ _ (Some None) (slice_footprint a p n) a b (λ own. ap (option_map (λ (table : List ℕ). Some table)) (same-slice_at a b p n own)) h
+    same_unless (nat_eq p 0) _ _ (Some None) (slice_footprint a p n) a b (λ own. ap (option_map (λ (table : List ℕ). Some table)) (same-slice_at a b p n own)) h
 
 same-string_table : (a b : List ℕ) (p n : ℕ) → Agree (slice_footprint a p n) a b → string_table a p n ≡ string_table b p n
 same-string_table a b p n h =
@@ -205,13 +205,16 @@ same-strings_at a b p h =
     let own = agree-left (slice_footprint a p 4) (led_to (number_at Little 4 a p) Table) a b h in
     let behind = agree-right (slice_footprint a p 4) (led_to (number_at Little 4 a p) Table) a b h in
     same-led (number_at Little 4 a p) (number_at Little 4 b p) _ _ Table a b (same-number_at Little 4 a b p own)
-    (λ n _ table. same_if (nat_lt n 4) (string_table a (p + 4) (n - 4)) (string_table b (p + 4) (n - 4)) None (slice_footprint a (p + 4) (n - 4)) a b (same-string_table a b (p + 4) (n - 4)) table) behind
+    (λ n _ table. same_unless (nat_lt n 4) (string_table a (p + 4) (n - 4)) (string_table b (p + 4) (n - 4)) None (slice_footprint a (p + 4) (n - 4)) a b (same-string_table a b (p + 4) (n - 4)) table) behind
+
+same-strings_where : (place : Option ℕ) (a b : List ℕ) → Agree (led_to place (strings_at_footprint a)) a b → strings_where place a ≡ strings_where place b
+unfolding led_to
+same-strings_where None a b h = refl
+same-strings_where (Some p) a b h = ap (option_map (λ (table : List ℕ). Some table)) (same-strings_at a b p h)
 
 pub same-strings_of : (header : CoffHeader) (a b : List ℕ) → Agree (strings_footprint header a) a b → strings_of header a ≡ strings_of header b
 unfolding strings_footprint
-same-strings_of header a b h =
-    let o = string_table_offset header in
-    same_if (nat_eq header.pointer_to_symbol_table 0) _ _ (Some None) (strings_at_footprint a o) a b (λ own. ap (option_map (λ (table : List ℕ). Some table)) (same-strings_at a b o own)) h
+same-strings_of header a b h = same-strings_where (string_table_offset header) a b h
 
 -- ---- a Terse Executable
 

@@ -1,6 +1,7 @@
 pub mod CoffHeaderRoundTrip
 pub mod DosHeaderRoundTrip
 pub mod Footprints
+pub mod HeaderFaults
 pub mod OptionalFieldsRoundTrip
 pub mod OptionalHeaderRoundTrip
 pub mod PeHeaderRoundTrip

@@ -1,4 +1,4 @@
--- An optional header that was read is written as its bytes stand, with the missing directories behind them.
+-- An optional header that was read is written as its bytes stand, with the missing directories after them.
 use Rattle.std.proofs.Common.{◌≡◌, ℕ, ◌+◌, ◌-◌, ◌*◌, ◌^◌, ◌≤◌, ◌<◌, Bool, true, false, cond, nat_eq, List, [], ◌++◌, take, drop, replicate, length, Option, Some, None, refl, sym, ap, ◌∙◌, subst, arith, inl, inr, ◌⊎◌}
 use Rattle.std.specs.Prelude.{IfSome, slice_range}
 use Rattle.std.proofs.Math.Nat.{mod-eq_of_lt}

@@ -1,4 +1,4 @@
--- A header that was read is written as its bytes stand, with the missing directories behind them, and is read again.
+-- A header that was read is written as its bytes stand, with the missing directories after them, and is read again.
 use Rattle.std.proofs.Common.{◌≡◌, ℕ, ◌+◌, ◌-◌, ◌≤◌, ◌&&◌, Bool, true, false, cond, nat_le, List, [], ◌∷◌, ◌++◌, take, drop, length, Option, Some, None, refl, sym, ap, ◌∙◌, subst, arith, ◌*◌, nat_eq, nat_lt, append_assoc, inl, inr}
 use Rattle.std.specs.Prelude.{◌==◌, IsSomeAnd, option_map, slice_range, if◌then◌else◌, option_and_then}
 use Rattle.std.proofs.lemmas.Bool.{and_parts, eqb-true, leb-true, le-leb}
@@ -82,14 +82,14 @@ unfolding dos_header
 of_dos bytes h is = rw (is.magic, is.own, is.signature) refl
 
 -- an optional header that is there ends within the file, and is written as it stands
-record IsPart (bytes : List ℕ) (p : ℕ) (optional : Option OptionalHeader) : Type 0 where
+record IsOptionalPart (bytes : List ℕ) (p : ℕ) (optional : Option OptionalHeader) : Type 0 where
   pub end : end_behind p optional ≤ length bytes
   pub written : IsSomeAnd (optional_part Little optional) (λ xs. take (p + 24) bytes ++ (xs ++ []) ≡ take (end_behind p optional) bytes ++ filling_behind optional)
 
 part : (bytes : List ℕ) (p : ℕ) (none : Bool) (optional : Option OptionalHeader) → IsBytes bytes → p + 24 ≤ length bytes
     → cond none (Some None) (option_map (λ (header : OptionalHeader × ℕ). Some header.0) (optional_header (drop (p + 24) bytes))) ≡ Some optional
-    → IsPart bytes p optional
-part bytes p true optional h room e = subst (IsPart bytes p) (same_value None optional e) (record { end = room; written = refl })
+    → IsOptionalPart bytes p optional
+part bytes p true optional h room e = subst (IsOptionalPart bytes p) (same_value None optional e) (record { end = room; written = refl })
 part bytes p false optional h room e =
     let at = p + 24 in
     let found = mapped (optional_header (drop at bytes)) (λ (header : OptionalHeader × ℕ). Some header.0) optional e in
@@ -98,14 +98,14 @@ part bytes p false optional h room e =
     let back = read_optional (drop at bytes) header n (bytes_behind bytes at h) found.is in
     let long = length-drop at bytes in
     let place : at + n ≡ at + optional_size header = ap (λ (k : ℕ). at + k) back.0 in
-    let here : IsPart bytes p (Some header) = record {
+    let here : IsOptionalPart bytes p (Some header) = record {
       end = omega (arith, back.0, back.1, long, room);
       written = rw back.2 (
           ap (λ (xs : List ℕ). take at bytes ++ xs) (append-nil (take n (drop at bytes) ++ filling header))
           ∙ front_more bytes at n (take n (drop at bytes)) (filling header) refl
           ∙ ap (λ (k : ℕ). take k bytes ++ filling header) place);
     } in
-    subst (IsPart bytes p) found.made here
+    subst (IsOptionalPart bytes p) found.made here
 
 -- a value that is there, and what holds of it
 record IsThere {A : Type 0} (o : Option A) (P : A → Type 0) : Type 0 where
@@ -121,7 +121,7 @@ pub dos_file : DosWritesBack
 unfolding DosWritesBack
 dos_file file h fits e = dos_back Little file 0 h fits (dos_of file h e).own
 
--- how the parts in front of the optional header lie in the file
+-- how the parts before the optional header lie in the file
 pub record IsLaid (bytes : List ℕ) (h : PeHeader) : Type 0 where
   pub stub_end : 64 ≤ h.dos_header.pe_pointer
   pub end : h.dos_header.pe_pointer + 24 ≤ length bytes

@@ -9,7 +9,7 @@ use Rattle.goblin_base.proofs.RecordItems.{length-record_items, record_items-mor
 use Rattle.goblin_pe_head.specs.declared.header.rich.RichMetadata.{RichMetadata}
 use Rattle.goblin_pe_head.specs.RichMetadata.{metadata_at, metadata_items}
 
--- a whole entry comes first, then those behind it
+-- a whole entry comes first, then those after it
 pub items_more : (key : ℕ) (bytes : List ℕ) → 8 ≤ length bytes → metadata_items key bytes ≡ Ok (metadata_at key (take 8 bytes) 0) ∷ metadata_items key (drop 8 bytes)
 unfolding metadata_items
 items_more key bytes le =

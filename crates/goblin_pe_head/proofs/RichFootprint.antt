@@ -69,7 +69,7 @@ between-front key i j s t h =
 
 -- ---- the stretches of two files
 
--- the stretch in front of a PE signature at p
+-- the stretch before a PE signature at p
 abbrev stretch_to : List ℕ → ℕ → List ℕ
 stretch_to bytes p = slice_range bytes 64 p
 
@@ -137,7 +137,7 @@ by_length : (short : Bool) (p : ℕ) (x y : Option (Option Rich)) (ranges : List
 by_length true p x y ranges a b same h = refl
 by_length false p x y ranges a b same h = same refl h
 
--- the Rich header in front of a PE signature that lies in the files
+-- the Rich header before a PE signature that lies in the files
 pub same-rich_at : (a b : List ℕ) (p : ℕ) → p ≤ length a → Agree (rich_footprint a p) a b → rich_at a p ≡ rich_at b p
 unfolding rich_in rich_footprint
 same-rich_at a b p high h =

@@ -5,7 +5,7 @@ use Rattle.std.specs.List.{find, range_with_len}
 use Rattle.std.specs.Option.{unwrap_or}
 use Rattle.std.specs.Int.Bits.{bit_xor, xor_assoc, xor_self, xor_zero_r}
 use Rattle.std.proofs.Math.Seq.{take-add}
-use Rattle.std.proofs.lemmas.Bool.{cases_lt, eqb-true}
+use Rattle.std.proofs.lemmas.Bool.{cases_lt, eqb-true, and_parts}
 use Rattle.std.proofs.lemmas.List.{drop-drop, get_or-drop, get_or-take, get_or_past, length-drop, length-take, take-append-drop}
 use Rattle.std.proofs.lemmas.List.Concat.{flat_map-cons}
 use Rattle.std.proofs.lemmas.Option.{cond_some}
@@ -19,6 +19,7 @@ use Rattle.goblin_pe_head.specs.RichHeader.{Rich, dans_place, leading_words, lea
 use Rattle.goblin_pe_head.specs.RichMetadata.{AreEntriesOf, metadata_at, metadata_items, stored_entry, word_under}
 use Rattle.goblin_pe_head.specs.declared.header.rich.RichHeader.{RichHeader}
 use Rattle.goblin_pe_head.specs.declared.header.rich.RichMetadata.{RichMetadata}
+use Rattle.goblin_pe_head.proofs.RichPlaces.{find_is, long_enough}
 
 -- a word under the key twice is the word
 under_twice : (word key : ℕ) → bit_xor (bit_xor word key) key ≡ word
@@ -59,9 +60,9 @@ stored_entries key bytes (suc n) a h le =
     ∙ ap (λ (xs : List ℕ). take 8 (drop (8 * a) bytes) ++ xs) (rest ∙ behind) ∙ sym (ap (λ (k : ℕ). take k (drop (8 * a) bytes)) size ∙ take-add 8 (8 * n) (drop (8 * a) bytes))
 
 -- whole words are entries up to a rest of one word
-are_entries : (key : ℕ) (bytes : List ℕ) → IsBytes bytes → length bytes % 4 ≡ 0 → AreEntriesOf key bytes (metadata_items key bytes)
+words_are_entries : (key : ℕ) (bytes : List ℕ) → IsBytes bytes → length bytes % 4 ≡ 0 → AreEntriesOf key bytes (metadata_items key bytes)
 unfolding metadata_items record_items records_in
-are_entries key bytes h words =
+words_are_entries key bytes h words =
     let n = length bytes / 8 in
     let left : length (drop (8 * n) bytes) ≡ length bytes % 8 = omega (arith, length-drop (8 * n) bytes) in
     record {
@@ -75,7 +76,7 @@ are_entries key bytes h words =
       ];
     }
 
--- what is behind the first bytes, or within so many of them, is made of bytes
+-- what follows the first bytes is made of bytes, and so are the first bytes
 IsBytes-drop : (n : ℕ) (bytes : List ℕ) → IsBytes bytes → IsBytes (drop n bytes)
 IsBytes-drop n bytes h i = rw (get_or-drop n bytes i 0) (h (n + i))
 
@@ -88,21 +89,9 @@ IsBytes-take n bytes h i = elim (cases_lt i n) [
 IsBytes-range : (bytes : List ℕ) (p q : ℕ) → IsBytes bytes → IsBytes (slice_range bytes p q)
 IsBytes-range bytes p q h = IsBytes-take (q - p) (drop p bytes) (IsBytes-drop p bytes h)
 
-found : (passes : Bool) (a i : ℕ) (later : Option ℕ) → cond passes (Some a) later ≡ Some i → (a ≡ i) ⊎ (later ≡ Some i)
-found true a i later e = inl cc
-found false a i later e = inr e
-
 -- the first of n numbers that passes is one of them
-find-lt : (test : ℕ → Bool) (n a i : ℕ) → find test (range_with_len a n) ≡ Some i → i < a + n
-find-lt test zero a i e = absurd cc
-find-lt test (suc n) a i e =
-    elim (found (test a) a i (find test (range_with_len (a + 1) n)) e) [
-      | inl here ↦ omega (arith, here)
-      | inr later ↦ omega (arith, find-lt test n (a + 1) i later)
-    ]
-
 least_below-lt : (n : ℕ) (test : ℕ → Bool) (i : ℕ) → least_below n test ≡ Some i → i < n
-least_below-lt n test i e = let lt = find-lt test n 0 i e in omega (arith, lt)
+least_below-lt n test i e = let is = find_is test n 0 i e in omega (arith, is.high)
 
 words_below : (o : Option ℕ) (n : ℕ) → ((k : ℕ) → o ≡ Some k → k < n) → unwrap_or o n ≤ n
 words_below None n h = omega arith
@@ -122,16 +111,12 @@ record IsRichOf (stretch : List ℕ) (r : Rich) : Type 0 where
   pub bytes : r.bytes ≡ slice_range stretch start end
   pub padding : r.padding_size ≡ 4 * leading_words r.key r.bytes
 
-both_true : (a b : Bool) → (a && b) ≡ true → (a ≡ true) × (b ≡ true)
-both_true true b h = (refl, h)
-both_true false b h = absurd cc
-
-between : (stretch : List ℕ) (key j i : ℕ) (r : Rich) → i ≤ length stretch → rich_between stretch key j i ≡ Some (Some r) → IsRichOf stretch r
-between stretch key j i r inside e =
+rich_between-is : (stretch : List ℕ) (key j i : ℕ) (r : Rich) → i ≤ length stretch → rich_between stretch key j i ≡ Some (Some r) → IsRichOf stretch r
+rich_between-is stretch key j i r inside e =
     let own = slice_range stretch (j + 4) i in
     let made : Rich = record { key = key; bytes = own; padding_size = 4 * leading_words key own; start_offset = 64 + j; end_offset = 64 + i } in
     let both = cond_some (nat_lt (j + 4) i && ((i - j - 4) % 4 == 0)) (Some made) (Some r) e in
-    let tests = both_true (nat_lt (j + 4) i) ((i - j - 4) % 4 == 0) both.0 in
+    let tests = and_parts (nat_lt (j + 4) i) ((i - j - 4) % 4 == 0) both.0 in
     let words : (i - j - 4) % 4 ≡ 0 = eqb-true ((i - j - 4) % 4) 0 tests.1 in
     let same : i - (j + 4) ≡ i - j - 4 = omega arith in
     subst (IsRichOf stretch) (same_value made r both.1) (record { start = j + 4; end = i; inside = inside; words = rw same words; bytes = refl; padding = refl })
@@ -141,30 +126,26 @@ before stretch None r h e = absurd cc
 before stretch (Some i) r h e =
     let key = word_at stretch (i + 4) in
     let s = step (dans_place key stretch) (λ j. rich_between stretch key j i) (Some r) e in
-    between stretch key s.value i r (h i refl) s.then
+    rich_between-is stretch key s.value i r (h i refl) s.then
 
 in_stretch : (stretch : List ℕ) (r : Rich) → rich_in stretch ≡ Some (Some r) → IsRichOf stretch r
 unfolding rich_in marker_place
 in_stretch stretch r e = before stretch (marker_place stretch) r (λ i is. let lt = least_below-lt (length stretch - 7) _ i is in omega (arith, lt)) e
 
-long_enough : (short : Bool) (found : Option (Option Rich)) (r : Rich) → cond short (Some None) found ≡ Some (Some r) → found ≡ Some (Some r)
-long_enough true found r e = absurd cc
-long_enough false found r e = e
-
--- the data behind the padding are entries
+-- the data after the padding are entries
 entries_behind : (stretch : List ℕ) (r : Rich) → IsBytes stretch → IsRichOf stretch r → AreEntriesOf r.key (drop r.padding_size r.bytes) (metadata_items r.key (drop r.padding_size r.bytes))
 entries_behind stretch r h is =
     let own : IsBytes r.bytes = subst IsBytes (sym is.bytes) (IsBytes-range stretch is.start is.end h) in
     let size : length r.bytes ≡ is.end - is.start = ap length is.bytes ∙ omega (arith, length-take (is.end - is.start) (drop is.start stretch), length-drop is.start stretch, is.inside) in
     let most = leading_words-le r.key r.bytes in
     let words : length (drop r.padding_size r.bytes) % 4 ≡ 0 = omega (arith, length-drop r.padding_size r.bytes, size, is.words, is.padding, most) in
-    are_entries r.key (drop r.padding_size r.bytes) (IsBytes-drop r.padding_size r.bytes own) words
+    words_are_entries r.key (drop r.padding_size r.bytes) (IsBytes-drop r.padding_size r.bytes own) words
 
--- the entries of a Rich header that was read are its data behind the padding
-pub entries_of : (header : RichHeader) (bytes : List ℕ) → IsBytes bytes → rich_header bytes ≡ Some (Some (rich_value header))
+-- the entries of a Rich header that was read are its data after the padding
+pub rich_entries : (header : RichHeader) (bytes : List ℕ) → IsBytes bytes → rich_header bytes ≡ Some (Some (rich_value header))
     → AreEntriesOf header.key (drop header.padding_size header.bytes.now) (metadata_items header.key (slice_range header.bytes.now header.padding_size (length header.bytes.now)))
 unfolding rich_header
-entries_of header bytes h e =
+rich_entries header bytes h e =
     let s = step (dos_header bytes) (λ dos. cond (nat_lt dos.pe_pointer 68) (Some None) (rich_in (slice_range bytes 64 dos.pe_pointer))) (Some (rich_value header)) e in
     let p = s.value.pe_pointer in
     let stretch = slice_range bytes 64 p in

@@ -17,15 +17,15 @@ pub record IsFound (test : ℕ → Bool) (a n i : ℕ) : Type 0 where
   pub passes : test i ≡ true
   pub least : (k : ℕ) → a ≤ k → k < i → test k ≡ false
 
-found : (passes : Bool) (a i : ℕ) (later : Option ℕ) → cond passes (Some a) later ≡ Some i → ((passes ≡ true) × (a ≡ i)) ⊎ ((passes ≡ false) × (later ≡ Some i))
-found true a i later e = inl (refl, cc)
-found false a i later e = inr (refl, e)
+first_or_later : (passes : Bool) (a i : ℕ) (later : Option ℕ) → cond passes (Some a) later ≡ Some i → ((passes ≡ true) × (a ≡ i)) ⊎ ((passes ≡ false) × (later ≡ Some i))
+first_or_later true a i later e = inl (refl, cc)
+first_or_later false a i later e = inr (refl, e)
 
 -- what is found, with the numbers before it
 pub find_is : (test : ℕ → Bool) (n a i : ℕ) → find test (range_with_len a n) ≡ Some i → IsFound test a n i
 find_is test zero a i e = absurd cc
 find_is test (suc n) a i e =
-    elim (found (test a) a i (find test (range_with_len (a + 1) n)) e) [
+    elim (first_or_later (test a) a i (find test (range_with_len (a + 1) n)) e) [
       | inl here ↦ record {
         low = omega (arith, here.1);
         high = omega (arith, here.1);
@@ -99,9 +99,9 @@ record IsMarkedIn (stretch : List ℕ) (r : Rich) : Type 0 where
   key : r.key ≡ word_at stretch (end + 4)
   dans : dans_place r.key stretch ≡ Some start
 
-made : (test : Bool) (r s : Rich) → cond test (Some (Some r)) None ≡ Some (Some s) → r ≡ s
-made true r s e = cc
-made false r s e = absurd cc
+same_rich : (test : Bool) (r s : Rich) → cond test (Some (Some r)) None ≡ Some (Some s) → r ≡ s
+same_rich true r s e = cc
+same_rich false r s e = absurd cc
 
 marked_before : (stretch : List ℕ) (marker : Option ℕ) (r : Rich) → marker_place stretch ≡ marker → rich_before stretch marker ≡ Some (Some r) → IsMarkedIn stretch r
 marked_before stretch None r is e = absurd cc
@@ -111,7 +111,7 @@ marked_before stretch (Some i) r is e =
     let j = s.value in
     let own = slice_range stretch (j + 4) i in
     let header : Rich = record { key = key; bytes = own; padding_size = 4 * leading_words key own; start_offset = 64 + j; end_offset = 64 + i } in
-    subst (IsMarkedIn stretch) (made (nat_lt (j + 4) i && ((i - j - 4) % 4 == 0)) header r s.then)
+    subst (IsMarkedIn stretch) (same_rich (nat_lt (j + 4) i && ((i - j - 4) % 4 == 0)) header r s.then)
     (record { end = i; start = j; end_offset = refl; start_offset = refl; marker = is; key = refl; dans = s.is })
 
 never_none : (test : Bool) (r : Rich) → cond test (Some (Some r)) None ≡ Some None → ⊥
@@ -128,7 +128,7 @@ none_before stretch (Some i) e =
     let header : Rich = record { key = key; bytes = own; padding_size = 4 * leading_words key own; start_offset = 64 + j; end_offset = 64 + i } in
     absurd (never_none (nat_lt (j + 4) i && ((i - j - 4) % 4 == 0)) header s.then)
 
-long_enough : (short : Bool) (found : Option (Option Rich)) (r : Rich) → cond short (Some None) found ≡ Some (Some r) → found ≡ Some (Some r)
+pub long_enough : (short : Bool) (found : Option (Option Rich)) (r : Rich) → cond short (Some None) found ≡ Some (Some r) → found ≡ Some (Some r)
 long_enough true found r e = absurd cc
 long_enough false found r e = e
 

@@ -1,5 +1,5 @@
--- Sections that are not all there.
-use Rattle.std.proofs.Common.{◌≡◌, ℕ, ◌+◌, ◌*◌, ◌/◌, ◌-◌, ◌<◌, Bool, true, false, List, length, map, zero, suc, arith, ap, refl, sym, inr, ◌∙◌}
+-- Sections of which one has no value.
+use Rattle.std.proofs.Common.{◌≡◌, ℕ, ◌+◌, ◌*◌, ◌/◌, ◌-◌, ◌<◌, ◌≤◌, Bool, true, false, List, length, map, zero, suc, arith, ap, refl, sym, inr, ◌∙◌}
 use Rattle.std.specs.Prelude.{Result, Ok, Err, None, Option, Some, nat_le, option_map}
 use Rattle.std.specs.List.{range_with_len}
 use Rattle.std.proofs.lemmas.Bool.{lt-leb}
@@ -50,19 +50,19 @@ moved-none strict table n bytes p =
     ap (all_of {A = Section}) (same_at (λ i. option_map (section_moved None) (section_at strict table bytes (p + 40 * i))) (λ i. section_at strict table bytes (p + 40 * i)) (λ i. as_it_stands (section_at strict table bytes (p + 40 * i))) n 0)
 
 -- so the first of them that is missing is the first that does not stand there
-fault_as_it_stands : (strict : Bool) (table n : ℕ) (bytes : List ℕ) (p : ℕ) (e : ErrorOf) → IsMovedSectionsFault None strict table n bytes p e → IsSectionsFault strict table n bytes p e
-fault_as_it_stands strict table n bytes p e (i, below, earlier, none, cause) =
-    inr (i, below, λ k before is. earlier k before (as_it_stands (section_at strict table bytes (p + 40 * k)) ∙ is), sym (as_it_stands (section_at strict table bytes (p + 40 * i))) ∙ none, cause)
+fault_as_it_stands : (strict : Bool) (table n : ℕ) (bytes : List ℕ) (p : ℕ) (e : ErrorOf) → n ≤ length bytes / 40 → IsMovedSectionsFault None strict table n bytes p e → IsSectionsFault strict table n bytes p e
+fault_as_it_stands strict table n bytes p e room (i, below, earlier, none, cause) =
+    inr (room, (i, below, λ k before is. earlier k before (as_it_stands (section_at strict table bytes (p + 40 * k)) ∙ is), sym (as_it_stands (section_at strict table bytes (p + 40 * i))) ∙ none, cause))
 
 -- and what is answered of them is answered of the sections of a file
-pub answers_as_they_stand : {X : Type 0} (view : X → List Section) (r : Result X ErrorOf) (strict : Bool) (table n : ℕ) (bytes : List ℕ) (p : ℕ)
+pub answers_as_they_stand : {X : Type 0} (view : X → List Section) (r : Result X ErrorOf) (strict : Bool) (table n : ℕ) (bytes : List ℕ) (p : ℕ) → n ≤ length bytes / 40
     → AnswersOrMemory view r (moved_sections_at None strict table n bytes p) (IsMovedSectionsFault None strict table n bytes p) → AnswersOrMemory view r (sections_at strict table n bytes p) (IsSectionsFault strict table n bytes p)
-answers_as_they_stand view (Ok x) strict table n bytes p h = sym (moved-none strict table n bytes p) ∙ h
-answers_as_they_stand view (Err e) strict table n bytes p h = λ no. (sym (moved-none strict table n bytes p) ∙ (h no).0, fault_as_it_stands strict table n bytes p e (h no).1)
+answers_as_they_stand view (Ok x) strict table n bytes p room h = sym (moved-none strict table n bytes p) ∙ h
+answers_as_they_stand view (Err e) strict table n bytes p room h = λ no. (sym (moved-none strict table n bytes p) ∙ (h no).0, fault_as_it_stands strict table n bytes p e room (h no).1)
 
 -- and of a Terse Executable, by its displacement
-pub answers_moved : {X : Type 0} (view : X → List Section) (r : Result X ErrorOf) (h : TeHeader) (d : ℕ) (bytes : List ℕ) (p : ℕ) → displacement h ≡ Some d
+pub answers_moved : {X : Type 0} (view : X → List Section) (r : Result X ErrorOf) (h : TeHeader) (d : ℕ) (bytes : List ℕ) (p : ℕ) → h.number_of_sections ≤ length bytes / 40 → displacement h ≡ Some d
     → AnswersOrMemory view r (moved_sections_at (Some d) true 0 h.number_of_sections bytes p) (IsMovedSectionsFault (Some d) true 0 h.number_of_sections bytes p) → AnswersOrMemory view r (te_sections_at h bytes p) (IsTeSectionsFault h bytes p)
 unfolding te_sections_at
-answers_moved view (Ok x) h d bytes p is made = rw is made
-answers_moved view (Err e) h d bytes p is made = rw is (λ no. ((made no).0, inr (made no).1))
+answers_moved view (Ok x) h d bytes p room is made = rw is made
+answers_moved view (Err e) h d bytes p room is made = rw is (λ no. ((made no).0, inr (room, (made no).1)))

@@ -11,6 +11,8 @@ use Rattle.goblin_base.specs.Record.{FieldValue, uint, numbers, record_at}
 use Rattle.goblin_base.specs.Answers.{◌>>=◌, FirstFault}
 use Rattle.goblin_pe_head.specs.declared.header.dos.DosHeader.{DosHeader}
 
+-- Source: PE Format, "MS-DOS Stub (Image Only)" and "Signature (Image Only)"; the fields are those of a DOS executable.
+
 -- the DOS header in a record's 64 bytes
 unfoldable pub dos_record : Endian → List ℕ → DosHeader
 dos_record endian bytes = record {

@@ -1,9 +1,11 @@
 -- The DOS stub, which stands between the DOS header and the PE signature.
-use Rattle.std.specs.Prelude.{◌≡◌, ◌<◌, ℕ, nat_le, ◌&&◌, if◌then◌else◌, List, [], ◌∷◌, ◌++◌, length, codes, replicate, slice_range, Option, Some, None}
+use Rattle.std.specs.Prelude.{◌≡◌, ◌<◌, ◌≤◌, ℕ, nat_le, ◌&&◌, if◌then◌else◌, List, [], ◌∷◌, ◌++◌, length, codes, replicate, slice_range, Option, Some, None}
 use Rattle.goblin_base.specs.declared.error.ErrorOf.{ErrorOf}
 use Rattle.goblin_base.specs.declared.error.ErrorOf.TheVariants.{Malformed}
 use Rattle.goblin_base.specs.declared.error.CauseOf.TheVariants.{StubBeforeStart, StubPastEnd}
 use Rattle.goblin_pe_head.specs.declared.header.stub.DosStub.{DosStub}
+
+-- Source: PE Format, "MS-DOS Stub (Image Only)".
 
 -- the program that most linkers put there: fourteen bytes of code, the message that it prints, which ends at the dollar sign, and seven zeros
 unfoldable pub default_stub : List ℕ
@@ -21,8 +23,8 @@ stub_bytes stub = stub.bytes.now
 abbrev pub stub_at : List ℕ → ℕ → Option (List ℕ)
 stub_at bytes p = if nat_le 64 p && nat_le p (length bytes) then Some (slice_range bytes 64 p) else None
 
--- which cause is true of a file that has no stub: the signature stands within the DOS header, or past the end
+-- which cause is true of a file that has no stub: the signature stands within the DOS header, or behind that and past the end
 abbrev pub IsStubFault : List ℕ → ℕ → ErrorOf → Type 0
 IsStubFault bytes p (Malformed (StubBeforeStart pointer)) = (pointer ≡ p) × (p < 64)
-IsStubFault bytes p (Malformed (StubPastEnd len end)) = (len ≡ length bytes) × (end ≡ p) × (length bytes < p)
+IsStubFault bytes p (Malformed (StubPastEnd len end)) = (len ≡ length bytes) × (end ≡ p) × (64 ≤ p) × (length bytes < p)
 IsStubFault bytes p e = ⊥

@@ -23,11 +23,11 @@ dos_footprint bytes =
     ++ slice_footprint bytes 0 64
     ++ led_to (record_at 64 (dos_record Little) bytes 0) (λ header. slice_footprint bytes header.pe_pointer 4)
 
--- the stub in front of a PE signature at p: its bytes
+-- the stub before a PE signature at p: its bytes
 unfoldable pub stub_footprint : List ℕ → ℕ → List Range
 stub_footprint bytes p = led_to (stub_at bytes p) (λ _. positions 64 p)
 
--- the search for the word `DanS` in the stretch in front of a PE signature at p: up to the word, and the whole stretch where there is none
+-- the search for the word `DanS` in the stretch before a PE signature at p: up to the word, and the whole stretch where there is none
 abbrev pub dans_footprint : ℕ → Option ℕ → List Range
 dans_footprint p None = positions 64 p
 dans_footprint p (Some j) = positions 64 (64 + j + 4)
@@ -37,7 +37,7 @@ abbrev pub markers_footprint : List ℕ → ℕ → Option ℕ → List Range
 markers_footprint stretch p None = positions 64 p
 markers_footprint stretch p (Some i) = positions 64 (64 + i + 8) ++ dans_footprint p (dans_place (word_at stretch (i + 4)) stretch)
 
--- the Rich header in front of a PE signature at p, where the stretch from 64 up to there has at least four bytes; its data stand between the markers
+-- the Rich header before a PE signature at p, where the stretch from 64 up to there has at least four bytes; its data stand between the markers
 unfoldable pub rich_footprint : List ℕ → ℕ → List Range
 rich_footprint bytes p = if nat_lt p 68 then [] else markers_footprint (slice_range bytes 64 p) p (marker_place (slice_range bytes 64 p))
 
@@ -71,7 +71,7 @@ header_at_footprint bytes p =
     ++ slice_footprint bytes (p + 4) 20
     ++ led_to (record_at 20 (coff_header Little) bytes (p + 4)) (λ coff. optional_at_footprint coff.size_of_optional_header bytes (p + 24))
 
--- The header of a file, in either mode: its DOS header, and where that is there, the parts in front of the PE signature and those from it on.
+-- The header of a file, in either mode: its DOS header, and where that is there, the parts before the PE signature and those from it on.
 unfoldable pub header_footprint : List ℕ → List Range
 header_footprint bytes =
     dos_footprint bytes
@@ -94,9 +94,9 @@ symbols_footprint header bytes = if header.pointer_to_symbol_table == 0 then [] 
 unfoldable pub strings_at_footprint : List ℕ → ℕ → List Range
 strings_at_footprint bytes p = slice_footprint bytes p 4 ++ led_to (number_at Little 4 bytes p) (λ n. if nat_lt n 4 then [] else slice_footprint bytes (p + 4) (n - 4))
 
--- the string table after the symbol table
+-- the string table, if there is one
 unfoldable pub strings_footprint : CoffHeader → List ℕ → List Range
-strings_footprint header bytes = if header.pointer_to_symbol_table == 0 then [] else strings_at_footprint bytes (string_table_offset header)
+strings_footprint header bytes = led_to (string_table_offset header) (strings_at_footprint bytes)
 
 -- ---- a Terse Executable
 

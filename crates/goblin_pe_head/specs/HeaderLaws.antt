@@ -17,17 +17,17 @@ DosWritesBack = (file : List ℕ) (h : DosHeader) → IsBytes file → dos_heade
 abbrev pub optional_size : OptionalHeader → ℕ
 optional_size h = (if h.standard_fields.magic == 0x10B then 96 else 112) + 8 * h.windows_fields.number_of_rva_and_sizes
 
--- the zeros that are written behind its directories, up to the sixteenth
+-- the zeros that are written after its directories, up to the sixteenth
 abbrev pub filling : OptionalHeader → List ℕ
 filling h = replicate (8 * (16 - h.windows_fields.number_of_rva_and_sizes)) 0
 
--- An optional header that was read takes so many bytes, and is written as they stand with the missing directories behind them.
+-- An optional header that was read takes `optional_size` bytes, and is written as they stand with the missing directories after them.
 unfoldable pub OptionalWritesBack : Type 0
 OptionalWritesBack =
     (bytes : List ℕ) (h : OptionalHeader) (n : ℕ) → IsBytes bytes → optional_header bytes ≡ Some (h, n)
     → (n ≡ optional_size h) × (n ≤ length bytes) × (optional_bytes Little h ≡ Some (take n bytes ++ filling h))
 
--- where a header ends in its file: 24 bytes behind the place of the signature, or where the optional header ends
+-- where a header ends in its file: 24 bytes after the begin of the signature, or where the optional header ends
 abbrev pub end_behind : ℕ → Option OptionalHeader → ℕ
 end_behind p None = p + 24
 end_behind p (Some h) = p + 24 + optional_size h
@@ -35,12 +35,12 @@ end_behind p (Some h) = p + 24 + optional_size h
 abbrev pub header_end : PeHeader → ℕ
 header_end h = end_behind h.dos_header.pe_pointer h.optional_header
 
--- the zeros that are written behind a header
+-- the zeros that are written after a header
 abbrev pub filling_behind : Option OptionalHeader → List ℕ
 filling_behind None = []
 filling_behind (Some h) = filling h
 
--- A header that was read in strict mode is written as the file's bytes up to its end, with the missing directories behind them.
+-- A header that was read in strict mode is written as the file's bytes up to its end, with the missing directories after them.
 unfoldable pub HeaderWritesBack : Type 0
 HeaderWritesBack =
     (file : List ℕ) (h : PeHeader) → IsBytes file → pe_header true file ≡ Some h

@@ -23,6 +23,8 @@ use Rattle.goblin_pe_head.specs.declared.optional_header.OptionalHeader.{Optiona
 use Rattle.goblin_pe_head.specs.declared.optional_header.WrittenHeader.{WrittenHeader}
 use Rattle.goblin_pe_head.specs.declared.optional_header.WrittenHeader.TheVariants.{Absent, Narrow, Wide}
 
+-- Source: PE Format, "Optional Header (Image Only)".
+
 -- the standard fields for 32 bits in a record's 28 bytes
 unfoldable pub standard_32_record : Endian → List ℕ → StandardFields32
 standard_32_record endian bytes = record {
@@ -297,7 +299,7 @@ abbrev pub IsBadMagic : ℕ → ErrorOf → Type 0
 IsBadMagic magic (BadMagic m) = (m ≡ magic) × (magic ≢ 0x10B) × (magic ≢ 0x20B)
 IsBadMagic magic e = ⊥
 
--- which cause is true of fields that are not all there, by their width
+-- which cause is true of fields that have no value, by their width
 abbrev pub IsFieldsFault_32 : List ℕ → ErrorOf → Type 0
 IsFieldsFault_32 bytes =
     FirstFault (record_at 28 (standard_32_record Little) bytes 0) (IsSliceFault bytes 0 28) (λ standard.
@@ -317,7 +319,8 @@ unfoldable pub IsOptionalFault : List ℕ → ErrorOf → Type 0
 IsOptionalFault bytes =
     FirstFault (number_at Little 2 bytes 0) (IsSliceFault bytes 0 2) (λ magic.
     FirstFault (fixed_fields magic bytes) (IsFixedFault magic bytes) (λ fields.
-    FirstFault (directories_at fields.windows_fields.number_of_rva_and_sizes bytes fields.size) (IsDirectoriesFault fields.windows_fields.number_of_rva_and_sizes bytes fields.size) (λ directories e. ⊥)))
+    let count = fields.windows_fields.number_of_rva_and_sizes in
+    FirstFault (directories_at count bytes fields.size) (IsDirectoriesFault count bytes fields.size) (λ directories e. ⊥)))
 
 -- for how many bits the image is, by the magic
 abbrev pub container_of : ℕ → Option Container

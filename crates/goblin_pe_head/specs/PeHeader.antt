@@ -1,4 +1,4 @@
--- The whole header of a file: its parts, each at its place.
+-- The whole header of a file: its parts, each at its offset.
 use Rattle.std.specs.List.{concat}
 use Rattle.std.specs.Prelude.{◌≡◌, ◌<◌, ◌+◌, ℕ, Bool, ◌==◌, if◌then◌else◌, List, [], ◌∷◌, drop, length, replicate, Option, Some, None, option_map, unwrap_or}
 use Rattle.goblin_base.specs.declared.endian.Endian.{Endian}
@@ -18,6 +18,8 @@ use Rattle.goblin_pe_head.specs.CoffHeader.{coff_fields, coff_header}
 use Rattle.goblin_pe_head.specs.DosHeader.{dos_fields, dos_header, IsDosFault, IsNoSignature}
 use Rattle.goblin_pe_head.specs.OptionalHeader.{optional_bytes, optional_header, IsOptionalFault, IsUnwritten}
 use Rattle.goblin_pe_head.specs.RichHeader.{Rich, rich_value, rich_at, IsRichAtFault}
+
+-- Source: PE Format, "File Headers".
 
 -- a header, with its slices as lists
 pub record PeHeader : Type 0 where
@@ -39,7 +41,7 @@ header_value h = record {
   optional_header = h.optional_header;
 }
 
--- the stub in front of a PE signature at p; where there is none, permissive mode takes the default one
+-- the stub before a PE signature at p; where there is none, permissive mode takes the default one
 unfoldable pub stub_in : Bool → List ℕ → ℕ → Option (List ℕ)
 stub_in strict bytes p = if strict then stub_at bytes p else Some (unwrap_or (stub_at bytes p) default_stub)
 
@@ -47,7 +49,7 @@ stub_in strict bytes p = if strict then stub_at bytes p else Some (unwrap_or (st
 unfoldable pub optional_at : ℕ → List ℕ → ℕ → Option (Option OptionalHeader)
 optional_at size bytes p = if size == 0 then Some None else option_map (λ header. Some header.0) (optional_header (drop p bytes))
 
--- the header whose signature stands at p, with the parts in front of it
+-- the header whose signature stands at p, with the parts before it
 unfoldable pub header_at : DosHeader → List ℕ → Option Rich → List ℕ → ℕ → Option PeHeader
 header_at dos stub rich bytes p = do
   signature ← number_at Little 4 bytes p
@@ -106,11 +108,11 @@ default_header = record {
   optional_header = None;
 }
 
--- the header of bytes that begin with a signature, whatever it is, behind a DOS header of zeros and the default stub
+-- the header of bytes that begin with a signature, whatever it is, after a DOS header of zeros and the default stub
 unfoldable pub header_without_dos : List ℕ → Option PeHeader
 header_without_dos bytes = header_at zero_dos_header default_stub None bytes 0
 
--- which cause is true where the parts from the signature at p on are not all there
+-- which cause is true where one of the parts from the signature at p on has no value
 unfoldable pub IsHeaderAtFault : List ℕ → ℕ → ErrorOf → Type 0
 IsHeaderAtFault bytes p =
     FirstFault (number_at Little 4 bytes p) (IsNoSignature bytes p) (λ signature.

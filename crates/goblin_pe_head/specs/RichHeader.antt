@@ -1,4 +1,4 @@
--- The Rich header. It lies in the stretch of a file between the DOS header and the PE signature; places count from the front of that stretch.
+-- The Rich header. It lies in the stretch of a file between the DOS header and the PE signature; offsets count from the front of that stretch.
 use Rattle.std.specs.Prelude.{IsSomeAnd, ◌≡◌, ◌≢◌, ◌<◌, ◌≤◌, ◌+◌, ◌-◌, ◌*◌, ◌/◌, ◌%◌, ℕ, Bool, not, nat_lt, ◌==◌, if◌then◌else◌, ◌&&◌, List, length, slice_range, Option, Some, None}
 use Rattle.std.specs.List.{find, range_with_len}
 use Rattle.std.specs.Option.{unwrap_or}
@@ -13,6 +13,8 @@ use Rattle.goblin_base.specs.Answers.{◌>>=◌, FirstFault}
 use Rattle.goblin_pe_head.specs.DosHeader.{dos_header, IsDosFault}
 use Rattle.goblin_pe_head.specs.declared.header.rich.RichHeader.{RichHeader}
 
+-- Source: no document of Microsoft's; the layout is what linkers write.
+
 -- a Rich header, with its data as a list
 pub record Rich : Type 0 where
   pub key : ℕ
@@ -25,7 +27,7 @@ pub record Rich : Type 0 where
 abbrev pub rich_value : RichHeader → Rich
 rich_value r = record { key = r.key; bytes = r.bytes.now; padding_size = r.padding_size; start_offset = r.start_offset; end_offset = r.end_offset }
 
--- the padding is no longer than the data, as it has to be for the entries behind it
+-- the padding is no longer than the data, as it has to be for the entries after it
 abbrev pub PaddingFits : RichHeader → Type 0
 PaddingFits r = r.padding_size ≤ length r.bytes.now
 
@@ -37,11 +39,11 @@ least_below n test = find test (range_with_len 0 n)
 abbrev pub word_at : List ℕ → ℕ → ℕ
 word_at bytes p = number Little 4 bytes p
 
--- the least place of the marker `Rich` with a key of four bytes behind it
+-- the least offset of the marker `Rich` with a key of four bytes after it
 unfoldable pub marker_place : List ℕ → Option ℕ
 marker_place stretch = least_below (length stretch - 7) (λ i. word_at stretch i == 0x68636952)
 
--- the least place of a word that is `DanS` under the key, wherever the other marker stands
+-- the least offset of a word that is `DanS` under the key, wherever the other marker stands
 unfoldable pub dans_place : ℕ → List ℕ → Option ℕ
 dans_place key stretch = least_below (length stretch - 3) (λ j. bit_xor (word_at stretch j) key == 0x536E6144)
 
@@ -64,7 +66,7 @@ rich_between stretch key j i =
       end_offset = 64 + i;
     })) else None
 
--- the Rich header whose marker `Rich` stands here, with the key behind it; none is there without the marker
+-- the Rich header whose marker `Rich` stands here, with the key after it; none is there without the marker
 abbrev pub rich_before : List ℕ → Option ℕ → Option (Option Rich)
 rich_before stretch None = Some None
 rich_before stretch (Some i) = do
@@ -75,7 +77,7 @@ rich_before stretch (Some i) = do
 unfoldable pub rich_in : List ℕ → Option (Option Rich)
 rich_in stretch = rich_before stretch (marker_place stretch)
 
--- the Rich header in front of a PE signature at p, where there is one: in the stretch from 64 up to there, if that has at least four bytes
+-- the Rich header before a PE signature at p, where there is one: in the stretch from 64 up to there, if that has at least four bytes
 abbrev pub rich_at : List ℕ → ℕ → Option (Option Rich)
 rich_at bytes p = if nat_lt p 68 then Some None else rich_in (slice_range bytes 64 p)
 
@@ -101,7 +103,7 @@ unfoldable pub IsStretchFault : List ℕ → ErrorOf → Type 0
 IsStretchFault stretch e =
     IsSomeAnd (marker_place stretch) (λ i. FirstFault (dans_place (word_at stretch (i + 4)) stretch) IsNoDans (λ j. IsBetweenFault j i) e)
 
--- which cause is true where the Rich header in front of a PE signature at p is refused
+-- which cause is true where the Rich header before a PE signature at p is refused
 abbrev pub IsRichAtFault : List ℕ → ℕ → ErrorOf → Type 0
 IsRichAtFault bytes p = IsStretchFault (slice_range bytes 64 p)
 
@@ -109,9 +111,9 @@ IsRichAtFault bytes p = IsStretchFault (slice_range bytes 64 p)
 unfoldable pub IsRichFault : List ℕ → ErrorOf → Type 0
 IsRichFault bytes = FirstFault (dos_header bytes) (IsDosFault bytes) (λ dos. IsRichAtFault bytes dos.pe_pointer)
 
--- ---- the places of the markers in words
+-- ---- the offsets of the markers in words
 
--- the marker `Rich` stands here, with a key of four bytes behind it
+-- the marker `Rich` stands here, with a key of four bytes after it
 abbrev pub IsMarkerAt : List ℕ → ℕ → Type 0
 IsMarkerAt stretch i = (i + 8 ≤ length stretch) × (word_at stretch i ≡ 0x68636952)
 
@@ -124,7 +126,7 @@ pub record IsLeast (P : ℕ → Type 0) (i : ℕ) : Type 0 where
   pub holds : P i
   pub least : (k : ℕ) → k < i → ¬ P k
 
--- The markers of a Rich header in front of a PE signature at p: each stands at the least place of the stretch where it can, and the key behind the one is that of the other.
+-- The markers of a Rich header before a PE signature at p: each stands at the least offset in the stretch where it can, and the key after the one is that of the other.
 pub record IsMarked (bytes : List ℕ) (p : ℕ) (r : Rich) : Type 0 where
   pub end : ℕ
   pub start : ℕ
@@ -138,6 +140,6 @@ pub record IsMarked (bytes : List ℕ) (p : ℕ) (r : Rich) : Type 0 where
 unfoldable pub RichIsMarked : Type 0
 RichIsMarked = (bytes : List ℕ) (r : Rich) → rich_header bytes ≡ Some (Some r) → IsSomeAnd (dos_header bytes) (λ dos. IsMarked bytes dos.pe_pointer r)
 
--- A file that has none has no marker with a key behind it.
+-- A file that has none has no marker with a key after it.
 unfoldable pub RichIsUnmarked : Type 0
 RichIsUnmarked = (bytes : List ℕ) → rich_header bytes ≡ Some None → IsSomeAnd (dos_header bytes) (λ dos. (i : ℕ) → ¬ IsMarkerAt (slice_range bytes 64 dos.pe_pointer) i)

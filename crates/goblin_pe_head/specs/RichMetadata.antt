@@ -47,7 +47,7 @@ metadata_left it = metadata_items it.key it.bytes.now
 abbrev pub stored_entry : ℕ → RichMetadata → List ℕ
 stored_entry key m = number_bytes Little 4 (bit_xor (m.product * 65536 + m.build) key) ++ number_bytes Little 4 (bit_xor m.use_count key)
 
--- The items are entries that, joined as they are stored, are these bytes up to a rest of none or four, which comes as one refusal behind them.
+-- The items are entries that, joined as they are stored, are these bytes up to a rest of none or four, which comes as one refusal after them.
 pub record AreEntriesOf (key : ℕ) (bytes : List ℕ) (items : List (Result RichMetadata ErrorOf)) : Type 0 where
   pub entries : List RichMetadata
   pub rest : List ℕ

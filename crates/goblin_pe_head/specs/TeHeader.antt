@@ -1,5 +1,5 @@
 -- The header of a Terse Executable, and its sections. Both still say where things stood before the headers of the PE file were stripped.
-use Rattle.std.specs.Prelude.{◌≡◌, ◌<◌, ◌⊎◌, ℕ, ◌+◌, ◌-◌, ◌*◌, ◌%◌, ◌^◌, ◌==◌, if◌then◌else◌, nat_le, List, [], ◌∷◌, Option, Some, None, option_map, true, Bool}
+use Rattle.std.specs.Prelude.{◌≡◌, ◌<◌, ◌≤◌, ◌⊎◌, ℕ, ◌+◌, ◌-◌, ◌*◌, ◌/◌, ◌%◌, ◌^◌, ◌==◌, if◌then◌else◌, nat_le, List, [], ◌∷◌, length, Option, Some, None, option_map, true, Bool}
 use Rattle.goblin_base.specs.declared.endian.Endian.{Endian}
 use Rattle.goblin_base.specs.declared.endian.Endian.TheVariants.{Little}
 use Rattle.goblin_base.specs.declared.error.ErrorOf.{ErrorOf}
@@ -11,6 +11,8 @@ use Rattle.goblin_base.specs.Record.{FieldValue, record_at, uint}
 use Rattle.goblin_pe_sect.specs.SectionTable.{Section, section_at, IsSectionFault}
 use Rattle.goblin_pe_head.specs.declared.header.te.TeHeader.{TeHeader}
 use Rattle.goblin_pe_head.specs.CoffHeader.{IsTooManySections}
+
+-- Source: UEFI Platform Initialization Specification, volume 3, "TE Image".
 
 -- the header in a record's 40 bytes, as stored
 unfoldable pub te_record : Endian → List ℕ → TeHeader
@@ -87,7 +89,7 @@ abbrev pub section_moved : Option ℕ → Section → Section
 section_moved None = λ s. s
 section_moved (Some d) = section_adjusted d
 
--- n sections, so moved, whose records stand one after the other from p on, with their names from the string table at `table`
+-- n sections, moved so, whose records stand one after the other from p on, with their names from the string table at `table`
 abbrev pub moved_sections_at : Option ℕ → Bool → ℕ → ℕ → List ℕ → ℕ → Option (List Section)
 moved_sections_at move strict table n bytes p = all_at (λ i. option_map (section_moved move) (section_at strict table bytes (p + 40 * i))) n
 
@@ -95,12 +97,13 @@ moved_sections_at move strict table n bytes p = all_at (λ i. option_map (sectio
 unfoldable pub te_sections_at : TeHeader → List ℕ → ℕ → Option (List Section)
 te_sections_at h bytes p = displacement h >>= λ d. moved_sections_at (Some d) true 0 h.number_of_sections bytes p
 
--- which cause is true of n sections, so moved, that are not all there: that of the first that is missing
+-- which cause is true of n sections, moved so, where one has no value: that of the first
 abbrev pub IsMovedSectionsFault : Option ℕ → Bool → ℕ → ℕ → List ℕ → ℕ → ErrorOf → Type 0
-IsMovedSectionsFault move strict table n bytes p = IsFirstMissing (λ i. option_map (section_moved move) (section_at strict table bytes (p + 40 * i))) n (λ i. IsSectionFault strict bytes (p + 40 * i))
+IsMovedSectionsFault move strict table n bytes p =
+    IsFirstMissing (λ i. option_map (section_moved move) (section_at strict table bytes (p + 40 * i))) n (λ i. IsSectionFault strict bytes (p + 40 * i))
 
--- which cause is true of sections that are refused: the file is too short for so many; or less was stripped than stands in its place, and else that of the first that is missing
+-- which cause is true of sections that are refused: the file is too short for as many; else less was stripped than stands in its place; and else that of the first that is missing
 abbrev pub IsTeSectionsFault : TeHeader → List ℕ → ℕ → ErrorOf → Type 0
 IsTeSectionsFault h bytes p e =
     IsTooManySections h.number_of_sections bytes e
-    ⊎ FirstFault (displacement h) (IsStrippedFault h) (λ d. IsMovedSectionsFault (Some d) true 0 h.number_of_sections bytes p) e
+    ⊎ ((h.number_of_sections ≤ length bytes / 40) × FirstFault (displacement h) (IsStrippedFault h) (λ d. IsMovedSectionsFault (Some d) true 0 h.number_of_sections bytes p) e)

@@ -1,5 +1,5 @@
 //! The headers of a PE file: the whole header, and its parts, which are the DOS header and the stub
-//! behind it, the Rich header and the COFF header; the section table; and the header of a Terse
+//! after it, the Rich header and the COFF header; the section table; and the header of a Terse
 //! Executable.
 
 mod coff;

@@ -37,7 +37,7 @@ pub const MAGIC_64: u16 = 0x20B;
 pub const IMAGE_NT_OPTIONAL_HDR32_MAGIC: u16 = 0x10B;
 /// The magic of an optional header for 64 bits, by its name in the Windows headers.
 pub const IMAGE_NT_OPTIONAL_HDR64_MAGIC: u16 = 0x20B;
-/// The magic of a ROM image, which is not read.
+/// The magic of a ROM image. No reader takes it.
 pub const IMAGE_ROM_OPTIONAL_HDR_MAGIC: u16 = 0x107;
 
 const _: () = prove!(
@@ -50,15 +50,17 @@ const _: () = prove!(
 
 /// The optional header of an image of either width.
 ///
-/// Source: PE Format, "Optional Header (Image Only)".
+/// Source: PE Format, "Optional Header (Image Only)". An image must have one; an object has none.
+/// `at` says of fields where they stand from its front, first in an image for 32 bits, then in one
+/// for 64 bits.
 #[derive(Debug, PartialEq, Copy, Clone)]
 pub struct OptionalHeader {
-    /// The standard fields.
+    /// The standard fields, at 0: what any loader of COFF files wants to know.
     pub standard_fields: StandardFields,
-    /// The Windows fields.
+    /// The Windows fields, at 28 or 24.
     pub windows_fields: WindowsFields,
-    /// Where the image's tables lie. The offsets of the entries count from the front of the optional
-    /// header.
+    /// Where the image's tables lie, at 96 or 112: as many entries as the last Windows field says.
+    /// The offsets of the entries count from the front of the optional header.
     pub data_directories: DataDirectories,
 }
 
@@ -152,13 +154,13 @@ impl TryFromCtx<'_> for OptionalHeader {
 
     ghost no_memory = { λ _ bytes e. optional_fault-no_memory bytes e };
 
-    /// Reads the optional header at the front of `bytes`, always little-endian, and answers how many
-    /// bytes it takes with its directories.
+    /// Reads the optional header at the front of `bytes`, always little-endian, and answers the
+    /// pair (header, how many bytes it takes with its directories). The magic alone says its width.
     ///
     /// # Errors
-    /// [`Error::Read`] where a part is not all there; [`Error::BadMagic`] of a magic other than
-    /// [`MAGIC_32`] and [`MAGIC_64`]; [`Error::Malformed`] with `DirectoryCount` of more than sixteen
-    /// directories.
+    /// [`Error::Read`] where a part passes the end; [`Error::BadMagic`] of a magic other than
+    /// [`MAGIC_32`] and [`MAGIC_64`]; [`Error::Malformed`] with `DirectoryCount` of more than
+    /// sixteen directories.
     #[tactic(auto, unfolding(crate::specs::OptionalHeader::optional_header, crate::specs::OptionalHeader::IsOptionalFault))]
     fn try_from_ctx(bytes: &[u8], _endian: Endian) -> Result<(OptionalHeader, usize)> {
         let magic = pread_u16(bytes, 0, Endian::Little)?;

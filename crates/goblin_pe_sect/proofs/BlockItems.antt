@@ -30,10 +30,10 @@ pub inside : (directory : List ℕ) (n p : ℕ) → p < length directory → fir
 unfolding first_items
 inside directory n p lt = let test : nat_lt p (length directory) ≡ true = search (rules, tests) in rw test refl
 
-pub past : (directory : List ℕ) (n p : ℕ) → length directory ≤ p → first_items n directory p ≡ []
+pub first_items-past : (directory : List ℕ) (n p : ℕ) → length directory ≤ p → first_items n directory p ≡ []
 unfolding first_items
-past directory zero p le = refl
-past directory (suc n) p le = let test : nat_lt p (length directory) ≡ false = search (rules, tests) in rw test refl
+first_items-past directory zero p le = refl
+first_items-past directory (suc n) p le = let test : nat_lt p (length directory) ≡ false = search (rules, tests) in rw test refl
 
 step_enough : (n m : ℕ) (directory : List ℕ) (p : ℕ) → p < length directory → length directory - p ≤ suc n → length directory - p ≤ suc m → ((next : ℕ) → length directory - next ≤ n → length directory - next ≤ m → first_items n directory next ≡ first_items m directory next) → (r : Result Block ErrorOf) → block_at directory p ≡ r → then_items (first_items n directory) p r ≡ then_items (first_items m directory) p r
 step_enough n m directory p lt h k same (Ok b) is =
@@ -43,18 +43,18 @@ step_enough n m directory p lt h k same (Err e) is = refl
 -- two limits that are enough give the same
 enough : (n m : ℕ) (directory : List ℕ) (p : ℕ) → length directory - p ≤ n → length directory - p ≤ m → first_items n directory p ≡ first_items m directory p
 enough zero zero directory p h k = refl
-enough zero (suc m) directory p h k = past directory zero p (omega arith) ∙ sym (past directory (suc m) p (omega arith))
-enough (suc n) zero directory p h k = past directory (suc n) p (omega arith) ∙ sym (past directory zero p (omega arith))
+enough zero (suc m) directory p h k = first_items-past directory zero p (omega arith) ∙ sym (first_items-past directory (suc m) p (omega arith))
+enough (suc n) zero directory p h k = first_items-past directory (suc n) p (omega arith) ∙ sym (first_items-past directory zero p (omega arith))
 enough (suc n) (suc m) directory p h k =
     elim (cases_lt p (length directory)) [
       | inl lt ↦ inside directory n p lt ∙ step_enough n m directory p lt h k (λ next. enough n m directory next) (block_at directory p) refl ∙ sym (inside directory m p lt)
-      | inr le ↦ past directory (suc n) p le ∙ sym (past directory (suc m) p le)
+      | inr le ↦ first_items-past directory (suc n) p le ∙ sym (first_items-past directory (suc m) p le)
     ]
 
 pub items_past : (directory : List ℕ) (p : ℕ) → length directory ≤ p → block_items directory p ≡ []
-items_past directory p le = past directory (length directory - p) p le
+items_past directory p le = first_items-past directory (length directory - p) p le
 
--- a block comes first, then the items behind it
+-- a block comes first, then the items after it
 pub items_ok : (directory : List ℕ) (p : ℕ) (b : Block) → p < length directory → block_at directory p ≡ Ok b → block_items directory p ≡ Ok b ∷ block_items directory (p + b.size)
 items_ok directory p b lt is =
     let large = size-block_at directory p b is in
@@ -83,7 +83,7 @@ items_few zero directory p = omega (arith, ap length (none_at directory p))
 items_few (suc n) directory p =
     elim (cases_lt p (length directory)) [
       | inl lt ↦ omega (arith, ap length (inside directory n p lt), few_by n directory p lt (items_few n directory) (block_at directory p) refl)
-      | inr le ↦ omega (arith, ap length (past directory (suc n) p le))
+      | inr le ↦ omega (arith, ap length (first_items-past directory (suc n) p le))
     ]
 
 -- no more come than heads fit, with one for a rest

@@ -8,11 +8,11 @@ use Rattle.goblin_base.specs.declared.endian.Endian.TheVariants.{Little}
 use Rattle.goblin_base.specs.declared.error.ErrorOf.{ErrorOf}
 use Rattle.goblin_base.specs.Bytes.{IsBytes, number, slice_at}
 use Rattle.goblin_base.specs.Record.{encoding}
-use Rattle.goblin_base.proofs.RecordRoundTrip.{Slot, encoding-fields_from, fields_from, slots_width}
+use Rattle.goblin_base.proofs.RecordRoundTrip.{Slot, encoding-fields_from, fields_from, slots_width, slice_then}
 use Rattle.goblin_base.proofs.RecordRoundTrip.Slot.{octets_slot, uint_slot}
 use Rattle.goblin_base.proofs.Numbers.{number-slice, read_number, slice_at-some}
 use Rattle.goblin_pe_sect.specs.BaseRelocations.{AreBlocks, AreBlocksOf, Block, IsBlockAt, block_at, block_fields, first_items, then_items, with_head, with_words}
-use Rattle.goblin_pe_sect.proofs.BlockItems.{inside, past}
+use Rattle.goblin_pe_sect.proofs.BlockItems.{inside, first_items-past}
 
 -- a number within a slice
 number_within : (n m k : ℕ) (bytes : List ℕ) (p : ℕ) → k + n ≤ m → number Little n (slice_range bytes p (p + m)) k ≡ number Little n bytes (p + k)
@@ -70,8 +70,8 @@ slice_is bytes p n start end =
     let second : nat_le (p + n) (length bytes) ≡ true = le-leb _ _ end in
     rw (first, second) refl
 
-made : (directory head : List ℕ) (q n rva : ℕ) (words : List ℕ) → number Little 4 head 4 ≡ n → number Little 4 head 0 ≡ rva → 8 ≤ n → slice_at directory q (n - 8) ≡ Some words → with_head directory q (Some head) ≡ Ok (record { rva = rva; size = n; words = words })
-made directory head q n rva words size_is rva_is large second =
+head_with_words : (directory head : List ℕ) (q n rva : ℕ) (words : List ℕ) → number Little 4 head 4 ≡ n → number Little 4 head 0 ≡ rva → 8 ≤ n → slice_at directory q (n - 8) ≡ Some words → with_head directory q (Some head) ≡ Ok (record { rva = rva; size = n; words = words })
+head_with_words directory head q n rva words size_is rva_is large second =
     let test : nat_lt n 8 ≡ false = search (rules, tests) in
     rw (size_is, test, second, rva_is, size_is) refl
 
@@ -87,7 +87,7 @@ read_from_at directory p b h =
     let size : number Little 4 head 4 ≡ b.size = number_within 4 8 4 directory p (omega arith) ∙ h.size in
     let own : slice_range directory (p + 8) (p + 8 + (b.size - 8)) ≡ b.words = ap (slice_range directory (p + 8)) to ∙ h.words in
     let words : slice_at directory (p + 8) (b.size - 8) ≡ Some b.words = slice_is directory (p + 8) (b.size - 8) room (omega (arith, h.within, h.large)) ∙ ap (λ (xs : List ℕ). Some xs) own in
-    ap (with_head directory (p + 8)) first ∙ made directory head (p + 8) b.size b.rva b.words size rva h.large words
+    ap (with_head directory (p + 8)) first ∙ head_with_words directory head (p + 8) b.size b.rva b.words size rva h.large words
 
 -- ---- the longest list
 
@@ -122,14 +122,14 @@ nothing_left n directory p done = record {
   blocks = [];
   end = p;
   errors = [];
-  are = past directory n p done;
+  are = first_items-past directory n p done;
   one = omega (arith, done);
   stand = refl;
   longest = none_first directory p (λ b h. omega (arith, done, h.within, h.large));
 }
 
-one_more : (n : ℕ) (directory : List ℕ) (p : ℕ) → p < length directory → ((next : ℕ) → p + 8 ≤ next → Stand directory next (first_items n directory next)) → (r : Result Block ErrorOf) → block_at directory p ≡ r → Stand directory p (then_items (first_items n directory) p r)
-one_more n directory p lt later (Ok b) is =
+one_more_block : (n : ℕ) (directory : List ℕ) (p : ℕ) → p < length directory → ((next : ℕ) → p + 8 ≤ next → Stand directory next (first_items n directory next)) → (r : Result Block ErrorOf) → block_at directory p ≡ r → Stand directory p (then_items (first_items n directory) p r)
+one_more_block n directory p lt later (Ok b) is =
     let h = at_from_read directory p b is in
     let others = later (p + b.size) (omega (arith, h.large)) in
     record {
@@ -141,7 +141,7 @@ one_more n directory p lt later (Ok b) is =
       stand = (h, others.stand);
       longest = more_first directory p b others.blocks is others.longest;
     }
-one_more n directory p lt later (Err e) is = record {
+one_more_block n directory p lt later (Err e) is = record {
   blocks = [];
   end = p;
   errors = e ∷ [];
@@ -157,7 +157,7 @@ all_stand (suc n) directory p few =
     elim (cases_lt p (length directory)) [
       | inl lt ↦
           let Is : List (Result Block ErrorOf) → Type 0 = Stand directory p in
-          subst Is (sym (inside directory n p lt)) (one_more n directory p lt (λ next further. all_stand n directory next (omega (arith, few, further))) (block_at directory p) refl)
+          subst Is (sym (inside directory n p lt)) (one_more_block n directory p lt (λ next further. all_stand n directory next (omega (arith, few, further))) (block_at directory p) refl)
       | inr done ↦ nothing_left (suc n) directory p done
     ]
 
@@ -175,13 +175,6 @@ encoding-block directory p b bytes h =
     let width : slots_width (slots b) ≡ b.size = omega (arith, h.large) in
     ap (encoding Little) (sym fields) ∙ encoding-fields_from Little (slots b) directory p bytes (omega (arith, width, h.within)) ∙ ap (λ (n : ℕ). slice_range directory p (p + n)) width
 
-slice_then : (bytes : List ℕ) (p a b : ℕ) → slice_range bytes p (p + a) ++ slice_range bytes (p + a) (p + a + b) ≡ slice_range bytes p (p + a + b)
-slice_then bytes p a b =
-    let e1 : p + a - p ≡ a = omega arith in
-    let e2 : p + a + b - (p + a) ≡ b = omega arith in
-    let e3 : p + a + b - p ≡ a + b = omega arith in
-    rw (e1, e2, e3, take-add a b (drop p bytes), drop-drop a p bytes) refl
-
 ends_past : (directory : List ℕ) (p : ℕ) (blocks : List Block) (end : ℕ) → AreBlocks directory p blocks end → p ≤ end
 ends_past directory p [] end stand = omega (arith, stand)
 ends_past directory p (b ∷ blocks) end stand = omega (arith, ends_past directory (p + b.size) blocks end stand.1)
@@ -194,7 +187,8 @@ encoding-blocks directory p (b ∷ blocks) end bytes stand =
     let first = encoding-block directory p b bytes stand.0 in
     let rest = encoding-blocks directory (p + b.size) blocks end bytes stand.1 in
     let to : p + b.size + (end - (p + b.size)) ≡ end = omega (arith, ends_past directory (p + b.size) blocks end stand.1) in
-    let joined : slice_range directory p (p + b.size) ++ slice_range directory (p + b.size) end ≡ slice_range directory p end = ap (λ (q : ℕ). slice_range directory p (p + b.size) ++ slice_range directory (p + b.size) q) (sym to) ∙ slice_then directory p b.size (end - (p + b.size)) ∙ ap (slice_range directory p) to in
+    let whole : p + (b.size + (end - (p + b.size))) ≡ end = omega (arith, ends_past directory (p + b.size) blocks end stand.1) in
+    let joined : slice_range directory p (p + b.size) ++ slice_range directory (p + b.size) end ≡ slice_range directory p end = ap (λ (q : ℕ). slice_range directory p (p + b.size) ++ slice_range directory (p + b.size) q) (sym to) ∙ slice_then directory p b.size (end - (p + b.size)) ∙ ap (slice_range directory p) whole in
     rw (first, rest) joined
 
 pub blocks_of : (directory : List ℕ) → AreBlocksOf directory (first_items (length directory - 0) directory 0)

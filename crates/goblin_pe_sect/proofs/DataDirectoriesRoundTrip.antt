@@ -1,4 +1,4 @@
--- Directories that were read are written as they stood, with zeros behind the last, and one that was written is read again.
+-- Directories that were read are written as they stood, with zeros after the last, and one that was written is read again.
 use Rattle.std.proofs.Common.{◌≡◌, ℕ, zero, suc, ◌+◌, ◌-◌, ◌*◌, ◌≤◌, true, false, nat_le, List, ◌∷◌, ◌++◌, length, drop, map, Option, Some, None, refl, sym, ap, ◌∙◌, inl, inr, arith, Bool, cond, nat_lt, take, replicate, ◌⊎◌}
 use Rattle.std.specs.Prelude.{◌==◌, ◌&&◌, ◌||◌, slice_range, flat_map}
 use Rattle.std.specs.List.{range_with_len}
@@ -13,8 +13,8 @@ use Rattle.goblin_base.specs.Record.{FieldValue, WritesBack, encoding, record_at
 use Rattle.goblin_base.proofs.RecordRoundTrip.{writes_back, reads_back}
 use Rattle.goblin_base.proofs.Writing.{encoding_append}
 use Rattle.goblin_pe_sect.specs.declared.data_directories.DataDirectory.{DataDirectory}
-use Rattle.goblin_pe_sect.specs.DataDirectories.{directories_at, directory_fields, directory_or_zeros, directory_record, entries_fields, entry_at, entry_ending, EntriesWriteBack, no_directory}
-use Rattle.goblin_pe_sect.proofs.Entries.{entry_at-below, entry_at-past}
+use Rattle.goblin_pe_sect.specs.DataDirectories.{directories_at, directory_fields, directory_or_zeros, directory_record, entries_fields, directory_entry_at, entry_ending, EntriesWriteBack, no_directory}
+use Rattle.goblin_pe_sect.proofs.Entries.{directory_entry_at-below, directory_entry_at-past}
 
 -- a directory that was read is written as it stood
 pub directory_back : WritesBack 8 directory_record directory_fields
@@ -53,25 +53,25 @@ own_bytes bytes p h room =
 
 -- the bytes of n entries from index a on
 abbrev bytes_of : ℕ → List ℕ → ℕ → ℕ → ℕ → List ℕ
-bytes_of count bytes p a n = encoding Little (entries_fields (map (entry_at count bytes p) (range_with_len a n)))
+bytes_of count bytes p a n = encoding Little (entries_fields (map (directory_entry_at count bytes p) (range_with_len a n)))
 
-bytes_of-more : (count : ℕ) (bytes : List ℕ) (p a n : ℕ) → bytes_of count bytes p a (suc n) ≡ encoding Little (directory_fields (directory_or_zeros (entry_at count bytes p a))) ++ bytes_of count bytes p (a + 1) n
+bytes_of-more : (count : ℕ) (bytes : List ℕ) (p a n : ℕ) → bytes_of count bytes p a (suc n) ≡ encoding Little (directory_fields (directory_or_zeros (directory_entry_at count bytes p a))) ++ bytes_of count bytes p (a + 1) n
 unfolding entries_fields
 bytes_of-more count bytes p a n =
-    encoding_append Little (directory_fields (directory_or_zeros (entry_at count bytes p a))) (entries_fields (map (entry_at count bytes p) (range_with_len (a + 1) n)))
+    encoding_append Little (directory_fields (directory_or_zeros (directory_entry_at count bytes p a))) (entries_fields (map (directory_entry_at count bytes p) (range_with_len (a + 1) n)))
 
 -- those below the count are written as they stand
-below : (count : ℕ) (bytes : List ℕ) (p a n : ℕ) → IsBytes bytes → a + n ≤ count → p + 8 * (a + n) ≤ length bytes → bytes_of count bytes p a n ≡ take (8 * n) (drop (p + 8 * a) bytes)
+bytes_of-below : (count : ℕ) (bytes : List ℕ) (p a n : ℕ) → IsBytes bytes → a + n ≤ count → p + 8 * (a + n) ≤ length bytes → bytes_of count bytes p a n ≡ take (8 * n) (drop (p + 8 * a) bytes)
 unfolding entries_fields
-below count bytes p a zero h most room = refl
-below count bytes p a (suc n) h most room =
+bytes_of-below count bytes p a zero h most room = refl
+bytes_of-below count bytes p a (suc n) h most room =
     let at = p + 8 * a in
     let width : at + 8 - at ≡ 8 = omega arith in
-    let first : encoding Little (directory_fields (directory_or_zeros (entry_at count bytes p a))) ≡ take 8 (drop at bytes) =
-    ap (λ e. encoding Little (directory_fields (directory_or_zeros e))) (entry_at-below count bytes p a (omega arith))
+    let first : encoding Little (directory_fields (directory_or_zeros (directory_entry_at count bytes p a))) ≡ take 8 (drop at bytes) =
+    ap (λ e. encoding Little (directory_fields (directory_or_zeros e))) (directory_entry_at-below count bytes p a (omega arith))
     ∙ ap (λ d. encoding Little (directory_fields d)) (directory_or_zeros-entry_ending (at + 8) (directory_record Little (slice_range bytes at (at + 8))))
     ∙ own_bytes bytes at h (omega arith) ∙ ap (λ (k : ℕ). take k (drop at bytes)) width in
-    let rest = below count bytes p (a + 1) n h (omega arith) (omega arith) in
+    let rest = bytes_of-below count bytes p (a + 1) n h (omega arith) (omega arith) in
     let next : p + 8 * (a + 1) ≡ at + 8 = omega arith in
     let long : 8 * suc n ≡ 8 + 8 * n = omega arith in
     bytes_of-more count bytes p a n ∙ ap (λ (xs : List ℕ). xs ++ bytes_of count bytes p (a + 1) n) first
@@ -79,13 +79,13 @@ below count bytes p a (suc n) h most room =
     ∙ sym (take-add 8 (8 * n) (drop at bytes)) ∙ ap (λ (k : ℕ). take k (drop at bytes)) (sym long)
 
 -- the others are zeros
-past : (count : ℕ) (bytes : List ℕ) (p a n : ℕ) → count ≤ a → bytes_of count bytes p a n ≡ replicate (8 * n) 0
+bytes_of-past : (count : ℕ) (bytes : List ℕ) (p a n : ℕ) → count ≤ a → bytes_of count bytes p a n ≡ replicate (8 * n) 0
 unfolding entries_fields
-past count bytes p a zero most = refl
-past count bytes p a (suc n) most =
-    let first : encoding Little (directory_fields (directory_or_zeros (entry_at count bytes p a))) ≡ replicate 8 0 =
-    ap (λ e. encoding Little (directory_fields (directory_or_zeros e))) (entry_at-past count bytes p a most) ∙ zeros in
-    let rest = past count bytes p (a + 1) n (omega arith) in
+bytes_of-past count bytes p a zero most = refl
+bytes_of-past count bytes p a (suc n) most =
+    let first : encoding Little (directory_fields (directory_or_zeros (directory_entry_at count bytes p a))) ≡ replicate 8 0 =
+    ap (λ e. encoding Little (directory_fields (directory_or_zeros e))) (directory_entry_at-past count bytes p a most) ∙ zeros in
+    let rest = bytes_of-past count bytes p (a + 1) n (omega arith) in
     let long : 8 * suc n ≡ 8 + 8 * n = omega arith in
     bytes_of-more count bytes p a n ∙ ap (λ (xs : List ℕ). xs ++ bytes_of count bytes p (a + 1) n) first ∙ ap (λ (xs : List ℕ). replicate 8 0 ++ xs) rest
     ∙ replicate-append-replicate 8 (8 * n) 0 ∙ ap (λ (k : ℕ). replicate k 0) (sym long)
@@ -106,7 +106,7 @@ range_with_len-split a (suc n) m =
 split : (count : ℕ) (bytes : List ℕ) (p n m : ℕ) → bytes_of count bytes p 0 (n + m) ≡ bytes_of count bytes p 0 n ++ bytes_of count bytes p n m
 unfolding entries_fields
 split count bytes p n m =
-    let f = entry_at count bytes p in
+    let f = directory_entry_at count bytes p in
     let g : Option (ℕ × DataDirectory) → List FieldValue = λ e. directory_fields (directory_or_zeros e) in
     ap (λ (r : List ℕ). encoding Little (flat_map g (map f r))) (range_with_len-split 0 n m ∙ ap (λ (k : ℕ). range_with_len 0 n ++ range_with_len k m) (zero_plus n))
     ∙ ap (λ (es : List (Option (ℕ × DataDirectory))). encoding Little (flat_map g es)) (map-append f (range_with_len 0 n) (range_with_len n m))
@@ -124,7 +124,7 @@ either false b h = inr h
 pub entries_back : EntriesWriteBack
 unfolding directories_at
 entries_back count bytes p entries h e =
-    let found = cond_some (nat_le count 16 && (count == 0 || nat_le (p + 8 * count) (length bytes))) (map (entry_at count bytes p) (range_with_len 0 16)) entries e in
+    let found = cond_some (nat_le count 16 && (count == 0 || nat_le (p + 8 * count) (length bytes))) (map (directory_entry_at count bytes p) (range_with_len 0 16)) entries e in
     let tests = and_parts (nat_le count 16) (count == 0 || nat_le (p + 8 * count) (length bytes)) found.0 in
     let most : count ≤ 16 = leb-true count 16 tests.0 in
     let all : 16 ≡ count + (16 - count) = omega (arith, most) in
@@ -135,7 +135,7 @@ entries_back count bytes p entries h e =
       | inl none ↦ none_read count count bytes p (eqb-true count 0 none) ∙ ap (λ (k : ℕ). take k (drop p bytes)) (sym width)
       | inr room ↦
           let fits = leb-true (p + 8 * count) (length bytes) room in
-          below count bytes p 0 count h (omega arith) (omega arith) ∙ ap (λ (k : ℕ). take (8 * count) (drop k bytes)) start ∙ ap (λ (k : ℕ). take k (drop p bytes)) (sym width)
+          bytes_of-below count bytes p 0 count h (omega arith) (omega arith) ∙ ap (λ (k : ℕ). take (8 * count) (drop k bytes)) start ∙ ap (λ (k : ℕ). take k (drop p bytes)) (sym width)
     ] in
     ap (λ (es : List (Option (ℕ × DataDirectory))). encoding Little (entries_fields es)) (sym found.1) ∙ ap (bytes_of count bytes p 0) all ∙ split count bytes p count (16 - count)
-    ∙ ap (λ (xs : List ℕ). xs ++ bytes_of count bytes p count (16 - count)) front ∙ ap (λ (xs : List ℕ). slice_range bytes p (p + 8 * count) ++ xs) (past count bytes p count (16 - count) (omega arith))
+    ∙ ap (λ (xs : List ℕ). xs ++ bytes_of count bytes p count (16 - count)) front ∙ ap (λ (xs : List ℕ). slice_range bytes p (p + 8 * count) ++ xs) (bytes_of-past count bytes p count (16 - count) (omega arith))

@@ -30,24 +30,24 @@ last_digits-below r (suc k) n positive =
     list_all-append (λ d. nat_lt d r) (last_digits r k (n / r)) (n % r ∷ []) ∙ rw (front, last) refl
 
 -- whether all numbers below n pass
-unfoldable pub below : (ℕ → Bool) → ℕ → Bool
-below test zero = true
-below test (suc n) = test n && below test n
+unfoldable pub all_below : (ℕ → Bool) → ℕ → Bool
+all_below test zero = true
+all_below test (suc n) = test n && all_below test n
 
-at_or_below : (test : ℕ → Bool) (n d : ℕ) → (test n && below test n) ≡ true → d < suc n → (below test n ≡ true → d < n → test d ≡ true) → (b : Bool) → nat_eq d n ≡ b → test d ≡ true
-at_or_below test n d h small lower true e = ap test (eqb-true d n e) ∙ (and_parts (test n) (below test n) h).0
-at_or_below test n d h small lower false e = lower (and_parts (test n) (below test n) h).1 (let apart : d ≢ n = search (rules, e) in omega (arith, small, apart))
+at_or_below : (test : ℕ → Bool) (n d : ℕ) → (test n && all_below test n) ≡ true → d < suc n → (all_below test n ≡ true → d < n → test d ≡ true) → (b : Bool) → nat_eq d n ≡ b → test d ≡ true
+at_or_below test n d h small lower true e = ap test (eqb-true d n e) ∙ (and_parts (test n) (all_below test n) h).0
+at_or_below test n d h small lower false e = lower (and_parts (test n) (all_below test n) h).1 (let apart : d ≢ n = search (rules, e) in omega (arith, small, apart))
 
-pub below-at : (test : ℕ → Bool) (n d : ℕ) → below test n ≡ true → d < n → test d ≡ true
-unfolding below
-below-at test zero d h small = absurd (omega (arith, small))
-below-at test (suc n) d h small = at_or_below test n d h small (λ parts less. below-at test n d parts less) (nat_eq d n) refl
+pub all_below-at : (test : ℕ → Bool) (n d : ℕ) → all_below test n ≡ true → d < n → test d ≡ true
+unfolding all_below
+all_below-at test zero d h small = absurd (omega (arith, small))
+all_below-at test (suc n) d h small = at_or_below test n d h small (λ parts less. all_below-at test n d parts less) (nat_eq d n) refl
 
 -- a digit is read from its byte
 pub digit-digit_byte : (s : Digits) (d : ℕ) → d < radix s → digit s (digit_byte s d) ≡ d
-unfolding below alphabet
-digit-digit_byte Decimal d small = eqb-true (digit Decimal (digit_byte Decimal d)) d (below-at (λ d. nat_eq (digit Decimal (digit_byte Decimal d)) d) 10 d refl small)
-digit-digit_byte Base64 d small = eqb-true (digit Base64 (digit_byte Base64 d)) d (below-at (λ d. nat_eq (digit Base64 (digit_byte Base64 d)) d) 64 d refl small)
+unfolding all_below alphabet
+digit-digit_byte Decimal d small = eqb-true (digit Decimal (digit_byte Decimal d)) d (all_below-at (λ d. nat_eq (digit Decimal (digit_byte Decimal d)) d) 10 d refl small)
+digit-digit_byte Base64 d small = eqb-true (digit Base64 (digit_byte Base64 d)) d (all_below-at (λ d. nat_eq (digit Base64 (digit_byte Base64 d)) d) 64 d refl small)
 
 digits_back : (s : Digits) (ds : List ℕ) → list_all (λ d. nat_lt d (radix s)) ds ≡ true
     → (map (digit s) (map (digit_byte s) ds) ≡ ds) × (list_all (λ b. nat_lt (digit s b) (radix s)) (map (digit_byte s) ds) ≡ true)

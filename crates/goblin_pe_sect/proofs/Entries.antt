@@ -18,11 +18,11 @@ use Rattle.goblin_base.specs.Bytes.{replaced, slice_at}
 use Rattle.goblin_base.specs.Answers.{IsSliceFault}
 use Rattle.goblin_base.specs.Record.{FieldValue, encoding, record_at, total_width}
 use Rattle.goblin_base.proofs.Records.{record_at-some}
-use Rattle.goblin_base.proofs.Writing.{IsGoing, encoding_append, length-replaced, length_encoding, replaced_then}
+use Rattle.goblin_base.proofs.Writing.{IsPutting, encoding_append, length-replaced, length_encoding, replaced_then}
 use Rattle.goblin_pe_sect.specs.declared.data_directories.DataDirectory.{DataDirectory}
 use Rattle.goblin_pe_sect.specs.declared.data_directories.DataDirectoryType.{DataDirectoryType}
 use Rattle.goblin_pe_sect.specs.declared.data_directories.DataDirectoryType.TheVariants.{ExportTable}
-use Rattle.goblin_pe_sect.specs.DataDirectories.{IsDirectoriesFault, directories_at, directory_fields, directory_or_zeros, directory_record, entries_fields, entry_at, entry_ending, kinds, present_from, with_kind}
+use Rattle.goblin_pe_sect.specs.DataDirectories.{IsDirectoriesFault, directories_at, directory_fields, directory_or_zeros, directory_record, entries_fields, directory_entry_at, entry_ending, kinds, present_from, with_kind}
 
 -- too many entries are refused
 pub too_many : (count : ℕ) (bytes : List ℕ) (p : ℕ) → 16 < count → directories_at count bytes p ≡ None
@@ -34,16 +34,16 @@ past_end : (count : ℕ) (bytes : List ℕ) (p : ℕ) → 0 < count → length b
 unfolding directories_at
 past_end count bytes p some past =
     let more : (count == 0) ≡ false = ne_eqb count 0 (λ e. omega arith) in
-    elim (nat_le count 16) as (λ b. (if b && (count == 0 || nat_le (p + 8 * count) (length bytes)) then Some (map (entry_at count bytes p) (range_with_len 0 16)) else None) ≡ None) [
+    elim (nat_le count 16) as (λ b. (if b && (count == 0 || nat_le (p + 8 * count) (length bytes)) then Some (map (directory_entry_at count bytes p) (range_with_len 0 16)) else None) ≡ None) [
       | true ↦ rw (more, lt-leb _ _ past) refl
       | false ↦ refl
     ]
 
 -- entries that were read are there
-there : (i : ℕ) (bytes : List ℕ) (p : ℕ) (entries : List (Option (ℕ × DataDirectory))) → directories_at i bytes p ≡ Some entries → (k : ℕ) → k < i → slice_at bytes (p + 8 * k) 8 ≢ None
+entries-there : (i : ℕ) (bytes : List ℕ) (p : ℕ) (entries : List (Option (ℕ × DataDirectory))) → directories_at i bytes p ≡ Some entries → (k : ℕ) → k < i → slice_at bytes (p + 8 * k) 8 ≢ None
 unfolding directories_at
-there i bytes p entries h k lt none =
-    let test = (cond_some (nat_le i 16 && (i == 0 || nat_le (p + 8 * i) (length bytes))) (map (entry_at i bytes p) (range_with_len 0 16)) entries h).0 in
+entries-there i bytes p entries h k lt none =
+    let test = (cond_some (nat_le i 16 && (i == 0 || nat_le (p + 8 * i) (length bytes))) (map (directory_entry_at i bytes p) (range_with_len 0 16)) entries h).0 in
     let room : p + 8 * i ≤ length bytes = elim (or_cases (i == 0) (nat_le (p + 8 * i) (length bytes)) (and_parts (nat_le i 16) (i == 0 || nat_le (p + 8 * i) (length bytes)) test).1) [
       | inl nothing ↦ absurd (omega (arith, lt, eqb-true i 0 nothing))
       | inr le ↦ leb-true _ _ le
@@ -61,31 +61,31 @@ not_there bytes p past = rw (lt-leb _ _ past, and-false) refl
 pub one_missing : (count i : ℕ) (bytes : List ℕ) (p at : ℕ) (entries : List (Option (ℕ × DataDirectory))) (e : ErrorOf) → i < count → count ≤ 16 → at ≡ p + 8 * i
     → directories_at i bytes p ≡ Some entries → IsSliceFault bytes at 8 e → (directories_at count bytes p ≡ None) × IsDirectoriesFault count bytes p e
 one_missing count i bytes p at entries (Read BadOffset) lt most is so_far h =
-    (past_end count bytes p (omega arith) (omega arith), (most, (i, lt, there i bytes p entries so_far, not_there bytes (p + 8 * i) (omega arith), omega arith)))
+    (past_end count bytes p (omega arith) (omega arith), (most, (i, lt, entries-there i bytes p entries so_far, not_there bytes (p + 8 * i) (omega arith), omega arith)))
 one_missing count i bytes p at entries (Read TooBig) lt most is so_far h =
-    (past_end count bytes p (omega arith) (omega arith), (most, (i, lt, there i bytes p entries so_far, not_there bytes (p + 8 * i) (omega arith), omega arith)))
+    (past_end count bytes p (omega arith) (omega arith), (most, (i, lt, entries-there i bytes p entries so_far, not_there bytes (p + 8 * i) (omega arith), omega arith)))
 one_missing count i bytes p at entries e lt most is so_far h = absurd h
 
 -- what entries that were read are
 record AreEntries (count : ℕ) (bytes : List ℕ) (p : ℕ) (entries : List (Option (ℕ × DataDirectory))) : Type 0 where
   pub sixteen : length entries ≡ 16
-  pub each : (k : ℕ) → k < 16 → get_or entries k None ≡ entry_at count bytes p k
+  pub each : (k : ℕ) → k < 16 → get_or entries k None ≡ directory_entry_at count bytes p k
 
-are_entries : (count : ℕ) (bytes : List ℕ) (p : ℕ) (entries : List (Option (ℕ × DataDirectory))) → directories_at count bytes p ≡ Some entries → AreEntries count bytes p entries
+entries_read : (count : ℕ) (bytes : List ℕ) (p : ℕ) (entries : List (Option (ℕ × DataDirectory))) → directories_at count bytes p ≡ Some entries → AreEntries count bytes p entries
 unfolding directories_at
-are_entries count bytes p entries h =
-    let f = entry_at count bytes p in
+entries_read count bytes p entries h =
+    let f = directory_entry_at count bytes p in
     let is : map f (range_with_len 0 16) ≡ entries = (cond_some (nat_le count 16 && (count == 0 || nat_le (p + 8 * count) (length bytes))) (map f (range_with_len 0 16)) entries h).1 in
     record {
       sixteen = ap length (sym is) ∙ length-map-range_with_len f 0 16;
       each = λ k lt. ap (λ (es : List (Option (ℕ × DataDirectory))). get_or es k None) (sym is) ∙ get_or-map-range_with_len f 0 16 k k None lt (omega arith);
     }
 
-pub entry_at-below : (count : ℕ) (bytes : List ℕ) (p i : ℕ) → i < count → entry_at count bytes p i ≡ entry_ending (p + 8 * i + 8) (directory_record Little (slice_range bytes (p + 8 * i) (p + 8 * i + 8)))
-entry_at-below count bytes p i lt = rw (lt-ltb i count lt) refl
+pub directory_entry_at-below : (count : ℕ) (bytes : List ℕ) (p i : ℕ) → i < count → directory_entry_at count bytes p i ≡ entry_ending (p + 8 * i + 8) (directory_record Little (slice_range bytes (p + 8 * i) (p + 8 * i + 8)))
+directory_entry_at-below count bytes p i lt = rw (lt-ltb i count lt) refl
 
-pub entry_at-past : (count : ℕ) (bytes : List ℕ) (p i : ℕ) → count ≤ i → entry_at count bytes p i ≡ None
-entry_at-past count bytes p i le = rw (le-ltb i count le) refl
+pub directory_entry_at-past : (count : ℕ) (bytes : List ℕ) (p i : ℕ) → count ≤ i → directory_entry_at count bytes p i ≡ None
+directory_entry_at-past count bytes p i le = rw (le-ltb i count le) refl
 
 -- one more entry
 pub entries_more : (i : ℕ) (bytes : List ℕ) (p at end : ℕ) (entries : List (Option (ℕ × DataDirectory))) (d : DataDirectory) (x : Option (ℕ × DataDirectory)) → i < 16
@@ -93,35 +93,35 @@ pub entries_more : (i : ℕ) (bytes : List ℕ) (p at end : ℕ) (entries : List
     → directories_at (i + 1) bytes p ≡ Some (set entries i x)
 unfolding directories_at
 entries_more i bytes p at end entries d x lt at_is end_is so_far next is =
-    let are = are_entries i bytes p entries so_far in
+    let are = entries_read i bytes p entries so_far in
     let here = record_at-some 8 (directory_record Little) bytes at d next in
     let most : nat_le (i + 1) 16 ≡ true = le-leb _ _ (omega arith) in
     let room : nat_le (p + 8 * (i + 1)) (length bytes) ≡ true = le-leb _ _ (omega (arith, here.end)) in
     let e1 : end ≡ p + 8 * i + 8 = omega arith in
-    let new : x ≡ entry_at (i + 1) bytes p i =
-    is ∙ ap (entry_ending end) here.is ∙ rw (at_is) (rw e1 (sym (entry_at-below (i + 1) bytes p i (omega arith)))) in
-    let each : (k : ℕ) → k < 16 → get_or (set entries i x) k None ≡ entry_at (i + 1) bytes p k =
+    let new : x ≡ directory_entry_at (i + 1) bytes p i =
+    is ∙ ap (entry_ending end) here.is ∙ rw (at_is) (rw e1 (sym (directory_entry_at-below (i + 1) bytes p i (omega arith)))) in
+    let each : (k : ℕ) → k < 16 → get_or (set entries i x) k None ≡ directory_entry_at (i + 1) bytes p k =
     λ k k_lt. elim (cases_lt k i) [
       | inl less ↦
-          get_or-set_other entries i k x None (λ e. omega arith) ∙ are.each k k_lt ∙ entry_at-below i bytes p k less ∙ sym (entry_at-below (i + 1) bytes p k (omega arith))
+          get_or-set_other entries i k x None (λ e. omega arith) ∙ are.each k k_lt ∙ directory_entry_at-below i bytes p k less ∙ sym (directory_entry_at-below (i + 1) bytes p k (omega arith))
       | inr le ↦ elim (cases_lt i k) [
         | inl more ↦
-            get_or-set_other entries i k x None (λ e. omega arith) ∙ are.each k k_lt ∙ entry_at-past i bytes p k le ∙ sym (entry_at-past (i + 1) bytes p k (omega arith))
+            get_or-set_other entries i k x None (λ e. omega arith) ∙ are.each k k_lt ∙ directory_entry_at-past i bytes p k le ∙ sym (directory_entry_at-past (i + 1) bytes p k (omega arith))
         | inr ge ↦
             let e : i ≡ k = omega arith in
             rw (← e) (get_or-set_same entries i x None (omega (arith, are.sixteen)) ∙ new)
       ]
     ] in
     let len : length (set entries i x) ≡ 16 = length-set entries i x ∙ are.sixteen in
-    let all : set entries i x ≡ map (entry_at (i + 1) bytes p) (range_with_len 0 16) = fill_by_all (entry_at (i + 1) bytes p) (set entries i x) 16 None len each in
+    let all : set entries i x ≡ map (directory_entry_at (i + 1) bytes p) (range_with_len 0 16) = fill_by_all (directory_entry_at (i + 1) bytes p) (set entries i x) 16 None len each in
     rw (most, room, or-true, all) refl
 
 -- what is left to write, once an entry is written
 pub entries-going : (endian : Endian) (entries : List (Option (ℕ × DataDirectory))) (i : ℕ) (d : DataDirectory) (bytes new final : List ℕ)
     → i < length entries → d ≡ directory_or_zeros (get_or entries i None)
     → new ≡ replaced bytes (8 * i) (encoding endian (directory_fields d))
-    → IsGoing endian (entries_fields (drop i entries)) (8 * i) bytes final
-    → IsGoing endian (entries_fields (drop (i + 1) entries)) (8 * (i + 1)) new final
+    → IsPutting endian (entries_fields (drop i entries)) (8 * i) bytes final
+    → IsPutting endian (entries_fields (drop (i + 1) entries)) (8 * (i + 1)) new final
 unfolding entries_fields directory_fields
 entries-going endian entries i d bytes new final lt d_is is going =
     let rest = entries_fields (drop (i + 1) entries) in
@@ -146,7 +146,7 @@ width-entries (e ∷ entries) = let rest = width-entries entries in omega arith
 
 -- before the first is written
 pub all_going : (endian : Endian) (entries : List (Option (ℕ × DataDirectory))) (bytes : List ℕ) → length entries ≡ 16 → length bytes ≡ 128
-    → IsGoing endian (entries_fields entries) 0 bytes (encoding endian (entries_fields entries))
+    → IsPutting endian (entries_fields entries) 0 bytes (encoding endian (entries_fields entries))
 all_going endian entries bytes sixteen len =
     let fields = entries_fields entries in
     let width = width-entries entries in
@@ -155,7 +155,7 @@ all_going endian entries bytes sixteen len =
 
 -- once the last is written
 pub entries_done : (endian : Endian) (entries : List (Option (ℕ × DataDirectory))) (i : ℕ) (bytes final : List ℕ) → length entries ≡ i → length bytes ≤ 8 * i
-    → IsGoing endian (entries_fields (drop i entries)) (8 * i) bytes final → bytes ≡ final
+    → IsPutting endian (entries_fields (drop i entries)) (8 * i) bytes final → bytes ≡ final
 unfolding entries_fields
 entries_done endian entries i bytes final len past going =
     let none : drop i entries ≡ [] = drop_all i entries (omega arith) in
@@ -187,7 +187,7 @@ pub walk_some : (entries : List (Option (ℕ × DataDirectory))) (i : ℕ) (kind
     → present_from i entries ≡ (get_or kinds i kind, entry.1) ∷ present_from (i + 1) entries
 walk_some entries i kind entry lt len some = walk entries i kind lt len ∙ rw some refl
 
--- behind the last kind nothing is left
+-- after the last kind nothing is left
 pub walk_end : (entries : List (Option (ℕ × DataDirectory))) (i : ℕ) → 15 ≤ i → present_from i entries ≡ []
 unfolding kinds
 walk_end entries i le = ap (filter_map with_kind) (drop_all i (zip kinds entries) (omega (arith, length-zip kinds entries)))

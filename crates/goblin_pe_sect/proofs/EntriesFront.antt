@@ -8,30 +8,26 @@ use Rattle.std.proofs.Math.Bool.{or-true}
 use Rattle.goblin_base.specs.declared.endian.Endian.TheVariants.{Little}
 use Rattle.goblin_base.proofs.Fronts.{HaveFront, slice-front}
 use Rattle.goblin_pe_sect.specs.declared.data_directories.DataDirectory.{DataDirectory}
-use Rattle.goblin_pe_sect.specs.DataDirectories.{directories_at, directory_record, entry_at, entry_ending}
-use Rattle.goblin_pe_sect.proofs.Entries.{entry_at-below, entry_at-past}
+use Rattle.goblin_pe_sect.specs.DataDirectories.{directories_at, directory_record, directory_entry_at, entry_ending}
+use Rattle.goblin_pe_sect.proofs.Entries.{directory_entry_at-below, directory_entry_at-past}
+use Rattle.goblin_base.proofs.Footprints.{same_map}
 
--- two functions that give the same at each index make the same list
-pub same_map : {X : Type 0} (f g : ℕ → X) (a n : ℕ) → ((i : ℕ) → f i ≡ g i) → map f (range_with_len a n) ≡ map g (range_with_len a n)
-same_map f g a zero same = refl
-same_map {X} f g a (suc n) same = rw (same a, same_map f g (a + 1) n same) refl
-
-entry-front : (n count p : ℕ) (a b : List ℕ) → HaveFront n a b → p + 8 * count ≤ n → (i : ℕ) → entry_at count a p i ≡ entry_at count b p i
+entry-front : (n count p : ℕ) (a b : List ℕ) → HaveFront n a b → p + 8 * count ≤ n → (i : ℕ) → directory_entry_at count a p i ≡ directory_entry_at count b p i
 entry-front n count p a b h le i =
     elim (cases_lt i count) [
       | inl lt ↦
-          entry_at-below count a p i lt
+          directory_entry_at-below count a p i lt
           ∙ ap (λ (own : List ℕ). entry_ending (p + 8 * i + 8) (directory_record Little own)) (slice-front n (p + 8 * i) 8 a b h (omega (arith, lt, le)))
-          ∙ sym (entry_at-below count b p i lt)
-      | inr past ↦ entry_at-past count a p i past ∙ sym (entry_at-past count b p i past)
+          ∙ sym (directory_entry_at-below count b p i lt)
+      | inr past ↦ directory_entry_at-past count a p i past ∙ sym (directory_entry_at-past count b p i past)
     ]
 
 pub directories-front : (n count p : ℕ) (entries : List (Option (ℕ × DataDirectory))) (a b : List ℕ) → HaveFront n a b → p + 8 * count ≤ n
     → directories_at count a p ≡ Some entries → directories_at count b p ≡ Some entries
 unfolding directories_at
 directories-front n count p entries a b h le e =
-    let found = cond_some (nat_le count 16 && (count == 0 || nat_le (p + 8 * count) (length a))) (map (entry_at count a p) (range_with_len 0 16)) entries e in
+    let found = cond_some (nat_le count 16 && (count == 0 || nat_le (p + 8 * count) (length a))) (map (directory_entry_at count a p) (range_with_len 0 16)) entries e in
     let tests = and_parts (nat_le count 16) (count == 0 || nat_le (p + 8 * count) (length a)) found.0 in
     let room : nat_le (p + 8 * count) (length b) ≡ true = le-leb _ _ (omega (arith, h.in_b, le)) in
-    let same = same_map (entry_at count a p) (entry_at count b p) 0 16 (entry-front n count p a b h le) in
+    let same = same_map (directory_entry_at count a p) (directory_entry_at count b p) 16 0 (λ i low high. entry-front n count p a b h le i) in
     rw (tests.0, room, or-true (count == 0)) (ap (λ (es : List (Option (ℕ × DataDirectory))). Some es) (sym same ∙ found.1))

@@ -10,16 +10,16 @@ use Rattle.goblin_base.specs.Bytes.{slice_at}
 use Rattle.goblin_base.specs.Footprints.{Agree, led_to, rest_footprint, slice_footprint, stretch_footprint}
 use Rattle.goblin_base.specs.Record.{record_at}
 use Rattle.goblin_base.specs.Tables.{concat_below}
-use Rattle.goblin_base.proofs.Footprints.{agree-below, agree-left, agree-right, same-led, same-record_at, same-slice_at, same-slice_range, same-text_at, same-within}
+use Rattle.goblin_base.specs.Values.{value_at}
+use Rattle.goblin_base.proofs.Footprints.{agree-below, agree-left, agree-right, same-led, same-record_at, same-slice_at, same-slice_range, same-text_at, same-within, same_map}
 use Rattle.goblin_pe_sect.specs.declared.data_directories.DataDirectory.{DataDirectory}
 use Rattle.goblin_pe_sect.specs.BaseRelocations.{relocation_data}
-use Rattle.goblin_pe_sect.specs.DataDirectories.{directories_at, directory_record, entry_at, entry_ending}
+use Rattle.goblin_pe_sect.specs.DataDirectories.{directories_at, directory_record, directory_entry_at, entry_ending}
 use Rattle.goblin_pe_sect.specs.Footprints.{data_footprint, directories_footprint, relocation_footprint, section_footprint}
-use Rattle.goblin_pe_sect.specs.Mapping.{data_at, value_at}
+use Rattle.goblin_pe_sect.specs.Mapping.{data_at}
 use Rattle.goblin_pe_sect.specs.SectionName.{name_value, real_name_at}
 use Rattle.goblin_pe_sect.specs.SectionTable.{Section, section_at, section_record}
-use Rattle.goblin_pe_sect.proofs.Entries.{entry_at-below, entry_at-past}
-use Rattle.goblin_pe_sect.proofs.EntriesFront.{same_map}
+use Rattle.goblin_pe_sect.proofs.Entries.{directory_entry_at-below, directory_entry_at-past}
 
 -- ---- sections
 
@@ -56,18 +56,18 @@ room_for : (none : Bool) (count end long : ℕ) → (none ≡ true → count ≡
 room_for true count end long none some h = absurd (omega (arith, none refl, some))
 room_for false count end long none some h = leb-true end long h
 
-same-entry : (count : ℕ) (a b : List ℕ) (p : ℕ) → p + 8 * count ≤ length a → Agree (concat_below (λ i. slice_footprint a (p + 8 * i) 8) count) a b → (i : ℕ) → i < count → entry_at count a p i ≡ entry_at count b p i
+same-entry : (count : ℕ) (a b : List ℕ) (p : ℕ) → p + 8 * count ≤ length a → Agree (concat_below (λ i. slice_footprint a (p + 8 * i) 8) count) a b → (i : ℕ) → i < count → directory_entry_at count a p i ≡ directory_entry_at count b p i
 same-entry count a b p room h i lt =
     let own = agree-below (λ i. slice_footprint a (p + 8 * i) 8) count i a b lt h in
-    entry_at-below count a p i lt
+    directory_entry_at-below count a p i lt
     ∙ ap (λ (own : List ℕ). entry_ending (p + 8 * i + 8) (directory_record Little own)) (same-slice_range a b (p + 8 * i) 8 own (omega (arith, lt, room)))
-    ∙ sym (entry_at-below count b p i lt)
+    ∙ sym (directory_entry_at-below count b p i lt)
 
-same-entries : (count : ℕ) (a b : List ℕ) (p : ℕ) → (0 < count → p + 8 * count ≤ length a) → Agree (concat_below (λ i. slice_footprint a (p + 8 * i) 8) count) a b → (i : ℕ) → entry_at count a p i ≡ entry_at count b p i
+same-entries : (count : ℕ) (a b : List ℕ) (p : ℕ) → (0 < count → p + 8 * count ≤ length a) → Agree (concat_below (λ i. slice_footprint a (p + 8 * i) 8) count) a b → (i : ℕ) → directory_entry_at count a p i ≡ directory_entry_at count b p i
 same-entries count a b p room h i =
     elim (cases_lt i count) [
       | inl lt ↦ same-entry count a b p (room (omega (arith, lt))) h i lt
-      | inr past ↦ entry_at-past count a p i past ∙ sym (entry_at-past count b p i past)
+      | inr past ↦ directory_entry_at-past count a p i past ∙ sym (directory_entry_at-past count b p i past)
     ]
 
 pub same-directories_at : (count : ℕ) (a b : List ℕ) (p : ℕ) → Agree (directories_footprint count a p) a b → directories_at count a p ≡ directories_at count b p
@@ -75,12 +75,12 @@ unfolding directories_at directories_footprint
 same-directories_at count a b p h =
     let end = p + 8 * count in
     same_if (nat_le count 16 && (nat_eq count 0 || nat_le end (length a))) (nat_le count 16 && (nat_eq count 0 || nat_le end (length b)))
-    (map (entry_at count a p) (range_with_len 0 16)) (map (entry_at count b p) (range_with_len 0 16))
+    (map (directory_entry_at count a p) (range_with_len 0 16)) (map (directory_entry_at count b p) (range_with_len 0 16))
     (ap (λ (n : ℕ). nat_le count 16 && (nat_eq count 0 || nat_le end n)) h.same_length)
     (λ there.
     let tests = and_parts (nat_le count 16) (nat_eq count 0 || nat_le end (length a)) there in
     let all : Agree (concat_below (λ i. slice_footprint a (p + 8 * i) 8) count) a b = subst (λ (t : Bool). Agree (cond t (concat_below (λ i. slice_footprint a (p + 8 * i) 8) count) []) a b) tests.0 h in
-    same_map (entry_at count a p) (entry_at count b p) 0 16 (same-entries count a b p (λ some. room_for (nat_eq count 0) count end (length a) (eqb-true count 0) some tests.1) all))
+    same_map (directory_entry_at count a p) (directory_entry_at count b p) 16 0 (λ i low high. same-entries count a b p (λ some. room_for (nat_eq count 0) count end (length a) (eqb-true count 0) some tests.1) all i))
 
 -- ---- base relocations, and values
 
@@ -99,7 +99,7 @@ same-rest a b p lt h =
     let all_b : slice_range b p (p + n) ≡ drop p b = take_all (p + n - p) (drop p b) (omega (arith, width, length-drop p b, h.same_length)) in
     sym all_a ∙ same-within p (length a) a b p n h (omega arith) (omega (arith, end)) (omega (arith, end)) ∙ all_b
 
-same-value_at : {Y : Type 0} (value_of : Endian → List ℕ → Option (Y × ℕ)) (a b : List ℕ) (p : ℕ) → Agree (rest_footprint a p) a b → value_at value_of a p ≡ value_at value_of b p
+same-value_at : {Y : Type 0} (value_of : Endian → List ℕ → Option (Y × ℕ)) (a b : List ℕ) (p : ℕ) → Agree (rest_footprint a p) a b → value_at value_of Little a p ≡ value_at value_of Little b p
 same-value_at {Y} value_of a b p h =
     let value : List ℕ → Option Y = λ own. option_map (λ (x : Y × ℕ). x.0) (value_of Little own) in
     let length_is : nat_lt p (length a) ≡ nat_lt p (length b) = ap (nat_lt p) h.same_length in
@@ -113,4 +113,4 @@ same-value_at {Y} value_of a b p h =
 pub same-data_at : {Y : Type 0} (offset_of : ℕ → Option ℕ) (value_of : Endian → List ℕ → Option (Y × ℕ)) (a b : List ℕ) (rva : ℕ) → Agree (data_footprint offset_of a rva) a b → data_at offset_of value_of a rva ≡ data_at offset_of value_of b rva
 unfolding data_footprint
 same-data_at offset_of value_of a b rva h =
-    same-led (offset_of rva) (offset_of rva) (value_at value_of a) (value_at value_of b) (rest_footprint a) a b refl (λ p is own. same-value_at value_of a b p own) h
+    same-led (offset_of rva) (offset_of rva) (value_at value_of Little a) (value_at value_of Little b) (rest_footprint a) a b refl (λ p is own. same-value_at value_of a b p own) h

@@ -6,7 +6,7 @@ pub mod DataDirectoriesRoundTrip
 pub mod DigitsRoundTrip
 pub mod Entries
 pub mod EntriesFront
-mod First
+pub mod First
 pub mod Footprints
 pub mod Halving
 pub mod Mapped

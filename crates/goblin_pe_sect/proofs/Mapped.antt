@@ -17,16 +17,16 @@ unfolding ones
 power_positive zero h = absurd (cc h)
 power_positive (suc a) h = omega arith
 
-least_below : (b c : Bool) (x y z bound : ℕ) → y ≤ bound → cond b 0 (cond c (min x y) (min (min x y) z)) ≤ bound
-least_below true c x y z bound h = omega arith
-least_below false true x y z bound h = omega arith
-least_below false false x y z bound h = omega arith
+read-bounded : (b c : Bool) (x y z bound : ℕ) → y ≤ bound → cond b 0 (cond c (min x y) (min (min x y) z)) ≤ bound
+read-bounded true c x y z bound h = omega arith
+read-bounded false true x y z bound h = omega arith
+read-bounded false false x y z bound h = omega arith
 
 -- a section is read up to less than a page past its raw size
 pub read_size_le : (s : Section) (alignment : ℕ) → read_size s alignment ≤ s.size_of_raw_data + 4095
 unfolding read_size
 read_size_le s alignment =
-    least_below (s.size_of_raw_data == 0) (s.virtual_size == 0) _ _ _ _ (omega (arith, up_near 4096 s.size_of_raw_data (omega arith)))
+    read-bounded (s.size_of_raw_data == 0) (s.virtual_size == 0) _ _ _ _ (omega (arith, up_near 4096 s.size_of_raw_data (omega arith)))
 
 -- an address in a window lies between its begin and its end
 pub in_window : (alignment rva : ℕ) (s : Section) → is_in_window alignment rva s ≡ true → InWindow alignment rva s

@@ -75,9 +75,9 @@ all-more test bytes i inside so_far here = list_all_more test bytes i 0 inside �
 abbrev pub finished : Digits → ℕ → ℕ → ℕ → List ℕ → List ℕ
 finished s from at rest name = take from name ++ map (digit_byte s) (last_digits (radix s) (at - from) rest) ++ drop at name
 
-last_digit : (s : Digits) (k n : ℕ) → map (digit_byte s) (last_digits (radix s) (k + 1) n) ≡ map (digit_byte s) (last_digits (radix s) k (n / radix s)) ++ digit_byte s (n % radix s) ∷ []
+written-last_digit : (s : Digits) (k n : ℕ) → map (digit_byte s) (last_digits (radix s) (k + 1) n) ≡ map (digit_byte s) (last_digits (radix s) k (n / radix s)) ++ digit_byte s (n % radix s) ∷ []
 unfolding last_digits
-last_digit s k n =
+written-last_digit s k n =
     let next : k + 1 ≡ suc k = omega arith in
     ap (λ (j : ℕ). map (digit_byte s) (last_digits (radix s) j n)) next ∙ map-append (digit_byte s) (last_digits (radix s) k (n / radix s)) (n % radix s ∷ [])
 
@@ -91,7 +91,7 @@ finished-step s from a rest q b name order inside eq eb =
     let front : take from (slice_set name a b) ≡ take from name = take-set-le from name a b order in
     let back : drop a (slice_set name a b) ≡ b ∷ drop (a + 1) name = drop-set name a b inside in
     let count : a + 1 - from ≡ a - from + 1 = omega (arith, order) in
-    let last = last_digit s (a - from) rest in
+    let last = written-last_digit s (a - from) rest in
     rw (front, back, count, last, eq, sym eb) (sym (joined (take from name) (map (digit_byte s) (last_digits (radix s) (a - from) (rest / radix s))) (drop (a + 1) name) b))
 
 -- with no digit left the bytes are what they are

@@ -5,7 +5,7 @@ use Rattle.goblin_base.specs.declared.endian.Endian.TheVariants.{Little}
 use Rattle.goblin_base.proofs.RecordItems.{length-records_in, records_in-more, records_in-none}
 use Rattle.goblin_pe_sect.specs.Relocations.{relocation_record, relocations_in}
 
--- a whole record comes first, then those behind it
+-- a whole record comes first, then those after it
 pub relocations_more : (bytes : List ℕ) → 10 ≤ length bytes → relocations_in bytes ≡ relocation_record Little (take 10 bytes) ∷ relocations_in (drop 10 bytes)
 relocations_more bytes le =
     let left = length-drop 10 bytes in

@@ -5,50 +5,49 @@ use Rattle.std.specs.List.{list_all, position_or_len}
 use Rattle.std.specs.Str.{is_utf8, IsAscii}
 use Rattle.std.proofs.lemmas.Str.{is_utf8-from_IsUtf8, IsUtf8-from_ascii}
 use Rattle.std.proofs.lemmas.Str.Ascii.{IsAscii-cons, IsAscii-nil}
-use Rattle.std.proofs.lemmas.Bool.{and_parts, ltb-true, eqb-true, leb-true}
+use Rattle.std.proofs.lemmas.Bool.{and_parts, ltb-true, eqb-true, leb-true, false_from_ne_true, not-true}
 use Rattle.std.proofs.lemmas.List.{length-append, length-replicate, append-nil, length-map}
 use Rattle.std.proofs.Math.Seq.{take-append_seam}
 use Rattle.std.proofs.lemmas.Option.{cond_some}
 use Rattle.std.specs.Option.{option_map}
-use Rattle.goblin_base.proofs.Texts.{not_true}
 use Rattle.goblin_base.specs.Bytes.{before_nul, bounded_text_at}
 use Rattle.goblin_pe_sect.specs.declared.digits.Digits.{Digits}
 use Rattle.goblin_pe_sect.specs.declared.digits.Digits.TheVariants.{Decimal, Base64}
 use Rattle.goblin_pe_sect.specs.SectionName.{alphabet, last_digits, digit_byte, radix, numeral, name_value, text_value, decimal_number, decimal_width, indirect_name}
-use Rattle.goblin_pe_sect.proofs.DigitsRoundTrip.{below, below-at, last_digits-below, numeral-written}
+use Rattle.goblin_pe_sect.proofs.DigitsRoundTrip.{all_below, all_below-at, last_digits-below, numeral-written}
 
 -- a byte that is ASCII and no NUL
-abbrev pub is_plain : ℕ → Bool
-is_plain b = nat_lt 0 b && nat_lt b 128
+abbrev pub is_nonzero_ascii : ℕ → Bool
+is_nonzero_ascii b = nat_lt 0 b && nat_lt b 128
 
-ascii : (text : List ℕ) → list_all is_plain text ≡ true → IsAscii text
+ascii : (text : List ℕ) → list_all is_nonzero_ascii text ≡ true → IsAscii text
 ascii [] h = IsAscii-nil
 ascii (b ∷ bs) h =
-    let parts = and_parts (is_plain b) (list_all is_plain bs) h in
+    let parts = and_parts (is_nonzero_ascii b) (list_all is_nonzero_ascii bs) h in
     IsAscii-cons b bs (ltb-true b 128 (and_parts (nat_lt 0 b) (nat_lt b 128) parts.0).1) (ascii bs parts.1)
 
-pub utf8 : (text : List ℕ) → list_all is_plain text ≡ true → is_utf8 text ≡ true
+pub utf8 : (text : List ℕ) → list_all is_nonzero_ascii text ≡ true → is_utf8 text ≡ true
 utf8 text h = is_utf8-from_IsUtf8 text (IsUtf8-from_ascii text (ascii text h))
 
 nonzero : (b : ℕ) → nat_lt 0 b ≡ true → nat_eq b 0 ≡ false
-nonzero b h = not_true (nat_eq b 0) (λ e. omega (arith, eqb-true b 0 e, ltb-true 0 b h))
+nonzero b h = false_from_ne_true (nat_eq b 0) (λ e. omega (arith, eqb-true b 0 e, ltb-true 0 b h))
 
-first_nul : (text : List ℕ) (k : ℕ) → list_all is_plain text ≡ true → position_or_len (λ b. b == 0) (text ++ replicate k 0) ≡ length text
+first_nul : (text : List ℕ) (k : ℕ) → list_all is_nonzero_ascii text ≡ true → position_or_len (λ b. b == 0) (text ++ replicate k 0) ≡ length text
 first_nul [] zero h = refl
 first_nul [] (suc k) h = refl
 first_nul (b ∷ bs) k h =
-    let parts = and_parts (is_plain b) (list_all is_plain bs) h in
+    let parts = and_parts (is_nonzero_ascii b) (list_all is_nonzero_ascii bs) h in
     let other = nonzero b (and_parts (nat_lt 0 b) (nat_lt b 128) parts.0).0 in
     let rest = first_nul bs k parts.1 in
     let next : 1 + length bs ≡ suc (length bs) = omega arith in
     rw (other, rest) next
 
--- a text without NULs, with NULs behind it
-pub before_nul-padded : (text : List ℕ) (k : ℕ) → list_all is_plain text ≡ true → before_nul (text ++ replicate k 0) ≡ text
+-- a text without NULs, with NULs after it
+pub before_nul-padded : (text : List ℕ) (k : ℕ) → list_all is_nonzero_ascii text ≡ true → before_nul (text ++ replicate k 0) ≡ text
 before_nul-padded text k h = ap (λ (n : ℕ). take n (text ++ replicate k 0)) (first_nul text k h) ∙ take-append_seam text (replicate k 0)
 
--- the text behind two slashes
-pub behind_two : (text : List ℕ) → list_all is_plain text ≡ true → length text ≡ 6 → bounded_text_at (47 ∷ 47 ∷ text) 2 6 ≡ Some text
+-- the text after two slashes
+pub behind_two : (text : List ℕ) → list_all is_nonzero_ascii text ≡ true → length text ≡ 6 → bounded_text_at (47 ∷ 47 ∷ text) 2 6 ≡ Some text
 behind_two text h len =
     let all : length (47 ∷ 47 ∷ text) ≡ 8 = omega (arith, len) in
     let whole : take 6 text ≡ text = take_all 6 text (omega (arith, len)) in
@@ -56,8 +55,8 @@ behind_two text h len =
     let good = utf8 text h in
     rw (all, whole, nul, good) refl
 
--- the text behind one slash, with NULs behind it
-pub behind_one : (text : List ℕ) (k : ℕ) → list_all is_plain text ≡ true → length text + k ≡ 7 → bounded_text_at (47 ∷ (text ++ replicate k 0)) 1 7 ≡ Some text
+-- the text after one slash, with NULs after it
+pub behind_one : (text : List ℕ) (k : ℕ) → list_all is_nonzero_ascii text ≡ true → length text + k ≡ 7 → bounded_text_at (47 ∷ (text ++ replicate k 0)) 1 7 ≡ Some text
 behind_one text k h len =
     let padded : length (text ++ replicate k 0) ≡ 7 = length-append text (replicate k 0) ∙ ap (λ (n : ℕ). length text + n) (length-replicate k 0) ∙ len in
     let all : length (47 ∷ (text ++ replicate k 0)) ≡ 8 = omega (arith, padded) in
@@ -75,18 +74,18 @@ length-last_digits r (suc k) n =
     let front = length-last_digits r k (n / r) in
     length-append (last_digits r k (n / r)) (n % r ∷ []) ∙ rw front (omega arith)
 
-plain : (s : Digits) (d : ℕ) → d < radix s → is_plain (digit_byte s d) ≡ true
-unfolding below alphabet
-plain Decimal d small = below-at (λ d. is_plain (digit_byte Decimal d)) 10 d refl small
-plain Base64 d small = below-at (λ d. is_plain (digit_byte Base64 d)) 64 d refl small
+plain : (s : Digits) (d : ℕ) → d < radix s → is_nonzero_ascii (digit_byte s d) ≡ true
+unfolding all_below alphabet
+plain Decimal d small = all_below-at (λ d. is_nonzero_ascii (digit_byte Decimal d)) 10 d refl small
+plain Base64 d small = all_below-at (λ d. is_nonzero_ascii (digit_byte Base64 d)) 64 d refl small
 
-all_plain : (s : Digits) (ds : List ℕ) → list_all (λ d. nat_lt d (radix s)) ds ≡ true → list_all is_plain (map (digit_byte s) ds) ≡ true
+all_plain : (s : Digits) (ds : List ℕ) → list_all (λ d. nat_lt d (radix s)) ds ≡ true → list_all is_nonzero_ascii (map (digit_byte s) ds) ≡ true
 all_plain s [] h = refl
 all_plain s (d ∷ ds) h =
     let parts = and_parts (nat_lt d (radix s)) (list_all (λ d. nat_lt d (radix s)) ds) h in
     let one = plain s d (ltb-true d (radix s) parts.0) in
     let rest = all_plain s ds parts.1 in
-    ap (λ (b : Bool). b && list_all is_plain (map (digit_byte s) ds)) one ∙ rest
+    ap (λ (b : Bool). b && list_all is_nonzero_ascii (map (digit_byte s) ds)) one ∙ rest
 
 -- a number of six digits of base 64 is read from the name that was written for it
 pub base64_back : (strict : Bool) (n : ℕ) → n < 64 ^ 6 → name_value strict (47 ∷ 47 ∷ map (digit_byte Base64) (last_digits 64 6 n)) ≡ Some (Some n)
@@ -98,17 +97,13 @@ base64_back strict n h =
 
 -- a digit is no slash and no plus
 digit_apart : (d : ℕ) → d < 10 → (nat_eq (digit_byte Decimal d) 47 ≡ false) × (nat_eq (digit_byte Decimal d) 43 ≡ false)
-unfolding alphabet below
+unfolding alphabet all_below
 digit_apart d small =
-    let apart = below-at (λ (d : ℕ). not (nat_eq (digit_byte Decimal d) 47) && not (nat_eq (digit_byte Decimal d) 43)) 10 d refl small in
+    let apart = all_below-at (λ (d : ℕ). not (nat_eq (digit_byte Decimal d) 47) && not (nat_eq (digit_byte Decimal d) 43)) 10 d refl small in
     let parts = and_parts (not (nat_eq (digit_byte Decimal d) 47)) (not (nat_eq (digit_byte Decimal d) 43)) apart in
-    (not_true _ parts.0, not_true _ parts.1)
-  where
-    not_true : (b : Bool) → not b ≡ true → b ≡ false
-    not_true true h = absurd cc
-    not_true false h = refl
+    (not-true _ parts.0, not-true _ parts.1)
 
--- decimal digits with NULs behind them are read
+-- decimal digits with NULs after them are read
 decimal_read : (strict : Bool) (ds : List ℕ) (k n : ℕ) → list_all (λ d. nat_lt d 10) ds ≡ true → 0 < length ds → length ds + k ≡ 7 → numeral Decimal (map (digit_byte Decimal) ds) ≡ Some n
     → name_value strict (47 ∷ map (digit_byte Decimal) ds ++ replicate k 0) ≡ Some (Some n)
 unfolding alphabet name_value
@@ -117,7 +112,7 @@ decimal_read strict (d ∷ ds) k n digits some len value =
     let text = map (digit_byte Decimal) (d ∷ ds) in
     let apart = digit_apart d (ltb-true d 10 (and_parts (nat_lt d 10) (list_all (λ d. nat_lt d 10) ds) digits).0) in
     let there = behind_one text k (all_plain Decimal (d ∷ ds) digits) (ap (λ (m : ℕ). m + k) (length-map (d ∷ ds) (digit_byte Decimal)) ∙ len) in
-    let nonempty : nat_eq (length text) 0 ≡ false = not_true (nat_eq (length text) 0) (λ e. omega (arith, eqb-true (length text) 0 e)) in
+    let nonempty : nat_eq (length text) 0 ≡ false = false_from_ne_true (nat_eq (length text) 0) (λ e. omega (arith, eqb-true (length text) 0 e)) in
     let read : decimal_number text ≡ Some n = rw (apart.1, nonempty) value in
     let here : name_value strict (47 ∷ text ++ replicate k 0) ≡ text_value strict (bounded_text_at (47 ∷ (text ++ replicate k 0)) 1 7) decimal_number = rw apart.0 refl in
     here ∙ ap (λ (o : Option (List ℕ)). text_value strict o decimal_number) there ∙ ap (option_map (λ (m : ℕ). Some m)) read

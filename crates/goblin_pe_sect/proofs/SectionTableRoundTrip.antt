@@ -9,14 +9,14 @@ use Rattle.goblin_base.proofs.Steps.{same_value, step}
 use Rattle.goblin_pe_sect.specs.SectionName.{name_value, real_name_at}
 use Rattle.goblin_pe_sect.specs.SectionTable.{Section, SectionWritesBack, section_at, section_fields, section_record, SectionReadsBack}
 
-pub record_back : WritesBack 40 section_record section_fields
+pub section_record_back : WritesBack 40 section_record section_fields
 unfolding section_record section_fields
-record_back = writes_back 40 section_record section_fields refl (λ endian own h. refl)
+section_record_back = writes_back 40 section_record section_fields refl (λ endian own h. refl)
 
 -- the real name is no field of the record
-same_fields : (section : Section) (real_name : Option (List ℕ)) → section_fields (record section { real_name = real_name }) ≡ section_fields section
+section_fields-unnamed : (section : Section) (real_name : Option (List ℕ)) → section_fields (record section { real_name = real_name }) ≡ section_fields section
 unfolding section_fields
-same_fields section real_name = refl
+section_fields-unnamed section real_name = refl
 
 pub section_back : SectionWritesBack
 unfolding section_at
@@ -24,8 +24,8 @@ section_back strict table bytes p section h is =
     let first = step (record_at 40 (section_record Little) bytes p) (λ s. name_value strict s.name >>= (λ v. Some (record s { real_name = real_name_at bytes table v }))) section is in
     let second = step (name_value strict first.value.name) (λ v. Some (record first.value { real_name = real_name_at bytes table v })) section first.then in
     let named = record first.value { real_name = real_name_at bytes table second.value } in
-    let same : section_fields first.value ≡ section_fields section = sym (same_fields first.value (real_name_at bytes table second.value)) ∙ ap section_fields (same_value named section second.then) in
-    record_back Little bytes p first.value h first.is ∙ ap (λ (fields : List FieldValue). Some (encoding Little fields)) same
+    let same : section_fields first.value ≡ section_fields section = sym (section_fields-unnamed first.value (real_name_at bytes table second.value)) ∙ ap section_fields (same_value named section second.then) in
+    section_record_back Little bytes p first.value h first.is ∙ ap (λ (fields : List FieldValue). Some (encoding Little fields)) same
 
 pub section_again : (s : Section) → length s.name ≡ 8 → FieldsFit (section_fields s) → SectionReadsBack s
 unfolding ReadsBack SectionReadsBack section_record section_fields

@@ -21,7 +21,7 @@ symbols_from-skip (suc k) (suc m) table i =
     let b : i + suc k ≡ i + 1 + k = omega arith in
     rw (a, b) (symbols_from-skip k m table (i + 1))
 
--- a symbol, and what comes behind its auxiliary records
+-- a symbol, and what comes after its auxiliary records
 pub symbols_next : (n : ℕ) (table : List ℕ) (i : ℕ) → i < n → symbols_from (n - i) 0 table i ≡ symbol_of table i ∷ symbols_from (n - (i + 1 + aux table i)) 0 table (i + 1 + aux table i)
 unfolding symbols_from
 symbols_next n table i h =
@@ -65,7 +65,7 @@ head_contained table n h head =
 abbrev IsSymbolOf : List ℕ → ℕ → SymbolItem → Type 0
 IsSymbolOf table n item = IsHead table n item.0 × (item ≡ symbol_of table item.0)
 
--- from a head on, each is a head, stands at that place or behind it, and they rise
+-- from a head on, each is a head, stands at that place or after it, and they rise
 record Rise (table : List ℕ) (n h : ℕ) (items : List SymbolItem) : Type 0 where
   each : All (IsSymbolOf table n) items
   past : All (λ item. h ≤ item.0) items
@@ -92,8 +92,8 @@ rise (suc limit) table n h few head =
     ]
 
 -- the items are the heads, in order
-pub symbols_of : (table : List ℕ) → AreSymbolsOf table (symbols_in table)
-symbols_of table =
+pub are_symbols : (table : List ℕ) → AreSymbolsOf table (symbols_in table)
+are_symbols table =
     let n = length table / 18 in
     let whole : n - 0 ≡ n = omega arith in
     let found = subst (λ (m : ℕ). Rise table n 0 (symbols_from m 0 table 0)) whole (rise n table n 0 (omega arith) first) in

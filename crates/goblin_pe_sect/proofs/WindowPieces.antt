@@ -12,7 +12,7 @@ use Rattle.std.proofs.lemmas.Option.{slice_get_past, get_or_from_slice_get}
 use Rattle.std.proofs.lemmas.Bool.Decides.{nat_tests}
 use Rattle.std.specs.Int.{is_power_of_two}
 use Rattle.goblin_pe_sect.specs.Mapping.{read_size, window_end, is_in_window, offset_in, file_offset}
-use Rattle.goblin_pe_sect.specs.WindowIndex.{IsCut, IsIndex, Pieces, AreNear, reached, last_owner, located, offset_by, first_owner, owner_of_section}
+use Rattle.goblin_pe_sect.specs.WindowIndex.{IsCut, IsIndex, Pieces, AreNear, reached, last_owner, located, owner_offset, first_owner, owner_of_section}
 use Rattle.goblin_pe_sect.specs.declared.options.ParseOptions.{ParseOptions}
 use Rattle.goblin_pe_sect.specs.SectionTable.{Section}
 use Rattle.goblin_pe_sect.specs.declared.windows.owners.Owner.{Owner}
@@ -70,8 +70,8 @@ same_window sections alignment begins cut rva k h j s is =
     ]
 
 -- every address lies in a piece
-between : (sections : List Section) (alignment : ℕ) (begins : List ℕ) → IsCut sections alignment begins → (rva : ℕ) → (0 < reached begins rva) × IsBetween begins rva (reached begins rva - 1)
-between sections alignment begins cut rva =
+in_one_piece : (sections : List Section) (alignment : ℕ) (begins : List ℕ) → IsCut sections alignment begins → (rva : ℕ) → (0 < reached begins rva) × IsBetween begins rva (reached begins rva - 1)
+in_one_piece sections alignment begins cut rva =
     let n : ℕ = reached begins rva in
     let start : Contains begins 0 = cut.all 0 (inl refl) in
     let i : ℕ = start.0 in
@@ -92,16 +92,16 @@ between sections alignment begins cut rva =
       | inr none ↦ absurd (omega (arith, here, stops (omega (arith, start.1)), rising_to begins cut.rising n i (omega arith) start.1))
     ]
 
-section_answers : (opts : ParseOptions) (rva i : ℕ) (o : Option Section) → option_map (offset_by rva) (option_map (owner_of_section opts i) o) ≡ option_map (λ s. offset_in opts s rva) o
+section_answers : (opts : ParseOptions) (rva i : ℕ) (o : Option Section) → option_map (owner_offset rva) (option_map (owner_of_section opts i) o) ≡ option_map (λ s. offset_in opts s rva) o
 section_answers opts rva i None = refl
 section_answers opts rva i (Some s) = refl
 
-index_answers : (opts : ParseOptions) (sections : List Section) (rva i : ℕ) (b : Bool) → (b ≡ false → slice_get sections i ≡ None) → option_map (offset_by rva) (option_and_then (λ (i : ℕ). option_map (owner_of_section opts i) (slice_get sections i)) (cond b (Some i) None)) ≡ option_map (λ s. offset_in opts s rva) (slice_get sections i)
+index_answers : (opts : ParseOptions) (sections : List Section) (rva i : ℕ) (b : Bool) → (b ≡ false → slice_get sections i ≡ None) → option_map (owner_offset rva) (option_and_then (λ (i : ℕ). option_map (owner_of_section opts i) (slice_get sections i)) (cond b (Some i) None)) ≡ option_map (λ s. offset_in opts s rva) (slice_get sections i)
 index_answers opts sections rva i true none = section_answers opts rva i (slice_get sections i)
 index_answers opts sections rva i false none = rw (none refl) refl
 
 -- the owner answers as the first section does
-owner_answers : (opts : ParseOptions) (sections : List Section) (alignment begin rva : ℕ) → option_map (offset_by rva) (first_owner opts sections alignment begin) ≡ option_map (λ s. offset_in opts s rva) (find (is_in_window alignment begin) sections)
+owner_answers : (opts : ParseOptions) (sections : List Section) (alignment begin rva : ℕ) → option_map (owner_offset rva) (first_owner opts sections alignment begin) ≡ option_map (λ s. offset_in opts s rva) (find (is_in_window alignment begin) sections)
 owner_answers opts sections alignment begin rva =
     let i : ℕ = position_or_len (is_in_window alignment begin) sections in
     let past : nat_lt i (length sections) ≡ false → slice_get sections i ≡ None = λ e. slice_get_past sections i (search (rules, tests)) in
@@ -112,11 +112,11 @@ last_owner_some owners zero some = absurd (omega arith)
 last_owner_some owners (suc k) some = let same : k ≡ suc k - 1 = omega arith in ap (λ (j : ℕ). slice_index_or owners j None) same
 
 -- pieces cut at the windows answer as the first section whose window holds the address
-pub mapped_pieces : (opts : ParseOptions) (sections : List Section) (alignment : ℕ) (begins : List ℕ) → IsCut sections alignment begins → (rva : ℕ) → option_map (offset_by rva) (last_owner (map (first_owner opts sections alignment) begins) (reached begins rva)) ≡ option_map (λ s. offset_in opts s rva) (find (is_in_window alignment rva) sections)
+pub mapped_pieces : (opts : ParseOptions) (sections : List Section) (alignment : ℕ) (begins : List ℕ) → IsCut sections alignment begins → (rva : ℕ) → option_map (owner_offset rva) (last_owner (map (first_owner opts sections alignment) begins) (reached begins rva)) ≡ option_map (λ s. offset_in opts s rva) (find (is_in_window alignment rva) sections)
 mapped_pieces opts sections alignment begins cut rva =
     let n : ℕ = reached begins rva in
-    let place = between sections alignment begins cut rva in
-    let answer : Option Owner → Option ℕ = option_map (offset_by rva) in
+    let place = in_one_piece sections alignment begins cut rva in
+    let answer : Option Owner → Option ℕ = option_map (owner_offset rva) in
     let owner : last_owner (map (first_owner opts sections alignment) begins) n ≡ first_owner opts sections alignment (slice_index begins (n - 1)) = last_owner_some (map (first_owner opts sections alignment) begins) n place.0 ∙ get_or-map (first_owner opts sections alignment) begins (n - 1) 0 None place.1.within in
     let same : find (is_in_window alignment (slice_index begins (n - 1))) sections ≡ find (is_in_window alignment rva) sections = find_same _ _ sections (same_window sections alignment begins cut rva (n - 1) place.1) in
     ap answer owner ∙ owner_answers opts sections alignment (slice_index begins (n - 1)) rva ∙ ap (option_map (λ s. offset_in opts s rva)) same
@@ -214,10 +214,10 @@ piece_within resolves begins owners w seen h rva n is some =
     omega (arith, at, h.one_each, prefix_len-le-length {X = ℕ})
 
 -- where it has an owner, the address lies within reach of the owner's, and has the offset that the index answers
-pub piece_answers : (resolves : Bool) (begins : List ℕ) (owners : List (Option Owner)) (w : Pieces) → record { resolves = resolves; begins = begins; owners = owners } ≡ w → IsIndex resolves begins owners → (rva n : ℕ) → n ≡ reached w.begins rva → 0 < n → (o : Owner) → (n - 1 < length owners → slice_index_or owners (n - 1) None ≡ Some o) → (o.address ≤ rva) × (rva < o.address + 2 ^ 33) × (Some (offset_by rva o) ≡ option_map (offset_by rva) (last_owner w.owners n))
+pub piece_answers : (resolves : Bool) (begins : List ℕ) (owners : List (Option Owner)) (w : Pieces) → record { resolves = resolves; begins = begins; owners = owners } ≡ w → IsIndex resolves begins owners → (rva n : ℕ) → n ≡ reached w.begins rva → 0 < n → (o : Owner) → (n - 1 < length owners → slice_index_or owners (n - 1) None ≡ Some o) → (o.address ≤ rva) × (rva < o.address + 2 ^ 33) × (Some (owner_offset rva o) ≡ option_map (owner_offset rva) (last_owner w.owners n))
 piece_answers resolves begins owners w seen h rva n is some o owned =
     let at : n ≡ reached begins rva = is ∙ ap (λ (v : Pieces). reached v.begins rva) (sym seen) in
     let here = owned (piece_within resolves begins owners w seen h rva n is some) in
     let near = held resolves begins owners h rva n o at some here in
-    let answer : Some (offset_by rva o) ≡ option_map (offset_by rva) (last_owner owners n) = sym (ap (option_map (offset_by rva)) (last_owner_is owners n o some here)) in
-    (near.0, near.1, answer ∙ ap (λ (v : Pieces). option_map (offset_by rva) (last_owner v.owners n)) seen)
+    let answer : Some (owner_offset rva o) ≡ option_map (owner_offset rva) (last_owner owners n) = sym (ap (option_map (owner_offset rva)) (last_owner_is owners n o some here)) in
+    (near.0, near.1, answer ∙ ap (λ (v : Pieces). option_map (owner_offset rva) (last_owner v.owners n)) seen)

@@ -10,7 +10,7 @@ use Rattle.goblin_base.proofs.RecordItems.{length-record_items, record_items-mor
 use Rattle.goblin_pe_sect.specs.declared.relocation.base.RelocationWord.{RelocationWord}
 use Rattle.goblin_pe_sect.specs.BaseRelocations.{word_items, word_record}
 
--- a pair of bytes comes first, then those behind it
+-- a pair of bytes comes first, then those after it
 pub words_more : (bytes : List ℕ) → 2 ≤ length bytes → word_items bytes ≡ Ok (word_record Little (take 2 bytes)) ∷ word_items (drop 2 bytes)
 unfolding word_items
 words_more bytes le =

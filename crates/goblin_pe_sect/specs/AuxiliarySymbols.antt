@@ -9,7 +9,9 @@ use Rattle.goblin_pe_sect.specs.declared.symbol.auxiliary.AuxFunctionDefinition.
 use Rattle.goblin_pe_sect.specs.declared.symbol.auxiliary.AuxSectionDefinition.{AuxSectionDefinition}
 use Rattle.goblin_pe_sect.specs.declared.symbol.auxiliary.AuxWeakExternal.{AuxWeakExternal}
 
--- what stands behind a symbol that defines a function, in a record's 18 bytes
+-- Source: PE Format, "Auxiliary Symbol Records".
+
+-- what follows a symbol that defines a function, in a record's 18 bytes
 unfoldable pub function_definition_record : Endian → List ℕ → AuxFunctionDefinition
 function_definition_record endian bytes = record {
   tag_index = number endian 4 bytes 0;
@@ -23,7 +25,7 @@ function_definition_record endian bytes = record {
 unfoldable pub function_definition_fields : AuxFunctionDefinition → List FieldValue
 function_definition_fields r = uint 4 r.tag_index ∷ uint 4 r.total_size ∷ uint 4 r.pointer_to_line_number ∷ uint 4 r.pointer_to_next_function ∷ octets r.unused ∷ []
 
--- what stands behind a symbol of a function's begin or end, in a record's 18 bytes
+-- what follows a symbol of a function's begin or end, in a record's 18 bytes
 unfoldable pub begin_and_end_function_record : Endian → List ℕ → AuxBeginAndEndFunction
 begin_and_end_function_record endian bytes = record {
   unused1 = slice_range bytes 0 4;
@@ -37,7 +39,7 @@ begin_and_end_function_record endian bytes = record {
 unfoldable pub begin_and_end_function_fields : AuxBeginAndEndFunction → List FieldValue
 begin_and_end_function_fields r = octets r.unused1 ∷ uint 2 r.line_number ∷ octets r.unused2 ∷ uint 4 r.pointer_to_next_function ∷ octets r.unused3 ∷ []
 
--- what stands behind a symbol that may be defined elsewhere, in a record's 18 bytes
+-- what follows a symbol for which another may stand, in a record's 18 bytes
 unfoldable pub weak_external_record : Endian → List ℕ → AuxWeakExternal
 weak_external_record endian bytes = record {
   tag_index = number endian 4 bytes 0;
@@ -49,7 +51,7 @@ weak_external_record endian bytes = record {
 unfoldable pub weak_external_fields : AuxWeakExternal → List FieldValue
 weak_external_fields r = uint 4 r.tag_index ∷ uint 4 r.characteristics ∷ octets r.unused ∷ []
 
--- what stands behind a symbol that defines a section, in a record's 18 bytes
+-- what follows a symbol that defines a section, in a record's 18 bytes
 unfoldable pub section_definition_record : Endian → List ℕ → AuxSectionDefinition
 section_definition_record endian bytes = record {
   length = number endian 4 bytes 0;
@@ -63,4 +65,6 @@ section_definition_record endian bytes = record {
 
 -- its fields, in order
 unfoldable pub section_definition_fields : AuxSectionDefinition → List FieldValue
-section_definition_fields r = uint 4 r.length ∷ uint 2 r.number_of_relocations ∷ uint 2 r.number_of_line_numbers ∷ uint 4 r.checksum ∷ uint 2 r.number ∷ uint 1 r.selection ∷ octets r.unused ∷ []
+section_definition_fields r =
+    uint 4 r.length ∷ uint 2 r.number_of_relocations ∷ uint 2 r.number_of_line_numbers
+    ∷ uint 4 r.checksum ∷ uint 2 r.number ∷ uint 1 r.selection ∷ octets r.unused ∷ []

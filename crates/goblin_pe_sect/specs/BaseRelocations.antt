@@ -19,6 +19,8 @@ use Rattle.goblin_pe_sect.specs.declared.relocation.base.RelocationWord.{Relocat
 use Rattle.goblin_pe_sect.specs.declared.relocation.base.RelocationWordIterator.{RelocationWordIterator}
 use Rattle.goblin_pe_sect.specs.Mapping.{IsUnmapped}
 
+-- Source: PE Format, "The .reloc Section (Image Only)".
+
 -- the bytes of a directory that was read
 abbrev pub relocation_bytes : RelocationData → List ℕ
 relocation_bytes relocations = relocations.bytes.now
@@ -32,7 +34,7 @@ abbrev pub IsRelocRange : DataDirectory → ℕ → ErrorOf → Type 0
 IsRelocRange directory o (Malformed (RelocRange offset size)) = (offset ≡ o) × (size ≡ directory.size)
 IsRelocRange directory o e = ⊥
 
--- which cause is true of a directory without bytes: its address is not mapped, or they are not all there
+-- which cause is true of a directory without bytes: its address is not mapped, or they pass the end
 abbrev pub IsRelocationDataFault : (ℕ → Option ℕ) → List ℕ → DataDirectory → ErrorOf → Type 0
 IsRelocationDataFault offset_of bytes directory = FirstFault (offset_of directory.virtual_address) (IsUnmapped directory.virtual_address) (IsRelocRange directory)
 
@@ -67,7 +69,7 @@ with_head directory p None = Err (Read TooBig)
 unfoldable pub block_at : List ℕ → ℕ → Result Block ErrorOf
 block_at directory p = with_head directory (p + 8) (slice_at directory p 8)
 
--- an item, and behind a block the items from its end on
+-- an item, and after a block the items from its end on
 abbrev pub then_items : (ℕ → List (Result Block ErrorOf)) → ℕ → Result Block ErrorOf → List (Result Block ErrorOf)
 then_items items p (Ok b) = Ok b ∷ items (p + b.size)
 then_items items p (Err e) = Err e ∷ []
@@ -87,7 +89,7 @@ blocks_left it = block_items it.bytes.now it.offset
 
 -- ---- the same by the bytes
 
--- this block stands at p of a directory: it has its head at least, all of it is there, and one of size 8 has a byte behind it
+-- this block stands at p of a directory: it has its head at least, all of it is there, and one of size 8 has a byte after it
 pub record IsBlockAt (directory : List ℕ) (p : ℕ) (b : Block) : Type 0 where
   pub large : 8 ≤ b.size
   pub within : p + b.size ≤ length directory
@@ -96,7 +98,7 @@ pub record IsBlockAt (directory : List ℕ) (p : ℕ) (b : Block) : Type 0 where
   pub size : number Little 4 directory (p + 4) ≡ b.size
   pub words : slice_range directory (p + 8) (p + b.size) ≡ b.words
 
--- these blocks stand in a directory one behind the other, from p up to `end`
+-- these blocks stand in a directory one after the other, from p up to `end`
 abbrev pub AreBlocks : List ℕ → ℕ → List Block → ℕ → Type 0
 AreBlocks directory p [] end = end ≡ p
 AreBlocks directory p (b ∷ blocks) end = IsBlockAt directory p b × AreBlocks directory (p + b.size) blocks end
@@ -105,7 +107,7 @@ AreBlocks directory p (b ∷ blocks) end = IsBlockAt directory p b × AreBlocks 
 abbrev pub block_fields : Block → List FieldValue
 block_fields b = uint 4 b.rva ∷ uint 4 b.size ∷ octets b.words ∷ []
 
--- The items are the one longest list of blocks that stand one behind the other at the front of the directory, and one error where a rest is left behind them. The encodings of the blocks, joined, are that front.
+-- The items are the one longest list of blocks that stand one after the other at the front of the directory, and one error where a rest is left after them. The encodings of the blocks, joined, are that front.
 pub record AreBlocksOf (directory : List ℕ) (items : List (Result Block ErrorOf)) : Type 0 where
   pub blocks : List Block
   pub end : ℕ

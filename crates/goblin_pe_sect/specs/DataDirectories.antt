@@ -14,6 +14,8 @@ use Rattle.goblin_pe_sect.specs.declared.data_directories.DataDirectoryType.{Dat
 use Rattle.goblin_pe_sect.specs.declared.data_directories.Dirs.{Dirs}
 use Rattle.goblin_pe_sect.specs.declared.data_directories.DataDirectoryType.TheVariants.{ExportTable, ImportTable, ResourceTable, ExceptionTable, CertificateTable, BaseRelocationTable, DebugTable, Architecture, GlobalPtr, TlsTable, LoadConfigTable, BoundImportTable, ImportAddressTable, DelayImportDescriptor, ClrRuntimeHeader}
 
+-- Source: PE Format, "Optional Header Data Directories (Image Only)".
+
 -- the directory in a record's 8 bytes
 unfoldable pub directory_record : Endian → List ℕ → DataDirectory
 directory_record endian bytes = record {
@@ -30,13 +32,13 @@ abbrev pub entry_ending : ℕ → DataDirectory → Option (ℕ × DataDirectory
 entry_ending end d = if d.virtual_address == 0 && d.size == 0 then None else Some (end, d)
 
 -- the entry at index i of `count` that stand one after the other from p on, with the offset just past it; one past the count is none
-abbrev pub entry_at : ℕ → List ℕ → ℕ → ℕ → Option (ℕ × DataDirectory)
-entry_at count bytes p i = if nat_lt i count then entry_ending (p + 8 * i + 8) (directory_record Little (slice_range bytes (p + 8 * i) (p + 8 * i + 8))) else None
+abbrev pub directory_entry_at : ℕ → List ℕ → ℕ → ℕ → Option (ℕ × DataDirectory)
+directory_entry_at count bytes p i = if nat_lt i count then entry_ending (p + 8 * i + 8) (directory_record Little (slice_range bytes (p + 8 * i) (p + 8 * i + 8))) else None
 
 -- the sixteen entries of which `count` stand one after the other from p on, where these are no more than sixteen and all there; none are there at any offset
 unfoldable pub directories_at : ℕ → List ℕ → ℕ → Option (List (Option (ℕ × DataDirectory)))
 directories_at count bytes p =
-    if nat_le count 16 && (count == 0 || nat_le (p + 8 * count) (length bytes)) then Some (map (entry_at count bytes p) (range_with_len 0 16)) else None
+    if nat_le count 16 && (count == 0 || nat_le (p + 8 * count) (length bytes)) then Some (map (directory_entry_at count bytes p) (range_with_len 0 16)) else None
 
 -- which cause is true of `count` entries from p on that are refused: there are too many, or one of them is not there
 abbrev pub IsDirectoriesFault : ℕ → List ℕ → ℕ → ErrorOf → Type 0
@@ -57,7 +59,7 @@ directory_or_zeros (Some entry) = entry.1
 unfoldable pub entries_fields : List (Option (ℕ × DataDirectory)) → List FieldValue
 entries_fields entries = flat_map (λ entry. directory_fields (directory_or_zeros entry)) entries
 
--- Entries that were read are written as they stood, with zeros behind them up to the sixteenth.
+-- Entries that were read are written as they stood, with zeros after them up to the sixteenth.
 abbrev pub EntriesWriteBack : Type 0
 EntriesWriteBack =
     (count : ℕ) (bytes : List ℕ) (p : ℕ) (entries : List (Option (ℕ × DataDirectory))) → IsBytes bytes → directories_at count bytes p ≡ Some entries

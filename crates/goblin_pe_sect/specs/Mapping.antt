@@ -1,19 +1,21 @@
 -- How an address in memory maps to an offset in the file, and what stands at an address.
-use Rattle.std.specs.Prelude.{IsTrue, ℕ, ◌+◌, ◌-◌, ◌==◌, ◌≡◌, ◌<◌, ◌≤◌, ◌⊎◌, min, Bool, ◌&&◌, nat_le, nat_lt, if◌then◌else◌, List, length, drop, Option, Some, None, find, slice_get, option_map}
+use Rattle.std.specs.Prelude.{IsTrue, ℕ, ◌+◌, ◌-◌, ◌==◌, ◌≡◌, ◌<◌, ◌≤◌, min, Bool, ◌&&◌, nat_le, nat_lt, if◌then◌else◌, List, Option, Some, None, find, slice_get, option_map}
 use Rattle.std.specs.Int.{is_power_of_two}
 use Rattle.goblin_base.specs.declared.endian.Endian.{Endian}
 use Rattle.goblin_base.specs.declared.endian.Endian.TheVariants.{Little}
 use Rattle.goblin_base.specs.declared.error.CauseOf.TheVariants.{Message, Unmapped, NameRead}
 use Rattle.goblin_base.specs.declared.error.ErrorOf.{ErrorOf}
-use Rattle.goblin_base.specs.declared.error.ErrorOf.TheVariants.{Malformed, Read}
-use Rattle.goblin_base.specs.declared.error.ReadFault.TheVariants.{BadOffset}
+use Rattle.goblin_base.specs.declared.error.ErrorOf.TheVariants.{Malformed}
 use Rattle.goblin_base.specs.Bytes.{text_at}
 use Rattle.goblin_base.specs.Answers.{IsTextFault, ◌>>=◌, FirstFault}
+use Rattle.goblin_base.specs.Values.{IsValueFault, value_at}
 use Rattle.goblin_pe_sect.specs.declared.options.ParseOptions.{ParseOptions}
 use Rattle.goblin_pe_sect.specs.declared.options.RawPointerRule.{RawPointerRule}
 use Rattle.goblin_pe_sect.specs.declared.options.RawPointerRule.TheVariants.{AsStored, RoundedTo512}
 use Rattle.goblin_pe_sect.specs.Multiples.{greatest_multiple, least_multiple}
 use Rattle.goblin_pe_sect.specs.SectionTable.{Section}
+
+-- How addresses are mapped, the PE Format leaves to loaders. The windows are defined here, after those of goblin; the rule that rounds raw pointers is that of the Windows loader.
 
 -- how many bytes of a section are read from the file at this file alignment: none where it has no raw data; else those from the
 -- greatest multiple of 512 that is at most its raw pointer to the least multiple of the alignment that is at least its raw data's end;
@@ -24,7 +26,7 @@ read_size s alignment =
     let stored = min (least_multiple alignment (s.pointer_to_raw_data + raw) - greatest_multiple 512 s.pointer_to_raw_data) (least_multiple 4096 raw) in
     if raw == 0 then 0 else (if s.virtual_size == 0 then stored else min stored (least_multiple 4096 s.virtual_size))
 
--- the first address behind a section's window, which begins at the section's address
+-- the first address after a section's window, which begins at the section's address
 abbrev pub window_end : Section → ℕ → ℕ
 window_end s alignment = s.virtual_address + read_size s alignment
 
@@ -45,7 +47,7 @@ pointer_by RoundedTo512 pointer = greatest_multiple 512 pointer
 abbrev pub raw_begin : ParseOptions → Section → ℕ
 raw_begin opts s = pointer_by opts.raw_pointer_rule s.pointer_to_raw_data
 
--- where the file has what stands at an address of a section's window: as far behind the raw data's begin
+-- where the file has what stands at an address of a section's window: as far after the raw data's begin
 abbrev pub offset_in : ParseOptions → Section → ℕ → ℕ
 offset_in opts s rva = raw_begin opts s + (rva - s.virtual_address)
 
@@ -95,13 +97,9 @@ abbrev pub name_or_none : Bool → Option (List ℕ) → Option (Option (List �
 name_or_none strict (Some name) = Some (Some name)
 name_or_none strict None = if strict then None else Some None
 
--- the value at an offset before the end, little-endian, from the bytes that are there
-abbrev pub value_at : {Y : Type 0} → (Endian → List ℕ → Option (Y × ℕ)) → List ℕ → ℕ → Option Y
-value_at value_of bytes p = if nat_lt p (length bytes) then option_map (λ x. x.0) (value_of Little (drop p bytes)) else None
-
--- the value at an address
+-- the value at an address, little-endian
 abbrev pub data_at : {Y : Type 0} → (ℕ → Option ℕ) → (Endian → List ℕ → Option (Y × ℕ)) → List ℕ → ℕ → Option Y
-data_at offset_of value_of bytes rva = offset_of rva >>= value_at value_of bytes
+data_at offset_of value_of bytes rva = offset_of rva >>= value_at value_of Little bytes
 
 -- ---- causes
 
@@ -128,15 +126,6 @@ IsNameAtFault offset_of bytes rva = FirstFault (offset_of rva) (IsUnmapped rva) 
 abbrev pub IsSafeNameFault : (ℕ → Option ℕ) → ℕ → ErrorOf → Type 0
 IsSafeNameFault offset_of rva = FirstFault (offset_of rva) (IsUnmapped rva) IsNameRead
 
--- the refusal is that the offset lies at or past the end
-abbrev pub IsBadOffset : ErrorOf → Type 0
-IsBadOffset (Read BadOffset) = Unit {0}
-IsBadOffset e = ⊥
-
--- which cause is true where no value stands at an offset: it lies at or past the end, or the bytes from there on are refused
-abbrev pub IsValueFault : (Endian → List ℕ → ErrorOf → Type 0) → List ℕ → ℕ → ErrorOf → Type 0
-IsValueFault refusal bytes p e = ((length bytes ≤ p) × IsBadOffset e) ⊎ ((p < length bytes) × refusal Little (drop p bytes) e)
-
 -- which cause is true where no value stands at an address
 abbrev pub IsDataFault : (ℕ → Option ℕ) → (Endian → List ℕ → ErrorOf → Type 0) → List ℕ → ℕ → ErrorOf → Type 0
-IsDataFault offset_of refusal bytes rva = FirstFault (offset_of rva) (IsUnmapped rva) (IsValueFault refusal bytes)
+IsDataFault offset_of refusal bytes rva = FirstFault (offset_of rva) (IsUnmapped rva) (IsValueFault refusal Little bytes)

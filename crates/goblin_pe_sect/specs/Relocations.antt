@@ -13,6 +13,8 @@ use Rattle.goblin_base.specs.Tables.{records_in}
 use Rattle.goblin_pe_sect.specs.declared.relocation.Relocation.{Relocation}
 use Rattle.goblin_pe_sect.specs.declared.relocation.Relocations.{Relocations}
 
+-- Source: PE Format, "COFF Relocations (Object Only)".
+
 -- the relocation in a record's 10 bytes
 unfoldable pub relocation_record : Endian → List ℕ → Relocation
 relocation_record endian bytes = record {
@@ -33,7 +35,7 @@ relocations_in bytes = records_in 10 (relocation_record Little) bytes
 abbrev pub relocations_at : List ℕ → ℕ → ℕ → Option (List Relocation)
 relocations_at bytes p n = option_map relocations_in (slice_at bytes p (10 * n))
 
--- which cause is true of bytes without n relocations at p: they are not all there, or their size passes 64 bits
+-- which cause is true of bytes without n relocations at p: they pass the end, or their size passes 64 bits
 abbrev pub IsRelocationsFault : List ℕ → ℕ → ℕ → ErrorOf → Type 0
 IsRelocationsFault bytes p n (Malformed Overflow) = 2 ^ 64 ≤ 10 * n
 IsRelocationsFault bytes p n (Read fault) = (10 * n < 2 ^ 64) × IsSliceFault bytes p (10 * n) (Read fault)

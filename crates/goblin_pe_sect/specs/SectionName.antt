@@ -8,6 +8,8 @@ use Rattle.goblin_base.specs.Bytes.{bounded_text_at, text_at}
 use Rattle.goblin_pe_sect.specs.declared.digits.Digits.{Digits}
 use Rattle.goblin_pe_sect.specs.declared.digits.Digits.TheVariants.{Decimal, Base64}
 
+-- Source: PE Format, "Section Table (Section Headers)", of the decimal form; linkers write the form in base 64 for greater numbers.
+
 -- the digits, in the order of their values
 unfoldable pub alphabet : Digits → List ℕ
 alphabet Decimal = codes "0123456789"
@@ -38,13 +40,13 @@ without_plus text = if slice_index text 0 == 43 then drop 1 text else text
 abbrev pub decimal_number : List ℕ → Option ℕ
 decimal_number text = if length (without_plus text) == 0 then None else numeral Decimal (without_plus text)
 
--- what a name with this text behind its slashes says: where there is no text, strict mode has no value and permissive mode takes the name as direct
+-- what a name with this text after its slashes says: where there is no text, strict mode has no value and permissive mode takes the name as direct
 abbrev pub text_value : Bool → Option (List ℕ) → (List ℕ → Option ℕ) → Option (Option ℕ)
 text_value strict (Some text) number_of = option_map (λ n. Some n) (number_of text)
 text_value strict None number_of = if strict then None else Some None
 
 -- What the eight bytes of a name say: nothing where there is no slash, else where the name stands in the string table: a number of
--- base 64 behind two slashes, a decimal one behind one. A number that isn't written well has no value.
+-- base 64 after two slashes, a decimal one after one. A number that isn't written well has no value.
 unfoldable pub name_value : Bool → List ℕ → Option (Option ℕ)
 name_value strict name =
     if slice_index name 0 == 47 then
@@ -73,7 +75,9 @@ last_digits r (suc k) n = last_digits r k (n / r) ++ n % r ∷ []
 
 -- how many decimal digits a number up to 9,999,999 has
 abbrev pub decimal_width : ℕ → ℕ
-decimal_width n = if nat_lt n 10 then 1 else if nat_lt n 100 then 2 else if nat_lt n 1000 then 3 else if nat_lt n 10000 then 4 else if nat_lt n 100000 then 5 else if nat_lt n 1000000 then 6 else 7
+decimal_width n =
+    if nat_lt n 10 then 1 else if nat_lt n 100 then 2 else if nat_lt n 1000 then 3
+    else if nat_lt n 10000 then 4 else if nat_lt n 100000 then 5 else if nat_lt n 1000000 then 6 else 7
 
 -- The name that says n: a slash, its decimal digits and NULs up to 9,999,999; two slashes and six digits of base 64 below 64 ^ 6;
 -- no name says a greater number.

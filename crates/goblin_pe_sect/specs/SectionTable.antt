@@ -1,5 +1,5 @@
 -- What contracts see of a section, and the section record.
-use Rattle.std.specs.Prelude.{◌≡◌, ℕ, ◌+◌, ◌-◌, ◌<◌, ◌++◌, Bool, List, [], ◌∷◌, length, Option, None, Some, if◌then◌else◌, nat_eq, nat_le, replicate, slice_range}
+use Rattle.std.specs.Prelude.{◌≡◌, ℕ, ◌+◌, ◌-◌, ◌<◌, ◌++◌, Bool, List, [], ◌∷◌, length, Option, None, Some, if◌then◌else◌, nat_eq, nat_le, option_map, replicate, slice_range}
 use Rattle.std.specs.Option.{option_eq}
 use Rattle.std.specs.Ordering.{on, eq_of_both}
 use Rattle.std.specs.Cmp.{IsPartialEquivalence, on_per, and_per, partial_equiv_from_equiv}
@@ -13,6 +13,8 @@ use Rattle.goblin_base.specs.Answers.{IsSliceFault, IsBoundedTextFault, ◌>>=�
 use Rattle.goblin_base.specs.Record.{FieldValue, encoding, record_at}
 use Rattle.goblin_base.specs.Record.FieldValue.{octets, uint}
 use Rattle.goblin_pe_sect.specs.SectionName.{name_value, IsNameFault, real_name_at}
+
+-- Source: PE Format, "Section Table (Section Headers)" and "Section Data".
 
 -- a section, its texts as their bytes
 pub record Section : Type 0 where
@@ -84,12 +86,16 @@ abbrev pub IsNoName : Option (List ℕ) → List ℕ → ErrorOf → Type 0
 IsNoName (Some real_name) name e = ⊥
 IsNoName None name e = IsBoundedTextFault name 0 8 e
 
--- the section's data: its raw data in the file, followed by zeros up to the virtual size; there is none where the raw data passes the file
-abbrev pub section_data : Section → List ℕ → Option (List ℕ)
-section_data s bytes =
+-- the section's raw data in the file; there is none where it passes the file
+abbrev pub raw_data : Section → List ℕ → Option (List ℕ)
+raw_data s bytes =
     if nat_le (s.pointer_to_raw_data + s.size_of_raw_data) (length bytes)
-    then Some (slice_range bytes s.pointer_to_raw_data (s.pointer_to_raw_data + s.size_of_raw_data) ++ replicate (s.virtual_size - s.size_of_raw_data) 0)
+    then Some (slice_range bytes s.pointer_to_raw_data (s.pointer_to_raw_data + s.size_of_raw_data))
     else None
+
+-- the section's data: its raw data, followed by zeros up to the virtual size
+abbrev pub section_data : Section → List ℕ → Option (List ℕ)
+section_data s bytes = option_map (λ raw. raw ++ replicate (s.virtual_size - s.size_of_raw_data) 0) (raw_data s bytes)
 
 -- the raw data of two sections overlaps: neither ends at or before the other's pointer
 abbrev pub OverlapRawData : Section → Section → Type 0

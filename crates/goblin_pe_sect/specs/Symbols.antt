@@ -17,6 +17,8 @@ use Rattle.goblin_pe_sect.specs.declared.symbol.Symbol.{Symbol}
 use Rattle.goblin_pe_sect.specs.declared.symbol.SymbolIterator.{SymbolIterator}
 use Rattle.goblin_pe_sect.specs.declared.symbol.SymbolTable.{SymbolTable}
 
+-- Source: PE Format, "COFF Symbol Table" and "Symbol Name Representation".
+
 -- the symbol in a record's 18 bytes
 unfoldable pub symbol_record : Endian → List ℕ → Symbol
 symbol_record endian bytes = record {
@@ -30,7 +32,9 @@ symbol_record endian bytes = record {
 
 -- the fields of a symbol, in order
 unfoldable pub symbol_fields : Symbol → List FieldValue
-symbol_fields s = octets s.name ∷ uint 4 s.value ∷ uint 2 (cast_unsigned w16 s.section_number) ∷ uint 2 s.typ ∷ uint 1 s.storage_class ∷ uint 1 s.number_of_aux_symbols ∷ []
+symbol_fields s =
+    octets s.name ∷ uint 4 s.value ∷ uint 2 (cast_unsigned w16 s.section_number) ∷ uint 2 s.typ
+    ∷ uint 1 s.storage_class ∷ uint 1 s.number_of_aux_symbols ∷ []
 
 -- ---- names
 
@@ -38,7 +42,7 @@ symbol_fields s = octets s.name ∷ uint 4 s.value ∷ uint 2 (cast_unsigned w16
 abbrev pub inline_name : List ℕ → Option (List ℕ)
 inline_name bytes = if slice_index bytes 0 == 0 then None else bounded_text_at bytes 0 8
 
--- the symbol in a record's bytes, behind the name that stands in it
+-- the symbol in a record's bytes, after the name that stands in it
 abbrev pub named_symbol : List ℕ → Option (List ℕ) × Symbol
 named_symbol bytes = (inline_name bytes, symbol_record Little bytes)
 
@@ -79,7 +83,7 @@ IsNoSymbolName table name e = ⊥
 abbrev pub table_bytes : SymbolTable → List ℕ
 table_bytes table = table.symbols.now
 
--- which cause is true of bytes without a table of n records at p: they are not all there, or their size passes 64 bits
+-- which cause is true of bytes without a table of n records at p: they pass the end, or their size passes 64 bits
 abbrev pub IsSymbolsFault : List ℕ → ℕ → ℕ → ErrorOf → Type 0
 IsSymbolsFault bytes p n (Malformed Overflow) = 2 ^ 64 ≤ 18 * n
 IsSymbolsFault bytes p n (Read fault) = (18 * n < 2 ^ 64) × IsSliceFault bytes p (18 * n) (Read fault)
@@ -93,11 +97,11 @@ file_name_at table i n = bounded_text_at table (18 * i) (18 * n)
 abbrev pub record_of : List ℕ → ℕ → List ℕ
 record_of table i = slice_range table (18 * i) (18 * i + 18)
 
--- how many auxiliary records stand behind record i
+-- how many auxiliary records follow record i
 abbrev pub aux : List ℕ → ℕ → ℕ
 aux table i = (symbol_record Little (record_of table i)).number_of_aux_symbols
 
--- The heads of a table of n records, which are its symbols: the least set that holds 0 where there is a record, and with a head the record behind its auxiliary ones where there is one.
+-- The heads of a table of n records, which are its symbols: the least set that holds 0 where there is a record, and with a head the record after its auxiliary ones where there is one.
 pub data IsHead (table : List ℕ) (n : ℕ) : ℕ → Type 0 where
   first : 0 < n → IsHead table n 0
   next : (h : ℕ) → IsHead table n h → h + 1 + aux table h < n → IsHead table n (h + 1 + aux table h)

@@ -1,7 +1,8 @@
 -- The line of addresses, cut into pieces at the windows of sections, and what an index of the pieces answers.
-use Rattle.std.specs.Prelude.{ℕ, zero, suc, ◌+◌, ◌-◌, ◌*◌, ◌≡◌, ◌<◌, ◌≤◌, ◌^◌, ◌⊎◌, Bool, false, nat_le, if◌then◌else◌, List, [], Option, Some, None, length, slice_index, slice_index_or, slice_get, Contains, position}
+use Rattle.std.specs.Prelude.{ℕ, zero, suc, ◌+◌, ◌-◌, ◌*◌, ◌≡◌, ◌<◌, ◌≤◌, ◌^◌, ◌⊎◌, Bool, false, nat_le, if◌then◌else◌, List, [], Option, Some, None, length, slice_index, slice_index_or, slice_get, Contains, position, IsTrue}
 use Rattle.std.specs.List.{prefix_len}
 use Rattle.std.specs.List.Sorted.{IsStrictlyIncreasing}
+use Rattle.std.specs.Int.{is_power_of_two}
 use Rattle.std.specs.Option.{option_map, option_and_then}
 use Rattle.goblin_pe_sect.specs.declared.options.ParseOptions.{ParseOptions}
 use Rattle.goblin_pe_sect.specs.declared.windows.owners.Owner.{Owner}
@@ -13,6 +14,10 @@ pub record Pieces : Type 0 where
   pub resolves : Bool
   pub begins : List ℕ
   pub owners : List (Option Owner)
+
+-- an index has pieces: addresses are mapped, by an alignment that is a power of two
+abbrev pub HasPieces : ParseOptions → ℕ → Type 0
+HasPieces opts alignment = IsTrue opts.resolve_rva × IsTrue (is_power_of_two alignment)
 
 -- ---- the pieces
 
@@ -29,7 +34,7 @@ pub record IsCut (sections : List Section) (alignment : ℕ) (begins : List ℕ)
   pub only : (x : ℕ) → Contains begins x → IsBorder sections alignment x
   pub few : length begins ≤ 2 * length sections + 1
 
--- what an index keeps of the section at this place of the table
+-- what an index of windows keeps of a section, by its number in the table
 abbrev pub owner_of_section : ParseOptions → ℕ → Section → Owner
 owner_of_section opts i s = record { index = i; address = s.virtual_address; pointer = raw_begin opts s }
 
@@ -50,16 +55,16 @@ last_owner owners zero = None
 last_owner owners (suc k) = slice_index_or owners k None
 
 -- where the file has an address of a piece with this owner
-abbrev pub offset_by : ℕ → Owner → ℕ
-offset_by rva o = o.pointer + (rva - o.address)
+abbrev pub owner_offset : ℕ → Owner → ℕ
+owner_offset rva o = o.pointer + (rva - o.address)
 
 -- the file offset that an index gives an address: by the owner of the last piece that begins at or before it
 unfoldable pub located : Pieces → ℕ → Option ℕ
-located w rva = if w.resolves then option_map (offset_by rva) (last_owner w.owners (reached w.begins rva)) else Some rva
+located w rva = if w.resolves then option_map (owner_offset rva) (last_owner w.owners (reached w.begins rva)) else Some rva
 
 -- ---- what is true of every index
 
--- the begins rise, one owner each; a piece with an owner lies behind its address, and ends within reach of it; there is no piece where addresses are not mapped
+-- the begins rise, one owner each; a piece with an owner lies after its address, and ends within reach of it; there is no piece where addresses are not mapped
 pub record IsIndex (resolves : Bool) (begins : List ℕ) (owners : List (Option Owner)) : Type 0 where
   pub rising : IsStrictlyIncreasing begins
   pub one_each : length owners ≡ length begins

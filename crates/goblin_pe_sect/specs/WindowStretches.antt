@@ -28,7 +28,7 @@ owner_among windows rva = option_map (λ (w : Window). w.owner) (find (window_ho
 abbrev pub FindTheSame : ℕ → ℕ → List Window → List Window → Type 0
 FindTheSame first last fewer windows = (rva : ℕ) → first ≤ rva → rva ≤ last → find (window_holds rva) fewer ≡ find (window_holds rva) windows
 
--- the window of the section at this place of the table, and those of all sections, in the table's order
+-- the window of the section at this index of the table, and those of all sections, in the table's order
 abbrev pub section_window_at : ParseOptions → ℕ → ℕ → Section → Window
 section_window_at opts alignment i s = record { begin = s.virtual_address; end = window_end s alignment; owner = owner_of_section opts i s }
 

@@ -1,7 +1,7 @@
 //! The data directories of an optional header: where the tables of an image lie.
 
-ghost use Rattle.std.specs.Prelude.{◌≡◌, ◌+◌, ◌-◌, ◌*◌, ◌<◌, Some, length, slice_get, option_map, IfOk, IfSome, OnOk, OnErr};
-ghost use Rattle.std.specs.Iterator.{UpTo, YieldsFirst, at_most, item_count};
+ghost use Rattle.std.specs.Prelude.{◌≡◌, ◌+◌, ◌-◌, ◌*◌, ◌<◌, ◌≤◌, Some, length, slice_get, option_map, IfOk, IfSome, OnOk, OnErr};
+ghost use Rattle.std.specs.Iterator.{UpTo, YieldsFirst, at_most};
 ghost use Rattle.std.specs.Iterator.SizeHint.{IsWithinCount};
 ghost use Rattle.goblin_base.specs.Answers.{Answers, Writes, IsSliceFault};
 ghost use Rattle.goblin_base.specs.Bytes.{overwritten};
@@ -44,13 +44,15 @@ const KINDS: [DataDirectoryType; 15] = [
 /// Where a table of an image lies.
 ///
 /// Source: PE Format, "Optional Header Data Directories (Image Only)". Numbers are as stored; the
-/// record has 8 bytes.
+/// record has 8 bytes, and `at` says where in it a field stands.
 #[derive(Debug, PartialEq, Copy, Clone, Default)]
 pub struct DataDirectory {
-    /// The table's address in memory, relative to the image's base. Of the certificate table it is
-    /// the file offset.
+    /// The table's address, relative to the image's base, at 0. That of the certificates is a file
+    /// offset, since they are not loaded.
     pub virtual_address: u32,
-    /// The table's size, in bytes.
+    /// The table's size in bytes, at 4. An import directory ends at its own last record, and a
+    /// value at an address by its own type, whatever the size; of an export directory the size says
+    /// which addresses are forwarders, of base relocations where the blocks end.
     pub size: u32,
 }
 
@@ -81,10 +83,10 @@ impl Record for DataDirectory {
 }
 
 impl DataDirectory {
-    /// Reads the record at `offset` and moves `offset` past it.
+    /// Reads the record at the file offset `offset` and moves `offset` past it.
     ///
     /// # Errors
-    /// [`Error::Read`] where the file has no 8 bytes there; `offset` then stays.
+    /// [`Error::Read`] where the 8 bytes pass the end of the file; `offset` then stays.
     pub fn parse(bytes: &[u8], offset: &mut usize) -> Result<DataDirectory>
         ensures value { Answers (λ d. d) result (record_at 8 (directory_record Endian.Little) bytes.now offset.old) (IsSliceFault bytes.now offset.old 8) }
         ensures ok { OnOk result (offset.new ≡ offset.old + 8) }
@@ -101,33 +103,36 @@ impl DataDirectory {
 /// reserved and has no kind.
 #[derive(Debug, PartialEq, Copy, Clone)]
 pub enum DataDirectoryType {
-    /// The exports (`.edata`), at index 0.
+    /// The exports (`.edata`), at index 0: what other images may import from this one.
     ExportTable,
-    /// The import directory (`.idata`), at index 1.
+    /// The import directory (`.idata`), at index 1: from which libraries the loader takes what.
     ImportTable,
     /// The resources (`.rsrc`), at index 2.
     ResourceTable,
     /// How exceptions are handled (`.pdata`), at index 3.
     ExceptionTable,
-    /// The attribute certificates, at index 4. They are no part of the image in memory.
+    /// The attribute certificates, at index 4. They are no part of the image in memory: the address
+    /// is a file offset.
     CertificateTable,
-    /// The base relocations (`.reloc`), at index 5.
+    /// The base relocations (`.reloc`), at index 5: what the loader changes where it can't load the
+    /// image at its base.
     BaseRelocationTable,
     /// The debug data (`.debug`), at index 6.
     DebugTable,
     /// Reserved, at index 7.
     Architecture,
-    /// The value of the global pointer register, at index 8. It has no size.
+    /// The address of the value for the global pointer register, at index 8. Its size must be 0.
     GlobalPtr,
-    /// The thread local storage (`.tls`), at index 9.
+    /// The thread local storage (`.tls`), at index 9. Its callbacks run before the entry point.
     TlsTable,
     /// The load configuration, at index 10.
     LoadConfigTable,
     /// The bound imports, at index 11.
     BoundImportTable,
-    /// The import address table, at index 12.
+    /// The import address table, at index 12, which the loader fills. Readers find it by the import
+    /// directory.
     ImportAddressTable,
-    /// The delayed imports, at index 13.
+    /// The delayed imports, at index 13: libraries that are loaded at the first call.
     DelayImportDescriptor,
     /// The header of the common language runtime (`.cormeta`), at index 14.
     ClrRuntimeHeader,
@@ -157,7 +162,9 @@ impl TryFrom<usize> for DataDirectoryType {
 /// others are then `None`, as is an entry of zeros.
 #[derive(Debug, PartialEq, Copy, Clone, Default)]
 pub struct DataDirectories {
-    /// The directories by their indexes, each with the offset just past its record.
+    /// The directories by their indexes, each as (the offset just past its record, the record).
+    /// Offsets count as the one does that [`DataDirectories::parse`] was handed: inside an optional
+    /// header, from its front. `None` where the file has no such entry or it is all zeros.
     pub data_directories: [Option<(usize, DataDirectory)>; 16],
 }
 
@@ -188,7 +195,7 @@ impl DataDirectories {
     ///
     /// # Errors
     /// [`Error::Malformed`] with [`Cause::DirectoryCount`] where there are more than sixteen;
-    /// [`Error::Read`] where they are not all there. `offset` then stays.
+    /// [`Error::Read`] where they pass the end. `offset` then stays.
     #[tactic(auto, using(crate::proofs::Entries::too_many))]
     pub fn parse(bytes: &[u8], count: usize, offset: &mut usize) -> Result<DataDirectories>
         ensures value { Answers (λ d. d.data_directories) result (directories_at count bytes.now offset.old) (IsDirectoriesFault count bytes.now offset.old) }
@@ -227,7 +234,7 @@ impl DataDirectories {
     }
 
     /// Writes all sixteen entries to the front of `bytes`, those that are `None` as zeros, and
-    /// answers their size.
+    /// answers their size, 128.
     ///
     /// # Errors
     /// [`Error::Read`] where there is no room for 128 bytes; `bytes` are then as they were.
@@ -251,113 +258,114 @@ impl DataDirectories {
         }
     }
 
-    /// Where the exports lie.
+    /// Where the exports lie (index 0). This getter and the others answer `None` where the file has
+    /// no such entry or it is all zeros.
     pub fn get_export_table(&self) -> Option<&DataDirectory>
         ensures { option_map (λ d. d.now) result ≡ directory_in self.now.data_directories 0 }
     {
         self.get(0)
     }
 
-    /// Where the import directory lies.
+    /// Where the import directory lies (index 1).
     pub fn get_import_table(&self) -> Option<&DataDirectory>
         ensures { option_map (λ d. d.now) result ≡ directory_in self.now.data_directories 1 }
     {
         self.get(1)
     }
 
-    /// Where the resources lie.
+    /// Where the resources lie (index 2).
     pub fn get_resource_table(&self) -> Option<&DataDirectory>
         ensures { option_map (λ d. d.now) result ≡ directory_in self.now.data_directories 2 }
     {
         self.get(2)
     }
 
-    /// Where the exception table lies.
+    /// Where the exception table lies (index 3).
     pub fn get_exception_table(&self) -> Option<&DataDirectory>
         ensures { option_map (λ d. d.now) result ≡ directory_in self.now.data_directories 3 }
     {
         self.get(3)
     }
 
-    /// Where the attribute certificates lie; the address is a file offset.
+    /// Where the attribute certificates lie (index 4); the address is a file offset.
     pub fn get_certificate_table(&self) -> Option<&DataDirectory>
         ensures { option_map (λ d. d.now) result ≡ directory_in self.now.data_directories 4 }
     {
         self.get(4)
     }
 
-    /// Where the base relocations lie.
+    /// Where the base relocations lie (index 5).
     pub fn get_base_relocation_table(&self) -> Option<&DataDirectory>
         ensures { option_map (λ d. d.now) result ≡ directory_in self.now.data_directories 5 }
     {
         self.get(5)
     }
 
-    /// Where the debug data lie.
+    /// Where the debug data lie (index 6).
     pub fn get_debug_table(&self) -> Option<&DataDirectory>
         ensures { option_map (λ d. d.now) result ≡ directory_in self.now.data_directories 6 }
     {
         self.get(6)
     }
 
-    /// The entry of architecture data, which is reserved.
+    /// The entry of architecture data (index 7), which is reserved.
     pub fn get_architecture(&self) -> Option<&DataDirectory>
         ensures { option_map (λ d. d.now) result ≡ directory_in self.now.data_directories 7 }
     {
         self.get(7)
     }
 
-    /// Where the value of the global pointer register lies.
+    /// The address of the value for the global pointer register (index 8).
     pub fn get_global_ptr(&self) -> Option<&DataDirectory>
         ensures { option_map (λ d. d.now) result ≡ directory_in self.now.data_directories 8 }
     {
         self.get(8)
     }
 
-    /// Where the thread local storage lies.
+    /// Where the thread local storage lies (index 9).
     pub fn get_tls_table(&self) -> Option<&DataDirectory>
         ensures { option_map (λ d. d.now) result ≡ directory_in self.now.data_directories 9 }
     {
         self.get(9)
     }
 
-    /// Where the load configuration lies.
+    /// Where the load configuration lies (index 10).
     pub fn get_load_config_table(&self) -> Option<&DataDirectory>
         ensures { option_map (λ d. d.now) result ≡ directory_in self.now.data_directories 10 }
     {
         self.get(10)
     }
 
-    /// Where the bound imports lie.
+    /// Where the bound imports lie (index 11).
     pub fn get_bound_import_table(&self) -> Option<&DataDirectory>
         ensures { option_map (λ d. d.now) result ≡ directory_in self.now.data_directories 11 }
     {
         self.get(11)
     }
 
-    /// Where the import address table lies.
+    /// Where the import address table lies (index 12).
     pub fn get_import_address_table(&self) -> Option<&DataDirectory>
         ensures { option_map (λ d. d.now) result ≡ directory_in self.now.data_directories 12 }
     {
         self.get(12)
     }
 
-    /// Where the delayed imports lie.
+    /// Where the delayed imports lie (index 13).
     pub fn get_delay_import_descriptor(&self) -> Option<&DataDirectory>
         ensures { option_map (λ d. d.now) result ≡ directory_in self.now.data_directories 13 }
     {
         self.get(13)
     }
 
-    /// Where the header of the common language runtime lies.
+    /// Where the header of the common language runtime lies (index 14).
     pub fn get_clr_runtime_header(&self) -> Option<&DataDirectory>
         ensures { option_map (λ d. d.now) result ≡ directory_in self.now.data_directories 14 }
     {
         self.get(14)
     }
 
-    /// The directories that are there, each with its kind, in order. The sixteenth has no kind and
-    /// is left out.
+    /// The directories that are there, as pairs (kind, directory), in the order of their indexes.
+    /// The sixteenth has no kind and is left out.
     pub fn dirs(&self) -> Dirs
         ensures { dirs_left result ≡ present_from 0 self.now.data_directories }
     {
@@ -368,7 +376,7 @@ impl DataDirectories {
     }
 }
 
-/// The directories that are there, each with its kind, in order.
+/// The directories that are there, as pairs (kind, directory), in the order of their indexes.
 #[derive(Debug, Clone, Drop)]
 pub struct Dirs {
     directories: DataDirectories,
@@ -380,7 +388,7 @@ impl Iterator for Dirs {
 
     ghost next_gives = { YieldsFirst dirs_left };
 
-    ghost remaining = { item_count dirs_left };
+    ghost remaining = { λ it. at_most (15 - it.index) };
 
     fn next(&mut self) -> Option<(DataDirectoryType, DataDirectory)> {
         'entries: for index in self.index..KINDS.len() {
@@ -395,8 +403,9 @@ impl Iterator for Dirs {
     /// No more come than there are kinds left.
     #[tactic(auto, using(crate::proofs::Entries::walk_most))]
     fn size_hint(&self) -> (usize, Option<usize>)
-        ensures lower { IsWithinCount result.0 (at_most (length (dirs_left self.now))) }
-        ensures upper { IfSome result.1 (UpTo (at_most (length (dirs_left self.now)))) }
+        ensures lower { IsWithinCount result.0 (at_most (15 - self.now.index)) }
+        ensures upper { IfSome result.1 (UpTo (at_most (15 - self.now.index))) }
+        ensures most { IfSome result.1 (λ n. length (dirs_left self.now) ≤ n) }
         ensures value { result ≡ (0, Some (15 - self.now.index)) }
     {
         (0, Some(KINDS.len().saturating_sub(self.index)))

@@ -21,18 +21,21 @@ pub enum RawPointerRule {
 /// What a reader does and leaves out.
 #[derive(Debug, Copy, Clone)]
 pub struct ParseOptions {
-    /// Whether an address is mapped to a file offset by the sections; where not, it is the offset.
-    /// By default it is mapped.
+    /// Whether an address is mapped to a file offset by the sections; where not, it is the offset,
+    /// as in a memory image or a Terse Executable. By default it is mapped.
     pub resolve_rva: bool,
-    /// Whether attribute certificates are read, by default so. No reader of these crates reads them.
+    /// Whether attribute certificates are read, by default so. It changes no answer: no reader of
+    /// these crates reads them.
     pub parse_attribute_certificates: bool,
-    /// Whether thread local storage is read, by default so. No reader of these crates reads it.
+    /// Whether thread local storage is read, by default so. It changes no answer: no reader of
+    /// these crates reads it.
     pub parse_tls_data: bool,
-    /// Whether resources are read, by default so. No reader of these crates reads them.
+    /// Whether resources are read, by default so. It changes no answer: no reader of these crates
+    /// reads them.
     pub parse_resources: bool,
-    /// How damaged parts are met, by default strictly.
+    /// How damaged parts are met, by default strictly: the first one refuses the whole.
     pub parse_mode: ParseMode,
-    /// Whether a reader of a whole file reads the imports, by default so.
+    /// Whether the reader of a whole file reads the imports, by default so.
     pub parse_imports: bool,
     /// Where a section's raw data begins for the mapping of addresses: by default at the raw pointer as
     /// it is stored, as in goblin. The Windows loader rounds it down to 512. Every reader that maps
@@ -70,7 +73,7 @@ impl ParseOptions {
         }
     }
 
-    /// The same with this mode.
+    /// The same options with this mode.
     pub fn with_parse_mode(mut self, parse_mode: ParseMode) -> ParseOptions
         ensures { result ≡ record self { parse_mode = parse_mode } }
     {
@@ -78,7 +81,7 @@ impl ParseOptions {
         self
     }
 
-    /// The same, with thread local storage read or not.
+    /// The same options, with thread local storage read or not.
     pub fn with_parse_tls_data(mut self, parse_tls_data: bool) -> ParseOptions
         ensures { result ≡ record self { parse_tls_data = parse_tls_data } }
     {
@@ -86,7 +89,7 @@ impl ParseOptions {
         self
     }
 
-    /// The same, with resources read or not.
+    /// The same options, with resources read or not.
     pub fn with_parse_resources(mut self, parse_resources: bool) -> ParseOptions
         ensures { result ≡ record self { parse_resources = parse_resources } }
     {
@@ -94,7 +97,7 @@ impl ParseOptions {
         self
     }
 
-    /// The same, with imports read or not.
+    /// The same options, with the imports of a whole file read or not.
     pub fn with_parse_imports(mut self, parse_imports: bool) -> ParseOptions
         ensures { result ≡ record self { parse_imports = parse_imports } }
     {
@@ -102,7 +105,7 @@ impl ParseOptions {
         self
     }
 
-    /// The same, with addresses mapped by this rule.
+    /// The same options, with addresses mapped by this rule.
     pub fn with_raw_pointer_rule(mut self, raw_pointer_rule: RawPointerRule) -> ParseOptions
         ensures { result ≡ record self { raw_pointer_rule = raw_pointer_rule } }
     {

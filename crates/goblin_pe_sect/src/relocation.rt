@@ -1,8 +1,8 @@
 //! The relocations of a PE file: those of an object's sections, for linkers, and the base relocations
 //! of an image, for loaders.
 
-ghost use Rattle.std.specs.Prelude.{◌≡◌, Some, length, IfSome};
-ghost use Rattle.std.specs.Iterator.{UpTo, YieldsFirst, at_most, item_count};
+ghost use Rattle.std.specs.Prelude.{◌≡◌, ◌/◌, Some, length, IfSome};
+ghost use Rattle.std.specs.Iterator.{UpTo, YieldsFirst, at_most};
 ghost use Rattle.std.specs.Iterator.SizeHint.{IsWithinCount};
 ghost use Rattle.goblin_base.specs.Answers.{Answers};
 ghost use Rattle.goblin_pe_sect.specs.declared.relocation.Relocation.{Relocation};
@@ -137,15 +137,17 @@ const _: () = prove!(COFF_RELOCATION_SIZE == 10);
 /// A relocation of a COFF object: a place in a section that a linker changes.
 ///
 /// Source: PE Format, "COFF Relocations (Object Only)". Numbers are as stored; the record has 10
-/// bytes.
+/// bytes, and `at` says where in it a field stands.
 #[derive(Debug, PartialEq, Copy, Clone, Default)]
 pub struct Relocation {
-    /// Where the place is: its offset in the section, plus the section's own address, which is
-    /// mostly 0.
+    /// Where the place is, at 0: its offset in the section, in bytes, plus the section's own
+    /// address, which is mostly 0. Of the first relocation of a section with
+    /// [`IMAGE_SCN_LNK_NRELOC_OVFL`](crate::section_table::IMAGE_SCN_LNK_NRELOC_OVFL) it is the
+    /// number of all.
     pub virtual_address: u32,
-    /// The index in the symbol table of the symbol whose address is put there.
+    /// The index in the symbol table of the symbol whose address is put there, at 4.
     pub symbol_table_index: u32,
-    /// How it is put there, an `IMAGE_REL_*` of the machine.
+    /// How it is put there, at 8: an `IMAGE_REL_*` of the machine that the COFF header names.
     pub typ: u16,
 }
 
@@ -180,7 +182,7 @@ impl Record for Relocation {
     }
 }
 
-/// The relocations of a section of an object, in order.
+/// The relocations of a section of an object, in the order of their records.
 ///
 /// Source: PE Format, "COFF Relocations (Object Only)".
 #[derive(Default, Drop)]
@@ -189,11 +191,12 @@ pub struct Relocations<'a> {
 }
 
 impl<'a> Relocations<'a> {
-    /// The `number` relocations at `offset`, one behind the other. A section's record says both.
+    /// The `number` relocations at the file offset `offset`, one after the other. A section's
+    /// record says both.
     ///
     /// # Errors
-    /// [`Error::Read`] where they are not all there, or begin at the end, also where there are none;
-    /// [`Error::Malformed`] with [`Cause::Overflow`] where their size passes 64 bits.
+    /// [`Error::Read`] where they pass the end of the file, or begin at it, also where there are
+    /// none; [`Error::Malformed`] with [`Cause::Overflow`] where their size passes 64 bits.
     pub fn parse(bytes: &'a [u8], offset: usize, number: usize) -> Result<Relocations<'a>>
         ensures { Answers relocations_left result (relocations_at bytes.now offset number) (IsRelocationsFault bytes.now offset number) }
     {
@@ -210,7 +213,7 @@ impl Iterator for Relocations<'_> {
 
     ghost next_gives = { YieldsFirst relocations_left };
 
-    ghost remaining = { item_count relocations_left };
+    ghost remaining = { λ it. at_most (length it.relocations.now / 10) };
 
     #[tactic(auto, using(crate::proofs::RelocationRecords::relocations_more, crate::proofs::RelocationRecords::relocations_none))]
     fn next(&mut self) -> Option<Relocation> {
@@ -224,8 +227,8 @@ impl Iterator for Relocations<'_> {
 
     #[tactic(auto, using(crate::proofs::RelocationRecords::length_relocations))]
     fn size_hint(&self) -> (usize, Option<usize>)
-        ensures lower { IsWithinCount result.0 (at_most (length (relocations_left self.now))) }
-        ensures upper { IfSome result.1 (UpTo (at_most (length (relocations_left self.now)))) }
+        ensures lower { IsWithinCount result.0 (at_most (length self.now.relocations.now / 10)) }
+        ensures upper { IfSome result.1 (UpTo (at_most (length self.now.relocations.now / 10))) }
         ensures value { result ≡ (length (relocations_left self.now), Some (length (relocations_left self.now))) }
     {
         let count = self.relocations.len() / COFF_RELOCATION_SIZE;

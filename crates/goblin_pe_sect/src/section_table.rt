@@ -12,14 +12,14 @@ ghost use Rattle.goblin_base.specs.Record.{WritesBack, encoding};
 ghost use Rattle.goblin_pe_sect.specs.Options.{is_strict};
 ghost use Rattle.goblin_pe_sect.specs.Relocations.{relocations_at, relocations_left};
 ghost use Rattle.goblin_pe_sect.specs.SectionName.{name_value, IsNameFault, indirect_name, IsNameOffsetFault, real_name_at};
-ghost use Rattle.goblin_pe_sect.specs.SectionTable.{Section, section_eq, section_per, SectionReadsBack, SectionWritesBack, section_record, section_fields, section_at, IsSectionFault, name_of, IsNoName, section_data, OverlapRawData};
+ghost use Rattle.goblin_pe_sect.specs.SectionTable.{Section, section_eq, section_per, SectionReadsBack, SectionWritesBack, section_record, section_fields, section_at, IsSectionFault, name_of, IsNoName, raw_data, section_data, OverlapRawData};
 
 use crate::digits::{Digits, decimal_number, indirect_name};
 use crate::options::{ParseMode, ParseOptions};
 use crate::relocation::Relocations;
 use goblin_base::{
-    Cause, Endian, Error, Field, Result, field_array, field_u16, field_u32, gread_slice, pread_str,
-    pread_str_until, put_bytes, pwrite_slice, record_bytes,
+    Cause, Endian, Error, Field, ReadFault, Result, field_array, field_u16, field_u32, gread_slice,
+    pread_str, pread_str_until, put_bytes, pwrite_slice, record_bytes,
 };
 use std::alloc::Global;
 use std::borrow::CowSlice;
@@ -49,30 +49,37 @@ const _: () = prove!(SIZEOF_SECTION_TABLE == 40);
 /// A section, as its record describes it.
 ///
 /// Source: PE Format, "Section Table (Section Headers)". Numbers are as stored; a record has 40
-/// bytes.
+/// bytes, and `at` says where in it a field stands.
 #[derive(Debug, Default, Drop)]
 pub struct SectionTable {
-    /// The eight bytes of the name, padded with NULs. A longer name stands elsewhere.
+    /// The eight bytes of the name, padded with NULs, at 0. A longer name stands in the string
+    /// table, and these then say where. A loader goes by addresses and not by names.
     pub name: [u8; 8],
-    /// The name that stands elsewhere, where there is one. It is no part of the record.
+    /// The name from the string table; `None` where the eight bytes are the name, or no text stands
+    /// where they point to. It is no part of the record.
     pub real_name: Option<String>,
-    /// The section's size in memory, in bytes.
+    /// The section's size in memory, in bytes, at 8: what the raw data lacks of it is zeros. Where
+    /// it is 0, as in objects, the raw size stands for it.
     pub virtual_size: u32,
-    /// The section's address in memory, relative to the image's base.
+    /// The section's address in memory, relative to the image's base, at 12.
     pub virtual_address: u32,
-    /// The size of the section's data in the file, in bytes.
+    /// The size of the section's data in the file, in bytes, at 16; 0 where it has none there. In
+    /// an image it is rounded up to the file alignment, so it may be above the virtual size.
     pub size_of_raw_data: u32,
-    /// The file offset of the section's data.
+    /// The file offset of the section's data, at 20. The Windows loader rounds it down to 512: see
+    /// [`RawPointerRule`](crate::RawPointerRule).
     pub pointer_to_raw_data: u32,
-    /// The file offset of the section's relocations, 0 where it has none.
+    /// The file offset of the section's relocations, at 24; 0 in an image, and where it has none.
     pub pointer_to_relocations: u32,
-    /// The file offset of the section's line numbers, 0 where it has none. Deprecated.
+    /// The file offset of the section's line numbers, at 28; 0 where it has none. Deprecated.
     pub pointer_to_linenumbers: u32,
-    /// How many relocations the section has.
+    /// How many relocations the section has, at 32; 0 in an image. 0xFFFF with
+    /// [`IMAGE_SCN_LNK_NRELOC_OVFL`] means that the first relocation says their number.
     pub number_of_relocations: u16,
-    /// How many line numbers the section has. Deprecated.
+    /// How many line numbers the section has, at 34. Deprecated.
     pub number_of_linenumbers: u16,
-    /// What the section holds and how it may be used, as bits `IMAGE_SCN_*`.
+    /// What the section holds and how it may be used, as bits `IMAGE_SCN_*`, at 36. The loader
+    /// protects its pages by them: a section that is written and executed is worth a look.
     pub characteristics: u32,
 }
 
@@ -147,8 +154,8 @@ impl SectionTable {
         }
     }
 
-    /// Reads the record at `offset` and moves `offset` past it, as [`SectionTable::parse_with_opts`]
-    /// with the default options.
+    /// Reads the record at the file offset `offset` and moves `offset` past it, as
+    /// [`SectionTable::parse_with_opts`] with the default options.
     ///
     /// # Errors
     /// As [`SectionTable::parse_with_opts`] in strict mode.
@@ -167,12 +174,12 @@ impl SectionTable {
         SectionTable::parse_with_opts(alloc, bytes, offset, string_table_offset, &opts)
     }
 
-    /// Reads the record at `offset` and moves `offset` past it. Where its name is indirect, the real
-    /// name is a copy of the text that it points to in the string table at `string_table_offset`, if
-    /// a text stands there.
+    /// Reads the record at the file offset `offset` and moves `offset` past it. Where its name is
+    /// indirect, the real name is a copy of the text that it points to in the string table at
+    /// `string_table_offset`, a file offset, if a text stands there.
     ///
     /// # Errors
-    /// [`Error::Read`] where the file has no 40 bytes there; as
+    /// [`Error::Read`] where the 40 bytes pass the end of the file; as
     /// [`SectionTable::name_offset_with_opts`] where the name is refused; [`Error::Memory`] where
     /// memory for the real name is refused. `offset` then stays.
     #[tactic(auto, unfolding(crate::specs::SectionTable::section_at, crate::specs::SectionTable::IsSectionFault, crate::specs::SectionName::IsNameFault))]
@@ -226,9 +233,31 @@ impl SectionTable {
         })
     }
 
-    /// The section's data in the file `bytes`: its raw data, followed by zeros up to the virtual size
-    /// where that is greater. It is borrowed where no zeros follow, and then takes no memory. `None`
-    /// where the raw data passes the file.
+    /// The section's raw data in the file `bytes`, as many bytes at its raw pointer as its record says,
+    /// without the zeros that [`SectionTable::data`] adds. It stays where it stands in the file, so no
+    /// memory is taken. It may be empty, also at the end of the file.
+    ///
+    /// # Errors
+    /// [`Error::Read`] where it passes the file: `BadOffset` where it also begins at or past the end,
+    /// else `TooBig`.
+    pub fn raw_data<'b>(&self, bytes: &'b [u8]) -> Result<&'b [u8]>
+        ensures { let pointer = self.now.pointer_to_raw_data in
+            Answers (λ s. s.now) result (raw_data self.now bytes.now) (IsSliceFault bytes.now pointer self.now.size_of_raw_data) }
+    {
+        let begin = self.pointer_to_raw_data as usize;
+        match bytes.get(begin..begin + self.size_of_raw_data as usize) {
+            Some(raw_data) => Ok(raw_data),
+            None if bytes.len() <= begin => Err(Error::Read(ReadFault::BadOffset)),
+            None => Err(Error::Read(ReadFault::TooBig)),
+        }
+    }
+
+    /// The section's data in the file `bytes`: its raw data, followed by zeros up to the virtual
+    /// size where that is greater. It is borrowed where no zeros follow, and then takes no memory;
+    /// else it is a copy of as many bytes as the virtual size, which a hostile file may set up to 4
+    /// GiB. `None` where the raw data passes the file.
+    ///
+    /// Source: PE Format, "Section Data".
     ///
     /// # Errors
     /// [`Error::Memory`] where memory for data with zeros is refused.
@@ -242,13 +271,11 @@ impl SectionTable {
         ensures grown { OnErr result (self.now.size_of_raw_data < self.now.virtual_size) }
         ensures inside { OnErr result (self.now.pointer_to_raw_data + self.now.size_of_raw_data ≤ length bytes.now) }
     {
-        let begin = self.pointer_to_raw_data as usize;
-        let size = self.size_of_raw_data as usize;
-        let Some(raw_data) = bytes.get(begin..begin + size) else {
+        let Ok(raw_data) = self.raw_data(bytes) else {
             return Ok(None);
         };
         let virtual_size = self.virtual_size as usize;
-        if virtual_size <= size {
+        if virtual_size <= raw_data.len() {
             return Ok(Some(CowSlice::Borrowed(raw_data)));
         }
         let mut padded = Vec::with_capacity(alloc, virtual_size)?;
@@ -269,15 +296,18 @@ impl SectionTable {
     }
 
     /// Where the section's name stands in the string table, as an offset in bytes from the table's
-    /// start; `None` where the eight bytes are the name.
+    /// length field, which stands at its start; `None` where the eight bytes are the name.
     ///
-    /// A name that begins with a slash is indirect: a decimal number stands behind one slash, a number
-    /// of base 64 behind two, the most significant digit first.
+    /// A name that begins with a slash is indirect: a decimal number follows one slash, a number of
+    /// base 64 two, the most significant digit first.
+    ///
+    /// Source: PE Format, "Section Table (Section Headers)", of the decimal form; the other is what
+    /// linkers write for numbers above 9,999,999.
     ///
     /// # Errors
-    /// [`Error::Malformed`] with [`Cause::NameDecimal`] or [`Cause::NameBase64`] where no such number
-    /// stands there. Where the bytes behind the slashes are not UTF-8, [`Cause::NameText`] in strict
-    /// mode; in permissive mode the name is then direct.
+    /// [`Error::Malformed`] with [`Cause::NameDecimal`] or [`Cause::NameBase64`] where no such
+    /// number follows. Where the bytes after the slashes are not UTF-8, [`Cause::NameText`] in
+    /// strict mode; in permissive mode the name is then direct.
     pub fn name_offset_with_opts(&self, opts: &ParseOptions) -> Result<Option<usize>>
         ensures { let strict = is_strict opts.now.parse_mode in
             Answers (λ v. v) result (name_value strict self.now.name) (IsNameFault strict self.now.name) }
@@ -285,8 +315,9 @@ impl SectionTable {
         name_value(&self.name, opts.parse_mode)
     }
 
-    /// Makes the eight bytes say that the section's name stands at `idx` in the string table. The real
-    /// name stays as it is.
+    /// Makes the eight bytes say that the section's name stands at `idx` in the string table, in
+    /// bytes from the table's start. The real name stays as it is, and so [`SectionTable::name`]
+    /// still answers it.
     ///
     /// # Errors
     /// [`Error::Malformed`] with [`Cause::NameOffset`] where six digits of base 64 can't say `idx`;
@@ -305,11 +336,11 @@ impl SectionTable {
         Ok(())
     }
 
-    /// The section's name: the real name, else the text of the eight bytes.
+    /// The section's name: the real name, else the text of the eight bytes up to a NUL.
     ///
     /// # Errors
-    /// [`Error::Read`] with `BadInput` where the eight bytes up to a NUL are not UTF-8 and there is no
-    /// real name.
+    /// [`Error::Read`] with `BadInput` where the eight bytes up to a NUL are not UTF-8 and there is
+    /// no real name.
     pub fn name(&self) -> Result<&str>
         ensures { Answers (λ s. s.now) result (name_of self.now.real_name self.now.name) (IsNoName self.now.real_name self.now.name) }
     {
@@ -319,11 +350,13 @@ impl SectionTable {
         }
     }
 
-    /// The section's relocations in the file `bytes`, at the place and of the number that its record
-    /// says.
+    /// The section's relocations in the file `bytes`, at the file offset and of the number that its
+    /// record says. The number of 0xFFFF is taken as it stands, also where
+    /// [`IMAGE_SCN_LNK_NRELOC_OVFL`] is set.
     ///
     /// # Errors
-    /// [`Error::Read`] where they are not all there, or begin at the end, also where there are none.
+    /// [`Error::Read`] where they pass the end of the file, or begin at it, also where there are
+    /// none.
     pub fn relocations<'b>(&self, bytes: &'b [u8]) -> Result<Relocations<'b>>
         ensures { let place = self.now.pointer_to_relocations in
             let count = self.now.number_of_relocations in
@@ -334,7 +367,7 @@ impl SectionTable {
     }
 
     /// Whether the raw data of the two sections overlaps in the file: neither ends at or before the
-    /// place where the other begins.
+    /// offset where the other begins. So empty raw data strictly inside another's overlaps it.
     pub fn overlaps_with(&self, other: &SectionTable) -> bool
         ensures overlap { IsTrue result ↔ OverlapRawData self.now other.now }
         ensures symmetric { IsTrue result ↔ OverlapRawData other.now self.now }
@@ -360,7 +393,7 @@ impl SectionTable {
     ///
     /// # Errors
     /// [`Error::Read`] where there is no room; `bytes` then stays.
-    #[tactic(auto, using(crate::proofs::SectionTableRoundTrip::section_back, crate::proofs::SectionTableRoundTrip::record_back))]
+    #[tactic(auto, using(crate::proofs::SectionTableRoundTrip::section_back, crate::proofs::SectionTableRoundTrip::section_record_back))]
     pub fn try_into_ctx(&self, bytes: &mut [u8], endian: Endian) -> Result<usize>
         ensures size { IfOk result (λ size. size ≡ 40) }
         ensures written { Writes result (overwritten bytes.old 0 (encoding endian (section_fields self.now))) bytes.old bytes.new (IsSliceFault bytes.old 0 40) }
@@ -428,7 +461,7 @@ fn name_value(name: &[u8; 8], mode: ParseMode) -> Result<Option<usize>>
     }
 }
 
-// What a name says that is not UTF-8 behind its slashes.
+// What a name says that is not UTF-8 after its slashes.
 fn no_text(mode: ParseMode) -> Result<Option<usize>>
     ensures { result ≡ (if is_strict mode then Err (Malformed NameText) else Ok None) }
 {

@@ -1,7 +1,7 @@
 //! The symbols of a COFF file: their records and names, and the table of them.
 
-ghost use Rattle.std.specs.Prelude.{◌≡◌, ◌↔◌, ◌+◌, ◌-◌, ◌*◌, ◌/◌, ◌%◌, ◌^◌, ◌<◌, ◌<ℤ◌, pos, Some, IfOk, IfSome, IsTrue, length, option_map};
-ghost use Rattle.std.specs.Iterator.{UpTo, YieldsFirstBy, at_most, item_count};
+ghost use Rattle.std.specs.Prelude.{◌≡◌, ◌↔◌, ◌+◌, ◌-◌, ◌*◌, ◌/◌, ◌%◌, ◌^◌, ◌<◌, ◌≤◌, ◌<ℤ◌, pos, Some, IfOk, IfSome, IsTrue, length, option_map};
+ghost use Rattle.std.specs.Iterator.{UpTo, YieldsFirstBy, at_most};
 ghost use Rattle.std.specs.Iterator.SizeHint.{IsWithinCount};
 ghost use Rattle.goblin_base.specs.Answers.{Answers, Writes, IsSliceFault};
 ghost use Rattle.goblin_base.specs.Bytes.{overwritten, slice_at};
@@ -48,29 +48,32 @@ pub const COFF_SYMBOL_SIZE: usize = 18;
 
 const _: () = prove!(COFF_SYMBOL_SIZE == 18);
 
-// How many bytes in front of a string table say its length. The offsets that symbols store count
+// How many bytes before the texts of a string table say its length. The offsets that symbols store count
 // them.
 const LENGTH_FIELD_SIZE: u32 = 4;
 
 /// A symbol, as its record describes it.
 ///
-/// Source: PE Format, "Symbol Name Representation" and "COFF Symbol Table". Numbers are as stored; a
-/// record has 18 bytes.
+/// Source: PE Format, "COFF Symbol Table". Numbers are as stored; a record has 18 bytes, and `at`
+/// says where in it a field stands.
 #[derive(Debug, PartialEq, Copy, Clone, Default)]
 pub struct Symbol {
-    /// The eight bytes of the name, padded with NULs. Where the first is 0, the name stands in the
-    /// string table, at the number in the last four.
+    /// The eight bytes of the name, padded with NULs, at 0. Where the first is 0, the name stands
+    /// in the string table, at the number in the last four, which counts from the table's length
+    /// field.
     pub name: [u8; 8],
-    /// What the symbol stands for, by its section and class: mostly an offset in its section.
+    /// What the symbol stands for, by its section and class, at 8: mostly an offset in its section,
+    /// in bytes.
     pub value: u32,
-    /// The number of its section, counted from 1, or one of [`IMAGE_SYM_UNDEFINED`],
-    /// [`IMAGE_SYM_ABSOLUTE`] and [`IMAGE_SYM_DEBUG`].
+    /// The number of its section, counted from 1, at 12; or [`IMAGE_SYM_UNDEFINED`] (0),
+    /// [`IMAGE_SYM_ABSOLUTE`] (-1) or [`IMAGE_SYM_DEBUG`] (-2).
     pub section_number: i16,
-    /// Its type: an `IMAGE_SYM_TYPE_*` in the low four bits, an `IMAGE_SYM_DTYPE_*` above them.
+    /// Its type, at 14: an `IMAGE_SYM_TYPE_*` in the low four bits, an `IMAGE_SYM_DTYPE_*` above
+    /// them. Microsoft's tools store 0x20 of a function, else 0.
     pub typ: u16,
-    /// Its class, an `IMAGE_SYM_CLASS_*`.
+    /// Its class, an `IMAGE_SYM_CLASS_*`, at 16.
     pub storage_class: u8,
-    /// How many auxiliary records stand behind it.
+    /// How many auxiliary records follow it, at 17. The next symbol stands after these.
     pub number_of_aux_symbols: u8,
 }
 
@@ -112,11 +115,14 @@ impl Record for Symbol {
 }
 
 impl Symbol {
-    /// The symbol of the record at `offset`, and the name that stands in it: the text of its first
-    /// eight bytes, `None` where the first byte is 0 or they are not UTF-8 up to a NUL.
+    /// The record at the file offset `offset`, as the pair (name that stands in it, symbol). The
+    /// name is the text of the record's first eight bytes; `None` where the first byte is 0, and so
+    /// the name stands in the string table, or where they are not UTF-8 up to a NUL.
+    ///
+    /// Source: PE Format, "Symbol Name Representation".
     ///
     /// # Errors
-    /// [`Error::Read`] where the file has no 18 bytes there.
+    /// [`Error::Read`] where the 18 bytes pass the end of the file.
     pub fn parse<'a>(bytes: &'a [u8], offset: usize) -> Result<(Option<&'a str>, Symbol)>
         ensures { Answers named_value result (record_at 18 named_symbol bytes.now offset) (IsSliceFault bytes.now offset 18) }
     {
@@ -138,10 +144,12 @@ impl Symbol {
     /// The symbol's name: where its first byte is 0, the text that `strtab` has at
     /// [`Symbol::name_offset`], and else the text of the eight bytes.
     ///
+    /// Source: PE Format, "Symbol Name Representation".
+    ///
     /// # Errors
-    /// [`Error::Malformed`] with [`Cause::SymbolName`] of the offset where `strtab` has no text there,
-    /// and of the stored number where that is below 4; [`Error::Read`] with `BadInput` where the eight
-    /// bytes are the name and are not UTF-8 up to a NUL.
+    /// [`Error::Malformed`] with [`Cause::SymbolName`] of the offset where `strtab` has no text
+    /// there, and of the stored number where that is below 4; [`Error::Read`] with `BadInput` where
+    /// the eight bytes are the name and are not UTF-8 up to a NUL.
     pub fn name<'a>(&'a self, strtab: &'a Strtab) -> Result<&'a str>
         ensures { Answers (λ s. s.now) result (symbol_name strtab.now self.now.name) (IsNoSymbolName strtab.now self.now.name) }
     {
@@ -157,17 +165,18 @@ impl Symbol {
         }
     }
 
-    /// Where the symbol's name stands in the string table, in bytes behind the four that say the
-    /// table's length; `None` where the name's first byte is not 0, or the stored number, which counts
-    /// those four, is below 4.
+    /// Where the symbol's name stands in the string table, in bytes after the four that say the
+    /// table's length, so that [`Strtab::get_at`] takes it. `None` where the name's first byte is
+    /// not 0, and so the name stands in the record, or where the stored number, which counts those
+    /// four, is below 4.
     pub fn name_offset(&self) -> Option<u32>
         ensures { result ≡ name_offset_of self.now.name }
     {
         self.stored_number()?.checked_sub(LENGTH_FIELD_SIZE)
     }
 
-    /// Stores `offset` in the place of the name. It counts the four bytes of the string table's length,
-    /// so [`Symbol::name_offset`] is then four less, and `None` where it is below 4.
+    /// Stores `offset` in the place of the name. It counts the four bytes of the string table's
+    /// length, so [`Symbol::name_offset`] is then 4 less, and `None` where it is below 4.
     #[tactic(auto, using(crate::proofs::SymbolsRoundTrip::offset_name_bytes, crate::proofs::SymbolsRoundTrip::offset_name_says))]
     pub fn set_name_offset(&mut self, offset: u32)
         ensures name { self.new ≡ record self.old { name = offset_name offset } }
@@ -190,7 +199,11 @@ impl Symbol {
         self.typ >> IMAGE_SYM_DTYPE_SHIFT
     }
 
-    /// Whether the symbol defines a function: it is external, is a function, and has a section.
+    /// Whether the symbol defines a function: its storage class is external (2), its derived type
+    /// is a function (2), and it has a section (number above 0). An [`AuxFunctionDefinition`] may
+    /// follow.
+    ///
+    /// Source: PE Format, "Auxiliary Format 1: Function Definitions".
     pub fn is_function_definition(&self) -> bool
         ensures { IsTrue result ↔ ((self.now.storage_class ≡ 2) × (self.now.typ / 16 ≡ 2) × (pos 0 <ℤ self.now.section_number)) }
     {
@@ -199,21 +212,30 @@ impl Symbol {
             && self.section_number > 0
     }
 
-    /// Whether the symbol is a weak external one.
+    /// Whether the symbol's storage class is weak external (105): another symbol stands for it
+    /// where it is not found. An [`AuxWeakExternal`] then follows.
+    ///
+    /// Source: PE Format, "Storage Class".
     pub fn is_weak_external(&self) -> bool
         ensures { IsTrue result ↔ (self.now.storage_class ≡ 105) }
     {
         self.storage_class == IMAGE_SYM_CLASS_WEAK_EXTERNAL
     }
 
-    /// Whether the symbol stands for a source file.
+    /// Whether the symbol's storage class is file (103): it stands for a source file, whose name is
+    /// in the auxiliary records that follow, as [`SymbolTable::aux_file`] reads it.
+    ///
+    /// Source: PE Format, "Auxiliary Format 4: Files".
     pub fn is_file(&self) -> bool
         ensures { IsTrue result ↔ (self.now.storage_class ≡ 103) }
     {
         self.storage_class == IMAGE_SYM_CLASS_FILE
     }
 
-    /// Whether the symbol defines a section: it is static, and auxiliary records stand behind it.
+    /// Whether the symbol defines a section: its storage class is static (3), and auxiliary records
+    /// follow, the first an [`AuxSectionDefinition`].
+    ///
+    /// Source: PE Format, "Auxiliary Format 5: Section Definitions".
     pub fn is_section_definition(&self) -> bool
         ensures { IsTrue result ↔ ((self.now.storage_class ≡ 3) × (0 < self.now.number_of_aux_symbols)) }
     {
@@ -240,22 +262,22 @@ fn named(bytes: &[u8]) -> (Option<&str>, Symbol)
     (inline_name(bytes), Symbol::in_record(bytes, Endian::Little))
 }
 
-/// The symbol table of a file: records of 18 bytes, one behind the other. Behind each symbol stand its
-/// auxiliary records.
+/// The symbol table of a file: records of 18 bytes, one after the other. Each symbol is followed by
+/// its auxiliary records.
 ///
-/// Source: PE Format, "COFF Symbol Table" and "Auxiliary Symbol Records". Indexes count records, also
-/// the auxiliary ones.
+/// Source: PE Format, "COFF Symbol Table" and "Auxiliary Symbol Records". Indexes count records,
+/// also the auxiliary ones.
 #[derive(Drop)]
 pub struct SymbolTable<'a> {
     symbols: &'a [u8],
 }
 
 impl<'a> SymbolTable<'a> {
-    /// The table of the `number` records at `offset`.
+    /// The table of the `number` records at the file offset `offset`.
     ///
     /// # Errors
-    /// [`Error::Read`] where they are not all there, or begin at the end, also where there are none;
-    /// [`Error::Malformed`] with [`Cause::Overflow`] where their size passes 64 bits.
+    /// [`Error::Read`] where they pass the end of the file, or begin at it, also where there are
+    /// none; [`Error::Malformed`] with [`Cause::Overflow`] where their size passes 64 bits.
     pub fn parse(bytes: &'a [u8], offset: usize, number: usize) -> Result<SymbolTable<'a>>
         ensures { Answers table_bytes result (slice_at bytes.now offset (18 * number)) (IsSymbolsFault bytes.now offset number) }
     {
@@ -283,15 +305,17 @@ impl<'a> SymbolTable<'a> {
         pread_slice(self.symbols, offset, COFF_SYMBOL_SIZE).ok()
     }
 
-    /// The record at `index`, whatever it is, read as a symbol, and the name that stands in it, as
-    /// [`Symbol::parse`] gives them. `None` where the table has no such record.
+    /// The record at `index`, read as a symbol whether or not it is an auxiliary one: the pair
+    /// (name that stands in it, symbol), as [`Symbol::parse`] gives them. `None` where the table
+    /// has no such record.
     pub fn get(&self, index: usize) -> Option<(Option<&'a str>, Symbol)>
         ensures { option_map named_value result ≡ record_at 18 named_symbol (table_bytes self.now) (18 * index) }
     {
         Some(named(self.record_at(index)?))
     }
 
-    /// The record at `index` as a function definition; `None` where the table has no such record.
+    /// The record at `index`, whatever it is, as an auxiliary record of a function definition.
+    /// `None` where the table has no such record.
     pub fn aux_function_definition(&self, index: usize) -> Option<AuxFunctionDefinition>
         ensures { result ≡ record_at 18 (function_definition_record Endian.Little) (table_bytes self.now) (18 * index) }
     {
@@ -299,8 +323,8 @@ impl<'a> SymbolTable<'a> {
         Some(AuxFunctionDefinition::in_record(record, Endian::Little))
     }
 
-    /// The record at `index` as the begin or end of a function; `None` where the table has no such
-    /// record.
+    /// The record at `index`, whatever it is, as an auxiliary record of a function's begin or end.
+    /// `None` where the table has no such record.
     pub fn aux_begin_and_end_function(&self, index: usize) -> Option<AuxBeginAndEndFunction>
         ensures { result ≡ record_at 18 (begin_and_end_function_record Endian.Little) (table_bytes self.now) (18 * index) }
     {
@@ -308,7 +332,8 @@ impl<'a> SymbolTable<'a> {
         Some(AuxBeginAndEndFunction::in_record(record, Endian::Little))
     }
 
-    /// The record at `index` as a weak external; `None` where the table has no such record.
+    /// The record at `index`, whatever it is, as an auxiliary record of a weak external. `None`
+    /// where the table has no such record.
     pub fn aux_weak_external(&self, index: usize) -> Option<AuxWeakExternal>
         ensures { result ≡ record_at 18 (weak_external_record Endian.Little) (table_bytes self.now) (18 * index) }
     {
@@ -316,7 +341,8 @@ impl<'a> SymbolTable<'a> {
         Some(AuxWeakExternal::in_record(record, Endian::Little))
     }
 
-    /// The record at `index` as a section definition; `None` where the table has no such record.
+    /// The record at `index`, whatever it is, as an auxiliary record of a section definition.
+    /// `None` where the table has no such record.
     pub fn aux_section_definition(&self, index: usize) -> Option<AuxSectionDefinition>
         ensures { result ≡ record_at 18 (section_definition_record Endian.Little) (table_bytes self.now) (18 * index) }
     {
@@ -324,8 +350,10 @@ impl<'a> SymbolTable<'a> {
         Some(AuxSectionDefinition::in_record(record, Endian::Little))
     }
 
-    /// The name of a source file, which stands in the `number` records from `index` on: their text up
-    /// to a NUL. `None` where they are not all there, begin at the end, or are not UTF-8.
+    /// The name of a source file, which stands in the `number` records from `index` on: their text
+    /// up to a NUL. `None` where these pass the end of the table, begin at it, or are not UTF-8.
+    ///
+    /// Source: PE Format, "Auxiliary Format 4: Files".
     pub fn aux_file(&self, index: usize, number: usize) -> Option<&'a str>
         ensures { option_map (λ s. s.now) result ≡ file_name_at (table_bytes self.now) index number }
     {
@@ -334,8 +362,9 @@ impl<'a> SymbolTable<'a> {
         pread_str_until(self.symbols, offset, size).ok()
     }
 
-    /// The symbols, each with its index and the name that stands in it, without the auxiliary records
-    /// behind them.
+    /// The symbols as triples (index of the record, name that stands in it, symbol), in order,
+    /// without the auxiliary records. The name is `None` where it stands in the string table, or is
+    /// not UTF-8: [`Symbol::name`] finds the first.
     pub fn iter(&self) -> SymbolIterator<'a>
         ensures items { symbols_left result ≡ symbols_in (table_bytes self.now) }
         ensures heads { AreSymbolsOf (table_bytes self.now) (symbols_in (table_bytes self.now)) }
@@ -347,10 +376,11 @@ impl<'a> SymbolTable<'a> {
     }
 
     /// Writes the records to the front of `bytes` as they stand, whatever the order of bytes, and
-    /// answers their size.
+    /// answers their size in bytes.
     ///
     /// # Errors
-    /// [`Error::Read`] where there is no room, and where `bytes` are empty; they are then as they were.
+    /// [`Error::Read`] where there is no room, and where `bytes` are empty; they are then as they
+    /// were.
     pub fn try_into_ctx(self, bytes: &mut [u8], _endian: Endian) -> Result<usize>
         ensures size { IfOk result (λ n. n ≡ length (table_bytes self.entry)) }
         ensures written { Writes result (overwritten bytes.old 0 (table_bytes self.entry)) bytes.old bytes.new (IsSliceFault bytes.old 0 (length (table_bytes self.entry))) }
@@ -360,7 +390,8 @@ impl<'a> SymbolTable<'a> {
     }
 }
 
-/// The symbols of a table: each with its index and the name that stands in it, in order.
+/// The symbols of a table as triples (index of the record, name that stands in it, symbol), in
+/// order.
 #[derive(Default, Drop)]
 pub struct SymbolIterator<'a> {
     symbols: &'a [u8],
@@ -372,7 +403,7 @@ impl<'a> Iterator for SymbolIterator<'a> {
 
     ghost next_gives = { YieldsFirstBy symbol_item symbols_left };
 
-    ghost remaining = { item_count symbols_left };
+    ghost remaining = { λ it. at_most (length it.symbols.now / 18 - it.index) };
 
     #[tactic(auto, using(crate::proofs::SymbolHeads::symbols_next, crate::proofs::SymbolHeads::symbols_past))]
     fn next(&mut self) -> Option<(usize, Option<&'a str>, Symbol)> {
@@ -389,8 +420,9 @@ impl<'a> Iterator for SymbolIterator<'a> {
     /// No more come than there are records left.
     #[tactic(auto, using(crate::proofs::SymbolHeads::symbols_most))]
     fn size_hint(&self) -> (usize, Option<usize>)
-        ensures lower { IsWithinCount result.0 (at_most (length (symbols_left self.now))) }
-        ensures upper { IfSome result.1 (UpTo (at_most (length (symbols_left self.now)))) }
+        ensures lower { IsWithinCount result.0 (at_most (length self.now.symbols.now / 18 - self.now.index)) }
+        ensures upper { IfSome result.1 (UpTo (at_most (length self.now.symbols.now / 18 - self.now.index))) }
+        ensures most { IfSome result.1 (λ n. length (symbols_left self.now) ≤ n) }
         ensures value { result ≡ (0, Some (length self.now.symbols.now / 18 - self.now.index)) }
     {
         let records = self.symbols.len() / COFF_SYMBOL_SIZE;

@@ -1,4 +1,6 @@
 //! Addresses in memory and their offsets in the file, and what stands there.
+//!
+//! Addresses are relative to the image's base (RVAs); offsets are file offsets. Both are in bytes.
 
 ghost use Rattle.std.specs.Prelude.{◌≡◌, ◌+◌, ◌^◌, ◌<◌, ◌≤◌, ◌↔◌, IsTrue, IfSome, MatchOption, find};
 ghost use Rattle.std.specs.Int.{is_power_of_two};
@@ -11,9 +13,10 @@ ghost use Rattle.goblin_pe_sect.specs.Options.{is_strict, default_options};
 use crate::data_directories::DataDirectory;
 use crate::options::{ParseOptions, RawPointerRule};
 use crate::section_table::SectionTable;
-use goblin_base::{Cause, Endian, Error, ReadFault, Result, ResultOf, TryFromCtx, pread_str};
+use goblin_base::{Cause, Endian, Error, Result, ResultOf, TryFromCtx, pread_str, pread_with};
 
-/// Whether the address `rva` lies in the range from `r1` up to, and without, `r2`.
+/// Whether the address `rva` lies in the range from `r1` up to, and without, `r2`. It lies in none
+/// where `r2` is at most `r1`.
 pub fn is_in_range(rva: usize, r1: usize, r2: usize) -> bool
     ensures { IsTrue result ↔ ((r1 ≤ rva) × (rva < r2)) }
 {
@@ -72,13 +75,13 @@ pub(crate) fn section_window(section: &SectionTable, file_alignment: u32) -> (us
     (begin, begin + read_size(section, file_alignment))
 }
 
-/// The addresses that the section maps, from its window's begin up to, and without, its end; `None`
+/// The addresses that the section maps, as the pair (begin, end), the end not among them; `None`
 /// where `file_alignment` is no power of two.
 ///
 /// The window begins at the section's address. It is empty where the raw size is 0; else it has the
-/// least of these: the raw data's end rounded up to `file_alignment`, less its begin rounded down to
-/// 512; the raw size rounded up to 4,096; and, where the virtual size is not 0, that rounded up to
-/// 4,096. It may pass the raw data and the file.
+/// least of these: the raw data's end rounded up to `file_alignment`, less its begin rounded down
+/// to 512; the raw size rounded up to 4,096; and, where the virtual size is not 0, that rounded up
+/// to 4,096. It may pass the raw data and the file.
 #[tactic(auto, using(crate::proofs::Mapped::power_positive))]
 pub fn window(section: &SectionTable, file_alignment: u32) -> Option<(usize, usize)>
     ensures { result ≡ window_of section.now file_alignment }
@@ -158,11 +161,13 @@ fn file_offset(
     Some(offset_in(rva, section, file_alignment, opts))
 }
 
-/// The file offset of the address `rva`: that of the first section whose window holds it.
+/// The file offset of the address `rva`: that of the first section whose window holds it, in the
+/// order of the table. Where windows overlap, the first hides the others.
 ///
-/// The windows are those that [`window`] answers. The offset is the raw pointer, as stored or rounded
-/// down to 512 as `opts` says, plus the distance from the section's address; it may lie past the file.
-/// Where `opts` leaves addresses unmapped, the answer is the address itself. There is none where
+/// The windows are those that [`window`] answers. The offset is the raw pointer, as stored or
+/// rounded down to 512 as `opts` says, plus the distance from the section's address; it may lie
+/// past the file, so who reads there tests it again. Where `opts` leaves addresses unmapped, the
+/// answer is the address itself. Else it is `None` where no window holds the address, and where
 /// `file_alignment` is no power of two.
 #[tactic(auto, using(crate::proofs::Mapped::file_offset_first))]
 pub fn find_offset(
@@ -182,7 +187,7 @@ pub fn find_offset(
 /// The file offset of the address `rva`, as [`find_offset`] gives it.
 ///
 /// # Errors
-/// [`Error::Malformed`] with the message `msg` where there is none.
+/// [`Error::Malformed`] with [`Cause::Message`] of `msg` where there is none.
 pub fn find_offset_or(
     rva: usize,
     sections: &[SectionTable],
@@ -216,8 +221,8 @@ pub fn try_name<'a>(
     }
 }
 
-/// The text at the address `rva`, as [`try_name`] gives it. Where there is none, `None` in
-/// permissive mode.
+/// The text at the address `rva`, as [`try_name`] gives it; `None`, in permissive mode alone, where
+/// there is none.
 ///
 /// # Errors
 /// In strict mode [`Error::Malformed`]: [`Cause::Unmapped`] where the address has no file offset,
@@ -236,8 +241,9 @@ pub fn safe_try_name<'a>(
     safe_name_at(bytes, rva, offset, opts)
 }
 
-/// The text at `offset`, the file offset of the address `rva`, as [`safe_try_name`] gives it; for who
-/// maps addresses by an index. There is no text where there is no offset.
+/// The text at `offset`, the file offset of the address `rva`, as [`safe_try_name`] gives it; for
+/// who maps addresses by an index. `None` as an offset means that the address has none, and so no
+/// text.
 ///
 /// # Errors
 /// As [`safe_try_name`].
@@ -310,9 +316,5 @@ pub fn get_data_with_opts<'a, 'e, T: TryFromCtx<'a>>(
     let Some(offset) = find_offset(rva, sections, file_alignment, opts) else {
         return Err(Error::Malformed(Cause::Unmapped(rva)));
     };
-    if bytes.len() <= offset {
-        return Err(Error::Read(ReadFault::BadOffset));
-    }
-    let (value, _) = T::try_from_ctx(&bytes[offset..], Endian::Little)?;
-    Ok(value)
+    pread_with(bytes, offset, Endian::Little)
 }

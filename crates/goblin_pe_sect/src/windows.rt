@@ -1,9 +1,10 @@
-//! An index of the windows of sections, which maps addresses to file offsets by a search by halving.
+//! An index of the windows of sections, which maps addresses to file offsets by a search by
+//! halving.
 //!
-//! A walk over the sections, as [`find_offset`](crate::utils::find_offset) makes it, takes steps like their
-//! number for each address. Here the line of addresses is cut once, at 0 and at each begin and end of a
-//! window that is not empty, and each piece keeps its first section; an address is then found among n pieces
-//! by about log n comparisons.
+//! A walk over the sections, as [`find_offset`](crate::utils::find_offset) makes it, takes as many
+//! steps for each address as there are sections. Here the line of addresses is cut once, at 0 and
+//! at each begin and end of a window that is not empty, and each piece keeps its first section; an
+//! address is then found among n pieces by about log n comparisons.
 
 ghost use Rattle.std.specs.Prelude.{◌≡◌, ℕ, ◌+◌, ◌-◌, ◌*◌, ◌^◌, ◌<◌, ◌≤◌, IsTrue, IfOk, IfErr, length, map, []};
 ghost use Rattle.std.specs.Int.{is_power_of_two};
@@ -11,7 +12,7 @@ ghost use Rattle.std.specs.Option.{option_map};
 ghost use Rattle.std.specs.List.Sorted.{IsStrictlyIncreasing};
 ghost use Rattle.goblin_base.specs.Answers.{IsMemory};
 ghost use Rattle.goblin_pe_sect.specs.Mapping.{file_offset};
-ghost use Rattle.goblin_pe_sect.specs.WindowIndex.{IsCut, first_owner, last_owner, located, offset_by, reached};
+ghost use Rattle.goblin_pe_sect.specs.WindowIndex.{IsCut, first_owner, last_owner, located, owner_offset, reached, HasPieces};
 
 mod bounds;
 mod cuts;
@@ -26,7 +27,7 @@ use owners::{Owner, owners_of};
 use std::alloc::Global;
 use std::marker::Model;
 
-// The place in the middle of those from `low` up to, and without, `high`: at most half of the others
+// The index in the middle of those from `low` up to, and without, `high`: at most half of the others
 // stand on either side, and at most one more on one side than on the other.
 fn middle(low: usize, high: usize) -> usize
     requires { low < high }
@@ -58,10 +59,10 @@ fn count_reached(bounds: &Bounds, rva: usize) -> (usize, usize)
     (low, probes)
 }
 
-/// The line of addresses, cut into pieces at the windows of sections. Each piece keeps the place, the
-/// address and the raw pointer of the first section whose window covers it, or none; nothing else is kept
-/// of the sections. The raw pointer is kept as stored or rounded down to 512, as the options say that the
-/// index was prepared with.
+/// The line of addresses, cut into pieces at the windows of sections. Each piece keeps the index,
+/// the address and the raw pointer of the first section whose window covers it, or none; nothing
+/// else is kept of the sections, which may be dropped. The raw pointer is kept as stored or rounded
+/// down to 512, as the options say with which the index was prepared.
 #[derive(Drop)]
 pub struct WindowIndex {
     resolves: bool,
@@ -106,9 +107,9 @@ impl WindowIndex {
     ) -> Result<WindowIndex>
         ensures mapped { IfOk result (λ w. (rva : ℕ) → located w rva ≡ file_offset opts.now sections.now file_alignment rva) }
         ensures refused { IfErr result IsMemory }
-        ensures grown { IfErr result (λ e. IsTrue opts.now.resolve_rva × IsTrue (is_power_of_two file_alignment)) }
+        ensures grown { IfErr result (λ e. HasPieces opts.now file_alignment) }
         ensures few { IfOk result (λ w. length w.begins ≤ 2 * length sections.now + 1) }
-        ensures no_pieces { IfOk result (λ w. ¬ (IsTrue opts.now.resolve_rva × IsTrue (is_power_of_two file_alignment)) → w.begins ≡ []) }
+        ensures no_pieces { IfOk result (λ w. ¬ HasPieces opts.now file_alignment → w.begins ≡ []) }
         ensures cut { IfOk result (λ w. IsTrue opts.now.resolve_rva → IsTrue (is_power_of_two file_alignment) → IsCut sections.now file_alignment w.begins) }
         ensures owned { IfOk result (λ w. w.owners ≡ map (first_owner opts.now sections.now file_alignment) w.begins) }
     {
@@ -137,7 +138,7 @@ impl WindowIndex {
     // The file offset of an address, by how many pieces begin at or before it.
     fn offset_in_piece(&self, count: usize, rva: usize) -> Option<usize>
         requires { count ≡ reached self.now.begins rva }
-        ensures { result ≡ option_map (offset_by rva) (last_owner self.now.owners count) }
+        ensures { result ≡ option_map (owner_offset rva) (last_owner self.now.owners count) }
     {
         if count == 0 {
             return None;
@@ -146,9 +147,9 @@ impl WindowIndex {
         Some(owner.pointer as usize + (rva - owner.address as usize))
     }
 
-    /// The file offset of the address `rva`, and how many probes were made: calls of [`Bounds::reaches`],
-    /// the only call that tells where a piece begins. Fewer than 2 to the power d pieces take at most d
-    /// probes.
+    /// The answer of [`WindowIndex::find`], and how many probes were made: calls of
+    /// [`Bounds::reaches`], the only call that tells where a piece begins. Fewer than 2 to the
+    /// power d pieces take at most d probes.
     #[tactic(auto, using(crate::proofs::Halving::none_needed), unfolding(crate::specs::WindowIndex::located))]
     pub fn find_counted(&self, rva: usize) -> (Option<usize>, usize)
         ensures value { result.0 ≡ located self.now rva }
@@ -162,7 +163,8 @@ impl WindowIndex {
         (self.offset_in_piece(count, rva), probes)
     }
 
-    /// The file offset of the address `rva`.
+    /// The file offset of the address `rva`, as [`find_offset`](crate::utils::find_offset) with the
+    /// arguments with which the index was prepared; `None` where that answers it.
     pub fn find(&self, rva: usize) -> Option<usize>
         ensures { result ≡ located self.now rva }
     {

@@ -2,7 +2,7 @@
 use Rattle.std.proofs.Common.{◌≡◌, ℕ, List, [], ◌++◌, ap, sym, ◌∙◌, append_assoc}
 use Rattle.std.proofs.lemmas.List.{append-nil}
 
--- a piece, and all behind it
+-- a piece, and all after it
 pub pushed : (old mid new piece rest : List ℕ) → mid ≡ old ++ piece → new ≡ mid ++ rest → new ≡ old ++ (piece ++ rest)
 pushed old mid new piece rest first then = then ∙ ap (λ (xs : List ℕ). xs ++ rest) first ∙ append_assoc old piece rest
 

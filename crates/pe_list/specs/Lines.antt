@@ -25,7 +25,7 @@ if_there field (Some x) = field x
 abbrev pub optional_fields : OptionalHeader → List ℕ
 optional_fields h = hex_field (codes " magic=") h.standard_fields.magic ++ hex_field (codes " entry=") h.standard_fields.address_of_entry_point
 
--- the line of the header; without an optional header it ends behind the number of sections
+-- the line of the header; without an optional header it ends after the number of sections
 unfoldable pub header_line : PeHeader → List ℕ
 header_line h = concat (
     hex_field (codes "header machine=") h.coff_header.machine
@@ -62,7 +62,7 @@ import_line i = concat (
     ∷ codes "\n"
     ∷ [])
 
--- what an export stands for in another library: the library, and behind a dot the name, or `#` and the ordinal
+-- what an export stands for in another library: the library, and after a dot the name, or `#` and the ordinal
 unfoldable pub forward_field : Forwarder → List ℕ
 forward_field (ByName export lib) = name_field (codes " forward=") lib ++ name_field (codes ".") export
 forward_field (ByOrdinal ordinal lib) = name_field (codes " forward=") lib ++ decimal_field (codes ".#") ordinal

@@ -1,9 +1,26 @@
-//! The lines that list a file.
+//! The lines that list a file, in this order:
+//!
+//! | Line | When |
+//! |---|---|
+//! | `header machine=H sections=D magic=H entry=H` | always; without an optional header up to `sections=D` |
+//! | `section va=H vsize=H raw=H ptr=H name=N` | each section; the name from the string table, else the eight bytes up to a NUL |
+//! | `imports absent`, `imports refused` or `imports D` | always |
+//! | `import offset=H ordinal=D rva=H size=D slot=D dll=N name=N` | each import |
+//! | `exports absent`, `exports refused` or `exports D` | always |
+//! | `export rva=H offset=H forward=N name=N` | each export; what there is none of is left out, and a forwarder is `library.name` or `library.#D` |
+//! | `relocations absent`, `relocations refused` or `relocations D` | always; the number of the blocks that come without error |
+//! | `block rva=H size=H words=D` | each block |
+//! | `block refused` | where a rest follows the blocks |
+//!
+//! H is `0x` and hexadecimal digits, D decimal digits, N a name, escaped as
+//! [`push_name`](crate::text::push_name) says. The fields are those of [`Header`], [`SectionTable`],
+//! [`Import`], [`Export`] and [`RelocationBlock`]. A line ends with a line feed.
 
-ghost use Rattle.std.specs.Prelude.{◌≡◌, ◌++◌, ℕ, List, OnOk, codes, length, option_map, string_bytes};
+ghost use Rattle.std.specs.Prelude.{◌≡◌, ◌++◌, ℕ, IfErr, IsSome, List, OnOk, codes, length, option_map, string_bytes};
 ghost use Rattle.std.specs.List.{flat_map};
-ghost use Rattle.goblin_base.specs.Answers.{AnswersOrMemory};
-ghost use Rattle.goblin_pe_head.specs.PeHeader.{header_value};
+ghost use Rattle.goblin_base.specs.Answers.{AnswersOrMemory, IsMemory};
+ghost use Rattle.goblin_pe_sect.specs.Options.{is_strict};
+ghost use Rattle.goblin_pe_head.specs.PeHeader.{header_value, pe_header};
 ghost use Rattle.goblin_pe_sect.specs.BaseRelocations.{block_item, block_items, relocation_bytes};
 ghost use Rattle.goblin_pe.specs.Forwarders.{forwarder_value};
 ghost use Rattle.goblin_pe.specs.Whole.{items_part, part_map};
@@ -27,9 +44,11 @@ use std::alloc::{AllocError, Global};
 /// its entries.
 ///
 /// # Errors
-/// Those of [`Whole::read`] in this mode; [`Error::Memory`] where memory is refused.
+/// Those of [`Whole::read`] in this mode; [`Error::Memory`] where memory is refused, and never of a file
+/// whose header is refused.
 pub fn list(alloc: Global, bytes: &[u8], mode: ParseMode) -> Result<String, Error>
-    ensures { AnswersOrMemory (λ text. string_bytes text) result (listing_of mode bytes.now) (IsLayoutFault mode bytes.now) }
+    ensures value { AnswersOrMemory (λ text. string_bytes text) result (listing_of mode bytes.now) (IsLayoutFault mode bytes.now) }
+    ensures grown { IfErr result (λ e. IsMemory e → IsSome (pe_header (is_strict mode) bytes.now)) }
 {
     let opts = ParseOptions::default().with_parse_mode(mode);
     let whole = Whole::read(alloc, bytes, &opts)?;

@@ -1,6 +1,6 @@
 //! A run of the program: the whole input is read, listed, and the listing is written.
 
-ghost use Rattle.std.specs.Prelude.{◌≡◌, ◌≢◌, Err, IfSome, IsSomeAnd, IsTrue, None, OnErr, OnOk, Some};
+ghost use Rattle.std.specs.Prelude.{◌≡◌, ◌≢◌, ◌<◌, length, Err, IfSome, IsSomeAnd, IsTrue, None, OnErr, OnOk, Some};
 ghost use Rattle.std.specs.Io.KnownBytes.{Appends, Keeps};
 ghost use Rattle.goblin_base.specs.Answers.{IsMemory};
 ghost use Rattle.pe_list.specs.Listing.{IsLayoutFault, listing_of};
@@ -46,6 +46,7 @@ impl RunFault {
 /// [`RunFault::Refused`] where the bytes have no listing, or where memory was refused;
 /// [`RunFault::Input`] and [`RunFault::Output`] where a read or a write failed, which isn't tried
 /// again. Nothing goes out before the whole listing is there; on `Output` a beginning of it went out.
+#[tactic(auto, using(crate::proofs::Headers::some_bytes))]
 pub fn run<R: Read, W: Write>(
     alloc: Global,
     reader: &mut Watched<R>,
@@ -58,6 +59,9 @@ pub fn run<R: Read, W: Write>(
         IsSomeAnd (listing_of mode file) (AppendsPart (W.contents writer.old.inner) (W.contents writer.new.inner))) }
     ensures refused { IfRefused result (λ cause. ¬ IsMemory cause → IfSome (R.remaining reader.old.inner) (λ file.
         (listing_of mode file ≡ None) × IsLayoutFault mode file cause)) }
+
+    // Memory is refused only where the input has a byte.
+    ensures grown { IfRefused result (λ cause. IsMemory cause → IfSome (R.remaining reader.old.inner) (λ file. 0 < length file)) }
 
     // Nothing goes out before the listing is whole.
     ensures nothing_out { OnErr result (result ≢ Err RunFault.Output →

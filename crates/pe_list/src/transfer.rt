@@ -17,11 +17,13 @@ const CHUNK: usize = 65536;
 ///
 /// # Errors
 /// [`RunFault::Input`] where a read fails; [`RunFault::Refused`] where memory is refused, and so over
-/// a reader that never ends.
+/// a reader that never ends; of no byte none is asked for.
+#[tactic(auto, using(crate::proofs::Reading::some_byte))]
 pub fn read_all<R: Read>(alloc: Global, reader: &mut Watched<R>) -> Result<Vec<u8>, RunFault>
     ensures bytes { IfOk result (λ bytes. IfSome (R.remaining reader.old.inner) (λ file. bytes.items ≡ file)) }
     ensures ended { OnOk result (IsTrue reader.new.ended) }
     ensures refused { IfErr result (λ fault. fault ≢ RunFault.Input → IsOutOfMemory fault) }
+    ensures grown { IfErr result (λ fault. fault ≢ RunFault.Input → IfSome (R.remaining reader.old.inner) (λ file. 0 < length file)) }
     ensures input { result ≡ Err RunFault.Input → IsTrue reader.new.failed }
     ensures once { result ≢ Err RunFault.Input → reader.new.failed ≡ reader.old.failed }
 {

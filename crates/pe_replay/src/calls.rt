@@ -1,17 +1,21 @@
 //! Calls that take memory, each by a word, over the sample file of the tests: for the script that refuses
 //! each of their growths in turn.
 
+mod by_options;
+mod laws;
+
 use crate::Refused;
 use fixture::sample::{ELSEWHERE, TABLE, import_name, put, sample_named, sample_section, section};
 use goblin_base::{Endian, ParseMode, Record};
 use goblin_pe::export::{Export, ExportData};
 use goblin_pe::import::{
-    Import, ImportData, ImportDirectoryEntry, SyntheticImportDirectoryEntry,
+    Import, ImportData, ImportDirectoryEntry, ImportLookupTable, SyntheticImportDirectoryEntry,
     SyntheticImportLookupTableEntry,
 };
 use goblin_pe::{Part, Whole};
 use goblin_pe_head::{CoffHeader, TeHeader};
 use goblin_pe_sect::{DataDirectory, ParseOptions, SectionTable, WindowIndex};
+use laws::show_law;
 
 // The sample file's directories, and its file alignment.
 const IMPORTS: DataDirectory = DataDirectory {
@@ -44,7 +48,15 @@ pub fn show_call(rt: &HostRuntime, word: Option<String>) -> Result<(), Refused> 
         Some(word) if word.as_str() == "exports" => show_exports(rt, &file),
         Some(word) if word.as_str() == "whole" => show_whole(rt, &file, ParseMode::Strict),
         Some(word) if word.as_str() == "permissive" => show_whole(rt, &file, ParseMode::Permissive),
-        _ => Err(Refused::Other),
+        Some(word) if word.as_str() == "section_with_opts" => by_options::show_section(rt, &file),
+        Some(word) if word.as_str() == "sections_with_opts" => by_options::show_sections(rt, &file),
+        Some(word) if word.as_str() == "lookup_with_opts" => by_options::show_lookup(rt, &file),
+        Some(word) if word.as_str() == "lookup_with_slots" => by_options::show_slots(rt, &file),
+        Some(word) if word.as_str() == "library_with_opts" => by_options::show_library(rt, &file),
+        Some(word) if word.as_str() == "imports_with_opts" => by_options::show_imports(rt, &file),
+        Some(word) if word.as_str() == "exports_with_opts" => by_options::show_exports(rt, &file),
+        Some(word) => show_law(rt, &file, word),
+        None => Err(Refused::Other),
     }
 }
 
@@ -147,6 +159,11 @@ fn show_lookup_table(rt: &HostRuntime, file: &[u8]) -> Result<(), Refused> {
         &[sample_section()],
         ALIGNMENT,
     )?;
+    show_entries(rt, &table)
+}
+
+// The entries of a lookup table, a line for each.
+fn show_entries(rt: &HostRuntime, table: &ImportLookupTable) -> Result<(), Refused> {
     for entry in table.as_slice() {
         match entry {
             SyntheticImportLookupTableEntry::OrdinalNumber(ordinal) => println!(rt; "#{ordinal}")?,
@@ -168,6 +185,14 @@ fn show_library(rt: &HostRuntime, file: &[u8]) -> Result<(), Refused> {
         &[sample_section()],
         ALIGNMENT,
     )?;
+    show_addresses(rt, &library)
+}
+
+// The name of a library, and its address table.
+fn show_addresses(
+    rt: &HostRuntime,
+    library: &SyntheticImportDirectoryEntry,
+) -> Result<(), Refused> {
     println!(rt;
         "{} {:?}",
         library.name,
@@ -179,7 +204,17 @@ fn show_library(rt: &HostRuntime, file: &[u8]) -> Result<(), Refused> {
 fn show_imports(rt: &HostRuntime, file: &[u8]) -> Result<(), Refused> {
     let sections = [sample_section()];
     let data = ImportData::parse::<u32>(rt.alloc(), file, IMPORTS, &sections, ALIGNMENT)?;
-    let imports = Import::parse::<u32>(rt.alloc(), file, &data, &sections)?;
+    show_imports_of(rt, file, &data, &sections)
+}
+
+// The imports of import data, a line for each.
+fn show_imports_of<'a>(
+    rt: &HostRuntime,
+    file: &'a [u8],
+    data: &ImportData<'a>,
+    sections: &[SectionTable],
+) -> Result<(), Refused> {
+    let imports = Import::parse::<u32>(rt.alloc(), file, data, sections)?;
     for import in &imports {
         println!(rt; "{} {:#x}", &import.name[..], import.offset)?;
     }
@@ -190,7 +225,12 @@ fn show_exports(rt: &HostRuntime, file: &[u8]) -> Result<(), Refused> {
     let sections = [sample_section()];
     let tables = ExportData::parse(rt.alloc(), file, EXPORTS, &sections, ALIGNMENT)?;
     let exports = Export::parse(rt.alloc(), file, &tables, &sections, ALIGNMENT)?;
-    for export in &exports {
+    show_rows(rt, &exports)
+}
+
+// Exports, a line for each.
+fn show_rows(rt: &HostRuntime, exports: &[Export]) -> Result<(), Refused> {
+    for export in exports {
         println!(rt; "{} {:#x}", export.name.unwrap_or(""), export.rva)?;
     }
     Ok(())
@@ -199,14 +239,19 @@ fn show_exports(rt: &HostRuntime, file: &[u8]) -> Result<(), Refused> {
 fn show_whole(rt: &HostRuntime, file: &[u8], mode: ParseMode) -> Result<(), Refused> {
     let opts = ParseOptions::default().with_parse_mode(mode);
     let whole = Whole::read(rt.alloc(), file, &opts)?;
-    let (Part::Read(imports), Part::Read(exports)) = (&whole.imports, &whole.exports) else {
-        return Err(Refused::Other);
-    };
-    println!(rt;
-        "{} {} {}",
-        whole.sections.len(),
-        imports.len(),
-        exports.len()
-    )?;
+    let (sections, imports, exports) = counts(&whole)?;
+    println!(rt; "{sections} {imports} {exports}")?;
     Ok(())
+}
+
+// How many sections, imports and exports a file has.
+fn counts(whole: &Whole) -> Result<(usize, usize, usize), Refused> {
+    match (&whole.imports, &whole.exports) {
+        (Part::Read(imports), Part::Read(exports)) => Ok((
+            whole.sections.len(),
+            imports.len(),
+            exports.len(),
+        )),
+        _ => Err(Refused::Other),
+    }
 }

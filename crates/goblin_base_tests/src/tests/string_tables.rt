@@ -40,3 +40,14 @@ fn a_text_begins_where_a_character_begins(rt: HostRuntime) -> Result<(), Fail> {
     }
     Ok(())
 }
+
+#[test]
+fn a_table_has_the_bytes_that_were_read(rt: HostRuntime) -> Result<(), Fail> {
+    let bytes = b"\x08\0\0\0ab\0c";
+    for (offset, len, is_empty) in [(4, 4, false), (4, 3, false), (7, 1, false), (8, 0, true)] {
+        let table = Strtab::parse(rt.alloc(), bytes, offset, len, 0)?;
+        assert_eq!(rt; table.len(), len);
+        assert_eq!(rt; table.is_empty(), is_empty);
+    }
+    Ok(())
+}

@@ -60,13 +60,13 @@ impl<'a> Reexport<'a> {
         Ok(Reexport::DLLName { export: tail, lib })
     }
 
-    /// Reads the forwarder whose text stands at `offset`. The library ends at the first dot. What
-    /// stands behind the dot is the export's name, unless it begins with `#`: then an optional `+`
-    /// and decimal digits follow, which say the ordinal.
+    /// Reads the forwarder whose text stands at the file offset `offset`. The library ends at the
+    /// first dot. What follows the dot is the export's name, unless it begins with `#`: then an
+    /// optional `+` and decimal digits follow, which say the ordinal.
     ///
     /// # Errors
     /// [`Error::Read`] where no text stands there; [`Error::Malformed`]: [`Cause::Forwarder`] where
-    /// it has no dot with something behind it, [`Cause::ForwarderOrdinal`] where no ordinal below
+    /// it has no dot with something after it, [`Cause::ForwarderOrdinal`] where no ordinal below
     /// 2^32 follows the `#`.
     #[tactic(auto, using(crate::proofs::Grammar::by_grammar))]
     pub fn parse(bytes: &'a [u8], offset: usize) -> Result<Reexport<'a>>
@@ -91,8 +91,8 @@ impl<'a> TryFromCtx<'a> for Reexport<'a> {
 
     ghost no_memory = { λ _ bytes e. forwarder_fault-no_memory bytes e };
 
-    /// Reads the forwarder at the front of `bytes`. It takes its text and the NUL behind it, if there
-    /// is one. The order of bytes makes no difference.
+    /// Reads the forwarder at the front of `bytes`. It takes its text and the NUL after it, if
+    /// there is one. The order of bytes makes no difference.
     ///
     /// # Errors
     /// As [`Reexport::parse`].

@@ -1,6 +1,6 @@
 //! The export directory's record, and the three tables that it leads to.
 
-ghost use Rattle.std.specs.Prelude.{◌≡◌, true, false, List, ℕ, IfErr, OnErr, OnOk, length};
+ghost use Rattle.std.specs.Prelude.{◌≡◌, ◌<◌, true, false, List, ℕ, IfErr, IsSome, OnErr, OnOk, length};
 ghost use Rattle.goblin_base.specs.Answers.{Answers, GivesOrMemory};
 ghost use Rattle.goblin_base.specs.Tables.{counted_table_if};
 ghost use Rattle.goblin_pe.specs.declared.export.tables.ExportDirectoryTable.{ExportDirectoryTable};
@@ -31,30 +31,32 @@ const SIZEOF_ORDINAL: usize = 2;
 
 /// The record with which an image's exports begin.
 ///
-/// Source: PE Format, "Export Directory Table". Numbers are as stored; the record has 40 bytes.
+/// Source: PE Format, "Export Directory Table". Numbers are as stored; the record has 40 bytes, and
+/// `at` says where in it a field stands. Addresses are relative to the image's base.
 #[derive(Debug, PartialEq, Copy, Clone, Default)]
 pub struct ExportDirectoryTable {
-    /// Reserved, 0.
+    /// Reserved, 0, at 0.
     pub export_flags: u32,
-    /// When the exports were made, in seconds since 1970.
+    /// When the exports were made, in seconds since the start of 1970, at 4.
     pub time_date_stamp: u32,
-    /// The major version. It is the user's own.
+    /// The major version, at 8. It is the maker's own.
     pub major_version: u16,
-    /// The minor version.
+    /// The minor version, at 10.
     pub minor_version: u16,
-    /// The address of the library's name.
+    /// The address of the library's name, at 12.
     pub name_rva: u32,
-    /// The ordinal of the first entry of the address table, mostly 1.
+    /// The ordinal of the first entry of the address table, at 16; mostly 1. It is added to an
+    /// index to make an ordinal, and counts in no table.
     pub ordinal_base: u32,
-    /// How many entries the address table has.
+    /// How many entries the address table has, at 20.
     pub address_table_entries: u32,
-    /// How many entries the name pointer table has, and as many has the ordinal table.
+    /// How many entries the name pointer table has, and as many has the ordinal table, at 24.
     pub number_of_name_pointers: u32,
-    /// The address of the address table.
+    /// The address of the address table, at 28.
     pub export_address_table_rva: u32,
-    /// The address of the name pointer table.
+    /// The address of the name pointer table, at 32.
     pub name_pointer_rva: u32,
-    /// The address of the ordinal table.
+    /// The address of the ordinal table, at 36.
     pub ordinal_table_rva: u32,
 }
 
@@ -106,10 +108,11 @@ impl Record for ExportDirectoryTable {
 }
 
 impl ExportDirectoryTable {
-    /// Reads the record at `offset`.
+    /// Reads the record at the file offset `offset`.
     ///
     /// # Errors
-    /// [`Error::Malformed`] with [`Cause::ExportTable`] where the file has no 40 bytes there.
+    /// [`Error::Malformed`] with [`Cause::ExportTable`] where the 40 bytes pass the end of the
+    /// file.
     pub fn parse(bytes: &[u8], offset: usize) -> Result<ExportDirectoryTable>
         ensures { Answers (λ t. t) result (export_directory_at bytes.now offset) (IsNoExportTable offset) }
     {
@@ -125,13 +128,14 @@ impl ExportDirectoryTable {
 /// Source: PE Format, "Export Address Table".
 #[derive(Debug, PartialEq, Copy, Clone)]
 pub enum ExportAddressTableEntry {
-    /// The address of an export in this image.
+    /// The address of an export in this image, relative to its base. 0 stands for an ordinal that
+    /// is not used.
     ExportRVA(u32),
     /// The address of a forwarder's text, which lies in the export directory.
     ForwarderRVA(u32),
 }
 
-/// What the exports' ordinals number: an address each.
+/// The exports' addresses, which ordinals number.
 ///
 /// Source: PE Format, "Export Address Table".
 pub type ExportAddressTable = Table<ExportAddressTableEntry>;
@@ -173,8 +177,9 @@ fn counted_table<V: Drop, F: Fn(&[u8]) -> V>(
     value_of: F,
 ) -> Result<Table<V>>
     requires { (entry : _) → length entry.now ≡ width → F.pre value_of entry }
-    ensures { (value : List ℕ → V) → ((entry : _) (v : V) → length entry.now ≡ width → F.post value_of entry v → v ≡ value entry.now)
+    ensures value { (value : List ℕ → V) → ((entry : _) (v : V) → length entry.now ≡ width → F.post value_of entry v → v ≡ value entry.now)
         → GivesOrMemory (λ t. t) result (counted_table_if (record { width = width; value_of = value }) count bytes.now offset) }
+    ensures grown { OnErr result (IsSome offset × (0 < count)) }
 {
     let mut entries = Vec::new(alloc);
     let Some(begin) = offset else {
@@ -198,7 +203,8 @@ pub(super) fn name_pointers(
     offset: Option<usize>,
     count: u32,
 ) -> Result<ExportNamePointerTable>
-    ensures { GivesOrMemory (λ t. t) result (counted_table_if name_pointers count bytes.now offset) }
+    ensures value { GivesOrMemory (λ t. t) result (counted_table_if name_pointers count bytes.now offset) }
+    ensures grown { OnErr result (0 < count) }
 {
     counted_table(alloc, bytes, offset, SIZEOF_NAME_POINTER, count, |entry| {
         field_u32(entry, 0, Endian::Little)
@@ -212,7 +218,8 @@ pub(super) fn ordinals(
     offset: Option<usize>,
     count: u32,
 ) -> Result<ExportOrdinalTable>
-    ensures { GivesOrMemory (λ t. t) result (counted_table_if ordinals count bytes.now offset) }
+    ensures value { GivesOrMemory (λ t. t) result (counted_table_if ordinals count bytes.now offset) }
+    ensures grown { OnErr result (0 < count) }
 {
     counted_table(alloc, bytes, offset, SIZEOF_ORDINAL, count, |entry| {
         field_u16(entry, 0, Endian::Little)
@@ -227,7 +234,8 @@ pub(super) fn addresses(
     count: u32,
     directory: DataDirectory,
 ) -> Result<ExportAddressTable>
-    ensures { GivesOrMemory (λ t. t) result (counted_table_if (addresses directory) count bytes.now offset) }
+    ensures value { GivesOrMemory (λ t. t) result (counted_table_if (addresses directory) count bytes.now offset) }
+    ensures grown { OnErr result (0 < count) }
 {
     counted_table(
         alloc,

@@ -1,14 +1,16 @@
 //! Import address tables: the numbers where addresses stand once an image is bound.
 
-ghost use Rattle.goblin_base.specs.Answers.{AnswersOrMemory};
-ghost use Rattle.goblin_pe.specs.ImportLookup.{IsAddressTableFault, address_table};
+ghost use Rattle.std.specs.Prelude.{IfErr};
+ghost use Rattle.goblin_base.specs.Answers.{AnswersOrMemory, IsMemory};
+ghost use Rattle.goblin_pe.specs.ImportLookup.{HasAddresses, IsAddressTableFault, address_table};
 
 use crate::import::bitfield::{Bitfield, read_entry};
 use crate::table::Table;
 use goblin_base::ResultOf;
 use std::alloc::Global;
 
-/// The numbers of an address table, in order.
+/// The numbers of an address table, in order, without the 0 that ends it. As a file is linked they
+/// repeat the lookup table; in one that is bound they are the addresses of what is imported.
 ///
 /// Source: PE Format, "Import Address Table".
 pub type ImportAddressTable = Table<u64>;
@@ -19,7 +21,8 @@ pub(super) fn address_table<'a, 'e, T: Bitfield<'a>>(
     bytes: &'a [u8],
     offset: usize,
 ) -> ResultOf<'e, ImportAddressTable>
-    ensures { AnswersOrMemory (λ t. t) result (address_table T.format bytes.now offset) (IsAddressTableFault T.format bytes.now offset) }
+    ensures value { AnswersOrMemory (λ t. t) result (address_table T.format bytes.now offset) (IsAddressTableFault T.format bytes.now offset) }
+    ensures grown { IfErr result (λ e. IsMemory e → HasAddresses T.format bytes.now offset) }
 {
     let size = T::size_of();
     let mut addresses = Vec::new(alloc);

@@ -37,15 +37,16 @@ pub trait Bitfield<'a>: Eq + Drop {
     /// What an entry says.
     ghost value: { Self → EntryValue };
 
-    /// Whether it imports by ordinal.
+    /// Whether it imports by ordinal; of `u32` and `u64`, whether the highest bit is set.
     fn is_ordinal(&self) -> bool
         ensures { result ≡ (value self.now).is_ordinal };
 
-    /// The ordinal by which it imports, if it does.
+    /// The ordinal by which it imports, if it does; of `u32` and `u64` the low 16 bits.
     fn to_ordinal(&self) -> u16
         ensures { result ≡ (value self.now).ordinal };
 
-    /// The address of the hint and the name by which it imports, if it does.
+    /// The address of the hint and the name by which it imports, if it does; of `u32` and `u64` the
+    /// low 31 bits.
     fn to_rva(&self) -> u32
         ensures { result ≡ (value self.now).rva };
 
@@ -54,16 +55,17 @@ pub trait Bitfield<'a>: Eq + Drop {
         ensures width { result ≡ format.width }
         ensures positive { 1 ≤ result };
 
-    /// Whether it ends a table: its number is 0.
+    /// Whether it ends a table: its number is 0. This is asked first.
     fn is_zero(&self) -> bool
         ensures { result ≡ ((value self.now).number == 0) };
 
-    /// The entry of its bytes, which are as many as [`Bitfield::size_of`] says.
+    /// The entry of its bytes, which are as many as [`Bitfield::size_of`] says; `u32` and `u64` are
+    /// read little-endian.
     fn read(bytes: &'a [u8]) -> Self
         requires { length bytes.now ≡ format.width }
         ensures { value result ≡ format.value_of bytes.now };
 
-    /// Its number.
+    /// Its number, which an address table keeps; of `u32` and `u64` the value itself.
     fn number(&self) -> u64
         ensures { result ≡ (value self.now).number };
 

@@ -13,19 +13,21 @@ const _: () = prove!(SIZEOF_IMPORT_DIRECTORY_ENTRY == 20);
 
 /// A record of an import directory: where the imports from a library stand.
 ///
-/// Source: PE Format, "Import Directory Table". Numbers are as stored; the record has 20 bytes.
+/// Source: PE Format, "Import Directory Table". Numbers are as stored; the record has 20 bytes, and
+/// `at` says where in it a field stands. Addresses are relative to the image's base.
 #[derive(Debug, PartialEq, Copy, Clone, Default)]
 pub struct ImportDirectoryEntry {
-    /// The address of the lookup table.
+    /// The address of the lookup table, which says what is imported, at 0. Where no section maps
+    /// it, the address table is read in its place, as images of some old linkers ask for.
     pub import_lookup_table_rva: u32,
-    /// When the imports were bound, 0 where they are not.
+    /// When the imports were bound, at 4; 0 where they are not.
     pub time_date_stamp: u32,
-    /// The index of the first forwarder.
+    /// The index of the first forwarder, at 8.
     pub forwarder_chain: u32,
-    /// The address of the library's name.
+    /// The address of the library's name, at 12. The record with 0 here is the directory's last.
     pub name_rva: u32,
-    /// The address of the address table, which is a copy of the lookup table until the imports are
-    /// bound.
+    /// The address of the address table, at 16: a copy of the lookup table, in which the loader
+    /// puts an address in the place of each entry. The record with 0 here is the directory's last.
     pub import_address_table_rva: u32,
 }
 
@@ -51,7 +53,7 @@ impl Record for ImportDirectoryEntry {
         }
     }
 
-    #[tactic(auto, unfolding(crate::specs::ImportDirectory::import_fields), using(crate::proofs::ImportDirectoryRoundTrip::record_back, crate::proofs::ImportDirectoryRoundTrip::record_again))]
+    #[tactic(auto, unfolding(crate::specs::ImportDirectory::import_fields), using(crate::proofs::ImportDirectoryRoundTrip::import_record_back, crate::proofs::ImportDirectoryRoundTrip::record_again))]
     fn put(self, bytes: &mut [u8], endian: Endian) {
         let fields = [
             Field::U32(self.import_lookup_table_rva),
@@ -65,7 +67,8 @@ impl Record for ImportDirectoryEntry {
 }
 
 impl ImportDirectoryEntry {
-    /// Whether all five fields are 0.
+    /// Whether all five fields are 0, as the format asks of the last record of a directory. Readers
+    /// stop earlier: see [`ImportDirectoryEntry::is_possibly_valid`].
     pub fn is_null(&self) -> bool
         ensures { let r = self.now in
             result ≡ (r.import_lookup_table_rva == 0 && r.time_date_stamp == 0 && r.forwarder_chain == 0 && r.name_rva == 0 && r.import_address_table_rva == 0) }
@@ -78,7 +81,7 @@ impl ImportDirectoryEntry {
     }
 
     /// Whether it has a name and an address table. A directory ends at the first record that lacks
-    /// one of these.
+    /// one of these, as for the loader.
     pub fn is_possibly_valid(&self) -> bool
         ensures { result ≡ not (is_last_record self.now) }
     {

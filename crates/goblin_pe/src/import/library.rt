@@ -1,12 +1,13 @@
 //! The libraries from which an image imports.
 
-ghost use Rattle.std.specs.Prelude.{◌≡◌, IfOk, map, option_map, true};
-ghost use Rattle.goblin_base.specs.Answers.{AnswersOrMemory};
+ghost use Rattle.std.specs.Prelude.{◌≡◌, ◌⊎◌, IfErr, IfOk, IsSomeAnd, map, option_map, true};
+ghost use Rattle.goblin_base.specs.Answers.{AnswersOrMemory, IsMemory};
 ghost use Rattle.goblin_pe_sect.specs.Mapping.{file_offset};
 ghost use Rattle.goblin_pe_sect.specs.Options.{default_options, is_strict};
-ghost use Rattle.goblin_pe.specs.Addresses.{offset_of};
-ghost use Rattle.goblin_pe.specs.ImportDirectory.{IsLibraryFault, IsLookupIfFault, address_table_rva, library_of, lookup_offset, lookup_slots_if, lookup_table_if};
-ghost use Rattle.goblin_pe.specs.ImportLookup.{entry_view};
+ghost use Rattle.goblin_pe_sect.specs.WindowIndex.{HasPieces};
+ghost use Rattle.goblin_pe.specs.Addresses.{offset_of, reads_strictly};
+ghost use Rattle.goblin_pe.specs.ImportDirectory.{HasImports, IsLibraryFault, IsLookupIfFault, address_table_rva, library_of, lookup_offset, lookup_slots_if, lookup_table_if};
+ghost use Rattle.goblin_pe.specs.ImportLookup.{KeepsEntries, entry_view};
 
 use crate::address_map::AddressMap;
 use crate::import::address_table::{ImportAddressTable, address_table};
@@ -24,18 +25,22 @@ use std::marker::Model;
 
 /// What a record of an import directory leads to.
 ///
-/// Source: PE Format, "Import Directory Table".
+/// Source: PE Format, "Import Directory Table", "Import Lookup Table" and "Import Address Table".
 #[derive(Debug, Drop)]
 pub struct SyntheticImportDirectoryEntry<'a> {
-    /// The record.
+    /// The record, as it stands in the file.
     pub import_directory_entry: ImportDirectoryEntry,
-    /// The name of the library. In permissive mode it is empty where none can be read.
+    /// The name of the library, as it stands in the file. In permissive mode it is empty where none
+    /// can be read.
     pub name: &'a str,
-    /// What the lookup table keeps, where there is one.
+    /// What the lookup table keeps. `None` is for entries that are made by hand: a reader finds a
+    /// table for each record that it keeps.
     pub import_lookup_table: Option<ImportLookupTable<'a>>,
-    /// The slot of each entry of the lookup table, in order; none where there is no table.
+    /// The slot of each entry of the lookup table, in order, counted from 0; none where there is no
+    /// table. The slot of an entry that is left out is missing.
     pub import_lookup_slots: ImportLookupSlots,
-    /// The numbers of the address table.
+    /// The numbers of the address table up to the first 0, as they stand in the file: copies of the
+    /// lookup table's entries, or addresses where the imports are bound.
     pub import_address_table: ImportAddressTable,
 }
 
@@ -63,10 +68,11 @@ fn lookup_table_if<'a, 'e, T: Bitfield<'a>>(
     address_map: &AddressMap,
 ) -> ResultOf<'e, (Option<ImportLookupTable<'a>>, ImportLookupSlots)>
     ensures value { let m = offset_of address_map.now in
-        let strict = is_strict address_map.now.opts.parse_mode in
+        let strict = reads_strictly address_map.now in
         let view = option_map (map entry_view) in
         AnswersOrMemory (λ both. view both.0) result (lookup_table_if strict T.format m bytes.now offset) (IsLookupIfFault strict T.format m bytes.now offset) }
-    ensures slots { IfOk result (λ both. both.1 ≡ lookup_slots_if (is_strict address_map.now.opts.parse_mode) T.format (offset_of address_map.now) bytes.now offset) }
+    ensures grown { IfErr result (λ e. IsMemory e → IsSomeAnd offset (KeepsEntries (reads_strictly address_map.now) T.format (offset_of address_map.now) bytes.now)) }
+    ensures slots { IfOk result (λ both. both.1 ≡ lookup_slots_if (reads_strictly address_map.now) T.format (offset_of address_map.now) bytes.now offset) }
 {
     let Some(offset) = offset else {
         return Ok((None, Table::from(Vec::new(alloc))));
@@ -115,8 +121,10 @@ impl<'a> SyntheticImportDirectoryEntry<'a> {
         sections: &[SectionTable],
         file_alignment: u32,
     ) -> ResultOf<'e, SyntheticImportDirectoryEntry<'a>>
-        ensures { let m = file_offset default_options sections.now file_alignment in
+        ensures value { let m = file_offset default_options sections.now file_alignment in
             AnswersOrMemory (λ x. x) result (library_of true T.format m bytes.now import_directory_entry) (IsLibraryFault true T.format m bytes.now import_directory_entry) }
+        ensures grown { let m = file_offset default_options sections.now file_alignment in
+            IfErr result (λ e. IsMemory e → HasImports true T.format m bytes.now import_directory_entry ⊎ HasPieces default_options file_alignment) }
     {
         let opts = ParseOptions::default();
         SyntheticImportDirectoryEntry::parse_with_opts::<T>(
@@ -129,21 +137,23 @@ impl<'a> SyntheticImportDirectoryEntry<'a> {
         )
     }
 
-    /// What a record leads to: the library's name, its lookup table and its address table, of entries
-    /// of type `T`.
+    /// What a record leads to: the library's name, its lookup table and its address table, of
+    /// entries of type `T`.
     ///
-    /// The lookup table is read at its address, and where no section maps that, at the address of the
-    /// address table; where that has no file offset either, there is none. The address table is read
-    /// at its address, and where that is 0, at the address of the lookup table; it keeps the numbers
-    /// up to one that is 0. The slots are those of
+    /// The lookup table is read at its address, and where no section maps that, at the address of
+    /// the address table; where that has no file offset either, there is none. The address table is
+    /// read at its address, and where that is 0, at the address of the lookup table; it keeps the
+    /// numbers up to one that is 0. The slots are those of
     /// [`SyntheticImportLookupTableEntry::parse_with_slots`].
     ///
     /// # Errors
-    /// In strict mode as [`safe_try_name`](crate::utils::safe_try_name) where no name can be read; in
-    /// permissive mode the name is then empty. As
-    /// [`SyntheticImportLookupTableEntry::parse_with_opts`] where the lookup table is refused. In both modes [`Error::Malformed`] with [`Cause::Unmapped`] where the address of the
-    /// address table has no file offset, and [`Error::Read`] where that table meets the end of the
-    /// file. [`Error::Memory`] where memory is refused.
+    /// In strict mode as [`safe_try_name`](crate::utils::safe_try_name) where no name can be read;
+    /// in permissive mode the name is then empty. As
+    /// [`SyntheticImportLookupTableEntry::parse_with_opts`] where the lookup table is refused. In
+    /// both modes [`Error::Malformed`] with [`Cause::Unmapped`] where the address of the address
+    /// table has no file offset, and [`Error::Read`] where that table meets the end of the file.
+    /// [`Error::Memory`] where memory is refused, which is asked for where addresses are mapped, and
+    /// where either table keeps an entry.
     pub fn parse_with_opts<'e, T: Bitfield<'a>>(
         alloc: Global,
         bytes: &'a [u8],
@@ -152,9 +162,11 @@ impl<'a> SyntheticImportDirectoryEntry<'a> {
         file_alignment: u32,
         opts: &ParseOptions,
     ) -> ResultOf<'e, SyntheticImportDirectoryEntry<'a>>
-        ensures { let m = file_offset opts.now sections.now file_alignment in
+        ensures value { let m = file_offset opts.now sections.now file_alignment in
             let strict = is_strict opts.now.parse_mode in
             AnswersOrMemory (λ x. x) result (library_of strict T.format m bytes.now import_directory_entry) (IsLibraryFault strict T.format m bytes.now import_directory_entry) }
+        ensures grown { let m = file_offset opts.now sections.now file_alignment in
+            IfErr result (λ e. IsMemory e → HasImports (is_strict opts.now.parse_mode) T.format m bytes.now import_directory_entry ⊎ HasPieces opts.now file_alignment) }
     {
         let address_map = AddressMap::prepare(alloc, sections, file_alignment, opts)?;
         SyntheticImportDirectoryEntry::parse_by::<T>(
@@ -173,9 +185,10 @@ impl<'a> SyntheticImportDirectoryEntry<'a> {
         import_directory_entry: ImportDirectoryEntry,
         address_map: &AddressMap,
     ) -> ResultOf<'e, SyntheticImportDirectoryEntry<'a>>
-        ensures { let m = offset_of address_map.now in
-            let strict = is_strict address_map.now.opts.parse_mode in
+        ensures value { let m = offset_of address_map.now in
+            let strict = reads_strictly address_map.now in
             AnswersOrMemory (λ x. x) result (library_of strict T.format m bytes.now import_directory_entry) (IsLibraryFault strict T.format m bytes.now import_directory_entry) }
+        ensures grown { IfErr result (λ e. IsMemory e → HasImports (reads_strictly address_map.now) T.format (offset_of address_map.now) bytes.now import_directory_entry) }
     {
         let record = &import_directory_entry;
         let name = address_map.name_at(bytes, record.name_rva)?.unwrap_or("");

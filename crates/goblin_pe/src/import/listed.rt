@@ -1,6 +1,6 @@
 //! The list of imports.
 
-ghost use Rattle.std.specs.Prelude.{◌≡◌, ◌++◌, IfErr, IfOk, None, length, map, min, option_map, string_bytes, true};
+ghost use Rattle.std.specs.Prelude.{◌≡◌, ◌<◌, ◌++◌, IfErr, IfOk, None, OnErr, false, length, map, min, option_map, string_bytes, true};
 ghost use Rattle.std.specs.Option.{option_copied};
 ghost use Rattle.goblin_base.specs.Answers.{AnswersOrMemory, GivesOrMemory, IsMemory};
 ghost use Rattle.goblin_pe.specs.ImportBound.{AreFew};
@@ -20,26 +20,30 @@ use std::marker::Model;
 // The length of the longest name of an import by ordinal, in bytes.
 const ORDINAL_NAME_MAX: usize = 13;
 
-/// An import.
+/// An import: what is taken, from which library, and where the loader puts its address.
 ///
-/// Source: PE Format, "The .idata Section".
+/// Source: PE Format, "The .idata Section". Addresses are relative to the image's base.
 #[derive(Debug, Drop)]
 pub struct Import<'a> {
-    /// The name that is imported, as it stands in the file; or `ORDINAL ` and the ordinal in decimal
-    /// digits.
+    /// The name that is imported, borrowed from the file; of an import by ordinal `ORDINAL ` and
+    /// the ordinal in decimal digits, which is made. A file may name an import so itself, but only
+    /// a name of the file's is borrowed.
     pub name: CowStr<'a>,
-    /// The name of the library.
+    /// The name of the library, as it stands in the file; empty where permissive mode could not
+    /// read it.
     pub dll: &'a str,
-    /// The ordinal; of an import by name, the hint.
+    /// The ordinal; of an import by name, the hint: at which index of the library's name pointers
+    /// the loader looks for the name first. A wrong hint does no harm.
     pub ordinal: u16,
-    /// The address of its own entry in the address table, where the loader puts the address of what is
-    /// imported.
+    /// The address (not the file offset) of its own entry in the address table, where the loader
+    /// puts the address of what is imported: the table's address plus `slot` times `size`.
     pub offset: usize,
-    /// The address of the hint and the name, 0 of an import by ordinal.
+    /// The address of the hint and the name; 0 of an import by ordinal.
     pub rva: usize,
-    /// The size of an entry of the address table, in bytes.
+    /// The size of an entry of the address table, in bytes: 4 in an image for 32 bits, else 8.
     pub size: usize,
-    /// The index of its entry in the lookup table and in the address table, in the file.
+    /// The index of its entry, in the file, in the lookup table and in the address table. Entries
+    /// that are left out count.
     pub slot: usize,
 }
 
@@ -90,7 +94,8 @@ impl<'a> Import<'a> {
         offset: usize,
         size: usize,
     ) -> Result<Import<'a>>
-        ensures { GivesOrMemory (λ x. x) result (import_of dll.now slot offset size (entry_view entry.now)) }
+        ensures value { GivesOrMemory (λ x. x) result (import_of dll.now slot offset size (entry_view entry.now)) }
+        ensures grown { OnErr result ((import_of dll.now slot offset size (entry_view entry.now)).is_borrowed ≡ false) }
     {
         let (name, ordinal, rva) = match entry {
             SyntheticImportLookupTableEntry::OrdinalNumber(ordinal) => {
@@ -111,17 +116,19 @@ impl<'a> Import<'a> {
         })
     }
 
-    /// The imports of `import_data`, whose address tables have entries of type `T`: one for each entry
-    /// that a lookup table keeps, in the order of the libraries and of the entries.
+    /// The imports of `import_data`, whose address tables have entries of type `T`: one for each
+    /// entry that a lookup table keeps, in the order of the libraries and of the entries. The file
+    /// and the sections are not looked at.
     ///
-    /// Of import data that was read from a file of N bytes there are at most (N / 20) * (N / k) imports,
-    /// for entries of k bytes: so many records, and so many entries of each, the file has room for.
+    /// Of import data that was read from a file of N bytes there are at most (N / 20) * (N / k)
+    /// imports, for entries of k bytes: the file has room for no more records, and for no more
+    /// entries of each.
     ///
     /// # Errors
-    /// [`Error::Malformed`] with [`Cause::SlotCount`] where a library, made by hand, has not as many
-    /// entries as slots: the counts of the first such library, before memory is asked for; else with
-    /// [`Cause::Overflow`] where an import's offset passes 64 bits. [`Error::Memory`] where memory is
-    /// refused.
+    /// [`Error::Malformed`] with [`Cause::SlotCount`] where a library, made by hand, has not as
+    /// many entries as slots: the counts of the first such library, before memory is asked for;
+    /// else with [`Cause::Overflow`] where an import's offset passes 64 bits. [`Error::Memory`]
+    /// where memory is refused; none is asked for where no table keeps an entry.
     #[tactic(auto, using(crate::proofs::ImportBound::are_few))]
     pub fn parse<'e, T: Bitfield<'a>>(
         alloc: Global,
@@ -131,6 +138,7 @@ impl<'a> Import<'a> {
     ) -> ResultOf<'e, Vec<Import<'a>>>
         ensures value { AnswersOrMemory (λ v. v.items) result (imports_of T.format.width import_data.now) (IsImportsFault import_data.now) }
         ensures counted { IfErr result (λ e. IsMemory e → first_without_slots import_data.now ≡ None) }
+        ensures grown { IfErr result (λ e. IsMemory e → 0 < kept_count import_data.now) }
         ensures bound { IfOk result (λ v. AreFew T.format import_data.now v.items) }
     {
         Ok(imports_of(alloc, &import_data.import_data, T::size_of())?)
@@ -190,8 +198,9 @@ fn push_entries<'a>(
     size: usize,
 ) -> Result<()>
     requires { length slots.now ≡ length entries.now }
-    ensures { let made = imports_by size dll.now rva (map entry_view entries.now) slots.now in
+    ensures value { let made = imports_by size dll.now rva (map entry_view entries.now) slots.now in
         AnswersOrMemory (λ _. imports.new.items) result (option_map (λ more. imports.old.items ++ more) made) IsOverflow }
+    ensures grown { IfErr result (λ e. IsMemory e → 0 < length entries.now) }
 {
     'entries: for (position, entry) in entries.iter().enumerate() {
         let slot = slots[position];
@@ -212,7 +221,8 @@ fn push_imports<'a>(
     size: usize,
 ) -> Result<()>
     requires { has_slots library.now ≡ true }
-    ensures { AnswersOrMemory (λ _. imports.new.items) result (option_map (λ made. imports.old.items ++ made) (library_imports size library.now)) IsOverflow }
+    ensures value { AnswersOrMemory (λ _. imports.new.items) result (option_map (λ made. imports.old.items ++ made) (library_imports size library.now)) IsOverflow }
+    ensures grown { IfErr result (λ e. IsMemory e → 0 < length (kept_entries library.now)) }
 {
     push_entries(
         alloc,
@@ -234,6 +244,7 @@ fn imports_of<'a>(
 ) -> Result<Vec<Import<'a>>>
     ensures value { AnswersOrMemory (λ v. v.items) result (imports_of size libraries.now) (IsImportsFault libraries.now) }
     ensures counted { IfErr result (λ e. IsMemory e → first_without_slots libraries.now ≡ None) }
+    ensures grown { IfErr result (λ e. IsMemory e → 0 < kept_count libraries.now) }
 {
     if let Some(library) = first_without_slots(libraries) {
         let entries = kept_entries(library).len();

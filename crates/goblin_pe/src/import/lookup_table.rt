@@ -1,14 +1,15 @@
 //! Import lookup tables: what is imported from a library, by name or by ordinal.
 
-ghost use Rattle.std.specs.Prelude.{◌≡◌, ◌<◌, ◌++◌, ◌∷◌, [], IfErr, IfOk, OnOk, Some, if◌then◌else◌, length, map, option_to_list, true};
+ghost use Rattle.std.specs.Prelude.{◌≡◌, ◌<◌, ◌++◌, ◌∷◌, [], ◌⊎◌, IfErr, IfOk, OnErr, OnOk, Some, if◌then◌else◌, length, map, option_to_list, true};
 ghost use Rattle.std.specs.List.{All};
 ghost use Rattle.std.specs.List.Sorted.{IsStrictlyIncreasing};
 ghost use Rattle.goblin_base.specs.Answers.{Answers, AnswersOrMemory, IsMemory};
 ghost use Rattle.goblin_base.specs.Tables.{is_kept, stop};
 ghost use Rattle.goblin_pe_sect.specs.Mapping.{file_offset};
 ghost use Rattle.goblin_pe_sect.specs.Options.{default_options, is_strict};
-ghost use Rattle.goblin_pe.specs.Addresses.{offset_of};
-ghost use Rattle.goblin_pe.specs.ImportLookup.{IsHintNameFault, IsKeptEntryFault, IsLookupTableFault, entry_slots, hint_name, kept_entry, lookup_slots, lookup_table, entry_view, hint_name_view, kept_view};
+ghost use Rattle.goblin_pe_sect.specs.WindowIndex.{HasPieces};
+ghost use Rattle.goblin_pe.specs.Addresses.{offset_of, reads_strictly};
+ghost use Rattle.goblin_pe.specs.ImportLookup.{IsHintNameFault, IsKeptEntryFault, IsLookupTableFault, KeepsEntries, entry_slots, hint_name, kept_entry, lookup_slots, lookup_table, entry_view, hint_name_view, kept_view};
 
 use crate::address_map::AddressMap;
 use crate::import::bitfield::{Bitfield, read_entry};
@@ -18,20 +19,21 @@ use crate::table::Table;
 use goblin_base::{Cause, Endian, Error, Result, ResultOf, pread_str, pread_u16};
 use std::alloc::Global;
 
-/// A hint, and the name behind it, by which a library exports what is imported.
+/// A hint, and the name after it, by which a library exports what is imported.
 ///
 /// Source: PE Format, "Hint/Name Table".
 #[derive(Debug, Clone, Drop)]
 pub struct HintNameTableEntry<'a> {
-    /// The index in the library's export name pointer table at which the name is looked for first.
+    /// The index in the library's export name pointer table at which the loader looks for the name
+    /// first, at 0 in the entry. Where it is wrong, the name is searched for.
     pub hint: u16,
-    /// The name.
+    /// The name, at 2 in the entry, up to a NUL; empty where permissive mode found no text.
     pub name: &'a str,
 }
 
 impl<'a> HintNameTableEntry<'a> {
-    /// The hint and the name at `offset`, as [`HintNameTableEntry::parse_with_opts`] with the default
-    /// options.
+    /// The hint and the name at the file offset `offset`, as [`HintNameTableEntry::parse_with_opts`]
+    /// with the default options.
     ///
     /// # Errors
     /// As [`HintNameTableEntry::parse_with_opts`] in strict mode.
@@ -41,12 +43,13 @@ impl<'a> HintNameTableEntry<'a> {
         HintNameTableEntry::parse_with_opts(bytes, offset, &ParseOptions::default())
     }
 
-    /// The hint and the name at `offset`. The name begins 2 bytes behind it, and ends before its first
-    /// NUL or at the end of the file.
+    /// The hint and the name at the file offset `offset`. The name begins 2 bytes on, and ends
+    /// before its first NUL or at the end of the file.
     ///
     /// # Errors
-    /// [`Error::Malformed`] with [`Cause::HintEntry`] where the hint is not whole. [`Error::Read`]
-    /// where no text stands behind it, in strict mode; in permissive mode the name is then empty.
+    /// [`Error::Malformed`] with [`Cause::HintEntry`] where the hint passes the end of the file.
+    /// [`Error::Read`] where no text follows it, in strict mode; in permissive mode the name is
+    /// then empty.
     #[tactic(auto, unfolding(crate::specs::ImportLookup::hint_name))]
     pub fn parse_with_opts(
         bytes: &'a [u8],
@@ -74,7 +77,7 @@ impl<'a> HintNameTableEntry<'a> {
 pub enum SyntheticImportLookupTableEntry<'a> {
     /// The ordinal by which it imports.
     OrdinalNumber(u16),
-    /// The address of the hint and the name by which it imports, and these.
+    /// The pair (address of the hint and the name by which it imports, these themselves).
     HintNameTableRVA((u32, HintNameTableEntry<'a>)),
 }
 
@@ -87,7 +90,7 @@ impl<'a> SyntheticImportLookupTableEntry<'a> {
         address_map: &AddressMap,
     ) -> ResultOf<'e, Option<SyntheticImportLookupTableEntry<'a>>>
         ensures { let m = offset_of address_map.now in
-            Answers kept_view result (kept_entry (is_strict address_map.now.opts.parse_mode) m bytes.now (T.value entry.now)) (IsKeptEntryFault m bytes.now (T.value entry.now)) }
+            Answers kept_view result (kept_entry (reads_strictly address_map.now) m bytes.now (T.value entry.now)) (IsKeptEntryFault m bytes.now (T.value entry.now)) }
     {
         if entry.is_ordinal() {
             let ordinal = entry.to_ordinal();
@@ -105,20 +108,20 @@ impl<'a> SyntheticImportLookupTableEntry<'a> {
     }
 }
 
-/// What a lookup table keeps, in order.
+/// What a lookup table keeps, in order: of some entries nothing, so an index here is no slot.
 ///
 /// Source: PE Format, "Import Lookup Table".
 pub type ImportLookupTable<'a> = Table<SyntheticImportLookupTableEntry<'a>>;
 
-/// The slots of the entries that a lookup table keeps, in order: how many entries stand before each in
-/// the file. The entry of the address table that belongs to an import has the same index.
+/// The slots of the entries that a lookup table keeps, in order: how many entries stand before each
+/// in the file. The entry of the address table that belongs to an import has the same index.
 ///
 /// Source: PE Format, "Import Address Table".
 pub type ImportLookupSlots = Table<usize>;
 
 impl<'a> SyntheticImportLookupTableEntry<'a> {
-    /// The lookup table at `offset`, as [`SyntheticImportLookupTableEntry::parse_with_opts`] with the
-    /// default options.
+    /// The lookup table at the file offset `offset`, as
+    /// [`SyntheticImportLookupTableEntry::parse_with_opts`] with the default options.
     ///
     /// # Errors
     /// As [`SyntheticImportLookupTableEntry::parse_with_opts`] in strict mode.
@@ -129,8 +132,10 @@ impl<'a> SyntheticImportLookupTableEntry<'a> {
         sections: &[SectionTable],
         file_alignment: u32,
     ) -> ResultOf<'e, ImportLookupTable<'a>>
-        ensures { let m = file_offset default_options sections.now file_alignment in
+        ensures value { let m = file_offset default_options sections.now file_alignment in
             AnswersOrMemory (map entry_view) result (lookup_table true T.format m bytes.now offset) (IsLookupTableFault true T.format m bytes.now offset) }
+        ensures grown { let m = file_offset default_options sections.now file_alignment in
+            IfErr result (λ e. IsMemory e → KeepsEntries true T.format m bytes.now offset ⊎ HasPieces default_options file_alignment) }
     {
         let opts = ParseOptions::default();
         SyntheticImportLookupTableEntry::parse_with_opts::<T>(
@@ -143,8 +148,8 @@ impl<'a> SyntheticImportLookupTableEntry<'a> {
         )
     }
 
-    /// The lookup table at `offset`: what is kept of the entries of type `T` there, up to one whose
-    /// number is 0.
+    /// The lookup table at the file offset `offset`: what is kept of the entries of type `T` there, up
+    /// to one whose number is 0.
     ///
     /// An entry by ordinal is kept. One whose address no section maps is left out, in both modes; and
     /// in permissive mode also one whose hint is not whole.
@@ -152,7 +157,8 @@ impl<'a> SyntheticImportLookupTableEntry<'a> {
     /// # Errors
     /// In strict mode [`Error::Malformed`] with [`Cause::LookupEnd`] where the table meets the end of
     /// the file, and as [`HintNameTableEntry::parse_with_opts`] where an entry leads to no hint and
-    /// name; in permissive mode the table ends there. [`Error::Memory`] where memory is refused.
+    /// name; in permissive mode the table ends there. [`Error::Memory`] where memory is refused, which
+    /// is asked for where addresses are mapped, and where an entry is kept.
     pub fn parse_with_opts<'e, T: Bitfield<'a>>(
         alloc: Global,
         bytes: &'a [u8],
@@ -161,9 +167,11 @@ impl<'a> SyntheticImportLookupTableEntry<'a> {
         file_alignment: u32,
         opts: &ParseOptions,
     ) -> ResultOf<'e, ImportLookupTable<'a>>
-        ensures { let m = file_offset opts.now sections.now file_alignment in
+        ensures value { let m = file_offset opts.now sections.now file_alignment in
             let strict = is_strict opts.now.parse_mode in
             AnswersOrMemory (map entry_view) result (lookup_table strict T.format m bytes.now offset) (IsLookupTableFault strict T.format m bytes.now offset) }
+        ensures grown { let m = file_offset opts.now sections.now file_alignment in
+            IfErr result (λ e. IsMemory e → KeepsEntries (is_strict opts.now.parse_mode) T.format m bytes.now offset ⊎ HasPieces opts.now file_alignment) }
     {
         let (table, _) = SyntheticImportLookupTableEntry::parse_with_slots::<T>(
             alloc,
@@ -176,8 +184,9 @@ impl<'a> SyntheticImportLookupTableEntry<'a> {
         Ok(table)
     }
 
-    /// The lookup table at `offset`, as [`SyntheticImportLookupTableEntry::parse_with_opts`], and the
-    /// slot of each entry that it keeps. The slots rise, and lie below the slot where the table ends.
+    /// The pair (lookup table at the file offset `offset`, as
+    /// [`SyntheticImportLookupTableEntry::parse_with_opts`] reads it; the slot of each entry that it
+    /// keeps). The slots rise, and lie below the slot where the table ends.
     ///
     /// # Errors
     /// As [`SyntheticImportLookupTableEntry::parse_with_opts`].
@@ -193,6 +202,8 @@ impl<'a> SyntheticImportLookupTableEntry<'a> {
         ensures value { let m = file_offset opts.now sections.now file_alignment in
             let strict = is_strict opts.now.parse_mode in
             AnswersOrMemory (λ both. map entry_view both.0) result (lookup_table strict T.format m bytes.now offset) (IsLookupTableFault strict T.format m bytes.now offset) }
+        ensures grown { let m = file_offset opts.now sections.now file_alignment in
+            IfErr result (λ e. IsMemory e → KeepsEntries (is_strict opts.now.parse_mode) T.format m bytes.now offset ⊎ HasPieces opts.now file_alignment) }
         ensures slots { let m = file_offset opts.now sections.now file_alignment in
             IfOk result (λ both. both.1 ≡ lookup_slots (is_strict opts.now.parse_mode) T.format m bytes.now offset) }
         ensures counted { IfOk result (λ both. length both.0 ≡ length both.1) }
@@ -211,9 +222,10 @@ impl<'a> SyntheticImportLookupTableEntry<'a> {
         address_map: &AddressMap,
     ) -> ResultOf<'e, (ImportLookupTable<'a>, ImportLookupSlots)>
         ensures value { let m = offset_of address_map.now in
-            let strict = is_strict address_map.now.opts.parse_mode in
+            let strict = reads_strictly address_map.now in
             AnswersOrMemory (λ both. map entry_view both.0) result (lookup_table strict T.format m bytes.now offset) (IsLookupTableFault strict T.format m bytes.now offset) }
-        ensures slots { IfOk result (λ both. both.1 ≡ lookup_slots (is_strict address_map.now.opts.parse_mode) T.format (offset_of address_map.now) bytes.now offset) }
+        ensures grown { IfErr result (λ e. IsMemory e → KeepsEntries (reads_strictly address_map.now) T.format (offset_of address_map.now) bytes.now offset) }
+        ensures slots { IfOk result (λ both. both.1 ≡ lookup_slots (reads_strictly address_map.now) T.format (offset_of address_map.now) bytes.now offset) }
         ensures counted { IfOk result (λ both. length both.0 ≡ length both.1) }
     {
         let size = T::size_of();
@@ -251,6 +263,7 @@ fn push_kept<'a>(
     ensures slots { OnOk result (slots.new.items ≡ slots.old.items ++ (if is_kept (Some (kept_view kept.entry)) then slot ∷ [] else [])) }
     ensures counted { OnOk result (length entries.old.items ≡ length slots.old.items → length entries.new.items ≡ length slots.new.items) }
     ensures memory { IfErr result IsMemory }
+    ensures grown { OnErr result (is_kept (Some (kept_view kept.entry)) ≡ true) }
 {
     if let Some(entry) = kept {
         entries.push(entry)?;

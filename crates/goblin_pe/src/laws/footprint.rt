@@ -1,8 +1,9 @@
 //! Which bytes of a file its imports depend on.
 
-ghost use Rattle.std.specs.Prelude.{◌≡◌, ◌++◌, IfErr, IfOk, OnOk};
+ghost use Rattle.std.specs.Prelude.{◌≡◌, ◌<◌, ◌≤◌, ◌↔◌, ◌++◌, ℕ, IfErr, IfOk, OnOk, length};
+ghost use Rattle.std.specs.List.{All};
 ghost use Rattle.goblin_base.specs.Answers.{IsMemory};
-ghost use Rattle.goblin_base.specs.Footprints.{positions, stretch_footprint};
+ghost use Rattle.goblin_base.specs.Footprints.{Covers, positions, stretch_footprint};
 ghost use Rattle.goblin_pe_sect.specs.Mapping.{file_offset};
 ghost use Rattle.goblin_pe_sect.specs.Options.{is_strict};
 ghost use Rattle.goblin_pe.specs.Addresses.{offset_of};
@@ -172,6 +173,26 @@ fn add_libraries<'a, 'e, T: Bitfield<'a>>(
     }
 }
 
+// The footprint of the import directory at an address.
+#[tactic(auto, unfolding(crate::specs::ImportFootprints::libraries_if_footprint, goblin_base::specs::Footprints::led_to))]
+fn import_ranges<'a, 'e, T: Bitfield<'a>>(
+    alloc: Global,
+    bytes: &'a [u8],
+    rva: u32,
+    address_map: &AddressMap,
+) -> ResultOf<'e, Vec<(usize, usize)>>
+    ensures ranges { IfOk result (λ v. v.items ≡ import_footprint (is_strict address_map.now.opts.parse_mode) T.format (offset_of address_map.now) bytes.now rva) }
+    ensures refused { IfErr result IsMemory }
+{
+    let mut ranges = Vec::new(alloc);
+    match address_map.offset_of(rva) {
+        Some(0) if address_map.is_permissive() => {}
+        Some(offset) => add_libraries::<T>(&mut ranges, bytes, offset, address_map)?,
+        None => {}
+    }
+    Ok(ranges)
+}
+
 /// The footprint of the imports of a file: the ranges (begin, end) of the positions on which the import
 /// data of a directory depends, as [`twin_imports`](crate::laws::twin_imports) says. A position is in
 /// the footprint exactly where it lies in one of the ranges, which come in no order and may overlap.
@@ -179,7 +200,6 @@ fn add_libraries<'a, 'e, T: Bitfield<'a>>(
 ///
 /// # Errors
 /// [`Error::Memory`](goblin_base::Error::Memory) alone.
-#[tactic(auto, unfolding(crate::specs::ImportFootprints::libraries_if_footprint, goblin_base::specs::Footprints::led_to))]
 pub fn footprint_imports<'a, 'e, T: Bitfield<'a>>(
     alloc: Global,
     bytes: &'a [u8],
@@ -189,14 +209,12 @@ pub fn footprint_imports<'a, 'e, T: Bitfield<'a>>(
     opts: &ParseOptions,
 ) -> ResultOf<'e, Vec<(usize, usize)>>
     ensures ranges { IfOk result (λ v. v.items ≡ import_footprint (is_strict opts.now.parse_mode) T.format (file_offset opts.now sections.now file_alignment) bytes.now directory.virtual_address) }
+    ensures covers { let footprint = import_footprint (is_strict opts.now.parse_mode) T.format (file_offset opts.now sections.now file_alignment) bytes.now directory.virtual_address in
+        IfOk result (λ v. (p : ℕ) → Covers v.items p ↔ Covers footprint p) }
+    ensures within { IfOk result (λ v. All (λ range. (range.0 < range.1) × (range.1 ≤ length bytes.now)) v.items) }
     ensures refused { IfErr result IsMemory }
 {
     let address_map = AddressMap::prepare(alloc, sections, file_alignment, opts)?;
-    let mut ranges = Vec::new(alloc);
-    match address_map.offset_of(directory.virtual_address) {
-        Some(0) if address_map.is_permissive() => {}
-        Some(offset) => add_libraries::<T>(&mut ranges, bytes, offset, &address_map)?,
-        None => {}
-    }
+    let ranges = import_ranges::<T>(alloc, bytes, directory.virtual_address, &address_map)?;
     Ok(ranges)
 }

@@ -3,7 +3,7 @@
 ghost use Rattle.goblin_base.specs.Answers.{AnswersOrMemory};
 ghost use Rattle.goblin_pe_sect.specs.Mapping.{file_offset};
 ghost use Rattle.goblin_pe_sect.specs.Options.{is_strict};
-ghost use Rattle.goblin_pe.specs.TwinParts.{AreAlikeParts, AreParts, IsTeImageFault, PartsAsked, te_image, te_view};
+ghost use Rattle.goblin_pe.specs.TwinParts.{AreAlikeParts, AreParts, AreSameParts, IsTeImageFault, PartsAsked, te_image_at, te_view};
 
 use crate::data_directories::DataDirectory;
 use crate::header::{CoffHeader, Header, TeHeader};
@@ -39,9 +39,9 @@ pub struct PartsOf<'a, 'e, D> {
 pub type Parts<'a, D> = PartsOf<'a, 'static, D>;
 
 // The header of a Terse Executable at an offset, and its sections after it.
-#[tactic(auto, unfolding(crate::specs::TwinParts::te_image))]
+#[tactic(auto, unfolding(crate::specs::TwinParts::te_image_at))]
 fn read_te(alloc: Global, bytes: &[u8], offset: usize) -> Result<(TeHeader, Vec<SectionTable>)>
-    ensures { AnswersOrMemory te_view result (te_image bytes.now offset) (IsTeImageFault bytes.now offset) }
+    ensures { AnswersOrMemory te_view result (te_image_at bytes.now offset) (IsTeImageFault bytes.now offset) }
 {
     let mut end = offset;
     let header = TeHeader::parse(bytes, &mut end)?;
@@ -112,6 +112,8 @@ pub fn twin_parts<'a, 'e, D: TryFromCtx<'a>>(
         AreParts D.plain D.value_of D.refusal (is_strict opts.now.parse_mode) (file_offset opts.now sections.now file_alignment) asked a.now result.0 }
     ensures second { let asked : PartsAsked = record { coff_header = coff_header; offset = offset; relocations = relocations; value = value } in
         AreParts D.plain D.value_of D.refusal (is_strict opts.now.parse_mode) (file_offset opts.now sections.now file_alignment) asked b.now result.1 }
+    ensures same_value { let asked : PartsAsked = record { coff_header = coff_header; offset = offset; relocations = relocations; value = value } in
+        AreSameParts D.value_of (is_strict opts.now.parse_mode) (file_offset opts.now sections.now file_alignment) asked a.now b.now }
     ensures alike { let asked : PartsAsked = record { coff_header = coff_header; offset = offset; relocations = relocations; value = value } in
         AreAlikeParts D.plain (is_strict opts.now.parse_mode) (file_offset opts.now sections.now file_alignment) asked a.now b.now result.0 result.1 }
 {

@@ -7,7 +7,7 @@ ghost use Rattle.goblin_base.specs.Record.{record_at};
 ghost use Rattle.goblin_pe_sect.specs.Options.{is_strict};
 ghost use Rattle.goblin_pe_sect.specs.Symbols.{table_bytes};
 ghost use Rattle.goblin_pe_head.specs.declared.header.coff.CoffHeader.{CoffHeader};
-ghost use Rattle.goblin_pe_head.specs.CoffHeader.{IsNoStrings, IsNoSymbols, strings_of, symbols_of, coff_fields, coff_header, string_table_offset, sections_at, IsSectionsFault, IsTooManySections};
+ghost use Rattle.goblin_pe_head.specs.CoffHeader.{IsNoStrings, IsNoSymbols, strings_of, symbols_of, coff_fields, coff_header, symbols_end, string_table_offset, sections_at, IsSectionsFault, IsTooManySections};
 
 use crate::header::sections::read_sections;
 use goblin_base::{
@@ -24,28 +24,34 @@ pub const SIZEOF_COFF_HEADER: usize = 20;
 
 const _: () = prove!(SIZEOF_COFF_HEADER == 20);
 
-// The size of the length in front of a string table, in bytes.
+// The size of the length at the front of a string table, in bytes.
 const LENGTH_FIELD_SIZE: usize = 4;
 
 /// The header of a COFF file, or of the COFF part of an image.
 ///
 /// Source: PE Format, "COFF File Header (Object and Image)". Numbers are as stored; the record has
-/// 20 bytes. In an image it stands behind the PE signature.
+/// 20 bytes, and `at` says where in it a field stands. An object begins with it; in an image it
+/// follows the PE signature.
 #[derive(Debug, PartialEq, Copy, Clone, Default)]
 pub struct CoffHeader {
-    /// The machine that the file is for, a `COFF_MACHINE_*`.
+    /// The machine that the file is for, a `COFF_MACHINE_*`, at 0. No reader looks at it: the width
+    /// of an image is what the magic of its optional header says.
     pub machine: u16,
-    /// How many section records follow the optional header.
+    /// How many section records follow the optional header, at 2. The Windows loader takes at most
+    /// 96.
     pub number_of_sections: u16,
-    /// When the file was made, in seconds since the start of 1970, or what its maker put there.
+    /// When the file was made, in seconds since the start of 1970, at 4; or what its maker put
+    /// there, such as a hash.
     pub time_date_stamp: u32,
-    /// The file offset of the symbol table, 0 where there is none.
+    /// The file offset of the symbol table, at 8; 0 where there is none, as in most images. The
+    /// string table follows the symbol table.
     pub pointer_to_symbol_table: u32,
-    /// How many records the symbol table has.
+    /// How many records the symbol table has, the auxiliary ones too, at 12.
     pub number_of_symbol_table: u32,
-    /// The size of the optional header, in bytes, 0 where there is none.
+    /// The size of the optional header, in bytes, at 16; 0 where there is none, as in an object. It
+    /// alone says where the section table begins, and nothing of the optional header's own layout.
     pub size_of_optional_header: u16,
-    /// What kind of file it is, as bits `IMAGE_FILE_*`.
+    /// What kind of file it is, as bits `IMAGE_FILE_*`, at 18.
     pub characteristics: u16,
 }
 
@@ -89,10 +95,10 @@ impl Record for CoffHeader {
 }
 
 impl CoffHeader {
-    /// Reads the record at `offset` and moves `offset` past it.
+    /// Reads the record at the file offset `offset` and moves `offset` past it.
     ///
     /// # Errors
-    /// [`Error::Read`] where the file has no 20 bytes there; `offset` then stays.
+    /// [`Error::Read`] where the 20 bytes pass the end of the file; `offset` then stays.
     pub fn parse(bytes: &[u8], offset: &mut usize) -> Result<CoffHeader>
         ensures value { Answers (λ h. h) result (record_at 20 (coff_header Endian.Little) bytes.now offset.old) (IsSliceFault bytes.now offset.old 20) }
         ensures ok { OnOk result (offset.new ≡ offset.old + 20) }
@@ -112,7 +118,7 @@ impl CoffHeader {
         bytes: &[u8],
         offset: &mut usize,
     ) -> Result<Vec<SectionTable>>
-        ensures value { let table = string_table_offset self.now in
+        ensures value { let table = symbols_end self.now in
             let count = self.now.number_of_sections in
             AnswersOrMemory (λ v. v.items) result (sections_at true table count bytes.now offset.old) (IsSectionsFault true table count bytes.now offset.old) }
         ensures first { length bytes.now / 40 < self.now.number_of_sections → IsErrAnd result (IsTooManySections self.now.number_of_sections bytes.now) }
@@ -123,14 +129,17 @@ impl CoffHeader {
         self.sections_with_opts(alloc, bytes, offset, &ParseOptions::default())
     }
 
-    /// Reads the section table, whose records stand one after the other from `offset` on, and moves
-    /// `offset` past it. In an image it stands behind the optional header. Indirect names are looked
-    /// up in the string table behind the symbol table.
+    /// Reads the section table, whose records stand one after the other from the file offset
+    /// `offset` on, and moves `offset` past it. In an image it follows the optional header.
+    /// Indirect names are looked up in the string table after the symbol table.
+    ///
+    /// Source: PE Format, "Section Table (Section Headers)".
     ///
     /// # Errors
-    /// [`Error::BufferTooShort`] of the number of sections where the whole file has no room for so
-    /// many, tested first; as [`SectionTable::parse_with_opts`] where a record is not all there or
-    /// its name is refused; [`Error::Memory`] where memory is refused. `offset` then stays.
+    /// [`Error::BufferTooShort`] of the number of sections where the whole file has no room for
+    /// that many records, tested first; as [`SectionTable::parse_with_opts`] where a record passes
+    /// the end or its name is refused; [`Error::Memory`] where memory is refused. `offset` then
+    /// stays.
     pub fn sections_with_opts(
         &self,
         alloc: Global,
@@ -139,7 +148,7 @@ impl CoffHeader {
         opts: &ParseOptions,
     ) -> Result<Vec<SectionTable>>
         ensures value { let strict = is_strict opts.now.parse_mode in
-            let table = string_table_offset self.now in
+            let table = symbols_end self.now in
             let count = self.now.number_of_sections in
             AnswersOrMemory (λ v. v.items) result (sections_at strict table count bytes.now offset.old) (IsSectionsFault strict table count bytes.now offset.old) }
         ensures first { length bytes.now / 40 < self.now.number_of_sections → IsErrAnd result (IsTooManySections self.now.number_of_sections bytes.now) }
@@ -151,15 +160,17 @@ impl CoffHeader {
         if bytes.len() / SIZEOF_SECTION_TABLE < count {
             return Err(Error::BufferTooShort(count, "sections"));
         }
-        let table = self.string_table_offset();
+        let table = self.symbols_end();
         read_sections(alloc, bytes, offset, count, table, opts, None)
     }
 
-    /// The symbol table, `None` where its pointer is 0.
+    /// The symbol table; `None` where the pointer to it is 0.
+    ///
+    /// Source: PE Format, "COFF Symbol Table".
     ///
     /// # Errors
-    /// [`Error::Read`] where its records are not all there, or begin at the end, also where there are
-    /// none.
+    /// [`Error::Read`] where its records pass the end of the file, or begin at it, also where there
+    /// are none.
     pub fn symbols<'a>(&self, bytes: &'a [u8]) -> Result<Option<SymbolTable<'a>>>
         ensures { Answers (option_map table_bytes) result (symbols_of self.now bytes.now) (IsNoSymbols self.now bytes.now) }
     {
@@ -171,20 +182,22 @@ impl CoffHeader {
         Ok(Some(symbols))
     }
 
-    /// The string table, which stands behind the symbol table; `None` where the pointer to that is 0.
-    /// Its first four bytes say its length with themselves. They are no part of what is answered, so
-    /// offsets count from behind them. It stays where it stands in the file, so no memory is taken.
+    /// The string table, which follows the symbol table; `None` where the pointer to that is 0. Its
+    /// first four bytes say its length, themselves counted. They are no part of what is answered,
+    /// so offsets count from after them. It stays where it stands in the file, so no memory is
+    /// taken.
+    ///
+    /// Source: PE Format, "COFF String Table".
     ///
     /// # Errors
-    /// [`Error::Read`] where the four bytes are not all there; [`Error::Malformed`] with
+    /// [`Error::Read`] where the four bytes pass the end of the file; [`Error::Malformed`] with
     /// [`Cause::CoffLength`] where the length is below 4; and as [`Strtab::parse`].
     pub fn strings<'a>(&self, alloc: Global, bytes: &'a [u8]) -> Result<Option<Strtab<'a>>>
         ensures { Answers (λ t. t) result (strings_of self.now bytes.now) (IsNoStrings self.now bytes.now) }
     {
-        if self.pointer_to_symbol_table == 0 {
+        let Some(offset) = self.string_table_offset() else {
             return Ok(None);
-        }
-        let offset = self.string_table_offset();
+        };
         let length = pread_u32(bytes, offset, Endian::Little)? as usize;
         if length < LENGTH_FIELD_SIZE {
             return Err(Error::Malformed(Cause::CoffLength));
@@ -194,9 +207,26 @@ impl CoffHeader {
         Ok(Some(strings))
     }
 
-    // The file offset of the string table, which stands behind the symbol table.
-    fn string_table_offset(&self) -> usize
+    /// The file offset of the string table, which stands after the symbol table; `None` where the
+    /// pointer to that is 0. The four bytes of its length stand there, and the texts after them. It may
+    /// lie past the file.
+    ///
+    /// Source: PE Format, "COFF String Table".
+    #[tactic(auto, unfolding(crate::specs::CoffHeader::string_table_offset))]
+    pub fn string_table_offset(&self) -> Option<usize>
         ensures { result ≡ string_table_offset self.now }
+    {
+        if self.pointer_to_symbol_table == 0 {
+            return None;
+        }
+        Some(self.symbols_end())
+    }
+
+    /// The file offset after the last record of the symbol table: the pointer to that, plus 18 bytes for
+    /// each record. The string table stands there, if there is one. The names of sections are looked up
+    /// from there on in any case, also where the pointer is 0.
+    pub fn symbols_end(&self) -> usize
+        ensures { result ≡ symbols_end self.now }
     {
         let symbols = self.number_of_symbol_table as usize;
         self.pointer_to_symbol_table as usize + COFF_SYMBOL_SIZE * symbols

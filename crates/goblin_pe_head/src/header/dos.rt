@@ -18,7 +18,7 @@ pub const DOS_MAGIC: u16 = 0x5A4D;
 pub const PE_MAGIC: u32 = 0x0000_4550;
 /// The size of the signature of a PE header, in bytes.
 pub const SIZEOF_PE_MAGIC: usize = 4;
-/// Where the DOS header has the file offset of the PE header.
+/// Where in the DOS header the file offset of the PE signature stands.
 pub const PE_POINTER_OFFSET: u32 = 0x3C;
 
 const _: () = prove!(
@@ -31,8 +31,8 @@ pub(crate) const SIZEOF_DOS_HEADER: usize = 64;
 /// The header of a DOS program, with which a PE file begins.
 ///
 /// Source: PE Format, "MS-DOS Stub (Image Only)"; the fields are those of a DOS executable. Numbers
-/// are as stored, little-endian; the record has 64 bytes. A loader of PE files looks at the
-/// signature and the pointer alone.
+/// are as stored, little-endian in a file; the record has 64 bytes, and `at` says at which file
+/// offset a field stands. A loader of PE files looks at the signature and the pointer alone.
 #[derive(Debug, PartialEq, Copy, Clone, Default)]
 pub struct DosHeader {
     /// [`DOS_MAGIC`], at 0x00.
@@ -45,9 +45,9 @@ pub struct DosHeader {
     pub relocations: u16,
     /// The size of the header in paragraphs of 16 bytes, at 0x08.
     pub size_of_header_in_paragraphs: u16,
-    /// The least memory that the program needs behind it, in paragraphs, at 0x0A.
+    /// The least memory that the program needs after it, in paragraphs, at 0x0A.
     pub minimum_extra_paragraphs_needed: u16,
-    /// The most memory that the program asks for behind it, in paragraphs, at 0x0C.
+    /// The most memory that the program asks for after it, in paragraphs, at 0x0C.
     pub maximum_extra_paragraphs_needed: u16,
     /// The stack segment at the start, relative to the program, at 0x0E.
     pub initial_relative_ss: u16,
@@ -71,7 +71,8 @@ pub struct DosHeader {
     pub oem_info: u16,
     /// Reserved, at 0x28.
     pub reserved2: [u16; 10],
-    /// The file offset of the PE header, at 0x3C.
+    /// The file offset of the PE signature, at 0x3C. It may lie anywhere in the file, also inside
+    /// the DOS header, and need not be aligned.
     pub pe_pointer: u32,
 }
 
@@ -167,10 +168,10 @@ impl DosHeader {
     /// signature.
     ///
     /// # Errors
-    /// [`Error::Malformed`] with [`Cause::NoDosSignature`] or [`Cause::DosMagic`] where the file does
-    /// not begin with the DOS signature, [`Cause::NoPePointer`] where it is shorter than the header,
-    /// [`Cause::NoPeSignature`] or [`Cause::PeMagic`] where the PE signature does not stand at the
-    /// pointer.
+    /// [`Error::Malformed`] with [`Cause::NoDosSignature`] or [`Cause::DosMagic`] where the file
+    /// does not begin with the DOS signature, [`Cause::NoPePointer`] where it is shorter than the
+    /// header, [`Cause::NoPeSignature`] or [`Cause::PeMagic`] where the PE signature does not stand
+    /// at the pointer.
     #[tactic(auto, unfolding(crate::specs::DosHeader::dos_header, crate::specs::DosHeader::IsDosFault))]
     pub fn parse(bytes: &[u8]) -> Result<DosHeader>
         ensures value { Answers (λ h. h) result (dos_header bytes.now) (IsDosFault bytes.now) }

@@ -25,22 +25,25 @@ use goblin_pe_sect::ParseOptions;
 // The size of the parts of a header that always have the same, in bytes.
 const SIZEOF_HEADERS: usize = SIZEOF_DOS_HEADER + SIZEOF_PE_MAGIC + SIZEOF_COFF_HEADER;
 
-/// The header of a PE file: all that stands in front of its section table.
+/// The header of a PE file: all that stands before its section table.
 ///
-/// Source: PE Format, "File Headers".
+/// Source: PE Format, "File Headers". Its parts stand in the file in the order of the fields, but
+/// for the Rich header, which lies in the stub.
 #[derive(Debug, PartialEq, Copy, Clone)]
 pub struct Header<'a> {
-    /// The DOS header, at the front of the file.
+    /// The DOS header, at file offset 0.
     pub dos_header: DosHeader,
-    /// The DOS stub, from 0x40 to the PE signature, or the default one in its place.
+    /// The DOS stub, from file offset 0x40 to the PE signature, or the default one in its place.
     pub dos_stub: DosStub<'a>,
-    /// The Rich header in the stub, where there is one.
+    /// The Rich header in the stub; `None` where it has no marker.
     pub rich_header: Option<RichHeader<'a>>,
-    /// The PE signature, to which the DOS header points.
+    /// The PE signature, to which the DOS header points. The DOS header's reader compares it;
+    /// [`Header::parse_without_dos`] takes any.
     pub signature: u32,
-    /// The COFF header, behind the signature.
+    /// The COFF header, 4 bytes after the signature's begin.
     pub coff_header: CoffHeader,
-    /// The optional header, behind the COFF header, where that says that it has a size.
+    /// The optional header, 24 bytes after the signature's begin; `None` where the COFF header
+    /// gives it no size.
     pub optional_header: Option<OptionalHeader>,
 }
 
@@ -61,7 +64,7 @@ impl Default for Header<'_> {
     }
 }
 
-// The stub in front of the PE signature; where there is none, permissive mode takes the default one.
+// The stub before the PE signature; where there is none, permissive mode takes the default one.
 #[tactic(auto, unfolding(crate::specs::PeHeader::stub_in))]
 fn stub_in<'a>(bytes: &'a [u8], pe_pointer: u32, opts: &ParseOptions) -> Result<DosStub<'a>>
     ensures { Answers stub_bytes result (stub_in (is_strict opts.now.parse_mode) bytes.now pe_pointer) (IsStubFault bytes.now pe_pointer) }
@@ -101,7 +104,8 @@ impl<'a> Header<'a> {
     ///
     /// # Errors
     /// As [`DosHeader::parse`]; in strict mode as [`DosStub::parse`]; as [`RichHeader::parse`];
-    /// [`Error::Read`] where the COFF header is not all there; as the reader of [`OptionalHeader`].
+    /// [`Error::Read`] where the COFF header passes the end of the file; as the reader of
+    /// [`OptionalHeader`].
     #[tactic(auto, unfolding(crate::specs::PeHeader::pe_header, crate::specs::PeHeader::IsHeaderFault, crate::specs::RichHeader::rich_header))]
     pub fn parse_with_opts(bytes: &'a [u8], opts: &ParseOptions) -> Result<Self>
         ensures value { Answers header_value result (pe_header (is_strict opts.now.parse_mode) bytes.now) (IsHeaderFault (is_strict opts.now.parse_mode) bytes.now) }
@@ -120,7 +124,7 @@ impl<'a> Header<'a> {
     ///
     /// # Errors
     /// [`Error::Malformed`] with [`Cause::NoPeSignature`] where there are no four bytes;
-    /// [`Error::Read`] where the COFF header is not all there; as the reader of [`OptionalHeader`].
+    /// [`Error::Read`] where the COFF header passes the end; as the reader of [`OptionalHeader`].
     #[tactic(auto, unfolding(crate::specs::PeHeader::header_without_dos, crate::specs::PeHeader::zero_dos_header))]
     pub fn parse_without_dos(bytes: &'a [u8]) -> Result<Self>
         ensures { Answers header_value result (header_without_dos bytes.now) (IsHeaderAtFault bytes.now 0) }
@@ -158,18 +162,19 @@ impl<'a> Header<'a> {
         })
     }
 
-    /// Writes the header to the front of `bytes` and answers how many bytes it takes: the DOS header,
-    /// the stub, the signature, the COFF header, and the optional header where there is one, with
-    /// sixteen directories always. The signature is little-endian in either order. The Rich header is
-    /// part of the stub.
+    /// Writes the header to the front of `bytes` and answers how many bytes it takes: the DOS
+    /// header, the stub, the signature, the COFF header, and the optional header where there is
+    /// one, with sixteen directories always. The signature is little-endian in either order. The
+    /// Rich header is part of the stub.
     ///
-    /// In little-endian order, a header that [`Header::parse`] read is written as it stood, with zeros
-    /// behind it for the missing directories, and is read again from what was written.
+    /// In little-endian order, a header that [`Header::parse`] read is written as it stood,
+    /// followed by zeros for the missing directories, and is read again from what was written.
     ///
     /// # Errors
     /// In this order: [`Error::BadMagic`] of an optional header of unknown magic;
-    /// [`Error::Malformed`] with [`Cause::FieldTooWide`] where a Windows field does not fit an optional
-    /// header for 32 bits; [`Error::Read`] where there is no room. `bytes` are then as they were.
+    /// [`Error::Malformed`] with [`Cause::FieldTooWide`] where a Windows field does not fit an
+    /// optional header for 32 bits; [`Error::Read`] where there is no room. `bytes` are then as
+    /// they were.
     #[tactic(auto, unfolding(crate::specs::PeHeader::header_bytes), using(crate::proofs::PeHeaderRoundTrip::header_back, crate::proofs::PeHeaderRoundTrip::header_again))]
     pub fn try_into_ctx(self, bytes: &mut [u8], endian: Endian) -> Result<usize>
         ensures size { IfOk result (λ n. IsSomeAnd (header_bytes endian (header_value self.entry)) (λ written. n ≡ length written)) }

@@ -1,7 +1,7 @@
 //! The Rich header, in which a linker says which tools made a file.
 
-ghost use Rattle.std.specs.Prelude.{◌≡◌, ◌≤◌, ◌<◌, ◌+◌, ◌*◌, ◌^◌, List, ℕ, Some, length, drop, option_map, IfOk, IfSome};
-ghost use Rattle.std.specs.Iterator.{UpTo, YieldsFirst, at_most, item_count};
+ghost use Rattle.std.specs.Prelude.{◌≡◌, ◌≤◌, ◌<◌, ◌+◌, ◌*◌, ◌/◌, ◌^◌, List, ℕ, Some, length, drop, option_map, IfOk, IfSome};
+ghost use Rattle.std.specs.Iterator.{UpTo, YieldsFirst, at_most};
 ghost use Rattle.std.specs.Iterator.SizeHint.{IsWithinCount};
 ghost use Rattle.goblin_base.specs.Answers.{Answers};
 ghost use Rattle.goblin_base.specs.Bytes.{IsBytes};
@@ -20,7 +20,7 @@ use std::iter::FusedIterator;
 pub const DANS_MARKER: u32 = 0x536E_6144;
 /// The size of [`DANS_MARKER`], in bytes.
 pub const DANS_MARKER_SIZE: usize = 4;
-/// The word behind the data of a Rich header, `Rich`. The key follows it.
+/// The word after the data of a Rich header, `Rich`. The key follows it.
 pub const RICH_MARKER: u32 = 0x6863_6952;
 /// The size of [`RICH_MARKER`], in bytes.
 pub const RICH_MARKER_SIZE: usize = 4;
@@ -40,38 +40,40 @@ const RICH_METADATA_SIZE: usize = 8;
 
 /// The Rich header: which tools made a file, and how often each was used.
 ///
-/// Source: no document of Microsoft's; the layout is what linkers write. It lies in the DOS stub, as
-/// words of four bytes, little-endian: [`DANS_MARKER`], padding, the entries, [`RICH_MARKER`], and a
-/// key. Each word before the last marker is stored as its exclusive or with the key.
+/// Source: no document of Microsoft's; the layout is what linkers write. It lies in the DOS stub,
+/// as words of four bytes, little-endian: [`DANS_MARKER`], padding, the entries, [`RICH_MARKER`],
+/// and a key. Each word before the last marker is stored as its exclusive or with the key. No
+/// loader looks at it, so nothing holds it to the truth.
 #[derive(Debug, PartialEq, Copy, Clone, Default)]
 pub struct RichHeader<'a> {
-    /// The key, under which the words are stored.
+    /// The key, under which the words are stored. Linkers make it a checksum of the DOS header, the
+    /// stub and the entries; that is not tested here.
     pub key: u32,
     /// What stands between the two markers, as it is stored: the padding and the entries.
     pub bytes: &'a [u8],
-    /// The size of the padding in front of the entries, in bytes. Its words are zeros under the key.
+    /// The size of the padding before the entries, in bytes. Its words are zeros under the key.
     pub padding_size: usize,
-    /// The file offset of the first marker.
+    /// The file offset of the first marker, [`DANS_MARKER`] under the key.
     pub start_offset: u32,
-    /// The file offset of the second marker.
+    /// The file offset of the second marker, [`RICH_MARKER`].
     pub end_offset: u32,
 }
 
 impl<'a> RichHeader<'a> {
     /// Finds the Rich header of a file: between the DOS header and the PE signature, the first
-    /// [`RICH_MARKER`] with a key behind it, and the first word that is [`DANS_MARKER`] under that
-    /// key. A word may begin at any byte. A file without the marker has none.
+    /// [`RICH_MARKER`] with a key after it, and the first word that is [`DANS_MARKER`] under that
+    /// key. A word may begin at any byte. `None` where the file has no such marker.
     ///
     /// # Errors
     /// As [`DosHeader::parse`] where the file has no DOS header; [`Error::Malformed`] with
     /// [`Cause::NoDans`] where no word is [`DANS_MARKER`] under the key, with [`Cause::RichBounds`]
-    /// where the data would not end behind where they begin, both counted from 0x40; [`Error::Read`]
-    /// with [`ReadFault::TooBig`] where the data are no whole number of words.
+    /// where the data would not end after their begin, both counted from offset 0x40;
+    /// [`Error::Read`] with [`ReadFault::TooBig`] where the data are no whole number of words.
     pub fn parse(bytes: &'a [u8]) -> Result<Option<Self>>
         ensures value { Answers (option_map rich_value) result (rich_header bytes.now) (IsRichFault bytes.now) }
         ensures padding { IfOk result (λ rich. IfSome rich PaddingFits) }
 
-        // Each marker stands at the least place where it can.
+        // Each marker stands at the least offset where it can.
         ensures marked { RichIsMarked }
         ensures unmarked { RichIsUnmarked }
     {
@@ -87,7 +89,7 @@ impl<'a> RichHeader<'a> {
         ensures value { Answers (option_map rich_value) result (rich_header bytes.now) (IsRichFault bytes.now) }
         ensures padding { IfOk result (λ rich. IfSome rich PaddingFits) }
 
-        // Each marker stands at the least place where it can.
+        // Each marker stands at the least offset where it can.
         ensures marked { RichIsMarked }
         ensures unmarked { RichIsUnmarked }
     {
@@ -95,7 +97,7 @@ impl<'a> RichHeader<'a> {
         RichHeader::parse_at(bytes, dos.pe_pointer)
     }
 
-    // Finds the Rich header in front of a PE signature.
+    // Finds the Rich header before a PE signature.
     pub(super) fn parse_at(bytes: &'a [u8], pe_pointer: u32) -> Result<Option<Self>>
         requires { pe_pointer ≤ length bytes.now }
         ensures value { Answers (option_map rich_value) result (rich_at bytes.now pe_pointer) (IsRichAtFault bytes.now pe_pointer) }
@@ -109,9 +111,9 @@ impl<'a> RichHeader<'a> {
         rich_in(&bytes[start..end])
     }
 
-    /// The entries, which stand behind the padding. The padding must be no longer than the data, as it is
+    /// The entries, which follow the padding. The padding must be no longer than the data, as it is
     /// in a header that was read.
-    #[tactic(auto, using(crate::proofs::RichLaw::entries_of))]
+    #[tactic(auto, using(crate::proofs::RichLaw::rich_entries))]
     pub fn metadatas(&self) -> RichMetadataIterator<'a>
         requires { self.now.padding_size ≤ length self.now.bytes.now }
         ensures entries { metadata_left result ≡ metadata_items self.now.key (drop self.now.padding_size self.now.bytes.now) }
@@ -130,14 +132,15 @@ impl<'a> RichHeader<'a> {
 /// An entry of a Rich header: a tool, and how often it was used.
 ///
 /// Source: no document of Microsoft's; the layout is what linkers write. Numbers are as stored; the
-/// record has 8 bytes. In a file its two words are stored under the header's key.
+/// record has 8 bytes, and `at` says where in it a field stands. In a file its two words are stored
+/// under the header's key.
 #[derive(Debug, PartialEq, Copy, Clone, Default)]
 pub struct RichMetadata {
-    /// The build of the tool.
+    /// The build of the tool, at 0.
     pub build: u16,
-    /// Which tool it is.
+    /// Which tool it is, at 2.
     pub product: u16,
-    /// How many files it made.
+    /// How many files it made, at 4.
     pub use_count: u32,
 }
 
@@ -188,8 +191,8 @@ impl RichMetadata {
     }
 }
 
-/// The entries of a Rich header, in order. Where bytes are left that are no whole entry, one
-/// [`Error::Read`] with [`ReadFault::TooBig`] comes last.
+/// The entries of a Rich header, in order. Bytes that are left after them and are no whole entry
+/// are one [`Error::Read`] with [`ReadFault::TooBig`], which comes last.
 #[derive(Debug, Clone, Drop)]
 pub struct RichMetadataIterator<'a> {
     key: u32,
@@ -201,7 +204,7 @@ impl Iterator for RichMetadataIterator<'_> {
 
     ghost next_gives = { YieldsFirst metadata_left };
 
-    ghost remaining = { item_count metadata_left };
+    ghost remaining = { λ it. at_most ((length it.bytes.now + 7) / 8) };
 
     #[tactic(auto, using(crate::proofs::RichEntries::items_more, crate::proofs::RichEntries::items_rest, crate::proofs::RichEntries::items_none))]
     fn next(&mut self) -> Option<Result<RichMetadata>> {
@@ -219,8 +222,8 @@ impl Iterator for RichMetadataIterator<'_> {
 
     #[tactic(auto, using(crate::proofs::RichEntries::length_items))]
     fn size_hint(&self) -> (usize, Option<usize>)
-        ensures lower { IsWithinCount result.0 (at_most (length (metadata_left self.now))) }
-        ensures upper { IfSome result.1 (UpTo (at_most (length (metadata_left self.now)))) }
+        ensures lower { IsWithinCount result.0 (at_most ((length self.now.bytes.now + 7) / 8)) }
+        ensures upper { IfSome result.1 (UpTo (at_most ((length self.now.bytes.now + 7) / 8))) }
         ensures value { result ≡ (length (metadata_left self.now), Some (length (metadata_left self.now))) }
     {
         let count = self.bytes.len().div_ceil(RICH_METADATA_SIZE);
@@ -261,7 +264,7 @@ fn rich_in<'a>(stretch: &'a [u8]) -> Result<Option<RichHeader<'a>>>
     }))
 }
 
-// Where the marker first stands with a key behind it.
+// Where the marker first stands with a key after it.
 #[tactic(auto, unfolding(crate::specs::RichHeader::marker_place))]
 fn marker_place(stretch: &[u8]) -> Option<usize>
     ensures value { result ≡ marker_place stretch.now }

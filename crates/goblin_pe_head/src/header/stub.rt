@@ -16,12 +16,13 @@ const _: () = prove!(DOS_STUB_OFFSET == 0x40);
 const DEFAULT_STUB: &[u8; 64] =
     b"\x0E\x1F\xBA\x0E\x00\xB4\x09\xCD\x21\xB8\x01\x4C\xCD\x21This program cannot be run in DOS mode.\x0D\x0D\x0A\x24\0\0\0\0\0\0\0";
 
-/// The program that runs where a PE file is started under DOS, with what a linker puts behind it.
+/// The program that runs where a PE file is started under DOS, with what a linker puts after it.
 ///
-/// Source: PE Format, "MS-DOS Stub (Image Only)".
+/// Source: PE Format, "MS-DOS Stub (Image Only)". No loader of PE files looks at it; the Rich
+/// header lies in it.
 #[derive(Debug, PartialEq, Copy, Clone)]
 pub struct DosStub<'a> {
-    /// The file's bytes from 0x40 to the PE signature, or those of the default stub.
+    /// The file's bytes from offset 0x40 to the PE signature, or those of the default stub.
     pub bytes: &'a [u8],
 }
 
@@ -39,11 +40,11 @@ impl Default for DosStub<'_> {
 }
 
 impl<'a> DosStub<'a> {
-    /// Borrows the stub of a file whose PE signature stands at `pe_pointer`. It has no bytes where
-    /// the signature follows the DOS header, at 0x40.
+    /// Borrows the stub of a file whose PE signature stands at the file offset `pe_pointer`. It has
+    /// no bytes where the signature follows the DOS header, at 0x40.
     ///
     /// # Errors
-    /// [`Error::Malformed`] with [`Cause::StubBeforeStart`] where `pe_pointer` is below 0x40, with
+    /// [`Error::Malformed`] with [`Cause::StubBeforeStart`] where `pe_pointer` is below 0x40, else with
     /// [`Cause::StubPastEnd`] where it is past the end of the file.
     pub fn parse(bytes: &'a [u8], pe_pointer: u32) -> Result<Self>
         ensures { Answers stub_bytes result (stub_at bytes.now pe_pointer) (IsStubFault bytes.now pe_pointer) }
@@ -60,11 +61,12 @@ impl<'a> DosStub<'a> {
         })
     }
 
-    /// Writes the stub to the front of `bytes` and answers how many bytes it has.
+    /// Writes the stub to the front of `bytes`, the same in either order, and answers how many
+    /// bytes it has.
     ///
     /// # Errors
-    /// [`Error::Read`] where there is no room for it, also of a stub without bytes where `bytes` are
-    /// none; they are then as they were.
+    /// [`Error::Read`] where there is no room for it, also of a stub without bytes where `bytes`
+    /// are empty; they are then as they were.
     pub fn try_into_ctx(self, bytes: &mut [u8], _endian: Endian) -> Result<usize>
         ensures size { IfOk result (λ n. n ≡ length (stub_bytes self.entry)) }
         ensures written { Writes result (overwritten bytes.old 0 (stub_bytes self.entry)) bytes.old bytes.new (IsSliceFault bytes.old 0 (length (stub_bytes self.entry))) }

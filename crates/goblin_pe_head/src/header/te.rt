@@ -27,30 +27,35 @@ const SIZEOF_TE_HEADER: usize = 40;
 
 /// The header of a Terse Executable.
 ///
-/// Source: UEFI Platform Initialization Specification, volume 3, "TE Image". The record has 40 bytes.
-/// It stands in the place of the headers of a PE file, of which it keeps what a loader of firmware
-/// needs; what it says of places still counts the bytes that were stripped.
+/// Source: UEFI Platform Initialization Specification, volume 3, "TE Image". Numbers are as stored,
+/// but for the four that [`TeHeader::parse`] adjusts; the record has 40 bytes, and `at` says where
+/// in it a field stands. It stands in the place of the headers of a PE file, of which it keeps what
+/// a loader of firmware needs; its addresses still count the bytes that were stripped.
 #[derive(Debug, PartialEq, Copy, Clone, Default)]
 pub struct TeHeader {
-    /// [`TE_MAGIC`].
+    /// [`TE_MAGIC`], at 0. No reader tests it.
     pub signature: u16,
-    /// The machine that the file is for, a `COFF_MACHINE_*`.
+    /// The machine that the file is for, a `COFF_MACHINE_*`, at 2.
     pub machine: u16,
-    /// How many section records follow.
+    /// How many section records follow, at 4.
     pub number_of_sections: u8,
-    /// The subsystem that runs the image.
+    /// The subsystem that runs the image, at 5.
     pub subsystem: u8,
-    /// How many bytes were stripped from the front of the PE file.
+    /// How many bytes were stripped from the front of the PE file, at 6. This header stands for
+    /// them, so all that follows moved to the front by this less 40.
     pub stripped_size: u16,
-    /// The address of the entry point.
+    /// The address of the entry point, relative to the image's base, at 8; in a header that was
+    /// parsed, adjusted.
     pub entry_point: u32,
-    /// The address at which the code begins.
+    /// The address at which the code begins, relative to the image's base, at 12; in a header that
+    /// was parsed, adjusted.
     pub base_of_code: u32,
-    /// The address at which the image is best loaded.
+    /// The address at which the image is best loaded, at 16; as stored.
     pub image_base: u64,
-    /// Where the base relocations lie.
+    /// Where the base relocations lie, at 24; in a header that was parsed, with the address
+    /// adjusted.
     pub reloc_dir: DataDirectory,
-    /// Where the debug data lies.
+    /// Where the debug data lies, at 32; in a header that was parsed, with the address adjusted.
     pub debug_dir: DataDirectory,
 }
 
@@ -119,12 +124,13 @@ impl TeHeader {
         }
     }
 
-    /// Reads the record at `offset` and moves `offset` past it. Entry point, base of code and the
-    /// addresses of both directories are adjusted: they are lessened by the bytes that were stripped
-    /// beyond the header's own 40, modulo 2^32. The signature is not looked at.
+    /// Reads the record at the file offset `offset` and moves `offset` past it. Entry point, base
+    /// of code and the addresses of both directories are adjusted to the stripped file: the bytes
+    /// that were stripped beyond the header's own 40 are taken off, modulo 2^32. The signature is
+    /// not looked at.
     ///
     /// # Errors
-    /// [`Error::Read`] where the file has no 40 bytes there; [`Error::Malformed`] with
+    /// [`Error::Read`] where the 40 bytes pass the end of the file; [`Error::Malformed`] with
     /// [`Cause::StrippedSize`] where less than 40 bytes were stripped. `offset` then stays.
     #[tactic(auto, unfolding(crate::specs::TeHeader::te_header, crate::specs::TeHeader::te_adjusted, crate::specs::TeHeader::IsTeFault))]
     pub fn parse(bytes: &[u8], offset: &mut usize) -> Result<TeHeader>
@@ -144,16 +150,18 @@ impl TeHeader {
         Ok(header)
     }
 
-    /// Reads the section table, whose records stand one after the other from `offset` on, and moves
-    /// `offset` past it. The address of each section, and each of its three pointers that is not 0, is
-    /// adjusted as in [`TeHeader::parse`]. An indirect name would stand in a string table at the front
-    /// of the file.
+    /// Reads the section table, whose records stand one after the other from the file offset
+    /// `offset` on, and moves `offset` past it. The address of each section, and each of its three
+    /// pointers that is not 0, is adjusted as in [`TeHeader::parse`]. An indirect name would stand
+    /// in a string table at the front of the file.
+    ///
+    /// Source: PE Format, "Section Table (Section Headers)".
     ///
     /// # Errors
-    /// [`Error::BufferTooShort`] of the number of sections where the whole file has no room for so
-    /// many, tested first; [`Error::Malformed`] with [`Cause::StrippedSize`] where less than 40 bytes
-    /// were stripped; as [`SectionTable::parse`] where a record is not all there or its name is
-    /// refused; [`Error::Memory`] where memory is refused. `offset` then stays.
+    /// [`Error::BufferTooShort`] of the number of sections where the whole file has no room for
+    /// that many records, tested first; [`Error::Malformed`] with [`Cause::StrippedSize`] where
+    /// less than 40 bytes were stripped; as [`SectionTable::parse`] where a record passes the end
+    /// or its name is refused; [`Error::Memory`] where memory is refused. `offset` then stays.
     #[tactic(auto, unfolding(crate::specs::TeHeader::te_sections_at))]
     pub fn sections(
         &self,

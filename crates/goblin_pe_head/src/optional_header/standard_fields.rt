@@ -17,27 +17,28 @@ const _: () = prove!(SIZEOF_STANDARD_FIELDS_32 == 28 && SIZEOF_STANDARD_FIELDS_6
 /// The standard fields of an optional header for 32 bits.
 ///
 /// Source: PE Format, "Optional Header Standard Fields (Image Only)". Numbers are as stored; the
-/// record has 28 bytes.
+/// record has 28 bytes, and `at` says where in it a field stands.
 #[derive(Debug, PartialEq, Copy, Clone, Default)]
 pub struct StandardFields32 {
-    /// What the optional header is: [`MAGIC_32`](super::MAGIC_32).
+    /// What the optional header is, [`MAGIC_32`](super::MAGIC_32), at 0.
     pub magic: u16,
-    /// The linker's major version.
+    /// The linker's major version, at 2.
     pub major_linker_version: u8,
-    /// The linker's minor version.
+    /// The linker's minor version, at 3.
     pub minor_linker_version: u8,
-    /// The size of the code, in bytes: the sum of all code sections.
+    /// The size of the code, in bytes, at 4: the sum of all code sections.
     pub size_of_code: u32,
-    /// The size of the initialized data, in bytes: the sum of all such sections.
+    /// The size of the initialized data, in bytes, at 8: the sum of all such sections.
     pub size_of_initialized_data: u32,
-    /// The size of the uninitialized data, in bytes: the sum of all such sections.
+    /// The size of the uninitialized data, in bytes, at 12: the sum of all such sections.
     pub size_of_uninitialized_data: u32,
-    /// The address of the entry point, relative to the image's base; 0 where there is none.
+    /// The address of the entry point, relative to the image's base, at 16; 0 where there is none,
+    /// as in some libraries. The loader starts there, in whatever section it lies.
     pub address_of_entry_point: u32,
-    /// The address at which the code begins, relative to the image's base.
+    /// The address at which the code begins, relative to the image's base, at 20.
     pub base_of_code: u32,
-    /// The address at which the data begins, relative to the image's base. In images for 32 bits
-    /// alone.
+    /// The address at which the data begins, relative to the image's base, at 24. In images for 32
+    /// bits alone.
     pub base_of_data: u32,
 }
 
@@ -87,24 +88,25 @@ impl Record for StandardFields32 {
 /// The standard fields of an optional header for 64 bits.
 ///
 /// Source: PE Format, "Optional Header Standard Fields (Image Only)". Numbers are as stored; the
-/// record has 24 bytes.
+/// record has 24 bytes, and `at` says where in it a field stands.
 #[derive(Debug, PartialEq, Copy, Clone, Default)]
 pub struct StandardFields64 {
-    /// What the optional header is: [`MAGIC_64`](super::MAGIC_64).
+    /// What the optional header is, [`MAGIC_64`](super::MAGIC_64), at 0.
     pub magic: u16,
-    /// The linker's major version.
+    /// The linker's major version, at 2.
     pub major_linker_version: u8,
-    /// The linker's minor version.
+    /// The linker's minor version, at 3.
     pub minor_linker_version: u8,
-    /// The size of the code, in bytes: the sum of all code sections.
+    /// The size of the code, in bytes, at 4: the sum of all code sections.
     pub size_of_code: u32,
-    /// The size of the initialized data, in bytes: the sum of all such sections.
+    /// The size of the initialized data, in bytes, at 8: the sum of all such sections.
     pub size_of_initialized_data: u32,
-    /// The size of the uninitialized data, in bytes: the sum of all such sections.
+    /// The size of the uninitialized data, in bytes, at 12: the sum of all such sections.
     pub size_of_uninitialized_data: u32,
-    /// The address of the entry point, relative to the image's base; 0 where there is none.
+    /// The address of the entry point, relative to the image's base, at 16; 0 where there is none,
+    /// as in some libraries. The loader starts there, in whatever section it lies.
     pub address_of_entry_point: u32,
-    /// The address at which the code begins, relative to the image's base.
+    /// The address at which the code begins, relative to the image's base, at 20.
     pub base_of_code: u32,
 }
 
@@ -151,28 +153,30 @@ impl Record for StandardFields64 {
 
 /// The standard fields of an optional header of either width.
 ///
-/// Source: PE Format, "Optional Header Standard Fields (Image Only)".
+/// Source: PE Format, "Optional Header Standard Fields (Image Only)". `at` says where a field
+/// stands from the front of the optional header, in both widths.
 #[derive(Debug, PartialEq, Copy, Clone, Default)]
 pub struct StandardFields {
-    /// What the optional header is, [`MAGIC_32`](super::MAGIC_32) or
-    /// [`MAGIC_64`](super::MAGIC_64).
+    /// What the optional header is, at 0: [`MAGIC_32`](super::MAGIC_32) or
+    /// [`MAGIC_64`](super::MAGIC_64). It alone says the width of the header and of import entries.
     pub magic: u16,
-    /// The linker's major version.
+    /// The linker's major version, at 2.
     pub major_linker_version: u8,
-    /// The linker's minor version.
+    /// The linker's minor version, at 3.
     pub minor_linker_version: u8,
-    /// The size of the code, in bytes: the sum of all code sections.
+    /// The size of the code, in bytes, at 4: the sum of all code sections.
     pub size_of_code: u64,
-    /// The size of the initialized data, in bytes: the sum of all such sections.
+    /// The size of the initialized data, in bytes, at 8: the sum of all such sections.
     pub size_of_initialized_data: u64,
-    /// The size of the uninitialized data, in bytes: the sum of all such sections.
+    /// The size of the uninitialized data, in bytes, at 12: the sum of all such sections.
     pub size_of_uninitialized_data: u64,
-    /// The address of the entry point, relative to the image's base; 0 where there is none.
+    /// The address of the entry point, relative to the image's base, at 16; 0 where there is none,
+    /// as in some libraries. The loader starts there, in whatever section it lies.
     pub address_of_entry_point: u32,
-    /// The address at which the code begins, relative to the image's base.
+    /// The address at which the code begins, relative to the image's base, at 20.
     pub base_of_code: u64,
-    /// The address at which the data begins, relative to the image's base. 0 in an image for 64
-    /// bits.
+    /// The address at which the data begins, relative to the image's base, at 24 in an image for 32
+    /// bits; 0 in one for 64 bits.
     pub base_of_data: u32,
 }
 

@@ -12,11 +12,11 @@ use goblin_base::{
 
 /// The size of the Windows fields for 32 bits, in bytes.
 pub const SIZEOF_WINDOWS_FIELDS_32: usize = 68;
-/// Where the checksum stands in the Windows fields for 32 bits.
+/// Where the checksum stands in the Windows fields for 32 bits, in bytes from their front.
 pub const OFFSET_WINDOWS_FIELDS_32_CHECKSUM: usize = 36;
 /// The size of the Windows fields for 64 bits, in bytes.
 pub const SIZEOF_WINDOWS_FIELDS_64: usize = 88;
-/// Where the checksum stands in the Windows fields for 64 bits.
+/// Where the checksum stands in the Windows fields for 64 bits, in bytes from their front.
 pub const OFFSET_WINDOWS_FIELDS_64_CHECKSUM: usize = 40;
 
 const _: () = prove!(
@@ -29,50 +29,59 @@ const _: () = prove!(
 /// The Windows fields of an optional header for 32 bits.
 ///
 /// Source: PE Format, "Optional Header Windows-Specific Fields (Image Only)". Numbers are as
-/// stored; the record has 68 bytes.
+/// stored; the record has 68 bytes, and `at` says where in it a field stands. It begins at 28 in
+/// the optional header.
 #[derive(Debug, PartialEq, Copy, Clone, Default)]
 pub struct WindowsFields32 {
-    /// The address at which the image is best loaded, a multiple of 64 KiB.
+    /// The address at which the image is best loaded, a multiple of 64 KiB, at 0. Where the loader
+    /// takes another, it applies the base relocations.
     pub image_base: u32,
-    /// The alignment of sections in memory, in bytes.
+    /// The alignment of sections in memory, in bytes, at 4: at least the file alignment, mostly a
+    /// page.
     pub section_alignment: u32,
-    /// The alignment of the raw data of sections in the file, in bytes.
+    /// The alignment of the raw data of sections in the file, in bytes, at 8: a power of two,
+    /// mostly 512. The mapping of addresses to file offsets goes by it.
     pub file_alignment: u32,
-    /// The major version of the system that the image needs.
+    /// The major version of the system that the image needs, at 12.
     pub major_operating_system_version: u16,
-    /// The minor version of the system that the image needs.
+    /// The minor version of the system that the image needs, at 14.
     pub minor_operating_system_version: u16,
-    /// The image's major version.
+    /// The image's major version, at 16.
     pub major_image_version: u16,
-    /// The image's minor version.
+    /// The image's minor version, at 18.
     pub minor_image_version: u16,
-    /// The major version of the subsystem that the image needs.
+    /// The major version of the subsystem that the image needs, at 20.
     pub major_subsystem_version: u16,
-    /// The minor version of the subsystem that the image needs.
+    /// The minor version of the subsystem that the image needs, at 22.
     pub minor_subsystem_version: u16,
-    /// Reserved, 0.
+    /// Reserved, 0, at 24.
     pub win32_version_value: u32,
-    /// The size of the image in memory with all headers, in bytes.
+    /// The size of the image in memory with all headers, in bytes, at 28: how much the loader
+    /// reserves, a multiple of the section alignment.
     pub size_of_image: u32,
-    /// The size of all headers together, in bytes, rounded up to the file alignment.
+    /// The size of all headers together, in bytes, rounded up to the file alignment, at 32. The
+    /// loader maps this much of the file's front at the image's base.
     pub size_of_headers: u32,
-    /// The image's checksum.
+    /// The image's checksum, at 36. The loader tests that of drivers and of what is loaded at boot;
+    /// no reader does.
     pub check_sum: u32,
-    /// The subsystem that runs the image.
+    /// The subsystem that runs the image, an `IMAGE_SUBSYSTEM_*`, at 40.
     pub subsystem: u16,
-    /// What the loader may and has to do, as bits `IMAGE_DLLCHARACTERISTICS_*`.
+    /// What the loader may and has to do, as bits `IMAGE_DLLCHARACTERISTICS_*`, at 42: whether it
+    /// may move the image, and which guards it turns on.
     pub dll_characteristics: u16,
-    /// How much of the stack to reserve, in bytes.
+    /// How much of the stack to reserve, in bytes, at 44.
     pub size_of_stack_reserve: u32,
-    /// How much of the stack to commit, in bytes.
+    /// How much of the stack to commit, in bytes, at 48; the rest follows page by page.
     pub size_of_stack_commit: u32,
-    /// How much of the heap to reserve, in bytes.
+    /// How much of the heap to reserve, in bytes, at 52.
     pub size_of_heap_reserve: u32,
-    /// How much of the heap to commit, in bytes.
+    /// How much of the heap to commit, in bytes, at 56; the rest follows page by page.
     pub size_of_heap_commit: u32,
-    /// Reserved, 0.
+    /// Reserved, 0, at 60.
     pub loader_flags: u32,
-    /// How many data directories follow.
+    /// How many data directories follow, at 64. Readers take at most sixteen; directories past this
+    /// number are not there, whatever bytes follow.
     pub number_of_rva_and_sizes: u32,
 }
 
@@ -146,50 +155,59 @@ impl Record for WindowsFields32 {
 /// The Windows fields of an optional header for 64 bits.
 ///
 /// Source: PE Format, "Optional Header Windows-Specific Fields (Image Only)". Numbers are as
-/// stored; the record has 88 bytes.
+/// stored; the record has 88 bytes, and `at` says where in it a field stands. It begins at 24 in
+/// the optional header.
 #[derive(Debug, PartialEq, Copy, Clone, Default)]
 pub struct WindowsFields64 {
-    /// The address at which the image is best loaded, a multiple of 64 KiB.
+    /// The address at which the image is best loaded, a multiple of 64 KiB, at 0. Where the loader
+    /// takes another, it applies the base relocations.
     pub image_base: u64,
-    /// The alignment of sections in memory, in bytes.
+    /// The alignment of sections in memory, in bytes, at 8: at least the file alignment, mostly a
+    /// page.
     pub section_alignment: u32,
-    /// The alignment of the raw data of sections in the file, in bytes.
+    /// The alignment of the raw data of sections in the file, in bytes, at 12: a power of two,
+    /// mostly 512. The mapping of addresses to file offsets goes by it.
     pub file_alignment: u32,
-    /// The major version of the system that the image needs.
+    /// The major version of the system that the image needs, at 16.
     pub major_operating_system_version: u16,
-    /// The minor version of the system that the image needs.
+    /// The minor version of the system that the image needs, at 18.
     pub minor_operating_system_version: u16,
-    /// The image's major version.
+    /// The image's major version, at 20.
     pub major_image_version: u16,
-    /// The image's minor version.
+    /// The image's minor version, at 22.
     pub minor_image_version: u16,
-    /// The major version of the subsystem that the image needs.
+    /// The major version of the subsystem that the image needs, at 24.
     pub major_subsystem_version: u16,
-    /// The minor version of the subsystem that the image needs.
+    /// The minor version of the subsystem that the image needs, at 26.
     pub minor_subsystem_version: u16,
-    /// Reserved, 0.
+    /// Reserved, 0, at 28.
     pub win32_version_value: u32,
-    /// The size of the image in memory with all headers, in bytes.
+    /// The size of the image in memory with all headers, in bytes, at 32: how much the loader
+    /// reserves, a multiple of the section alignment.
     pub size_of_image: u32,
-    /// The size of all headers together, in bytes, rounded up to the file alignment.
+    /// The size of all headers together, in bytes, rounded up to the file alignment, at 36. The
+    /// loader maps this much of the file's front at the image's base.
     pub size_of_headers: u32,
-    /// The image's checksum.
+    /// The image's checksum, at 40. The loader tests that of drivers and of what is loaded at boot;
+    /// no reader does.
     pub check_sum: u32,
-    /// The subsystem that runs the image.
+    /// The subsystem that runs the image, an `IMAGE_SUBSYSTEM_*`, at 44.
     pub subsystem: u16,
-    /// What the loader may and has to do, as bits `IMAGE_DLLCHARACTERISTICS_*`.
+    /// What the loader may and has to do, as bits `IMAGE_DLLCHARACTERISTICS_*`, at 46: whether it
+    /// may move the image, and which guards it turns on.
     pub dll_characteristics: u16,
-    /// How much of the stack to reserve, in bytes.
+    /// How much of the stack to reserve, in bytes, at 48.
     pub size_of_stack_reserve: u64,
-    /// How much of the stack to commit, in bytes.
+    /// How much of the stack to commit, in bytes, at 56; the rest follows page by page.
     pub size_of_stack_commit: u64,
-    /// How much of the heap to reserve, in bytes.
+    /// How much of the heap to reserve, in bytes, at 64.
     pub size_of_heap_reserve: u64,
-    /// How much of the heap to commit, in bytes.
+    /// How much of the heap to commit, in bytes, at 72; the rest follows page by page.
     pub size_of_heap_commit: u64,
-    /// Reserved, 0.
+    /// Reserved, 0, at 80.
     pub loader_flags: u32,
-    /// How many data directories follow.
+    /// How many data directories follow, at 84. Readers take at most sixteen; directories past this
+    /// number are not there, whatever bytes follow.
     pub number_of_rva_and_sizes: u32,
 }
 

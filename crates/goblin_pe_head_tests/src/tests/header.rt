@@ -243,7 +243,7 @@ fn fill(file: &mut [u8], stretches: &[(usize, &[u8])]) {
     }
 }
 
-/// What the sample file has from the signature on, behind no DOS header.
+/// What the sample file has from the signature on, without what stands before it.
 fn sample_from_signature() -> Header<'static> {
     let mut data_directories = DataDirectories::default();
     data_directories.data_directories[0] = Some((
@@ -279,7 +279,7 @@ fn sample_from_signature() -> Header<'static> {
     }
 }
 
-/// What both programs have in front of their COFF headers.
+/// What both programs have before their COFF headers.
 fn program() -> Header<'static> {
     Header {
         dos_header: DosHeader {

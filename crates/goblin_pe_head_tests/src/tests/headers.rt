@@ -1,4 +1,4 @@
-//! The headers, the section table behind them, and the texts of refusals.
+//! The headers, the section table after them, and the texts of refusals.
 
 use super::sample::sample_coff;
 use fixture::sample::{TABLE, TABLE_END, put, sample, sample_section};

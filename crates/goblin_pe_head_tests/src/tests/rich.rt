@@ -75,6 +75,21 @@ fn a_rich_header_of_ten_entries_is_read(rt: HostRuntime) -> Result<(), Fail> {
 }
 
 #[test]
+fn entries_of_a_rich_header_have_a_count_and_places(rt: HostRuntime) -> Result<(), Fail> {
+    let file = large()?;
+    let Some(rich) = RichHeader::parse(&file)? else {
+        assert!(rt; false, "there is no Rich header");
+        return Ok(());
+    };
+    assert_eq!(rt; rich.metadatas().count(), 10);
+    for (place, entry) in rich.metadatas().enumerate() {
+        let want = ENTRIES.get(place).map(|(_, _, _, use_count)| *use_count);
+        assert!(rt; want == Some(entry?.use_count), "{place}");
+    }
+    Ok(())
+}
+
+#[test]
 fn a_rich_header_without_its_first_marker_is_refused(rt: HostRuntime) -> Result<(), Fail> {
     let mut file = small();
     put(&mut file, 0x40, b"\x44");
@@ -180,7 +195,7 @@ fn an_entry_is_read_and_written_in_both_orders(rt: HostRuntime) -> Result<(), Fa
     Ok(())
 }
 
-/// A file with a Rich header of one entry, and nothing behind its signature.
+/// A file with a Rich header of one entry, and nothing after its signature.
 fn small() -> [u8; 0x64] {
     let mut file = [0; 0x64];
     put(&mut file, 0, b"MZ");
@@ -195,7 +210,7 @@ fn small() -> [u8; 0x64] {
     file
 }
 
-/// A file with a Rich header of ten entries behind the default stub.
+/// A file with a Rich header of ten entries after the default stub.
 fn large() -> goblin_base::Result<[u8; 0xFC]> {
     let mut file = [0; 0xFC];
     put(&mut file, 0, b"MZ");

@@ -38,3 +38,28 @@ fn without_a_symbol_table_there_is_no_string_table(rt: HostRuntime) -> Result<()
     assert!(rt; header.symbols(b"")?.is_none());
     Ok(())
 }
+
+#[test]
+fn a_string_table_stands_after_the_symbols(rt: HostRuntime) -> Result<(), Fail> {
+    let mut bytes = [0; 48];
+    bytes[38] = 7;
+    bytes[42] = b'a';
+    let header = CoffHeader {
+        number_of_symbol_table: 2,
+        ..header_of(2)
+    };
+    assert_eq!(rt; header.string_table_offset(), Some(38));
+    let read = header.strings(rt.alloc(), &bytes)?;
+    assert!(rt; matches!(read, Some(table) if table.len() == 3 && table.get_at(0) == Some("a")));
+    Ok(())
+}
+
+#[test]
+fn without_a_pointer_there_is_no_place_for_strings(rt: HostRuntime) {
+    let header = CoffHeader {
+        number_of_symbol_table: 2,
+        ..header_of(0)
+    };
+    assert_eq!(rt; header.string_table_offset(), None);
+    assert_eq!(rt; header.symbols_end(), 36);
+}

@@ -1,4 +1,4 @@
-//! Symbols, their names, and the records behind them.
+//! Symbols, their names, and the records after them.
 
 use fixture::sample::put;
 use goblin_base::{Cause, Endian, Error, Record, Strtab, TryFromCtx};
@@ -40,7 +40,7 @@ const RECORDS: [&[u8; 18]; 27] = [
     b"free.c\0\0\0\0\0\0\0\0\0\0\0\0",
 ];
 
-/// The string table behind it.
+/// The string table after it.
 const STRINGS: &[u8; 95] = b"_\0\0\0__imp_GetTickCount\0.llvm_addrsig\0__imp_Odd\0\
     ??_C@_01OJONOECF@b?$AA@\0??_C@_01MCMALHOG@a?$AA@\0";
 
@@ -106,6 +106,18 @@ fn the_symbols_of_an_object_are_those_that_another_tool_shows(rt: HostRuntime) -
         assert!(rt; is_right, "at {index}");
     }
     assert!(rt; read.next().is_none());
+    Ok(())
+}
+
+#[test]
+fn symbols_have_a_count_and_places(rt: HostRuntime) -> Result<(), Fail> {
+    let file = object();
+    let symbols = SymbolTable::parse(&file, 1, 27)?;
+    assert_eq!(rt; symbols.iter().count(), 19);
+    for (place, (index, _, _)) in symbols.iter().enumerate() {
+        let want = SYMBOLS.get(place).map(|(index, _)| *index);
+        assert!(rt; want == Some(index), "{place}");
+    }
     Ok(())
 }
 

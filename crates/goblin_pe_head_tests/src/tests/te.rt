@@ -9,7 +9,7 @@ use goblin_pe_sect::{DataDirectory, SectionTable};
 use std::alloc::{AllocError, Global};
 use std::test::Fail;
 
-/// A header of which so many bytes were stripped, with an entry point and one section.
+/// A header of a file of which `stripped_size` bytes were stripped, with an entry point and one section.
 fn header(stripped_size: u16) -> TeHeader {
     TeHeader {
         signature: TE_MAGIC,
@@ -20,7 +20,7 @@ fn header(stripped_size: u16) -> TeHeader {
     }
 }
 
-/// A file of that header, and the record of a section behind it.
+/// A file of that header, and the record of a section after it.
 fn file(alloc: Global, stripped_size: u16) -> Result<Vec<u8>, Fail> {
     let mut file = vec![in alloc; 0u8; 80]?;
     header(stripped_size).try_into_ctx(&mut file, Endian::Little)?;

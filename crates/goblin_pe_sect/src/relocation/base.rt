@@ -1,7 +1,7 @@
 //! The base relocations of an image: blocks of words.
 
-ghost use Rattle.std.specs.Prelude.{◌≡◌, ◌+◌, ◌-◌, ◌/◌, ◌%◌, ◌<◌, Some, length, IfSome};
-ghost use Rattle.std.specs.Iterator.{UpTo, YieldsFirst, YieldsFirstBy, at_most, item_count};
+ghost use Rattle.std.specs.Prelude.{◌≡◌, ◌+◌, ◌-◌, ◌/◌, ◌%◌, ◌<◌, ◌≤◌, Some, length, IfOk, IfSome};
+ghost use Rattle.std.specs.Iterator.{UpTo, YieldsFirst, YieldsFirstBy, at_most};
 ghost use Rattle.std.specs.Iterator.SizeHint.{IsWithinCount};
 ghost use Rattle.goblin_base.specs.Answers.{Answers};
 ghost use Rattle.goblin_pe_sect.specs.declared.relocation.base.RelocationWord.{RelocationWord};
@@ -27,8 +27,8 @@ const _: () = prove!(RELOCATION_BLOCK_SIZE == 8);
 // The size of a word, in bytes.
 const RELOCATION_WORD_SIZE: usize = 2;
 
-/// The base relocations of an image, which a loader applies where it does not load the image at the
-/// base that it was linked for: the bytes of their directory.
+/// The base relocations of an image: the bytes of their directory. Where a loader can't load the
+/// image at the base that it was linked for, it adds the distance to each place that they name.
 ///
 /// Source: PE Format, "The .reloc Section (Image Only)".
 #[derive(Debug, PartialEq, Clone, Default, Drop)]
@@ -55,11 +55,13 @@ impl<'a> RelocationData<'a> {
         RelocationData::parse_with_opts(bytes, dd, sections, file_alignment, &opts)
     }
 
-    /// The base relocations of the directory `dd`: the bytes at its address.
+    /// The base relocations of the directory `dd`: the bytes at its address, as many as its size
+    /// says.
     ///
     /// # Errors
-    /// [`Error::Malformed`], in both modes: [`Cause::Unmapped`] where the address has no file offset,
-    /// [`Cause::RelocRange`] where the bytes there are not all there, or begin at or past the end.
+    /// [`Error::Malformed`], in both modes: [`Cause::Unmapped`] where the address has no file
+    /// offset, [`Cause::RelocRange`] where the bytes there pass the end of the file, or begin at or
+    /// past it.
     pub fn parse_with_opts(
         bytes: &'a [u8],
         dd: DataDirectory,
@@ -80,7 +82,8 @@ impl<'a> RelocationData<'a> {
         }
     }
 
-    /// The blocks, in order. Where a rest is left with which no block begins, one error comes last.
+    /// The blocks, in order; if there is a rest with which no block begins, one error comes last,
+    /// as [`RelocationBlockIterator`] says.
     #[tactic(auto, using(crate::proofs::BlocksOf::blocks_of))]
     pub fn blocks(&self) -> RelocationBlockIterator<'a>
         ensures items { blocks_left result ≡ block_items (relocation_bytes self.now) 0 }
@@ -95,14 +98,16 @@ impl<'a> RelocationData<'a> {
 
 /// A block of base relocations, for one page of the image in memory.
 ///
-/// Source: PE Format, "Base Relocation Block".
+/// Source: PE Format, "Base Relocation Block". Its head has 8 bytes, and `at` says where in it a
+/// field stands.
 #[derive(Debug, PartialEq, Copy, Clone, Default)]
 pub struct RelocationBlock<'a> {
-    /// The page's address, relative to the image's base.
+    /// The page's address, relative to the image's base, at 0. The offset of each word is added to
+    /// it.
     pub rva: u32,
-    /// The size of the block with its head, in bytes.
+    /// The size of the block with its head, in bytes, at 4: the next block begins so far on.
     pub size: u32,
-    /// The bytes behind the head, which are the words.
+    /// The bytes after the head, which are the words.
     pub bytes: &'a [u8],
 }
 
@@ -111,7 +116,8 @@ impl<'a> RelocationBlock<'a> {
     #[tactic(auto, unfolding(crate::specs::BaseRelocations::block_at))]
     fn in_directory(directory: &'a [u8], offset: usize) -> Result<RelocationBlock<'a>>
         requires { offset < length directory.now }
-        ensures { block_item result ≡ block_at directory.now offset }
+        ensures value { block_item result ≡ block_at directory.now offset }
+        ensures large { IfOk result (λ block. 8 ≤ block.size) }
     {
         let Ok(head) = pread_slice(directory, offset, RELOCATION_BLOCK_SIZE) else {
             return Err(Error::Read(ReadFault::TooBig));
@@ -132,7 +138,8 @@ impl<'a> RelocationBlock<'a> {
         }
     }
 
-    /// The words, in order. Where one byte is left behind them, one error comes last.
+    /// The words, in order; if one byte is left after them, one error comes last, as
+    /// [`RelocationWordIterator`] says.
     pub fn words(&self) -> RelocationWordIterator<'a>
         ensures { words_left result ≡ word_items self.now.bytes.now }
     {
@@ -140,10 +147,12 @@ impl<'a> RelocationBlock<'a> {
     }
 }
 
-/// The blocks of a base relocation directory, in order. Where a rest is left with which no block
-/// begins, one error comes last: [`Error::Read`] with `TooBig` where there is no whole head,
+/// The blocks of a base relocation directory, in order. A rest with which no block begins is one
+/// error, which comes last: [`Error::Read`] with `TooBig` where there is no whole head,
 /// [`Error::Malformed`] with [`Cause::BlockSize`] where its size is below that of a head, and with
-/// [`Cause::BlockRange`] where the bytes behind the head are not all there, or begin at the end.
+/// [`Cause::BlockRange`] where the bytes after the head pass the directory, or begin at its end.
+///
+/// Source: PE Format, "Base Relocation Block".
 #[derive(Debug, Copy, Clone)]
 pub struct RelocationBlockIterator<'a> {
     bytes: &'a [u8],
@@ -155,7 +164,7 @@ impl<'a> Iterator for RelocationBlockIterator<'a> {
 
     ghost next_gives = { YieldsFirstBy block_item blocks_left };
 
-    ghost remaining = { item_count blocks_left };
+    ghost remaining = { λ it. at_most ((length it.bytes.now - it.offset + 7) / 8) };
 
     #[tactic(auto, using(crate::proofs::BlockItems::block_first, crate::proofs::BlockItems::items_err, crate::proofs::BlockItems::items_past))]
     fn next(&mut self) -> Option<Result<RelocationBlock<'a>>> {
@@ -174,11 +183,12 @@ impl<'a> Iterator for RelocationBlockIterator<'a> {
         }
     }
 
-    /// No more come than heads fit, with one for a rest.
+    /// No more come than heads fit, and one for a rest.
     #[tactic(auto, using(crate::proofs::BlockItems::items_most))]
     fn size_hint(&self) -> (usize, Option<usize>)
-        ensures lower { IsWithinCount result.0 (at_most (length (blocks_left self.now))) }
-        ensures upper { IfSome result.1 (UpTo (at_most (length (blocks_left self.now)))) }
+        ensures lower { IsWithinCount result.0 (at_most ((length self.now.bytes.now - self.now.offset + 7) / 8)) }
+        ensures upper { IfSome result.1 (UpTo (at_most ((length self.now.bytes.now - self.now.offset + 7) / 8))) }
+        ensures most { IfSome result.1 (λ n. length (blocks_left self.now) ≤ n) }
         ensures value { result ≡ (0, Some ((length self.now.bytes.now - self.now.offset + 7) / 8)) }
     {
         let rest = self.bytes.len().saturating_sub(self.offset);
@@ -190,10 +200,12 @@ impl FusedIterator for RelocationBlockIterator<'_> {}
 
 /// A word of a base relocation block: a place in the block's page, and how a loader changes it.
 ///
-/// Source: PE Format, "Base Relocation Types". The number is as stored; the record has 2 bytes.
+/// Source: PE Format, "Base Relocation Block" and "Base Relocation Types". The number is as stored;
+/// the record has 2 bytes.
 #[derive(Debug, PartialEq, Copy, Clone, Default)]
 pub struct RelocationWord {
-    /// The type in the high four bits, the offset from the block's address in the low twelve.
+    /// The type in the high four bits, the offset in bytes from the block's address in the low
+    /// twelve.
     pub value: u16,
 }
 
@@ -223,7 +235,8 @@ impl Record for RelocationWord {
 }
 
 impl RelocationWord {
-    /// How the place is changed, an `IMAGE_REL_BASED_*`: the high four bits.
+    /// How the place is changed, an `IMAGE_REL_BASED_*`: the high four bits. Type 0 changes nothing
+    /// and fills up a block.
     pub fn reloc_type(&self) -> u8
         ensures { result ≡ self.now.value / 4096 }
     {
@@ -238,8 +251,10 @@ impl RelocationWord {
     }
 }
 
-/// The words of a block, in order. Where one byte is left behind them, one [`Error::Read`] with
-/// `TooBig` comes last.
+/// The words of a block, in order. One byte that is left after them is one [`Error::Read`] with
+/// `TooBig`, which comes last.
+///
+/// Source: PE Format, "Base Relocation Block".
 #[derive(Debug, Copy, Clone)]
 pub struct RelocationWordIterator<'a> {
     bytes: &'a [u8],
@@ -250,7 +265,7 @@ impl Iterator for RelocationWordIterator<'_> {
 
     ghost next_gives = { YieldsFirst words_left };
 
-    ghost remaining = { item_count words_left };
+    ghost remaining = { λ it. at_most ((length it.bytes.now + 1) / 2) };
 
     #[tactic(auto, using(crate::proofs::WordItems::words_more, crate::proofs::WordItems::words_rest, crate::proofs::WordItems::words_none))]
     fn next(&mut self) -> Option<Result<RelocationWord>> {
@@ -268,8 +283,8 @@ impl Iterator for RelocationWordIterator<'_> {
 
     #[tactic(auto, using(crate::proofs::WordItems::length_words))]
     fn size_hint(&self) -> (usize, Option<usize>)
-        ensures lower { IsWithinCount result.0 (at_most (length (words_left self.now))) }
-        ensures upper { IfSome result.1 (UpTo (at_most (length (words_left self.now)))) }
+        ensures lower { IsWithinCount result.0 (at_most ((length self.now.bytes.now + 1) / 2)) }
+        ensures upper { IfSome result.1 (UpTo (at_most ((length self.now.bytes.now + 1) / 2))) }
         ensures value { result ≡ (length (words_left self.now), Some (length (words_left self.now))) }
     {
         let count = self.bytes.len().div_ceil(RELOCATION_WORD_SIZE);

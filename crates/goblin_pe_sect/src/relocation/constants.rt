@@ -1,4 +1,6 @@
 //! The types of relocations, by the machine, and those of base relocations.
+//!
+//! Source: PE Format, "Type Indicators" and "Base Relocation Types".
 
 /// x86: nothing is changed.
 pub const IMAGE_REL_I386_ABSOLUTE: u16 = 0x00;
@@ -45,17 +47,17 @@ pub const IMAGE_REL_AMD64_ADDR64: u16 = 0x01;
 pub const IMAGE_REL_AMD64_ADDR32: u16 = 0x02;
 /// x86-64: the target's address relative to the image's base, 32 bits.
 pub const IMAGE_REL_AMD64_ADDR32NB: u16 = 0x03;
-/// x86-64: the distance to the target from the byte behind the field, 32 bits.
+/// x86-64: the distance to the target from the byte after the field, 32 bits.
 pub const IMAGE_REL_AMD64_REL32: u16 = 0x04;
-/// x86-64: as [`IMAGE_REL_AMD64_REL32`], from 1 byte farther behind.
+/// x86-64: as [`IMAGE_REL_AMD64_REL32`], from 1 byte further on.
 pub const IMAGE_REL_AMD64_REL32_1: u16 = 0x05;
-/// x86-64: as [`IMAGE_REL_AMD64_REL32`], from 2 bytes farther behind.
+/// x86-64: as [`IMAGE_REL_AMD64_REL32`], from 2 bytes further on.
 pub const IMAGE_REL_AMD64_REL32_2: u16 = 0x06;
-/// x86-64: as [`IMAGE_REL_AMD64_REL32`], from 3 bytes farther behind.
+/// x86-64: as [`IMAGE_REL_AMD64_REL32`], from 3 bytes further on.
 pub const IMAGE_REL_AMD64_REL32_3: u16 = 0x07;
-/// x86-64: as [`IMAGE_REL_AMD64_REL32`], from 4 bytes farther behind.
+/// x86-64: as [`IMAGE_REL_AMD64_REL32`], from 4 bytes further on.
 pub const IMAGE_REL_AMD64_REL32_4: u16 = 0x08;
-/// x86-64: as [`IMAGE_REL_AMD64_REL32`], from 5 bytes farther behind.
+/// x86-64: as [`IMAGE_REL_AMD64_REL32`], from 5 bytes further on.
 pub const IMAGE_REL_AMD64_REL32_5: u16 = 0x09;
 /// x86-64: the index of the target's section, 16 bits.
 pub const IMAGE_REL_AMD64_SECTION: u16 = 0x0A;
@@ -67,7 +69,7 @@ pub const IMAGE_REL_AMD64_SECREL7: u16 = 0x0C;
 pub const IMAGE_REL_AMD64_TOKEN: u16 = 0x0D;
 /// x86-64: a signed value that depends on a span, 32 bits.
 pub const IMAGE_REL_AMD64_SREL32: u16 = 0x0E;
-/// x86-64: the second half of a value that depends on a span, right behind it.
+/// x86-64: the second half of a value that depends on a span, right after it.
 pub const IMAGE_REL_AMD64_PAIR: u16 = 0x0F;
 /// x86-64: a signed value that depends on a span and is applied by the linker, 32 bits.
 pub const IMAGE_REL_AMD64_SSPAN32: u16 = 0x10;

@@ -1,4 +1,6 @@
 //! The characteristics of sections, as bits.
+//!
+//! Source: PE Format, "Section Flags".
 
 /// The section is not padded to the next border. Obsolete; use [`IMAGE_SCN_ALIGN_1BYTES`].
 pub const IMAGE_SCN_TYPE_NO_PAD: u32 = 0x0000_0008;
@@ -56,9 +58,10 @@ pub const IMAGE_SCN_ALIGN_4096BYTES: u32 = 0x00D0_0000;
 pub const IMAGE_SCN_ALIGN_8192BYTES: u32 = 0x00E0_0000;
 /// The bits that say the alignment.
 pub const IMAGE_SCN_ALIGN_MASK: u32 = 0x00F0_0000;
-/// The section has more relocations than its record can count.
+/// The section has more relocations than its record can count: the first one's address is their
+/// number.
 pub const IMAGE_SCN_LNK_NRELOC_OVFL: u32 = 0x0100_0000;
-/// The section can be discarded.
+/// The section can be discarded once the image is loaded.
 pub const IMAGE_SCN_MEM_DISCARDABLE: u32 = 0x0200_0000;
 /// The section can't be cached.
 pub const IMAGE_SCN_MEM_NOT_CACHED: u32 = 0x0400_0000;

@@ -1,4 +1,4 @@
-//! The auxiliary records of a symbol table, which stand behind the symbols that they describe.
+//! The auxiliary records of a symbol table, which follow the symbols that they describe.
 
 ghost use Rattle.std.specs.Prelude.{length};
 ghost use Rattle.goblin_pe_sect.specs.declared.symbol.auxiliary.AuxBeginAndEndFunction.{AuxBeginAndEndFunction};
@@ -10,22 +10,23 @@ ghost use Rattle.goblin_pe_sect.specs.AuxiliarySymbols.{begin_and_end_function_f
 use super::COFF_SYMBOL_SIZE;
 use goblin_base::{Endian, Field, Record, field_array, field_u8, field_u16, field_u32, put_fields};
 
-/// What stands behind a symbol that defines a function.
+/// What follows a symbol that defines a function.
 ///
 /// Source: PE Format, "Auxiliary Format 1: Function Definitions". Numbers are as stored; the record
-/// has 18 bytes.
+/// has 18 bytes, and `at` says where in it a field stands.
 #[derive(Debug, PartialEq, Copy, Clone, Default)]
 pub struct AuxFunctionDefinition {
     /// The index in the symbol table of the function's begin, a record of class
-    /// [`IMAGE_SYM_CLASS_FUNCTION`](super::IMAGE_SYM_CLASS_FUNCTION).
+    /// [`IMAGE_SYM_CLASS_FUNCTION`](super::IMAGE_SYM_CLASS_FUNCTION), at 0.
     pub tag_index: u32,
-    /// The size of the function's code, in bytes.
+    /// The size of the function's code, in bytes, at 4.
     pub total_size: u32,
-    /// The file offset of the function's first line number, 0 where it has none.
+    /// The file offset of the function's first line number, at 8; 0 where it has none.
     pub pointer_to_line_number: u32,
-    /// The index in the symbol table of the next function's record, 0 where this is the last.
+    /// The index in the symbol table of the next function's record, at 12; 0 where this is the
+    /// last.
     pub pointer_to_next_function: u32,
-    /// Not used.
+    /// Not used, at 16.
     pub unused: [u8; 2],
 }
 
@@ -64,22 +65,22 @@ impl Record for AuxFunctionDefinition {
     }
 }
 
-/// What stands behind a symbol of a function's begin or end.
+/// What follows a symbol of a function's begin or end.
 ///
 /// Source: PE Format, "Auxiliary Format 2: .bf and .ef Symbols". Numbers are as stored; the record
-/// has 18 bytes.
+/// has 18 bytes, and `at` says where in it a field stands.
 #[derive(Debug, PartialEq, Copy, Clone, Default)]
 pub struct AuxBeginAndEndFunction {
-    /// Not used.
+    /// Not used, at 0.
     pub unused1: [u8; 4],
-    /// The line in the source file, counted from 1.
+    /// The line in the source file, counted from 1, at 4.
     pub line_number: u16,
-    /// Not used.
+    /// Not used, at 6.
     pub unused2: [u8; 6],
-    /// At a begin, the index in the symbol table of the next function's begin, 0 where this is
-    /// the last.
+    /// At 12, of a begin alone: the index in the symbol table of the next function's begin, 0 where
+    /// this is the last.
     pub pointer_to_next_function: u32,
-    /// Not used.
+    /// Not used, at 16.
     pub unused3: [u8; 2],
 }
 
@@ -118,17 +119,17 @@ impl Record for AuxBeginAndEndFunction {
     }
 }
 
-/// What stands behind a symbol that may be defined elsewhere.
+/// What follows a symbol for which another may stand.
 ///
 /// Source: PE Format, "Auxiliary Format 3: Weak Externals". Numbers are as stored; the record has
-/// 18 bytes.
+/// 18 bytes, and `at` says where in it a field stands.
 #[derive(Debug, PartialEq, Copy, Clone, Default)]
 pub struct AuxWeakExternal {
-    /// The index in the symbol table of the symbol that is taken where this one is not found.
+    /// The index in the symbol table of the symbol that is taken where this one is not found, at 0.
     pub tag_index: u32,
-    /// Where it is looked for, an `IMAGE_WEAK_EXTERN_SEARCH_*`.
+    /// Where this one is looked for, an `IMAGE_WEAK_EXTERN_SEARCH_*`, at 4.
     pub characteristics: u32,
-    /// Not used.
+    /// Not used, at 8.
     pub unused: [u8; 10],
 }
 
@@ -163,26 +164,26 @@ impl Record for AuxWeakExternal {
     }
 }
 
-/// What stands behind a symbol that defines a section.
+/// What follows a symbol that defines a section.
 ///
 /// Source: PE Format, "Auxiliary Format 5: Section Definitions". Numbers are as stored; the record
-/// has 18 bytes.
+/// has 18 bytes, and `at` says where in it a field stands.
 #[derive(Debug, PartialEq, Copy, Clone, Default)]
 pub struct AuxSectionDefinition {
-    /// The size of the section's data, in bytes.
+    /// The size of the section's data, in bytes, at 0: the same as in its section record.
     pub length: u32,
-    /// How many relocations the section has.
+    /// How many relocations the section has, at 4.
     pub number_of_relocations: u16,
-    /// How many line numbers the section has.
+    /// How many line numbers the section has, at 6.
     pub number_of_line_numbers: u16,
-    /// The checksum of COMDAT data.
+    /// The checksum of COMDAT data, at 8.
     pub checksum: u32,
-    /// The number, counted from 1, of the section with which this one is taken, where
-    /// [`Self::selection`] says so.
+    /// The number, counted from 1, of the section with which this one is taken, at 12; it counts
+    /// where [`Self::selection`] is `IMAGE_COMDAT_SELECT_ASSOCIATIVE`.
     pub number: u16,
-    /// Which of several COMDAT sections is taken, an `IMAGE_COMDAT_SELECT_*`.
+    /// Which of several COMDAT sections of one name is taken, an `IMAGE_COMDAT_SELECT_*`, at 14.
     pub selection: u8,
-    /// Not used.
+    /// Not used, at 15.
     pub unused: [u8; 3],
 }
 

@@ -1,4 +1,7 @@
 //! The values of the fields of symbols and of their auxiliary records.
+//!
+//! Source: PE Format, "Section Number Values", "Type Representation", "Storage Class", "Auxiliary
+//! Format 3: Weak Externals" and "COMDAT Sections (Object Only)".
 
 /// A symbol's section: none; it is defined elsewhere, or is common where its value is not 0.
 pub const IMAGE_SYM_UNDEFINED: i16 = 0;
@@ -128,11 +131,11 @@ pub const IMAGE_SYM_CLASS_BLOCK: u8 = 100;
 pub const IMAGE_SYM_CLASS_FUNCTION: u8 = 101;
 /// A symbol's class: the end of a structure.
 pub const IMAGE_SYM_CLASS_END_OF_STRUCT: u8 = 102;
-/// A symbol's class: a source file, whose name stands in the records behind it.
+/// A symbol's class: a source file, whose name stands in the records that follow it.
 pub const IMAGE_SYM_CLASS_FILE: u8 = 103;
 /// A symbol's class: a section.
 pub const IMAGE_SYM_CLASS_SECTION: u8 = 104;
-/// A symbol's class: defined elsewhere, or else by another symbol.
+/// A symbol's class: defined elsewhere, and where it is not found, another symbol stands for it.
 pub const IMAGE_SYM_CLASS_WEAK_EXTERNAL: u8 = 105;
 /// A symbol's class: a token of the common language runtime.
 pub const IMAGE_SYM_CLASS_CLR_TOKEN: u8 = 107;

@@ -1,4 +1,4 @@
-//! Where the pieces of the line of addresses begin, behind a call that counts.
+//! Where the pieces of the line of addresses begin, seen by a call that counts.
 
 ghost use Rattle.std.specs.Prelude.{◌≡◌, ◌+◌, ◌<◌, ◌≤◌, ◌↔◌, IsTrue, length, slice_index};
 

@@ -16,7 +16,7 @@ use std::alloc::{AllocError, Global};
 /// What an index keeps of the section that a piece belongs to.
 #[derive(Copy, Clone)]
 pub struct Owner {
-    /// The section's place in the table.
+    /// The section's index in the table.
     pub index: usize,
     /// The section's address.
     pub address: u32,
@@ -32,7 +32,7 @@ struct Window {
     owner: Owner,
 }
 
-// The window of the section at this place of the table.
+// The window of the section at this index of the table.
 fn window_at(
     index: usize,
     section: &SectionTable,
@@ -91,7 +91,7 @@ fn cover_place(first: usize, last: usize, windows: &[Window]) -> Option<usize>
         .position(|window| window.begin <= first && last < window.end)
 }
 
-// The windows up to the first that holds all addresses from `first` to `last`: what stands behind it
+// The windows up to the first that holds all addresses from `first` to `last`: what follows it
 // owns none of them.
 fn up_to_cover(first: usize, last: usize, windows: &[Window]) -> &[Window]
     ensures { FindTheSame first last result.now windows.now }

@@ -1,7 +1,9 @@
 //! The data directories of an optional header.
 
 use fixture::sample::put;
-use goblin_base::{Cause, Endian, Error, ReadFault, Record, TryFromCtx, pwrite_u32};
+use goblin_base::{
+    Cause, Endian, Error, ReadFault, Record, TryFromCtx, gread_with, pread_with, pwrite_u32,
+};
 use goblin_pe_sect::{DataDirectories, DataDirectory, DataDirectoryType};
 use std::test::Fail;
 
@@ -69,6 +71,19 @@ fn directories_that_are_there_come_with_their_kinds(rt: HostRuntime) -> Result<(
         assert_eq!(rt; found.next(), Some((kind, want)), "{index}");
     }
     assert_eq!(rt; found.next(), None);
+    Ok(())
+}
+
+#[test]
+fn directories_that_are_there_have_a_count_and_places(rt: HostRuntime) -> Result<(), Fail> {
+    let read = DataDirectories::parse(&records()?, 16, &mut 0)?;
+    assert_eq!(rt; read.dirs().count(), 7);
+    for (place, (_, directory)) in read.dirs().enumerate() {
+        let want = ENTRIES
+            .get(place)
+            .map(|(_, virtual_address, _)| *virtual_address);
+        assert!(rt; want == Some(directory.virtual_address), "{place}");
+    }
     Ok(())
 }
 
@@ -192,4 +207,41 @@ fn a_directory_moves_the_offset_where_it_is_whole(rt: HostRuntime) {
     let mut offset = 2;
     let read = DataDirectory::parse(&bytes, &mut offset);
     assert!(rt; matches!(read, Err(Error::Read(ReadFault::TooBig))) && offset == 2);
+}
+
+#[test]
+fn directories_are_read_one_after_the_other(rt: HostRuntime) -> Result<(), Fail> {
+    let bytes = b"?\x01\x02\x03\x04\x05\x06\x07\x08\x09\x0A\x0B\x0C\x0D\x0E\x0F\x10";
+    let first = DataDirectory {
+        virtual_address: 0x0102_0304,
+        size: 0x0506_0708,
+    };
+    let second = DataDirectory {
+        virtual_address: 0x0C0B_0A09,
+        size: 0x100F_0E0D,
+    };
+    let mut offset = 1;
+    let read: DataDirectory = gread_with(bytes, &mut offset, Endian::Big)?;
+    assert!(rt; read == first && offset == 9);
+    let read: DataDirectory = gread_with(bytes, &mut offset, Endian::Little)?;
+    assert!(rt; read == second && offset == 17);
+    assert_eq!(rt;
+        pread_with::<DataDirectory>(bytes, 9, Endian::Little)?,
+        second
+    );
+    Ok(())
+}
+
+#[test]
+fn a_directory_that_is_not_whole_leaves_the_offset(rt: HostRuntime) {
+    for (place, want) in [(1, ReadFault::TooBig), (8, ReadFault::BadOffset)] {
+        let mut offset = place;
+        let refused = gread_with::<DataDirectory>(&[0; 8], &mut offset, Endian::Little);
+        assert!(rt; matches!(refused, Err(Error::Read(fault)) if fault == want) && offset == place);
+        let refused = pread_with::<DataDirectory>(&[0; 8], place, Endian::Little);
+        assert!(rt;
+            matches!(refused, Err(Error::Read(fault)) if fault == want),
+            "{place}"
+        );
+    }
 }

@@ -1,6 +1,6 @@
 //! The names of sections, and the offsets that they say.
 
-use fixture::sample::{import_name, sample_section};
+use fixture::sample::{TABLE, TABLE_END, import_name, sample_named, sample_section};
 use goblin_base::{Cause, Error, ParseMode, ReadFault};
 use goblin_pe_sect::{ParseOptions, SectionTable};
 use std::test::Fail;
@@ -65,6 +65,27 @@ fn a_name_that_is_no_text_is_direct_in_permissive_mode_alone(rt: HostRuntime) {
         let said = section.name_offset_with_opts(&permissive);
         assert!(rt; matches!(said, Ok(None)), "{name:?}");
     }
+}
+
+#[test]
+fn a_section_is_read_with_such_a_name_in_permissive_mode_alone(
+    rt: HostRuntime,
+) -> Result<(), Fail> {
+    let name = b"/\xFF\0\0\0\0\0\0";
+    let file = sample_named(rt.alloc(), name)?;
+    let strict = ParseOptions::default();
+    let mut offset = TABLE;
+    let read = SectionTable::parse_with_opts(rt.alloc(), &file, &mut offset, 0, &strict);
+    let is_refused = matches!(read, Err(Error::Malformed(Cause::NameText)));
+    assert!(rt; is_refused && offset == TABLE);
+    let permissive = strict.with_parse_mode(ParseMode::Permissive);
+    let read = SectionTable::parse_with_opts(rt.alloc(), &file, &mut offset, 0, &permissive)?;
+    let want = SectionTable {
+        name: *name,
+        ..sample_section()
+    };
+    assert!(rt; read == want && offset == TABLE_END);
+    Ok(())
 }
 
 #[test]

@@ -71,6 +71,17 @@ fn the_relocations_of_a_section_are_those_that_another_tool_shows(
 }
 
 #[test]
+fn relocations_have_a_count_and_places(rt: HostRuntime) -> Result<(), Fail> {
+    assert_eq!(rt; Relocations::parse(OBJECT, 0, 6)?.count(), 6);
+    let addresses: [u32; 6] = [0x3, 0xF, 0x26, 0x36, 0x43, 0x4F];
+    for (place, relocation) in Relocations::parse(OBJECT, 0, 6)?.enumerate() {
+        let want = addresses.get(place).copied();
+        assert!(rt; want == Some(relocation.virtual_address), "{place}");
+    }
+    Ok(())
+}
+
+#[test]
 fn no_relocations_are_refused_at_the_end_alone(rt: HostRuntime) -> Result<(), Fail> {
     let read = Relocations::parse(b"", 0, 0);
     assert!(rt; matches!(read, Err(Error::Read(ReadFault::BadOffset))));
@@ -160,6 +171,25 @@ fn blocks_and_words_are_counted(rt: HostRuntime) -> Result<(), Fail> {
     Ok(())
 }
 
+#[test]
+fn blocks_and_words_have_counts_and_places(rt: HostRuntime) -> Result<(), Fail> {
+    let blocks = directory(LIBRARY, 36)?.blocks();
+    assert_eq!(rt; blocks.count(), 2);
+    // A block's address, and its size without its head, in words of two bytes.
+    let rows: [(u32, usize); 2] = [(0x1000, 6), (0x3000, 4)];
+    for (place, block) in blocks.enumerate() {
+        let block = block?;
+        let want = rows.get(place).copied();
+        assert!(rt; want == Some((block.rva, block.words().count())), "{place}");
+        for (index, word) in block.words().enumerate() {
+            // The last word of each block fills it up to four bytes, with type 0.
+            let is_last = want.is_some_and(|(_, count)| index + 1 == count);
+            assert!(rt; (word?.reloc_type() == 0) == is_last, "{place} {index}");
+        }
+    }
+    Ok(())
+}
+
 /// The words of the one block of a directory, which is gone when they are read.
 fn words_of(bytes: &[u8], size: u32) -> goblin_base::Result<Option<RelocationWordIterator<'_>>> {
     let mut blocks = directory(bytes, size)?.blocks();
@@ -176,6 +206,7 @@ fn an_odd_last_byte_is_one_error(rt: HostRuntime) -> Result<(), Fail> {
         assert!(rt; false, "there is no block");
         return Ok(());
     };
+    assert_eq!(rt; words.count(), 2);
     let one = RelocationWord { value: 1 };
     assert!(rt; matches!(words.next(), Some(Ok(word)) if word == one));
     assert!(rt; matches!(words.next(), Some(Err(Error::Read(ReadFault::TooBig)))));

@@ -62,7 +62,7 @@ fn a_section_is_written_as_it_stood(rt: HostRuntime) -> Result<(), Fail> {
     Ok(())
 }
 
-/// A record whose numbers are written with their highest bytes first: the bytes behind its name go up.
+/// A record whose numbers are written with their highest bytes first: the bytes after its name go up.
 const HIGHEST_FIRST: &[u8] = b".rdata\0\0\x01\x02\x03\x04\x05\x06\x07\x08\x09\x0A\x0B\x0C\
     \x0D\x0E\x0F\x10\x11\x12\x13\x14\x15\x16\x17\x18\x19\x1A\x1B\x1C\x1D\x1E\x1F\x20";
 
@@ -146,4 +146,34 @@ fn data_that_passes_the_file_is_none(rt: HostRuntime) -> Result<(), Fail> {
         assert!(rt; section.data(rt.alloc(), &[0; 16])?.is_none());
     }
     Ok(())
+}
+
+#[test]
+fn raw_data_has_no_zeros_after_it(rt: HostRuntime) -> Result<(), Fail> {
+    let rows: [(SectionTable, &[u8]); 4] = [
+        (section(0, u32::MAX, 3, 1), b"bcd"),
+        (section(0, 1, 3, 2), b"cde"),
+        (section(0, 4, 0, 6), b""),
+        (section(0, 4, 0, 0), b""),
+    ];
+    for (section, want) in rows {
+        assert_eq!(rt; section.raw_data(b"abcdef")?, want);
+    }
+    Ok(())
+}
+
+#[test]
+fn raw_data_that_passes_the_file_is_refused(rt: HostRuntime) {
+    for (size, pointer, want) in [
+        (7, 0, ReadFault::TooBig),
+        (1, 6, ReadFault::BadOffset),
+        (0, 7, ReadFault::BadOffset),
+        (u32::MAX, u32::MAX, ReadFault::BadOffset),
+    ] {
+        let refused = section(0, 0, size, pointer).raw_data(b"abcdef");
+        assert!(rt;
+            matches!(refused, Err(Error::Read(fault)) if fault == want),
+            "{pointer}"
+        );
+    }
 }

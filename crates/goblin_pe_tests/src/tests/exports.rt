@@ -1,15 +1,15 @@
 //! The exports of the sample file, and the forwarders among them.
 
 use fixture::memory::{Outcome, is_refused_until_right};
-use fixture::sample::{put, sample, sample_section};
-use goblin_base::{Cause, Endian, Error, Record};
+use fixture::sample::{put, sample, sample_section, section};
+use goblin_base::{Cause, Endian, Error, Record, gread_with};
 use goblin_pe::export::{
     Export, ExportAddressTableEntry, ExportData, ExportDirectoryTable, Reexport,
     SIZEOF_EXPORT_DIRECTORY_TABLE,
 };
 use goblin_pe::table::Table;
-use goblin_pe_sect::DataDirectory;
 use goblin_pe_sect::utils::get_data;
+use goblin_pe_sect::{DataDirectory, ParseOptions, RawPointerRule};
 use std::alloc::Global;
 use std::test::Fail;
 
@@ -115,6 +115,20 @@ fn an_empty_file_has_no_exports(rt: HostRuntime) -> Result<(), Fail> {
 }
 
 #[test]
+fn exports_are_read_from_where_the_options_say(rt: HostRuntime) -> Result<(), Fail> {
+    let alloc = rt.alloc();
+    let file = sample(alloc)?;
+    // The raw pointer lies within the 512 bytes at which the sample's section begins.
+    let sections = [section(0x1000, 0x100, 0x100, 0x210)];
+    let opts = ParseOptions::default().with_raw_pointer_rule(RawPointerRule::RoundedTo512);
+    let tables = ExportData::parse_with_opts(alloc, &file, DIRECTORY, &sections, ALIGNMENT, &opts)?;
+    assert!(rt; tables.name == Some("a.dll") && tables.export_directory_table.ordinal_base == 1);
+    let exports = Export::parse_with_opts(alloc, &file, &tables, &sections, ALIGNMENT, &opts)?;
+    assert!(rt; are(&exports, &[PLAIN, FORWARDED]));
+    Ok(())
+}
+
+#[test]
 fn forwarders_name_a_library_and_an_export(rt: HostRuntime) -> Result<(), Fail> {
     let cases: [(&[u8], &str, &str); 3] = [
         (b"KERNEL32.HeapAlloc\0", "HeapAlloc", "KERNEL32"),
@@ -176,6 +190,25 @@ fn a_record_and_a_forwarder_are_read_at_an_address(rt: HostRuntime) -> Result<()
     };
     let forwarder = get_data::<Reexport>(&file, &sections, at_text, ALIGNMENT)?;
     assert!(rt; Some(forwarder) == FORWARDED.3);
+    Ok(())
+}
+
+#[test]
+fn forwarders_are_read_one_after_the_other(rt: HostRuntime) -> Result<(), Fail> {
+    let bytes = b"?a.#12\0b.f";
+    let mut offset = 1;
+    let read: Reexport = gread_with(bytes, &mut offset, Endian::Little)?;
+    let want = Reexport::DLLOrdinal {
+        ordinal: 12,
+        lib: "a",
+    };
+    assert!(rt; read == want && offset == 7);
+    let read: Reexport = gread_with(bytes, &mut offset, Endian::Little)?;
+    let want = Reexport::DLLName {
+        export: "f",
+        lib: "b",
+    };
+    assert!(rt; read == want && offset == 10);
     Ok(())
 }
 

@@ -232,7 +232,7 @@ fn names_end_at_their_nul_and_lookup_tables_may_stand_at_the_addresses(
     rt: HostRuntime,
 ) -> Result<(), Fail> {
     let alloc = rt.alloc();
-    // A byte that is no text behind the library's name; a record without a lookup table.
+    // A byte that is no text after the library's name; a record without a lookup table.
     for (offset, bytes) in [(0x28A, &b"\xFF"[..]), (0x200, b"\0\0")] {
         let file = sample_with(alloc, offset, bytes)?;
         for mode in [ParseMode::Strict, ParseMode::Permissive] {

@@ -23,7 +23,7 @@ const BLOCKS: usize = 100_000;
 /// How long the one name is that everything has.
 const NAME_LEN: usize = 5_000;
 
-/// Where the tables stand in the file: the hint, the name behind it, the lookup table, which is also the
+/// Where the tables stand in the file: the hint, the name after it, the lookup table, which is also the
 /// address table, the three tables of the exports, and the base relocations.
 const HINT: usize = 0x300;
 
@@ -41,7 +41,7 @@ const RELOCATIONS: usize = ORDINALS + 2 * ENTRIES;
 
 const END: usize = RELOCATIONS + 12 * BLOCKS;
 
-/// By how much the address of what stands in the one section lies behind its offset.
+/// By how much the address of what stands in the one section exceeds its offset.
 const DISTANCE: usize = 0xE00;
 
 /// The sample file's numbers that lead to the tables, by their offsets.
@@ -64,7 +64,7 @@ const NUMBERS: &[(usize, u32)] = &[
     (0x2C4, (ORDINALS + DISTANCE) as u32),
 ];
 
-/// The sample file, with large tables behind it.
+/// The sample file, with large tables after it.
 fn large_file(alloc: Global) -> goblin_base::Result<Vec<u8>> {
     // The name's offset in decimal.
     let mut file = sample_named(alloc, b"/770\0\0\0\0")?;

@@ -1,18 +1,19 @@
 //! Readers in both modes, and under two tables of sections.
 
 use crate::tests::imports::{ALIGNMENT, DIRECTORY, RECORD};
-use crate::tests::raw_pointers::{are_sample_exports, are_sample_imports};
+use crate::tests::raw_pointers::{are_sample_exports, are_sample_imports, front_file};
 use fixture::memory::{Outcome, is_refused_until_right};
 use fixture::sample::{put, sample, sample_section, section};
 use goblin_base::{Cause, Error};
 use goblin_pe::import::{Import, ImportDirectoryEntry};
 use goblin_pe::laws::{
-    Request, Tables, TablesOf, mode_header, mode_tables, mode_whole, reorder_whole_tables,
+    ExportRead, Request, Tables, TablesOf, mode_header, mode_tables, mode_whole,
+    reorder_whole_tables,
 };
 use goblin_pe::options::ParseOptions;
 use goblin_pe::{Part, Whole};
 use goblin_pe_sect::{DataDirectory, SectionTable};
-use std::alloc::{AllocError, Global};
+use std::alloc::Global;
 use std::test::Fail;
 
 /// Where the tables of the sample file lie; a value is read in the place of its import directory.
@@ -58,6 +59,11 @@ fn both_modes_read_the_same_file(rt: HostRuntime) -> Result<(), Fail> {
     assert!(rt; strict? == permissive?);
     let (strict, permissive) = mode_whole(alloc, &file, &opts);
     assert!(rt; is_sample(&strict?) && is_sample(&permissive?));
+    let sections = [sample_section()];
+    let (strict, permissive): (Tables<ImportDirectoryEntry>, Tables<ImportDirectoryEntry>) =
+        mode_tables::<u32, _>(alloc, &file, &sections, &REQUEST, ALIGNMENT, &opts);
+    assert!(rt; are_sample_tables(alloc, &file, &sections, strict)?);
+    assert!(rt; are_sample_tables(alloc, &file, &sections, permissive)?);
     Ok(())
 }
 
@@ -73,19 +79,9 @@ fn permissive_mode_reads_a_header_that_strict_mode_refuses(rt: HostRuntime) -> R
     Ok(())
 }
 
-/// A file with an import directory at its front.
-fn front_file(alloc: Global) -> Result<Vec<u8>, AllocError> {
-    let mut file = vec![in alloc; 0u8; 0x40]?;
-    let parts: [(usize, &[u8]); 4] = [
-        (0x00, b"\x28\x10"),
-        (0x0C, b"\x30\x10\x00\x00\x28\x10"),
-        (0x28, b"\x01\x00\x00\x80"),
-        (0x30, b"x"),
-    ];
-    for (offset, bytes) in parts {
-        put(&mut file, offset, bytes);
-    }
-    Ok(file)
+/// Whether this is what the file's front says as an export directory: a library name, and no exports.
+fn is_named_x((tables, exports): ExportRead) -> bool {
+    tables.name == Some("x") && exports.is_empty()
 }
 
 #[test]
@@ -128,6 +124,9 @@ fn permissive_mode_has_no_imports_from_the_front_of_the_file(rt: HostRuntime) ->
     assert_eq!(rt; strict.name?, Some("x"));
     assert_eq!(rt; permissive.name?, Some("x"));
     assert!(rt; strict.value? == permissive.value?);
+    assert!(rt; is_named_x(strict.exports?) && is_named_x(permissive.exports?));
+    assert!(rt; strict.relocations?.blocks().next().is_none());
+    assert!(rt; permissive.relocations?.blocks().next().is_none());
     Ok(())
 }
 

@@ -6,6 +6,7 @@ use goblin_pe::import::{Import, ImportData};
 use goblin_pe::options::{ParseMode, ParseOptions, RawPointerRule};
 use goblin_pe::{Error, Part, Whole};
 use goblin_pe_sect::DataDirectory;
+use std::alloc::{AllocError, Global};
 use std::test::Fail;
 
 /// Whether this is an import of the sample file: its name, ordinal, offset and address.
@@ -77,11 +78,8 @@ fn a_file_whose_tables_lie_before_the_stored_pointer_is_damaged(
     Ok(())
 }
 
-#[test]
-fn a_pointer_below_512_may_put_the_import_directory_at_the_front(
-    rt: HostRuntime,
-) -> Result<(), Fail> {
-    let alloc = rt.alloc();
+/// A file with an import directory at its front.
+pub(super) fn front_file(alloc: Global) -> Result<Vec<u8>, AllocError> {
     let mut file = vec![in alloc; 0u8; 0x40]?;
     let parts: [(usize, &[u8]); 4] = [
         (0x00, b"\x28\x10"),
@@ -92,6 +90,15 @@ fn a_pointer_below_512_may_put_the_import_directory_at_the_front(
     for (offset, bytes) in parts {
         put(&mut file, offset, bytes);
     }
+    Ok(file)
+}
+
+#[test]
+fn a_pointer_below_512_may_put_the_import_directory_at_the_front(
+    rt: HostRuntime,
+) -> Result<(), Fail> {
+    let alloc = rt.alloc();
+    let file = front_file(alloc)?;
     let sections = [section(0x1000, 0x200, 0x200, 0x100)];
     let directory = DataDirectory {
         virtual_address: 0x1000,

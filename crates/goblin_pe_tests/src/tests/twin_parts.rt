@@ -159,7 +159,7 @@ fn terse_file(alloc: Global) -> Result<Vec<u8>, AllocError> {
     Ok(file)
 }
 
-/// Whether these are the parts of the Terse Executable, whose addresses are lessened by 8.
+/// Whether these are the parts of the Terse Executable, from whose addresses 8 is taken.
 fn are_terse_parts(parts: Parts<DataDirectory>) -> goblin_base::Result<bool> {
     let PartsOf {
         sections: records,

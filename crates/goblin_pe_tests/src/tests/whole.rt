@@ -1,7 +1,7 @@
 //! Whole files: which parts are there, absent or refused, and each growth refused.
 
 use fixture::memory::{Outcome, is_refused_until_right};
-use fixture::sample::{SAMPLE_LEN, put, sample};
+use fixture::sample::{SAMPLE_LEN, put, sample, sample_section};
 use goblin_pe::options::{ParseMode, ParseOptions};
 use goblin_pe::{Error, Part, Whole};
 use std::test::Fail;
@@ -82,5 +82,36 @@ fn sections_that_pass_the_file_are_refused_by_count_or_by_record(
         let is_read = matches!(Whole::read(alloc, &file, &opts), Err(Error::Read(_)));
         assert!(rt; is_counted && is_read, "{mode:?}");
     }
+    Ok(())
+}
+
+#[test]
+fn an_address_is_mapped_by_the_files_own_sections(rt: HostRuntime) -> Result<(), Fail> {
+    let file = sample(rt.alloc())?;
+    let opts = ParseOptions::default();
+    let whole = Whole::read(rt.alloc(), &file, &opts)?;
+    let as_offsets = ParseOptions::te();
+    for (rva, mapped, unmapped) in [
+        (0x0FFF, None, Some(0x0FFF)),
+        (0x1080, Some(0x280), Some(0x1080)),
+        (0x2000, None, Some(0x2000)),
+    ] {
+        assert_eq!(rt; whole.find_offset(rva, &opts), mapped);
+        assert_eq!(rt; whole.find_offset(rva, &as_offsets), unmapped);
+    }
+    assert_eq!(rt; whole.try_name(&file, 0x1080, &opts)?, "a.dll");
+    assert_eq!(rt; whole.try_name(&file, 0x280, &as_offsets)?, "a.dll");
+    Ok(())
+}
+
+#[test]
+fn without_an_optional_header_no_address_is_mapped(rt: HostRuntime) -> Result<(), Fail> {
+    let mut file = sample(rt.alloc())?;
+    put(&mut file, 0x54, b"\0\0");
+    let opts = ParseOptions::default();
+    let mut whole = Whole::read(rt.alloc(), &file, &opts)?;
+    assert!(rt; whole.header.optional_header.is_none());
+    whole.sections = vec![in rt.alloc(); sample_section()]?;
+    assert_eq!(rt; whole.find_offset(0x1080, &opts), None);
     Ok(())
 }

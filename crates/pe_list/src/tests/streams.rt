@@ -9,7 +9,7 @@ use std::io;
 use std::io::{ErrorKind, Read, Write};
 use std::test::Fail;
 
-/// Gives a byte a read, so many times, and then fails each time.
+/// Gives a byte a read, a number of times, and then fails each time.
 #[derive(Drop)]
 struct Broken<'a> {
     bytes: &'a [u8],
@@ -59,7 +59,7 @@ fn stops_at_each_failed_read(rt: HostRuntime) -> Result<(), Fail> {
     Ok(())
 }
 
-/// Takes so many bytes, and then fails or takes none.
+/// Takes a number of bytes, and then fails or takes none.
 #[derive(Drop)]
 struct Full {
     taken: Vec<u8>,

@@ -1,14 +1,13 @@
 use Rattle.std.proofs.Common.{length, ◌-◌}
 use Rattle.goblin_base.specs.Tables.{or_left_out}
 use Rattle.goblin_base.proofs.SlotTables.{AtSlot}
-use Rattle.goblin_pe.specs.Addresses.{offset_of}
-use Rattle.goblin_pe_sect.specs.Options.{is_strict}
+use Rattle.goblin_pe.specs.Addresses.{offset_of, reads_strictly}
 use Rattle.goblin_pe.specs.ImportDirectory.{import_slots, library_of}
 use Rattle.goblin_pe.proofs.import.libraries.Given as goal
 
 abbrev pub invariant-records : goal.invariant-records
 invariant-records g l =
-    let strict = is_strict l.fn.address_map.opts.parse_mode in
+    let strict = reads_strictly l.fn.address_map in
     let m = offset_of l.fn.address_map in
     AtSlot import_slots (λ r. or_left_out strict (library_of strict g.T.Bitfield.format m l.fn.bytes r)) l.fn.bytes l.fn.offset l.place l.import_data.items
 

@@ -34,7 +34,7 @@ returns-in-Err-clause-count c =
 pub returns-in-Err-clause-rest : goal.returns-in-Err-clause-rest
 returns-in-Err-clause-rest c =
     let next = c.in-Some.ensures.steps ∙ ap (λ (x : Result RelocationBlock ErrorOf). block_item x ∷ blocks_left c.next.new.self) c.in-Err.is in
-    let all = items-refused _ _ _ _ _ _ _ _ c.blocks-2.invariant next in c.fault_of.ensures ∙ all.rest
+    let all = items-refused _ _ _ _ _ _ _ _ c.blocks-2.invariant next in c.fault_of.ensures.value ∙ all.rest
 
 pub returns-clause-filled : goal.returns-clause-filled
 returns-clause-filled c = let all = items-end _ _ _ _ _ _ c.blocks-2.invariant c.in-None.ensures.steps.0 in all.filled

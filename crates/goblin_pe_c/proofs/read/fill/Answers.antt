@@ -2,10 +2,11 @@ use Rattle.std.proofs.Common.{List, ap, map, subst, sym, ◌∙◌, ℕ}
 use Rattle.std.specs.Prelude.{Some}
 use Rattle.goblin_pe_sect.specs.Options.{is_strict}
 use Rattle.goblin_pe_sect.specs.SectionTable.{Section}
-use Rattle.goblin_pe_c.specs.Filled.{Filled}
+use Rattle.goblin_pe_c.specs.Filled.{Filled, alone}
 use Rattle.goblin_pe_c.specs.Imports.{import_view, with_ordinal_name}
-use Rattle.goblin_pe_c.specs.Sections.{named_in, section_view}
+use Rattle.goblin_pe_c.specs.Sections.{named_in, section_said}
 use Rattle.goblin_pe.specs.Imports.{ImportValue}
+use Rattle.goblin_pe_c.proofs.Filling.{alone-same}
 use Rattle.goblin_pe_c.proofs.Named.{sections-named}
 use Rattle.goblin_pe_c.proofs.Ordinals.{imports-named}
 use Rattle.goblin_pe_c.proofs.read.fill.Goals as goal
@@ -13,12 +14,14 @@ use Rattle.goblin_pe_c.proofs.read.fill.Goals as goal
 pub returns-clause-sections : goal.returns-clause-sections
 returns-clause-sections c =
     let read = c.requires ∙ ap Some (sym c.whole.view_is) in
-    let named = ap (λ (table : ℕ). map (named_in (is_strict c.args.opts.now.parse_mode) c.args.bytes.now table) c.whole.inside.sections.items) c.string_table_offset-table.ensures
+    let named = ap (λ (table : ℕ). map (named_in (is_strict c.args.opts.now.parse_mode) c.args.bytes.now table) c.whole.inside.sections.items) c.symbols_end-table.ensures
     ∙ sections-named c.args.opts.now c.args.bytes.now _ read in
-    rw (← c.whole.view_is) (subst (λ (xs : List Section). Filled section_view xs c.args.sections.now c.fill_sections.new.records) named (rw (← c.deref.ensures.value) c.fill_sections.ensures))
+    let said = alone-same _ _ ∙ ap (map alone) named in
+    rw (← c.whole.view_is) (subst (λ (xs : List (Section × List ℕ)). Filled section_said xs c.args.sections.now c.fill_sections.new.records) said (rw (← c.deref.ensures.value) c.fill_sections.ensures))
 
 pub returns-clause-imports : goal.returns-clause-imports
 returns-clause-imports c =
     let read = c.requires ∙ ap Some (sym c.whole.view_is) in
     let named = ap (map with_ordinal_name) c.entries_of.ensures ∙ imports-named c.args.opts.now c.args.bytes.now _ read in
-    rw (← c.whole.view_is) (subst (λ (xs : List ImportValue). Filled import_view xs c.args.imports.now c.fill_imports.new.records) named c.fill_imports.ensures)
+    let said = alone-same with_ordinal_name _ ∙ ap (map alone) named in
+    rw (← c.whole.view_is) (subst (λ (xs : List (ImportValue × List ℕ)). Filled import_view xs c.args.imports.now c.fill_imports.new.records) said c.fill_imports.ensures)

@@ -7,4 +7,4 @@ returns-clause-same_value g c = λ agree. same-lookup_table _ _ _ _ _ _ agree
 
 pub returns-clause-alike : goal.returns-clause-alike
 returns-clause-alike g c = λ agree.
-    alike_or_memory_answers _ _ _ _ _ _ _ c.parse_with_opts-first.ensures c.parse_with_opts-second.ensures (same-lookup_table _ _ _ _ _ _ agree)
+    alike_or_memory_answers _ _ _ _ _ _ _ c.parse_with_opts-first.ensures.value c.parse_with_opts-second.ensures.value (same-lookup_table _ _ _ _ _ _ agree)

@@ -1,7 +1,7 @@
 use Rattle.std.proofs.Common.{subst}
 use Rattle.goblin_pe_sect.specs.declared.options.ParseOptions.{ParseOptions}
 use Rattle.goblin_pe_sect.specs.Options.{is_strict}
-use Rattle.goblin_pe.specs.Addresses.{offset_of}
+use Rattle.goblin_pe.specs.Addresses.{offset_of, reads_strictly}
 use Rattle.goblin_pe.specs.Exports.{IsExportDataFault, export_data}
 use Rattle.goblin_pe.specs.Whole.{BecomesPart, export_data_part, part_at}
 use Rattle.goblin_pe.proofs.Parts.{becomes_same}
@@ -10,7 +10,7 @@ use Rattle.goblin_pe.proofs.whole.Tables.export_data.Goals as goal
 pub returns : goal.returns
 unfolding export_data_part part_at
 returns c =
-    let strict = is_strict c.args.address_map.now.opts.parse_mode in
+    let strict = reads_strictly c.args.address_map.now in
     let m = offset_of c.args.address_map.now in
     let directory = c.in-Some.directory in
     let bytes = c.args.bytes.now in

@@ -6,7 +6,7 @@ use Rattle.goblin_pe.specs.declared.whole.Part.{Part}
 use Rattle.goblin_pe.specs.declared.whole.Part.TheVariants.{Absent}
 use Rattle.goblin_pe.specs.ImportDirectory.{IsImportDataFault, ImportedLibrary, import_data}
 use Rattle.std.specs.Prelude.{List}
-use Rattle.goblin_pe.specs.Addresses.{offset_of}
+use Rattle.goblin_pe.specs.Addresses.{offset_of, reads_strictly}
 use Rattle.goblin_pe.specs.Whole.{BecomesPart, IsImportPartFault, entry_format, import_data_part, part_at, places_by}
 use Rattle.goblin_pe.proofs.Parts.{becomes_same}
 use Rattle.goblin_pe.proofs.whole.Tables.import_data.Goals as goal
@@ -18,7 +18,7 @@ where_true P false x y e h = absurd cc
 pub returns-in-Some : goal.returns-in-Some
 unfolding import_data_part part_at
 returns-in-Some c =
-    let strict = is_strict c.args.address_map.now.opts.parse_mode in
+    let strict = reads_strictly c.args.address_map.now in
     let m = offset_of c.args.address_map.now in
     let format = entry_format c.args.self.now.magic in
     let rva = c.in-Some.directory.virtual_address in

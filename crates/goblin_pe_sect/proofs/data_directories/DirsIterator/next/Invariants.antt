@@ -1,4 +1,4 @@
--- The entries that were passed over are none.
+-- No entry that was passed over is a directory.
 use Rattle.std.proofs.Common.{◌≡◌}
 use Rattle.goblin_pe_sect.specs.DataDirectories.{dirs_left, present_from}
 use Rattle.goblin_pe_sect.proofs.data_directories.DirsIterator.next.Given as goal

@@ -6,6 +6,7 @@ use Rattle.goblin_base.specs.declared.error.ErrorOf.TheVariants.{Malformed}
 use Rattle.goblin_base.specs.declared.error.CauseOf.TheVariants.{LookupEnd}
 use Rattle.goblin_base.proofs.SlotTables.{kept-start, kept-next, kept-all, at-start, at-next, at-last, at-end, at-missing, at-missing_first, at-refused, at-refused_cause}
 use Rattle.goblin_pe.specs.ImportLookup.{IsKeptEntryFault, IsLookupEnd, entry_view, kept_view}
+use Rattle.goblin_pe.proofs.Growths.{slot-kept}
 use Rattle.goblin_pe.proofs.Modes.{strict, permissive}
 use Rattle.goblin_pe.proofs.import.lookup_table.SyntheticImportLookupTableEntry.parse_by.Goals as goal
 use Rattle.goblin_pe.proofs.import.lookup_table.SyntheticImportLookupTableEntry.parse_by.Goals.{in_default+then-is_permissive, in-Ok+then-is_zero}
@@ -58,3 +59,10 @@ returns-clause-slots g c =
       | in-Ok+then-is_zero w ↦
           c.from-2.ensures ∙ sym (kept-all _ _ _ _ _ _ _ _ width c.slots.invariant.0 c.slots.invariant.1 _ w.in-Ok.ensures (sym w.is_zero.ensures ∙ w.if-is_zero.true))
     ]
+
+pub returns-in_err-push_kept-clause-grown : goal.returns-in_err-push_kept-clause-grown
+returns-in_err-push_kept-clause-grown g c =
+    let e = err_from_is_err_and c.from_residual-in_err-push_kept.result c.from_residual-in_err-push_kept.ensures.1 in
+    let width : 1 ≤ g.T.Bitfield.format.width = omega (arith, c.size_of-size.ensures.width, c.size_of-size.ensures.positive) in
+    let going = sym c.is_zero.ensures ∙ c.if-is_zero.false in
+    rw (e.1, e.2) (λ _. slot-kept _ _ _ _ _ _ _ _ width c.slots.invariant.0 c.in-Ok.ensures going c.in_ok-kept.ensures c.in_err-push_kept.ensures.grown)

@@ -1,4 +1,4 @@
-use Rattle.std.proofs.Common.{inl, refl, subst}
+use Rattle.std.proofs.Common.{arith, inl, refl, subst}
 use Rattle.std.specs.Prelude.{Some}
 use Rattle.goblin_base.specs.Answers.{AnswersOrMemory}
 use Rattle.goblin_pe_sect.specs.declared.options.ParseOptions.{ParseOptions}
@@ -20,4 +20,4 @@ returns-clause-value c =
     let made =
     subst (λ (opts : ParseOptions). AnswersOrMemory (λ v. v.items) c.read_sections.result (moved_sections_at (Some d) (is_strict opts.parse_mode) 0 n bytes p) (IsMovedSectionsFault (Some d) (is_strict opts.parse_mode) 0 n bytes p))
     c.default-opts.ensures c.read_sections.ensures.value in
-    answers_moved (λ v. v.items) c.read_sections.result c.args.self.now d bytes p c.in_ok-displacement.ensures made
+    answers_moved (λ v. v.items) c.read_sections.result c.args.self.now d bytes p (omega (arith, c.if-bytes-count.false)) c.in_ok-displacement.ensures made

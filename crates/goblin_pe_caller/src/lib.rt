@@ -1,0 +1,103 @@
+//! A caller of `goblin_pe` alone: neither its code nor its clauses name a crate below.
+#![tactic(auto)]
+
+ghost use Rattle.std.specs.Prelude.{◌≡◌, drop, length, option_map};
+ghost use Rattle.goblin_pe.specs.Answers.{Answers};
+ghost use Rattle.goblin_pe.specs.BaseRelocations.{block_items, relocation_bytes, word_items};
+ghost use Rattle.goblin_pe.specs.DataDirectories.{present_from};
+ghost use Rattle.goblin_pe.specs.Mapping.{IsDataFault, data_at, file_offset};
+ghost use Rattle.goblin_pe.specs.Options.{default_options};
+ghost use Rattle.goblin_pe.specs.Relocations.{relocations_left};
+ghost use Rattle.goblin_pe.specs.RichHeader.{IsRichFault, rich_header};
+ghost use Rattle.goblin_pe.specs.RichMetadata.{metadata_items};
+ghost use Rattle.goblin_pe.specs.Symbols.{symbols_in, table_bytes};
+ghost use Rattle.goblin_pe.specs.declared.error.CauseOf.TheVariants.{Message};
+ghost use Rattle.goblin_pe.specs.declared.error.ErrorOf.TheVariants.{Malformed};
+
+use goblin_pe::data_directories::{DataDirectories, DataDirectory};
+use goblin_pe::header::RichHeader;
+use goblin_pe::relocation::{RelocationBlock, RelocationData, Relocations};
+use goblin_pe::section_table::SectionTable;
+use goblin_pe::symbol::SymbolTable;
+use goblin_pe::utils::get_data;
+use goblin_pe::{Cause, Error, Result, ResultOf, TryFromCtx};
+
+#[cfg(test)]
+mod tests;
+
+/// How many blocks there are, with the error where a rest is left.
+pub fn count_blocks(relocations: &RelocationData) -> usize
+    ensures { result ≡ length (block_items (relocation_bytes relocations.now) 0) }
+{
+    relocations.blocks().count()
+}
+
+/// How many words a block has, with the error for a byte that is left.
+pub fn count_words(block: &RelocationBlock) -> usize
+    ensures { result ≡ length (word_items block.now.bytes.now) }
+{
+    block.words().count()
+}
+
+/// How many relocations are left.
+pub fn count_relocations(relocations: Relocations) -> usize
+    ensures { result ≡ length (relocations_left relocations.entry) }
+{
+    relocations.count()
+}
+
+/// How many symbols a table has, without the auxiliary records.
+pub fn count_symbols(table: &SymbolTable) -> usize
+    ensures { result ≡ length (symbols_in (table_bytes table.now)) }
+{
+    table.iter().count()
+}
+
+/// How many data directories are there, of those that have a kind.
+pub fn count_directories(directories: &DataDirectories) -> usize
+    ensures { result ≡ length (present_from 0 directories.now.data_directories) }
+{
+    directories.dirs().count()
+}
+
+/// How many entries a file's Rich header has, with the error where a rest is left; `None` where there
+/// is no Rich header.
+///
+/// # Errors
+/// As [`RichHeader::parse`].
+pub fn count_entries(bytes: &[u8]) -> Result<Option<usize>>
+    ensures { let count = option_map (option_map (λ r. length (metadata_items r.key (drop r.padding_size r.bytes)))) (rich_header bytes.now) in
+        Answers (λ n. n) result count (IsRichFault bytes.now) }
+{
+    match RichHeader::parse(bytes)? {
+        Some(rich) => Ok(Some(rich.metadatas().count())),
+        None => Ok(None),
+    }
+}
+
+/// A refusal with a text of the caller's.
+pub fn refusal(text: &'static str) -> Error
+    ensures { result ≡ Malformed (Message text.entry) }
+{
+    Error::Malformed(Cause::Message(text))
+}
+
+/// The value at an address, of any type that is read from bytes, where sections lie at multiples of 512.
+///
+/// # Errors
+/// As [`get_data`].
+pub fn value_at<'a, 'e, T: TryFromCtx<'a>>(
+    bytes: &'a [u8],
+    sections: &[SectionTable],
+    virtual_address: u32,
+) -> ResultOf<'e, T>
+    ensures { let m = file_offset default_options sections.now 0x200 in
+        Answers T.plain result (data_at m T.value_of bytes.now virtual_address) (IsDataFault m T.refusal bytes.now virtual_address) }
+{
+    let directory = DataDirectory {
+        virtual_address,
+        size: 0,
+    };
+    let value = get_data(bytes, sections, directory, 0x200)?;
+    Ok(value)
+}
