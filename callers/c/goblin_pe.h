@@ -1,5 +1,12 @@
 /* PE files read by a proved library.
 
+   callers/build puts libgoblin_pe.a, libgoblin_pe.so and this header into callers/lib; the C library is
+   all else that a program needs:
+
+       cc -I callers/lib -o program program.c callers/lib/libgoblin_pe.a
+
+   callers/c/list.c is such a program.
+
    A call reads a whole file that lies in memory. It borrows the caller's bytes, and fills the caller's
    records; a text in a record is a pointer into those bytes and a length, so nothing is copied, nothing
    has to be freed, and the texts stay good as long as the bytes do. Where the file offset of a text is
@@ -79,7 +86,7 @@ struct goblin_pe_fault {
 
 /* The DOS header. */
 struct goblin_pe_dos_header {
-    /* The file offset of the PE header. */
+    /* The file offset of the PE signature. */
     uint32_t pe_pointer;
     /* MZ. */
     uint16_t signature;
@@ -91,9 +98,9 @@ struct goblin_pe_dos_header {
     uint16_t relocations;
     /* The size of the header in paragraphs of 16 bytes. */
     uint16_t size_of_header_in_paragraphs;
-    /* The least memory that the program needs behind it, in paragraphs. */
+    /* The least memory that the program needs after it, in paragraphs. */
     uint16_t minimum_extra_paragraphs_needed;
-    /* The most memory that the program asks for behind it, in paragraphs. */
+    /* The most memory that the program asks for after it, in paragraphs. */
     uint16_t maximum_extra_paragraphs_needed;
     /* The stack segment at the start, relative to the program. */
     uint16_t initial_relative_ss;
@@ -121,19 +128,21 @@ struct goblin_pe_dos_header {
 
 /* The COFF header. */
 struct goblin_pe_coff_header {
-    /* The machine that the file is for. */
+    /* The machine that the file is for: 0x14c is x86, 0x8664 x86-64, 0xaa64 ARM64. */
     uint16_t machine;
     /* How many section records follow the optional header. */
     uint16_t number_of_sections;
-    /* When the file was made, in seconds since the start of 1970, or what its maker put there. */
+    /* When the file was made, in seconds since the start of 1970, or what its maker put there,
+       such as a hash. */
     uint32_t time_date_stamp;
     /* The file offset of the symbol table, 0 where there is none. */
     uint32_t pointer_to_symbol_table;
-    /* How many records the symbol table has. */
+    /* How many records the symbol table has, the auxiliary ones too. */
     uint32_t number_of_symbol_table;
-    /* The size of the optional header, in bytes, 0 where there is none. */
+    /* The size of the optional header, in bytes; 0 where there is none, as in an object. It says
+       where the section table begins. */
     uint16_t size_of_optional_header;
-    /* What kind of file it is, as bits. */
+    /* What kind of file it is, as bits IMAGE_FILE_*. */
     uint16_t characteristics;
 };
 
@@ -147,36 +156,43 @@ struct goblin_pe_optional_header {
     uint64_t size_of_uninitialized_data;
     /* The address at which the code begins, relative to the image's base. */
     uint64_t base_of_code;
-    /* The address at which the image is best loaded, a multiple of 64 KiB. */
+    /* The address at which the image is best loaded, a multiple of 64 KiB. Where the loader
+       takes another, it applies the base relocations. */
     uint64_t image_base;
     /* How much of the stack to reserve, in bytes. */
     uint64_t size_of_stack_reserve;
-    /* How much of the stack to commit, in bytes. */
+    /* How much of the stack to commit, in bytes; the rest follows page by page. */
     uint64_t size_of_stack_commit;
     /* How much of the heap to reserve, in bytes. */
     uint64_t size_of_heap_reserve;
-    /* How much of the heap to commit, in bytes. */
+    /* How much of the heap to commit, in bytes; the rest follows page by page. */
     uint64_t size_of_heap_commit;
-    /* The address of the entry point, relative to the image's base; 0 where there is none. */
+    /* The address of the entry point, relative to the image's base; 0 where there is none, as in
+       some libraries. The loader starts there, in whatever section it lies. */
     uint32_t address_of_entry_point;
     /* The address at which the data begins, relative to the image's base; 0 in an image for 64
        bits. */
     uint32_t base_of_data;
-    /* The alignment of sections in memory, in bytes. */
+    /* The alignment of sections in memory, in bytes: at least the file alignment, mostly a page. */
     uint32_t section_alignment;
-    /* The alignment of the raw data of sections in the file, in bytes. */
+    /* The alignment of the raw data of sections in the file, in bytes: a power of two, mostly
+       512. The mapping of addresses to file offsets goes by it. */
     uint32_t file_alignment;
     /* Reserved, 0. */
     uint32_t win32_version_value;
-    /* The size of the image in memory with all headers, in bytes. */
+    /* The size of the image in memory with all headers, in bytes: how much the loader reserves,
+       a multiple of the section alignment. */
     uint32_t size_of_image;
-    /* The size of all headers together, in bytes, rounded up to the file alignment. */
+    /* The size of all headers together, in bytes, rounded up to the file alignment. So much of
+       the file's front is loaded at the image's base. */
     uint32_t size_of_headers;
-    /* The image's checksum. */
+    /* The image's checksum. The loader tests that of drivers and of what is loaded at boot; no
+       reader does. */
     uint32_t check_sum;
     /* Reserved, 0. */
     uint32_t loader_flags;
-    /* How many data directories follow. */
+    /* How many data directories follow. Readers take at most sixteen; directories past this
+       number are not there, whatever bytes follow. */
     uint32_t number_of_rva_and_sizes;
     /* 0x10b for 32 bits, 0x20b for 64 bits, 0 where there is no optional header. */
     uint16_t magic;
@@ -192,9 +208,10 @@ struct goblin_pe_optional_header {
     uint16_t major_subsystem_version;
     /* The minor version of the subsystem that the image needs. */
     uint16_t minor_subsystem_version;
-    /* The subsystem that runs the image. */
+    /* The subsystem that runs the image, an IMAGE_SUBSYSTEM_*. */
     uint16_t subsystem;
-    /* What the loader may and has to do, as bits. */
+    /* What the loader may and has to do, as bits IMAGE_DLLCHARACTERISTICS_*: whether it may move
+       the image, and which guards it turns on. */
     uint16_t dll_characteristics;
     /* The linker's major version. */
     uint8_t major_linker_version;
@@ -204,12 +221,14 @@ struct goblin_pe_optional_header {
 
 /* An entry of the table of data directories. */
 struct goblin_pe_directory {
-    /* Where the entry ends, in bytes from the front of the optional header; 0 where there is none. */
+    /* Where the entry's record ends, in bytes from the front of the optional header; 0 where
+       there is no entry. */
     size_t end;
-    /* The address of what it leads to, relative to the image's base; of the attribute certificates
-       the file offset. */
+    /* The address of what it leads to, relative to the image's base. That of the attribute
+       certificates is a file offset, since they are not loaded. */
     uint32_t virtual_address;
-    /* The size of what it leads to, in bytes. */
+    /* The size of what it leads to, in bytes. An import directory ends at its own last record,
+       whatever the size. */
     uint32_t size;
     /* Whether there is such an entry, and not all of it is 0. */
     bool is_present;
@@ -227,9 +246,9 @@ struct goblin_pe_data_directory {
 struct goblin_pe_te_header {
     /* The address at which the image is best loaded. */
     uint64_t image_base;
-    /* The address of the entry point. */
+    /* The address of the entry point, relative to the image's base. */
     uint32_t entry_point;
-    /* The address at which the code begins. */
+    /* The address at which the code begins, relative to the image's base. */
     uint32_t base_of_code;
     /* Where the base relocations lie. */
     struct goblin_pe_data_directory reloc_dir;
@@ -239,7 +258,8 @@ struct goblin_pe_te_header {
     uint16_t signature;
     /* The machine that the file is for. */
     uint16_t machine;
-    /* How many bytes were stripped from the front of the PE file. */
+    /* How many bytes were stripped from the front of the PE file; this header's 40 stand for
+       them. */
     uint16_t stripped_size;
     /* How many sections there are. */
     uint8_t number_of_sections;
@@ -261,15 +281,15 @@ struct goblin_pe_rich_entry {
 struct goblin_pe_rich_header {
     /* How many entries there are. */
     size_t entries;
-    /* The size of the padding in front of the entries, in bytes. */
+    /* The size of the padding before the entries, in bytes. */
     size_t padding_size;
-    /* Why a rest that follows the entries is none; its status is 0 where there is no rest. */
+    /* Why the rest that follows the entries is no entry; its status is 0 where there is no rest. */
     struct goblin_pe_fault rest;
-    /* The key, under which the words are stored. */
+    /* The key, with which each stored word is the exclusive or. */
     uint32_t key;
-    /* The file offset of the first marker. */
+    /* The file offset of the first marker, DanS under the key. */
     uint32_t start_offset;
-    /* The file offset of the second marker. */
+    /* The file offset of the second marker, Rich. */
     uint32_t end_offset;
     /* Whether there is a Rich header. */
     bool is_present;
@@ -277,27 +297,30 @@ struct goblin_pe_rich_header {
 
 /* A section, as its record describes it. */
 struct goblin_pe_section {
-    /* The name from the string table, where there is one. */
+    /* The name from the string table, where there is one; a name of more than eight bytes stands
+       there. */
     struct goblin_pe_text real_name;
     /* The eight bytes of the name, padded with NULs. */
     uint8_t name[8];
-    /* The section's size in memory, in bytes. */
+    /* The section's size in memory, in bytes: what the raw data lacks of it is zeros. */
     uint32_t virtual_size;
     /* The section's address in memory, relative to the image's base. */
     uint32_t virtual_address;
-    /* The size of the section's data in the file, in bytes. */
+    /* The size of the section's data in the file, in bytes; in an image rounded up, so it may be
+       above the virtual size. */
     uint32_t size_of_raw_data;
-    /* The file offset of the section's data. */
+    /* The file offset of the section's data, as stored. */
     uint32_t pointer_to_raw_data;
     /* The file offset of the section's relocations, 0 where it has none. */
     uint32_t pointer_to_relocations;
     /* The file offset of the section's line numbers, 0 where it has none. */
     uint32_t pointer_to_linenumbers;
-    /* How many relocations the section has. */
+    /* How many relocations the section has, as its record says. */
     uint16_t number_of_relocations;
     /* How many line numbers the section has. */
     uint16_t number_of_linenumbers;
-    /* What the section holds and how it may be used. */
+    /* What the section holds and how it may be used, as bits IMAGE_SCN_*; the loader protects
+       its pages by them. */
     uint32_t characteristics;
     /* Whether the section has a name from the string table. */
     bool has_real_name;
@@ -305,19 +328,22 @@ struct goblin_pe_section {
 
 /* An import. */
 struct goblin_pe_import {
-    /* The name that is imported; nothing where the import is by ordinal. */
+    /* The name that is imported, where the import is by name. */
     struct goblin_pe_text name;
-    /* The name of the library. */
+    /* The name of the library; empty where permissive mode could not read it. */
     struct goblin_pe_text dll;
-    /* The address of the entry of the address table. */
+    /* The address (not the file offset) of its own entry in the address table, where the loader
+       puts the address of what is imported. */
     size_t offset;
-    /* The address of the hint and the name, 0 of an import by ordinal. */
+    /* The address of the hint and the name; 0 of an import by ordinal. */
     size_t rva;
-    /* The size of an entry of the address table, in bytes. */
+    /* The size of an entry of the address table, in bytes: 4 in an image for 32 bits, else 8. */
     size_t size;
-    /* The index of its entry in the lookup table and in the address table, in the file. */
+    /* The index of its entry, in the file, in the lookup table and in the address table. Entries
+       that are left out count. */
     size_t slot;
-    /* The ordinal; of an import by name, the hint. */
+    /* The ordinal; of an import by name, the hint, at which index of the library's names the
+       loader looks first. */
     uint16_t ordinal;
     /* Whether the import is by name. */
     bool is_by_name;
@@ -335,7 +361,7 @@ struct goblin_pe_export {
     size_t ordinal;
     /* The file offset of rva, where it has one. */
     size_t offset;
-    /* The export's address, or that of its forwarder's text. */
+    /* The export's address, relative to the image's base; of a forwarder that of its text. */
     size_t rva;
     /* How many bytes it has: the tables don't say it, so 0. */
     size_t size;
@@ -352,7 +378,7 @@ struct goblin_pe_block {
     /* The words, of two bytes each: the type in the high four bits, and in the low twelve the
        place, in bytes from the page's address. A byte that is left is no word. */
     struct goblin_pe_text words;
-    /* The page's address, relative to the image's base. */
+    /* The page's address, relative to the image's base, to which each place is added. */
     uint32_t rva;
     /* The size of the block with its head, in bytes. */
     uint32_t size;
@@ -360,7 +386,7 @@ struct goblin_pe_block {
 
 /* A table of the file. */
 struct goblin_pe_table {
-    /* How many entries it has. */
+    /* How many entries it has, whatever the room. */
     size_t count;
     /* 0 the file has no such table, 1 it was read, 2 it is refused and was passed over. */
     uint32_t state;
@@ -370,7 +396,7 @@ struct goblin_pe_table {
 struct goblin_pe_relocations {
     /* The blocks. */
     struct goblin_pe_table blocks;
-    /* Why a rest that follows the blocks is none; its status is 0 where there is no rest. */
+    /* Why the rest that follows the blocks is no block; its status is 0 where there is no rest. */
     struct goblin_pe_fault rest;
 };
 
@@ -382,13 +408,14 @@ struct goblin_pe_symbol {
     size_t index;
     /* The eight bytes of the name in the record. */
     uint8_t record_name[8];
-    /* What the symbol stands for, by its section and class. */
+    /* What the symbol stands for, by its section and class: mostly an offset in its section. */
     uint32_t value;
     /* The number of its section, counted from 1; or 0 undefined, -1 absolute, -2 for a debugger. */
     int16_t section_number;
-    /* Its type. */
+    /* Its type: the base type in the low four bits, the derived type above them; 0x20 is a
+       function. */
     uint16_t typ;
-    /* Its class. */
+    /* Its class: 2 external, 3 static, 103 a source file, 105 weak external. */
     uint8_t storage_class;
     /* How many auxiliary records follow it. */
     uint8_t number_of_aux_symbols;
@@ -400,7 +427,7 @@ struct goblin_pe_symbol {
 struct goblin_pe_file {
     /* The optional header. */
     struct goblin_pe_optional_header optional_header;
-    /* How many sections there are. */
+    /* How many sections there are, whatever the room. */
     size_t sections;
     /* The imports. */
     struct goblin_pe_table imports;
@@ -418,7 +445,7 @@ struct goblin_pe_file {
 
 /* An object as a whole. */
 struct goblin_pe_object {
-    /* How many sections there are. */
+    /* How many sections there are, whatever the room. */
     size_t sections;
     /* The symbols. */
     struct goblin_pe_table symbols;
@@ -479,7 +506,7 @@ bool goblin_pe_find_offset(
     uint32_t file_alignment, const struct goblin_pe_options *options, size_t *offset);
 
 /* Writes the text of a refusal, without a NUL, as far as there is room, and answers how long the whole
-   text is; 0 where there is none. */
+   text is; 0 where there is none. None is longer than 160 bytes. */
 size_t goblin_pe_fault_text(const struct goblin_pe_fault *fault, uint8_t *text, size_t room);
 
 #ifdef __cplusplus

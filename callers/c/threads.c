@@ -1,5 +1,5 @@
 /* Reads one file in eight threads at once, each with a small stack: threads KIB IMPORTS FILE. The
-   status is 0 where each read finds so many imports. */
+   status is 0 where each read finds that number of imports. */
 #include "goblin_pe.h"
 
 #include <pthread.h>

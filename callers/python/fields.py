@@ -3,7 +3,7 @@ names, and what the module says of wrong input: fields.py FILE.."""
 import struct
 import sys
 
-from goblin_pe import ObjectFile, Pe, Refused, Te, options
+from goblin_pe import Fault, ObjectFile, Pe, Refused, Te, options
 
 DOS = ("signature bytes_on_last_page pages_in_file relocations size_of_header_in_paragraphs minimum_extra_paragraphs_needed "
        "maximum_extra_paragraphs_needed initial_relative_ss initial_sp checksum initial_ip initial_relative_cs "
@@ -75,12 +75,24 @@ def refused(kind, data, text):
         raise AssertionError("not refused: %r" % data)
 
 
+def texts():
+    """The cause of each number has a text of its own, which is whole with the widest numbers, too."""
+    told = [str(Refused(Fault(1, cause, 2**64 - 1, 2**64 - 1))) for cause in range(36)]
+    assert told[0] == told[1] == told[35] == "", told
+    assert len(set(told[2:35])) == 33, told
+    assert told[32] == ("the words of a base relocation block can't be read: 0xffffffffffffffff bytes "
+                        "at offset 0xffffffffffffffff of the directory"), told[32]
+    assert told[34] == ("a library of imports has 18446744073709551615 entries, but 18446744073709551615 slots"), told[34]
+    assert not any(text.endswith("..") for text in told), told
+
+
 def main(paths):
     for path in paths:
         headers(path)
         rich_header(path)
-    refused(Pe, b"", "NoDosSignature")
-    refused(lambda data: Pe(data, options(is_permissive=True)), b"no image", "DosMagic(28526)")
+    texts()
+    refused(Pe, b"", "the file is too short for the DOS signature")
+    refused(lambda data: Pe(data, options(is_permissive=True)), b"no image", "the file begins with 0x6f6e in place of the DOS signature")
     refused(ObjectFile, b"", "the offset lies at or past the end")
     refused(Te, bytes(40), "Stripped size (0x0) is smaller than TE header size (0x28)")
     print("%d files" % len(paths))

@@ -3,7 +3,9 @@ relocations, objects with their symbols, and Terse Executables.
 
 The reader is the proved library goblin_pe_c, as a shared library: ../lib/libgoblin_pe.so, or
 where the variable GOBLIN_PE_SO says. This module declares it and copies its records. Their fields are
-those of the crate, in the same order; callers/layout.py compares them.
+those of the crate, in the same order; callers/layout.py compares them, and ../c/goblin_pe.h says of each
+field what it is. Addresses (rva) are relative to the image's base, offsets are file offsets, both in bytes;
+but the offset of an import is the address of its entry in the address table.
 
     pe = Pe(open("some.dll", "rb").read())
     for x in pe.imports:
@@ -364,7 +366,7 @@ _NO_BYTES = c.create_string_buffer(1)
 
 
 def _empty(kind):
-    # a record whose texts are none, but point somewhere
+    # a record whose texts are empty, but point somewhere
     record = kind()
     for field in kind._fields_:
         if field[1] is Text:
@@ -414,9 +416,11 @@ def _symbol(s):
 
 
 class Pe:
-    """An image that was read. Texts are bytes. An import by ordinal has no name, and of one by name the
-    ordinal is the hint; a forwarder is the library with a name or an ordinal. The lists are empty where
-    their tables are absent or refused."""
+    """An image that was read. Texts are bytes. An import by ordinal has None as its name, and of one by name
+    the ordinal is the hint. The forwarder of an export is None, or the pair (library, name or ordinal). The
+    words of a block are numbers: the type in the high four bits, the place in the page in the low twelve.
+    The lists are empty where their tables are absent or refused, as import_table, export_table and
+    relocation_table say. A file that is refused raises Refused."""
 
     _KINDS = (RichEntry, Directory, Section, Import, Export, Block)
 

@@ -2,7 +2,11 @@
 //! relocations, objects with their symbols, and Terse Executables.
 //!
 //! The reader is the proved library `goblin_pe_c`; this crate declares it and gives its records types.
-//! All names and texts borrow from the bytes.
+//! All names and texts borrow from the bytes. Addresses (`rva`) are relative to the image's base, and
+//! offsets are file offsets, both in bytes, but for that of an import, which is an address.
+//!
+//! `callers/build` makes the archive that this crate links, in `callers/lib` or where the variable
+//! `GOBLIN_PE_LIB` says. A crate names this one by its path: `goblin_pe = { path = ".../callers/rust" }`.
 //!
 //! ```no_run
 //! use goblin_pe::{Options, Pe};
@@ -29,9 +33,9 @@ pub use raw::{CoffHeader, DataDirectory, DosHeader, OptionalHeader, Options, Ric
 pub enum Part {
     /// The file has no such table, or it was not asked for.
     Absent,
-    /// It was read.
+    /// It was read, and may be empty.
     Read,
-    /// It is refused and was passed over.
+    /// The file has it, and it is damaged; permissive mode passed over that.
     Refused,
 }
 
@@ -45,13 +49,14 @@ impl From<raw::Table> for Part {
     }
 }
 
-/// A text of the file. It is shown with each byte outside printable ASCII, and the backslash, as `\x`
-/// and two hexadecimal digits.
+/// A text of the file: bytes that mostly, but not always, are UTF-8. It is shown with each byte
+/// outside printable ASCII, and the backslash, as `\x` and two hexadecimal digits.
 #[derive(Clone, Copy, PartialEq, Eq, PartialOrd, Ord, Hash)]
 pub struct Text<'a>(pub &'a [u8]);
 
 impl<'a> Text<'a> {
-    /// The text, where it is UTF-8: all but the short names of sections are.
+    /// The text; `None` where it is not UTF-8, as the short name of a section need not be. All
+    /// other texts are.
     pub fn as_str(self) -> Option<&'a str> {
         std::str::from_utf8(self.0).ok()
     }
@@ -78,13 +83,13 @@ impl fmt::Debug for Text<'_> {
 /// The Rich header, which says by which tools a file was made.
 #[derive(Clone, Copy, Debug)]
 pub struct RichHeader {
-    /// The key, under which the words are stored.
+    /// The key, with which each stored word is the exclusive or.
     pub key: u32,
-    /// The size of the padding in front of the entries, in bytes.
+    /// The size of the padding before the entries, in bytes.
     pub padding_size: usize,
-    /// The file offset of the first marker.
+    /// The file offset of the first marker, `DanS` under the key.
     pub start_offset: u32,
-    /// The file offset of the second marker.
+    /// The file offset of the second marker, `Rich`.
     pub end_offset: u32,
 }
 
@@ -93,13 +98,14 @@ pub struct RichHeader {
 pub struct Section<'a> {
     /// The name from the string table, else the eight bytes up to the first NUL.
     pub name: Text<'a>,
-    /// The size in memory, in bytes.
+    /// The size in memory, in bytes: what the data in the file lacks of it is zeros.
     pub virtual_size: u32,
     /// The address in memory, relative to the image's base.
     pub virtual_address: u32,
-    /// The size of the data in the file, in bytes.
+    /// The size of the data in the file, in bytes; in an image rounded up, so it may be above the
+    /// virtual size.
     pub size_of_raw_data: u32,
-    /// The file offset of the data.
+    /// The file offset of the data, as stored.
     pub pointer_to_raw_data: u32,
     /// The file offset of the relocations of an object, 0 where there are none.
     pub pointer_to_relocations: u32,
@@ -109,13 +115,14 @@ pub struct Section<'a> {
     pub number_of_relocations: u16,
     /// How many line numbers there are.
     pub number_of_linenumbers: u16,
-    /// What the section holds and how it may be used, as bits.
+    /// What the section holds and how it may be used, as bits `IMAGE_SCN_*`; the loader protects
+    /// its pages by them.
     pub characteristics: u32,
 }
 
 impl Section<'_> {
-    /// The data in the file `bytes`, and how many zeros follow them in memory; `None` where the data
-    /// pass the file.
+    /// The pair (data in the file `bytes`, how many zeros follow it in memory); `None` where the
+    /// data passes the file.
     pub fn data<'c>(&self, bytes: &'c [u8]) -> Option<(&'c [u8], u32)> {
         let begin = self.pointer_to_raw_data as usize;
         let end = begin.checked_add(self.size_of_raw_data as usize)?;
@@ -153,7 +160,7 @@ pub enum Imported<'a> {
     Name {
         /// The name.
         name: Text<'a>,
-        /// Where the name may stand in the library's table of names.
+        /// At which index of the library's names the loader looks first. A wrong hint does no harm.
         hint: u16,
     },
     /// By an ordinal.
@@ -182,17 +189,19 @@ impl fmt::Display for Imported<'_> {
 /// An import.
 #[derive(Clone, Copy, Debug, PartialEq, Eq)]
 pub struct Import<'a> {
-    /// What is imported.
+    /// What is imported: a name or an ordinal.
     pub name: Imported<'a>,
-    /// The name of the library.
+    /// The name of the library; empty where permissive mode could not read it.
     pub dll: Text<'a>,
-    /// The address of its entry in the address table.
+    /// The address (not the file offset) of its own entry in the address table, where the loader
+    /// puts the address of what is imported.
     pub offset: usize,
-    /// The address of the hint and the name, 0 of an import by ordinal.
+    /// The address of the hint and the name; 0 of an import by ordinal.
     pub rva: usize,
-    /// The size of an entry of the address table, in bytes.
+    /// The size of an entry of the address table, in bytes: 4 in an image for 32 bits, else 8.
     pub size: usize,
-    /// The index of its entry in the lookup table and in the address table, in the file.
+    /// The index of its entry, in the file, in the lookup table and in the address table. Entries
+    /// that are left out count.
     pub slot: usize,
 }
 
@@ -239,13 +248,13 @@ pub enum Forwarder<'a> {
 /// An export.
 #[derive(Clone, Copy, Debug, PartialEq, Eq)]
 pub struct Export<'a> {
-    /// The name, where it can be read.
+    /// The name; `None` where no text stands at its address.
     pub name: Option<Text<'a>>,
-    /// The file offset of `rva`, where it has one.
+    /// The file offset of `rva`; `None` where no section maps it.
     pub offset: Option<usize>,
-    /// The address, or that of the forwarder's text.
+    /// The address, relative to the image's base; of a forwarder that of its text.
     pub rva: usize,
-    /// What a forwarder stands for.
+    /// What it stands for in another library; `None` where it is no forwarder.
     pub forwarder: Option<Forwarder<'a>>,
 }
 
@@ -270,7 +279,7 @@ impl<'a> From<&raw::Export<'a>> for Export<'a> {
 /// A block of base relocations, for one page of the image in memory.
 #[derive(Clone, Copy, Debug, PartialEq, Eq)]
 pub struct Block<'a> {
-    /// The page's address, relative to the image's base.
+    /// The page's address, relative to the image's base, to which each place is added.
     pub rva: u32,
     /// The size of the block with its head, in bytes.
     pub size: u32,
@@ -278,7 +287,8 @@ pub struct Block<'a> {
 }
 
 impl<'a> Block<'a> {
-    /// The words: of each its type, and its place in bytes from the page's address.
+    /// The words as pairs (type, place in bytes from the page's address). A byte that is left after
+    /// them is no word.
     pub fn words(&self) -> impl ExactSizeIterator<Item = (u8, u16)> + use<'a> {
         self.bytes.chunks_exact(2).map(|bytes| {
             let word = u16::from_le_bytes([bytes[0], bytes[1]]);
@@ -338,7 +348,8 @@ impl Error {
         }
     }
 
-    /// Which cause, by its number (0: the kind says all), and the cause's numbers.
+    /// The triple (number of the cause, its first number, its second number), each 0 where there is
+    /// none. The cause 0 means that the kind says all.
     pub fn cause(&self) -> (u32, u64, u64) {
         (self.0.cause, self.0.first, self.0.second)
     }
@@ -419,7 +430,7 @@ impl<'a> Pe<'a> {
         ]
     }
 
-    // Makes room for so many records, and answers whether there was less.
+    // Makes room for this many records of each kind, and answers whether there was less.
     fn make_room(&mut self, room: [usize; 5]) -> bool {
         let records = &mut self.records;
         let grown = [
@@ -442,12 +453,12 @@ impl<'a> Pe<'a> {
         &self.file.coff_header
     }
 
-    /// The optional header, where there is one.
+    /// The optional header; `None` where the file has none, and then it has no tables.
     pub fn optional_header(&self) -> Option<&OptionalHeader> {
         (self.file.coff_header.size_of_optional_header != 0).then_some(&self.file.optional_header)
     }
 
-    /// The Rich header, where there is one.
+    /// The Rich header; `None` where the file has none.
     pub fn rich_header(&self) -> Option<RichHeader> {
         let rich = &self.file.rich_header;
         rich.is_present.then_some(RichHeader {
@@ -463,12 +474,13 @@ impl<'a> Pe<'a> {
         &self.records.rich_entries[..self.file.rich_header.entries]
     }
 
-    /// Why a rest that follows the entries of the Rich header is none, where there is a rest.
+    /// Why the rest that follows the entries of the Rich header is no entry; `None` where there is
+    /// no rest.
     pub fn rich_rest(&self) -> Option<Error> {
         Error::of(self.file.rich_header.rest)
     }
 
-    /// The data directories that are there, each with its index.
+    /// The data directories that are there, as pairs (index, directory), by rising index.
     pub fn data_directories(&self) -> impl Iterator<Item = (usize, DataDirectory)> + '_ {
         let directories = self.records.directories.iter().enumerate();
         directories.filter(|(_, d)| d.is_present).map(|(index, d)| {
@@ -525,12 +537,14 @@ impl<'a> Pe<'a> {
             .map(Block::from)
     }
 
-    /// Why a rest that follows the blocks is none, where there is a rest.
+    /// Why the rest that follows the blocks is no block; `None` where there is no rest.
     pub fn block_rest(&self) -> Option<Error> {
         Error::of(self.file.relocations.rest)
     }
 
-    /// The file offset of an address, by the sections and the file alignment.
+    /// The file offset of an address, by the sections, the file alignment and the options with
+    /// which the file was read; `None` where no section maps it. It walks over the sections each
+    /// time.
     pub fn find_offset(&self, rva: usize) -> Option<usize> {
         let alignment = self.file.optional_header.file_alignment;
         raw::find_offset(rva, self.section_records(), alignment, &self.options)
@@ -568,15 +582,16 @@ fn grow<T: Copy>(records: &mut Vec<T>, length: usize, empty: T) -> bool {
 pub struct Symbol<'a> {
     /// The index of its record in the symbol table, which also counts auxiliary records.
     pub index: usize,
-    /// The name, where it can be read.
+    /// The name, from the record or the string table; `None` where none can be read.
     pub name: Option<Text<'a>>,
-    /// What it stands for, by its section and class.
+    /// What it stands for, by its section and class: mostly an offset in its section.
     pub value: u32,
     /// The number of its section, counted from 1; or 0 undefined, -1 absolute, -2 for a debugger.
     pub section_number: i16,
-    /// Its type.
+    /// Its type: the base type in the low four bits, the derived type above them; 0x20 is a
+    /// function.
     pub typ: u16,
-    /// Its class.
+    /// Its class: 2 external, 3 static, 103 a source file, 105 weak external.
     pub storage_class: u8,
     /// How many auxiliary records follow it.
     pub number_of_aux_symbols: u8,

@@ -71,7 +71,7 @@ pub struct Fault {
 #[repr(C)]
 #[derive(Clone, Copy, Debug, Default, PartialEq, Eq)]
 pub struct DosHeader {
-    /// The file offset of the PE header.
+    /// The file offset of the PE signature.
     pub pe_pointer: u32,
     /// `MZ`.
     pub signature: u16,
@@ -83,9 +83,9 @@ pub struct DosHeader {
     pub relocations: u16,
     /// The size of the header in paragraphs of 16 bytes.
     pub size_of_header_in_paragraphs: u16,
-    /// The least memory that the program needs behind it, in paragraphs.
+    /// The least memory that the program needs after it, in paragraphs.
     pub minimum_extra_paragraphs_needed: u16,
-    /// The most memory that the program asks for behind it, in paragraphs.
+    /// The most memory that the program asks for after it, in paragraphs.
     pub maximum_extra_paragraphs_needed: u16,
     /// The stack segment at the start, relative to the program.
     pub initial_relative_ss: u16,
@@ -115,19 +115,21 @@ pub struct DosHeader {
 #[repr(C)]
 #[derive(Clone, Copy, Debug, Default, PartialEq, Eq)]
 pub struct CoffHeader {
-    /// The machine that the file is for.
+    /// The machine that the file is for: 0x14c is x86, 0x8664 x86-64, 0xaa64 ARM64.
     pub machine: u16,
     /// How many section records follow the optional header.
     pub number_of_sections: u16,
-    /// When the file was made, in seconds since the start of 1970, or what its maker put there.
+    /// When the file was made, in seconds since the start of 1970, or what its maker put there,
+    /// such as a hash.
     pub time_date_stamp: u32,
     /// The file offset of the symbol table, 0 where there is none.
     pub pointer_to_symbol_table: u32,
-    /// How many records the symbol table has.
+    /// How many records the symbol table has, the auxiliary ones too.
     pub number_of_symbol_table: u32,
-    /// The size of the optional header, in bytes, 0 where there is none.
+    /// The size of the optional header, in bytes; 0 where there is none, as in an object. It says
+    /// where the section table begins.
     pub size_of_optional_header: u16,
-    /// What kind of file it is, as bits.
+    /// What kind of file it is, as bits `IMAGE_FILE_*`.
     pub characteristics: u16,
 }
 
@@ -143,36 +145,43 @@ pub struct OptionalHeader {
     pub size_of_uninitialized_data: u64,
     /// The address at which the code begins, relative to the image's base.
     pub base_of_code: u64,
-    /// The address at which the image is best loaded, a multiple of 64 KiB.
+    /// The address at which the image is best loaded, a multiple of 64 KiB. Where the loader takes
+    /// another, it applies the base relocations.
     pub image_base: u64,
     /// How much of the stack to reserve, in bytes.
     pub size_of_stack_reserve: u64,
-    /// How much of the stack to commit, in bytes.
+    /// How much of the stack to commit, in bytes; the rest follows page by page.
     pub size_of_stack_commit: u64,
     /// How much of the heap to reserve, in bytes.
     pub size_of_heap_reserve: u64,
-    /// How much of the heap to commit, in bytes.
+    /// How much of the heap to commit, in bytes; the rest follows page by page.
     pub size_of_heap_commit: u64,
-    /// The address of the entry point, relative to the image's base; 0 where there is none.
+    /// The address of the entry point, relative to the image's base; 0 where there is none, as in
+    /// some libraries. The loader starts there, in whatever section it lies.
     pub address_of_entry_point: u32,
     /// The address at which the data begins, relative to the image's base; 0 in an image for 64
     /// bits.
     pub base_of_data: u32,
-    /// The alignment of sections in memory, in bytes.
+    /// The alignment of sections in memory, in bytes: at least the file alignment, mostly a page.
     pub section_alignment: u32,
-    /// The alignment of the raw data of sections in the file, in bytes.
+    /// The alignment of the raw data of sections in the file, in bytes: a power of two, mostly 512.
+    /// The mapping of addresses to file offsets goes by it.
     pub file_alignment: u32,
     /// Reserved, 0.
     pub win32_version_value: u32,
-    /// The size of the image in memory with all headers, in bytes.
+    /// The size of the image in memory with all headers, in bytes: how much the loader reserves, a
+    /// multiple of the section alignment.
     pub size_of_image: u32,
-    /// The size of all headers together, in bytes, rounded up to the file alignment.
+    /// The size of all headers together, in bytes, rounded up to the file alignment. So much of the
+    /// file's front is loaded at the image's base.
     pub size_of_headers: u32,
-    /// The image's checksum.
+    /// The image's checksum. The loader tests that of drivers and of what is loaded at boot; no
+    /// reader does.
     pub check_sum: u32,
     /// Reserved, 0.
     pub loader_flags: u32,
-    /// How many data directories follow.
+    /// How many data directories follow. Readers take at most sixteen; directories past this number
+    /// are not there, whatever bytes follow.
     pub number_of_rva_and_sizes: u32,
     /// 0x10b for 32 bits, 0x20b for 64 bits, 0 where there is no optional header.
     pub magic: u16,
@@ -188,9 +197,10 @@ pub struct OptionalHeader {
     pub major_subsystem_version: u16,
     /// The minor version of the subsystem that the image needs.
     pub minor_subsystem_version: u16,
-    /// The subsystem that runs the image.
+    /// The subsystem that runs the image, an `IMAGE_SUBSYSTEM_*`.
     pub subsystem: u16,
-    /// What the loader may and has to do, as bits.
+    /// What the loader may and has to do, as bits `IMAGE_DLLCHARACTERISTICS_*`: whether it may move
+    /// the image, and which guards it turns on.
     pub dll_characteristics: u16,
     /// The linker's major version.
     pub major_linker_version: u8,
@@ -202,13 +212,14 @@ pub struct OptionalHeader {
 #[repr(C)]
 #[derive(Clone, Copy, Debug, Default, PartialEq, Eq)]
 pub struct Directory {
-    /// Where the entry ends, in bytes from the front of the optional header; 0 where there is
-    /// none.
+    /// Where the entry's record ends, in bytes from the front of the optional header; 0 where there
+    /// is no entry.
     pub end: usize,
-    /// The address of what it leads to, relative to the image's base; of the attribute
-    /// certificates the file offset.
+    /// The address of what it leads to, relative to the image's base. That of the attribute
+    /// certificates is a file offset, since they are not loaded.
     pub virtual_address: u32,
-    /// The size of what it leads to, in bytes.
+    /// The size of what it leads to, in bytes. An import directory ends at its own last record,
+    /// whatever the size.
     pub size: u32,
     /// Whether there is such an entry, and not all of it is 0.
     pub is_present: bool,
@@ -230,9 +241,9 @@ pub struct DataDirectory {
 pub struct TeHeader {
     /// The address at which the image is best loaded.
     pub image_base: u64,
-    /// The address of the entry point.
+    /// The address of the entry point, relative to the image's base.
     pub entry_point: u32,
-    /// The address at which the code begins.
+    /// The address at which the code begins, relative to the image's base.
     pub base_of_code: u32,
     /// Where the base relocations lie.
     pub reloc_dir: DataDirectory,
@@ -242,7 +253,7 @@ pub struct TeHeader {
     pub signature: u16,
     /// The machine that the file is for.
     pub machine: u16,
-    /// How many bytes were stripped from the front of the PE file.
+    /// How many bytes were stripped from the front of the PE file; this header's 40 stand for them.
     pub stripped_size: u16,
     /// How many sections there are.
     pub number_of_sections: u8,
@@ -268,15 +279,15 @@ pub struct RichEntry {
 pub struct RichHeader {
     /// How many entries there are.
     pub entries: usize,
-    /// The size of the padding in front of the entries, in bytes.
+    /// The size of the padding before the entries, in bytes.
     pub padding_size: usize,
-    /// Why a rest that follows the entries is none; its status is 0 where there is no rest.
+    /// Why the rest that follows the entries is no entry; its status is 0 where there is no rest.
     pub rest: Fault,
-    /// The key, under which the words are stored.
+    /// The key, with which each stored word is the exclusive or.
     pub key: u32,
-    /// The file offset of the first marker.
+    /// The file offset of the first marker, `DanS` under the key.
     pub start_offset: u32,
-    /// The file offset of the second marker.
+    /// The file offset of the second marker, `Rich`.
     pub end_offset: u32,
     /// Whether there is a Rich header.
     pub is_present: bool,
@@ -286,27 +297,30 @@ pub struct RichHeader {
 #[repr(C)]
 #[derive(Clone, Copy)]
 pub struct Section<'a> {
-    /// The name from the string table, where there is one.
+    /// The name from the string table, where there is one; a name of more than eight bytes stands
+    /// there.
     pub real_name: Slice<'a>,
     /// The eight bytes of the name, padded with NULs.
     pub name: [u8; 8],
-    /// The section's size in memory, in bytes.
+    /// The section's size in memory, in bytes: what the raw data lacks of it is zeros.
     pub virtual_size: u32,
     /// The section's address in memory, relative to the image's base.
     pub virtual_address: u32,
-    /// The size of the section's data in the file, in bytes.
+    /// The size of the section's data in the file, in bytes; in an image rounded up, so it may be
+    /// above the virtual size.
     pub size_of_raw_data: u32,
-    /// The file offset of the section's data.
+    /// The file offset of the section's data, as stored.
     pub pointer_to_raw_data: u32,
     /// The file offset of the section's relocations, 0 where it has none.
     pub pointer_to_relocations: u32,
     /// The file offset of the section's line numbers, 0 where it has none.
     pub pointer_to_linenumbers: u32,
-    /// How many relocations the section has.
+    /// How many relocations the section has, as its record says.
     pub number_of_relocations: u16,
     /// How many line numbers the section has.
     pub number_of_linenumbers: u16,
-    /// What the section holds and how it may be used.
+    /// What the section holds and how it may be used, as bits `IMAGE_SCN_*`; the loader protects
+    /// its pages by them.
     pub characteristics: u32,
     /// Whether the section has a name from the string table.
     pub has_real_name: bool,
@@ -316,19 +330,22 @@ pub struct Section<'a> {
 #[repr(C)]
 #[derive(Clone, Copy)]
 pub struct Import<'a> {
-    /// The name that is imported; nothing where the import is by ordinal.
+    /// The name that is imported, where the import is by name.
     pub name: Slice<'a>,
-    /// The name of the library.
+    /// The name of the library; empty where permissive mode could not read it.
     pub dll: Slice<'a>,
-    /// The address of the entry of the address table.
+    /// The address (not the file offset) of its own entry in the address table, where the loader
+    /// puts the address of what is imported.
     pub offset: usize,
-    /// The address of the hint and the name, 0 of an import by ordinal.
+    /// The address of the hint and the name; 0 of an import by ordinal.
     pub rva: usize,
-    /// The size of an entry of the address table, in bytes.
+    /// The size of an entry of the address table, in bytes: 4 in an image for 32 bits, else 8.
     pub size: usize,
-    /// The index of its entry in the lookup table and in the address table, in the file.
+    /// The index of its entry, in the file, in the lookup table and in the address table. Entries
+    /// that are left out count.
     pub slot: usize,
-    /// The ordinal; of an import by name, the hint.
+    /// The ordinal; of an import by name, the hint, at which index of the library's names the
+    /// loader looks first.
     pub ordinal: u16,
     /// Whether the import is by name.
     pub is_by_name: bool,
@@ -348,7 +365,7 @@ pub struct Export<'a> {
     pub ordinal: usize,
     /// The file offset of `rva`, where it has one.
     pub offset: usize,
-    /// The export's address, or that of its forwarder's text.
+    /// The export's address, relative to the image's base; of a forwarder that of its text.
     pub rva: usize,
     /// How many bytes it has: the tables don't say it, so 0.
     pub size: usize,
@@ -367,7 +384,7 @@ pub struct Block<'a> {
     /// The words, of two bytes each: the type in the high four bits, and in the low twelve the
     /// place, in bytes from the page's address. A byte that is left is no word.
     pub words: Slice<'a>,
-    /// The page's address, relative to the image's base.
+    /// The page's address, relative to the image's base, to which each place is added.
     pub rva: u32,
     /// The size of the block with its head, in bytes.
     pub size: u32,
@@ -377,7 +394,7 @@ pub struct Block<'a> {
 #[repr(C)]
 #[derive(Clone, Copy, Debug, Default, PartialEq, Eq)]
 pub struct Table {
-    /// How many entries it has.
+    /// How many entries it has, whatever the room.
     pub count: usize,
     /// 0 the file has no such table, 1 it was read, 2 it is refused and was passed over.
     pub state: u32,
@@ -389,7 +406,7 @@ pub struct Table {
 pub struct Relocations {
     /// The blocks.
     pub blocks: Table,
-    /// Why a rest that follows the blocks is none; its status is 0 where there is no rest.
+    /// Why the rest that follows the blocks is no block; its status is 0 where there is no rest.
     pub rest: Fault,
 }
 
@@ -403,13 +420,14 @@ pub struct Symbol<'a> {
     pub index: usize,
     /// The eight bytes of the name in the record.
     pub record_name: [u8; 8],
-    /// What the symbol stands for, by its section and class.
+    /// What the symbol stands for, by its section and class: mostly an offset in its section.
     pub value: u32,
     /// The number of its section, counted from 1; or 0 undefined, -1 absolute, -2 for a debugger.
     pub section_number: i16,
-    /// Its type.
+    /// Its type: the base type in the low four bits, the derived type above them; 0x20 is a
+    /// function.
     pub typ: u16,
-    /// Its class.
+    /// Its class: 2 external, 3 static, 103 a source file, 105 weak external.
     pub storage_class: u8,
     /// How many auxiliary records follow it.
     pub number_of_aux_symbols: u8,
@@ -423,7 +441,7 @@ pub struct Symbol<'a> {
 pub struct File {
     /// The optional header.
     pub optional_header: OptionalHeader,
-    /// How many sections there are.
+    /// How many sections there are, whatever the room.
     pub sections: usize,
     /// The imports.
     pub imports: Table,
@@ -443,7 +461,7 @@ pub struct File {
 #[repr(C)]
 #[derive(Clone, Copy, Debug, Default, PartialEq, Eq)]
 pub struct Object {
-    /// How many sections there are.
+    /// How many sections there are, whatever the room.
     pub sections: usize,
     /// The symbols.
     pub symbols: Table,

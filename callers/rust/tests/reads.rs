@@ -154,14 +154,20 @@ fn refusals() {
     let error = Pe::read(b"", &Options::default()).err().unwrap();
     assert_eq!(
         (error.kind(), error.to_string().as_str()),
-        (ErrorKind::Malformed, "NoDosSignature")
+        (
+            ErrorKind::Malformed,
+            "the file is too short for the DOS signature"
+        )
     );
     let options = Options {
         is_permissive: true,
         ..Options::default()
     };
     let error = Pe::read(b"no image", &options).err().unwrap();
-    assert_eq!(error.to_string(), "DosMagic(28526)");
+    assert_eq!(
+        error.to_string(),
+        "the file begins with 0x6f6e in place of the DOS signature"
+    );
     assert_eq!(Te::read(b"VZ").err().unwrap().kind(), ErrorKind::Read);
 }
 
