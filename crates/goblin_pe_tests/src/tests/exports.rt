@@ -2,6 +2,7 @@
 
 use fixture::memory::{Outcome, is_refused_until_right};
 use fixture::sample::{put, sample, sample_section, section};
+use fixture_tables::exports::{FORWARDED, PLAIN, Row, are};
 use goblin_base::{Cause, Endian, Error, Record, gread_with};
 use goblin_pe::export::{
     Export, ExportAddressTableEntry, ExportData, ExportDirectoryTable, Reexport,
@@ -21,35 +22,11 @@ const DIRECTORY: DataDirectory = DataDirectory {
 
 const ALIGNMENT: u32 = 0x200;
 
-/// An export's name, file offset, address, and what it stands for.
-pub(super) type Row<'a> = (Option<&'a str>, Option<usize>, usize, Option<Reexport<'a>>);
-
-/// The sample file's exports.
-pub(super) const PLAIN: Row = (Some("f"), Some(0x210), 0x1010, None);
-
-pub(super) const FORWARDED: Row = (
-    Some("a.dll"),
-    Some(0x2E0),
-    0x10E0,
-    Some(Reexport::DLLOrdinal {
-        ordinal: 12,
-        lib: "b",
-    }),
-);
-
 /// The exports of a file with the sample's section and directory.
 fn exports_of(alloc: Global, file: &[u8]) -> goblin_base::Result<Vec<Export<'_>>> {
     let sections = [sample_section()];
     let tables = ExportData::parse(alloc, file, DIRECTORY, &sections, ALIGNMENT)?;
     Export::parse(alloc, file, &tables, &sections, ALIGNMENT)
-}
-
-/// Whether these are the exports, in this order.
-pub(super) fn are(exports: &[Export], want: &[Row]) -> bool {
-    exports.len() == want.len()
-        && exports.iter().zip(want).all(|(export, row)| {
-            (export.name, export.offset, export.rva, export.reexport) == *row && export.size == 0
-        })
 }
 
 #[test]

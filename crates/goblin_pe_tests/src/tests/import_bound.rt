@@ -1,7 +1,7 @@
 //! A file whose imports come near the bound on their number.
 
-use crate::tests::imports::ALIGNMENT;
 use fixture::sample::{put, section};
+use fixture_tables::imports::ALIGNMENT;
 use goblin_pe::import::{Import, ImportData};
 use goblin_pe::options::{ParseMode, ParseOptions};
 use goblin_pe_sect::DataDirectory;

@@ -2,67 +2,21 @@
 
 ghost use Rattle.std.specs.Prelude.{◌≤◌, ◌-◌, ◌^◌};
 ghost use Rattle.std.proofs.Common.{lit≤};
-ghost use Rattle.goblin_base.specs.Bytes.{number};
-ghost use Rattle.goblin_base.specs.declared.endian.Endian.TheVariants.{Little};
-ghost use Rattle.goblin_pe_tests.specs.ShortEntry.{short_value};
+ghost use Rattle.fixture_tables.specs.ShortEntry.{short_value};
 
 use fixture::memory::{Outcome, is_refused_until_right};
 use fixture::sample::{put, sample, sample_section};
-use goblin_base::{
-    Cause, Endian, Error, ParseMode, ReadFault, Record, ResultOf, TryFromCtx, field_u16,
+use fixture_tables::imports::{
+    ALIGNMENT, DIRECTORY, GO, RECORD, SEVEN, Short, are_rows, is_go, is_sample_table, is_seven,
 };
+use goblin_base::{Cause, Endian, Error, ParseMode, ReadFault, Record, ResultOf, TryFromCtx};
 use goblin_pe::import::{
     Bitfield, HintNameTableEntry, Import, ImportData, ImportDirectoryEntry, ImportLookupSlots,
-    ImportLookupTable, SIZEOF_IMPORT_DIRECTORY_ENTRY, SyntheticImportDirectoryEntry,
-    SyntheticImportLookupTableEntry,
+    SIZEOF_IMPORT_DIRECTORY_ENTRY, SyntheticImportDirectoryEntry, SyntheticImportLookupTableEntry,
 };
-use goblin_pe_sect::{DataDirectory, ParseOptions, SectionTable};
+use goblin_pe_sect::{DataDirectory, ParseOptions};
 use std::alloc::{AllocError, Global};
 use std::test::Fail;
-
-/// An entry of two bytes, by ordinal from 2^15 on.
-#[derive(Debug, PartialEq, Eq, Copy, Clone)]
-pub(super) struct Short {
-    number: u16,
-}
-
-impl<'a> Bitfield<'a> for Short {
-    ghost format = { record { width = 2; value_of = λ bytes. short_value (number Little 2 bytes 0) } };
-
-    ghost value = { λ entry. short_value entry.number };
-
-    fn is_ordinal(&self) -> bool {
-        self.number >= 0x8000
-    }
-
-    fn to_ordinal(&self) -> u16 {
-        self.number % 0x8000
-    }
-
-    fn to_rva(&self) -> u32 {
-        u32::from(self.number % 0x8000)
-    }
-
-    fn size_of() -> usize {
-        2
-    }
-
-    fn is_zero(&self) -> bool {
-        self.number == 0
-    }
-
-    fn read(bytes: &'a [u8]) -> Short {
-        Short {
-            number: field_u16(bytes, 0, Endian::Little),
-        }
-    }
-
-    fn number(&self) -> u64 {
-        u64::from(self.number)
-    }
-
-    ghost positive = { lit≤ tt };
-}
 
 /// An entry of as many bytes as a slice can have, which no file holds.
 #[derive(Debug, PartialEq, Eq, Copy, Clone)]
@@ -104,32 +58,6 @@ impl<'a> Bitfield<'a> for Vast {
     ghost positive = { lit≤ tt };
 }
 
-/// Where the sample file's import directory lies.
-pub(super) const DIRECTORY: DataDirectory = DataDirectory {
-    virtual_address: 0x1000,
-    size: 0x28,
-};
-
-/// The sample file's file alignment.
-pub(super) const ALIGNMENT: u32 = 0x200;
-
-/// The record of the sample file's import directory.
-pub(super) const RECORD: ImportDirectoryEntry = ImportDirectoryEntry {
-    import_lookup_table_rva: 0x1040,
-    time_date_stamp: 0,
-    forwarder_chain: 0,
-    name_rva: 0x1080,
-    import_address_table_rva: 0x1060,
-};
-
-/// An import, by what is wanted of it: name, ordinal, offset, address, size and slot.
-pub(super) type Row = (&'static str, u16, usize, usize, usize, usize);
-
-/// The sample file's imports.
-pub(super) const GO: Row = ("Go", 5, 0x1060, 0x1090, 4, 0);
-
-pub(super) const SEVEN: Row = ("ORDINAL 7", 7, 0x1064, 0, 4, 1);
-
 fn options(mode: ParseMode) -> ParseOptions {
     ParseOptions::default().with_parse_mode(mode)
 }
@@ -153,22 +81,6 @@ fn imports_of<'a, 'e, T: Bitfield<'a>>(
         alloc, file, DIRECTORY, &sections, ALIGNMENT, &opts,
     )?;
     Import::parse::<T>(alloc, file, &data, &sections)
-}
-
-/// Whether these are the imports from `a.dll`.
-pub(super) fn are_rows(imports: &[Import], rows: &[Row]) -> bool {
-    imports.len() == rows.len()
-        && imports.iter().zip(rows).all(|(import, row)| {
-            import.dll == "a.dll"
-                && (
-                    &import.name[..],
-                    import.ordinal,
-                    import.offset,
-                    import.rva,
-                    import.size,
-                    import.slot,
-                ) == *row
-        })
 }
 
 #[test]
@@ -276,28 +188,6 @@ fn an_address_that_no_section_maps_is_left_out_in_both_modes(rt: HostRuntime) ->
         assert!(rt; are_rows(&imports, &[SEVEN]), "{mode:?}");
     }
     Ok(())
-}
-
-/// Whether this is an entry of the sample file's lookup table: that of `Go`, or of the ordinal 7.
-fn is_go(entry: &SyntheticImportLookupTableEntry) -> bool {
-    match entry {
-        SyntheticImportLookupTableEntry::HintNameTableRVA((rva, named)) => *rva == 0x1090
-            && named.hint == 5
-            && named.name == "Go",
-        SyntheticImportLookupTableEntry::OrdinalNumber(_) => false,
-    }
-}
-
-fn is_seven(entry: &SyntheticImportLookupTableEntry) -> bool {
-    matches!(entry, SyntheticImportLookupTableEntry::OrdinalNumber(7))
-}
-
-/// Whether this is the sample file's lookup table, by entries of four bytes.
-pub(super) fn is_sample_table(table: &ImportLookupTable) -> bool {
-    match table.as_slice() {
-        [first, second] => is_go(first) && is_seven(second),
-        _ => false,
-    }
 }
 
 #[test]

@@ -1,7 +1,7 @@
 //! Headers, and single tables, of two files.
 
-use crate::tests::imports::{ALIGNMENT, DIRECTORY, RECORD};
 use fixture::sample::{TABLE, put, sample, sample_section};
+use fixture_tables::imports::{ALIGNMENT, DIRECTORY, RECORD};
 use goblin_base::{Cause, Error};
 use goblin_pe::header::{CoffHeader, Header};
 use goblin_pe::import::ImportDirectoryEntry;

@@ -1,11 +1,11 @@
 //! Which bytes of a file its imports and exports depend on.
 
-use crate::tests::exports::{FORWARDED, PLAIN, are};
-use crate::tests::imports::{
-    ALIGNMENT, DIRECTORY, GO, RECORD, SEVEN, Short, are_rows, is_sample_table,
-};
 use fixture::memory::{Outcome, is_refused_until_right};
 use fixture::sample::{SAMPLE_LEN, put, sample, sample_section};
+use fixture_tables::exports::{FORWARDED, PLAIN, are};
+use fixture_tables::imports::{
+    ALIGNMENT, DIRECTORY, GO, RECORD, SEVEN, Short, are_rows, is_sample_table,
+};
 use goblin_base::{Error, ParseMode};
 use goblin_pe::export::{ExportAddressTableEntry, ExportData, ExportDirectoryTable};
 use goblin_pe::import::{

@@ -1,14 +1,13 @@
 //! Readers in both modes, and under two tables of sections.
 
-use crate::tests::imports::{ALIGNMENT, DIRECTORY, RECORD};
-use crate::tests::raw_pointers::{are_sample_exports, are_sample_imports, front_file};
 use fixture::memory::{Outcome, is_refused_until_right};
 use fixture::sample::{put, sample, sample_section, section};
+use fixture_tables::exports::{FORWARDED, PLAIN, are};
+use fixture_tables::imports::{ALIGNMENT, DIRECTORY, GO, RECORD, SEVEN, are_rows, front_file};
 use goblin_base::{Cause, Error};
-use goblin_pe::import::{Import, ImportDirectoryEntry};
+use goblin_pe::import::{Import, ImportData, ImportDirectoryEntry};
 use goblin_pe::laws::{
-    ExportRead, Request, Tables, TablesOf, mode_header, mode_tables, mode_whole,
-    reorder_whole_tables,
+    Request, Tables, TablesOf, mode_header, mode_tables, mode_whole, reorder_whole_tables,
 };
 use goblin_pe::options::ParseOptions;
 use goblin_pe::{Part, Whole};
@@ -35,8 +34,8 @@ const REQUEST: Request = Request {
 /// Whether this is the sample file.
 fn is_sample(whole: &Whole) -> bool {
     let lists_are_right = match (&whole.imports, &whole.exports) {
-        (Part::Read(imports), Part::Read(exports)) => are_sample_imports(imports)
-            && are_sample_exports(exports, (0x210, 0x2E0)),
+        (Part::Read(imports), Part::Read(exports)) => are_rows(imports, &[GO, SEVEN])
+            && are(exports, &[PLAIN, FORWARDED]),
         _ => false,
     };
     let tables_are_right = match (&whole.import_data, &whole.export_data, &whole.relocations) {
@@ -59,6 +58,14 @@ fn both_modes_read_the_same_file(rt: HostRuntime) -> Result<(), Fail> {
     assert!(rt; strict? == permissive?);
     let (strict, permissive) = mode_whole(alloc, &file, &opts);
     assert!(rt; is_sample(&strict?) && is_sample(&permissive?));
+    Ok(())
+}
+
+#[test]
+fn both_modes_read_the_same_tables(rt: HostRuntime) -> Result<(), Fail> {
+    let alloc = rt.alloc();
+    let file = sample(alloc)?;
+    let opts = ParseOptions::default();
     let sections = [sample_section()];
     let (strict, permissive): (Tables<ImportDirectoryEntry>, Tables<ImportDirectoryEntry>) =
         mode_tables::<u32, _>(alloc, &file, &sections, &REQUEST, ALIGNMENT, &opts);
@@ -79,9 +86,35 @@ fn permissive_mode_reads_a_header_that_strict_mode_refuses(rt: HostRuntime) -> R
     Ok(())
 }
 
-/// Whether this is what the file's front says as an export directory: a library name, and no exports.
-fn is_named_x((tables, exports): ExportRead) -> bool {
-    tables.name == Some("x") && exports.is_empty()
+/// The record that stands at the file's front.
+const FRONT: ImportDirectoryEntry = ImportDirectoryEntry {
+    import_lookup_table_rva: 0x1028,
+    time_date_stamp: 0,
+    forwarder_chain: 0,
+    name_rva: 0x1030,
+    import_address_table_rva: 0x1028,
+};
+
+/// The import data, and whether all else is what the file's front says.
+fn front_imports<'a>(
+    tables: Tables<'a, ImportDirectoryEntry>,
+) -> goblin_base::Result<(ImportData<'a>, bool)> {
+    let TablesOf {
+        lookup,
+        imports,
+        exports,
+        relocations,
+        name,
+        value,
+    } = tables;
+    let (data, exports) = exports?;
+    let is_right = lookup?.as_slice().len() == 1
+        && data.name == Some("x")
+        && exports.is_empty()
+        && relocations?.blocks().next().is_none()
+        && name? == Some("x")
+        && value? == FRONT;
+    Ok((imports?, is_right))
 }
 
 #[test]
@@ -110,23 +143,15 @@ fn permissive_mode_has_no_imports_from_the_front_of_the_file(rt: HostRuntime) ->
             0x200,
             &ParseOptions::default(),
         );
-    let data = strict.imports?;
+    let (data, is_right) = front_imports(strict)?;
     let imports = Import::parse::<u32>(alloc, &file, &data, &sections)?;
     let rows_are_right = match &imports[..] {
         [import] => (&import.name[..], import.dll, import.offset) == ("ORDINAL 1", "x", 0x1028),
         _ => false,
     };
-    assert!(rt; rows_are_right);
-    assert!(rt; permissive.imports?.import_data.is_empty());
-    // All else is the same.
-    assert_eq!(rt; strict.lookup?.as_slice().len(), 1);
-    assert_eq!(rt; permissive.lookup?.as_slice().len(), 1);
-    assert_eq!(rt; strict.name?, Some("x"));
-    assert_eq!(rt; permissive.name?, Some("x"));
-    assert!(rt; strict.value? == permissive.value?);
-    assert!(rt; is_named_x(strict.exports?) && is_named_x(permissive.exports?));
-    assert!(rt; strict.relocations?.blocks().next().is_none());
-    assert!(rt; permissive.relocations?.blocks().next().is_none());
+    assert!(rt; is_right && rows_are_right);
+    let (data, is_right) = front_imports(permissive)?;
+    assert!(rt; is_right && data.import_data.is_empty());
     Ok(())
 }
 
@@ -150,8 +175,8 @@ fn are_sample_tables<'a>(
     // The five bytes of a name are no whole block.
     let item = relocations?.blocks().next();
     Ok(
-        are_sample_imports(&imports)
-            && are_sample_exports(&exports, (0x210, 0x2E0))
+        are_rows(&imports, &[GO, SEVEN])
+            && are(&exports, &[PLAIN, FORWARDED])
             && data.name == Some("a.dll")
             && lookup?.as_slice().len() == 2
             && matches!(item, Some(Err(_)))
