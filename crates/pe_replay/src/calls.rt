@@ -238,14 +238,14 @@ fn show_rows(rt: &HostRuntime, exports: &[Export]) -> Result<(), Refused> {
 
 fn show_whole(rt: &HostRuntime, file: &[u8], mode: ParseMode) -> Result<(), Refused> {
     let opts = ParseOptions::default().with_parse_mode(mode);
-    let whole = Whole::read(rt.alloc(), file, &opts)?;
-    let (sections, imports, exports) = counts(&whole)?;
+    let (sections, imports, exports) = counts(Whole::read(rt.alloc(), file, &opts))?;
     println!(rt; "{sections} {imports} {exports}")?;
     Ok(())
 }
 
-// How many sections, imports and exports a file has.
-fn counts(whole: &Whole) -> Result<(usize, usize, usize), Refused> {
+// How many sections, imports and exports a file that was read has.
+fn counts(read: goblin_base::Result<Whole>) -> Result<(usize, usize, usize), Refused> {
+    let whole = read?;
     match (&whole.imports, &whole.exports) {
         (Part::Read(imports), Part::Read(exports)) => Ok((
             whole.sections.len(),

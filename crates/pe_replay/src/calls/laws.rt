@@ -85,7 +85,7 @@ fn show_exports(rt: &HostRuntime, a: &[u8], b: &[u8]) -> Result<(), Refused> {
 // How many sections, imports and exports each file has.
 fn show_files(rt: &HostRuntime, a: &[u8], b: &[u8]) -> Result<(), Refused> {
     let (first, second) = twin_whole(rt.alloc(), a, b, &ParseOptions::default());
-    let (first, second) = (counts(&first?)?, counts(&second?)?);
+    let (first, second) = (counts(first)?, counts(second)?);
     println!(rt; "{first:?} {second:?}")?;
     Ok(())
 }
@@ -158,7 +158,7 @@ fn show_footprint(rt: &HostRuntime, file: &[u8]) -> Result<(), Refused> {
 // How many sections, imports and exports the file has in each mode.
 fn show_modes(rt: &HostRuntime, file: &[u8]) -> Result<(), Refused> {
     let (strict, permissive) = mode_whole(rt.alloc(), file, &ParseOptions::default());
-    let (strict, permissive) = (counts(&strict?)?, counts(&permissive?)?);
+    let (strict, permissive) = (counts(strict)?, counts(permissive)?);
     println!(rt; "{strict:?} {permissive:?}")?;
     Ok(())
 }
