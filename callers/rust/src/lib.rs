@@ -380,8 +380,8 @@ thread_local! {
 // The room of a thread's first try: entries of the Rich header, sections, imports, exports, blocks.
 const FIRST: [usize; 5] = [32, 16, 256, 64, 16];
 
-// The most records of a kind that are kept.
-const KEPT: usize = 8192;
+// The most records of a kind that are kept: as many as there are ordinals.
+const KEPT: usize = 65_536;
 
 /// An image that was read.
 pub struct Pe<'a> {
