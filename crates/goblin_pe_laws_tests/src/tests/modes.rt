@@ -7,7 +7,7 @@ use fixture_tables::imports::{ALIGNMENT, DIRECTORY, GO, RECORD, SEVEN, are_rows,
 use goblin_base::{Cause, Error};
 use goblin_pe::import::{Import, ImportData, ImportDirectoryEntry};
 use goblin_pe::laws::{
-    Request, Tables, TablesOf, mode_header, mode_tables, mode_whole, reorder_whole_tables,
+    Request, Tables, mode_header, mode_tables, mode_whole, reorder_whole_tables,
 };
 use goblin_pe::options::ParseOptions;
 use goblin_pe::{Part, Whole};
@@ -55,9 +55,12 @@ fn both_modes_read_the_same_file(rt: HostRuntime) -> Result<(), Fail> {
     let file = sample(alloc)?;
     let opts = ParseOptions::default();
     let (strict, permissive) = mode_header(&file, &opts);
-    assert!(rt; strict? == permissive?);
+    let are_the_same =
+        matches!((&strict, &permissive), (Ok(strict), Ok(permissive)) if strict == permissive);
+    assert!(rt; are_the_same);
     let (strict, permissive) = mode_whole(alloc, &file, &opts);
-    assert!(rt; is_sample(&strict?) && is_sample(&permissive?));
+    assert!(rt; matches!(&strict, Ok(whole) if is_sample(whole)));
+    assert!(rt; matches!(&permissive, Ok(whole) if is_sample(whole)));
     Ok(())
 }
 
@@ -69,8 +72,13 @@ fn both_modes_read_the_same_tables(rt: HostRuntime) -> Result<(), Fail> {
     let sections = [sample_section()];
     let (strict, permissive): (Tables<ImportDirectoryEntry>, Tables<ImportDirectoryEntry>) =
         mode_tables::<u32, _>(alloc, &file, &sections, &REQUEST, ALIGNMENT, &opts);
-    assert!(rt; are_sample_tables(alloc, &file, &sections, strict)?);
-    assert!(rt; are_sample_tables(alloc, &file, &sections, permissive)?);
+    assert!(rt;
+        are_sample_imports(alloc, &file, &sections, &strict.imports)? && are_other_tables(&strict)
+    );
+    assert!(rt;
+        are_sample_imports(alloc, &file, &sections, &permissive.imports)?
+            && are_other_tables(&permissive)
+    );
     Ok(())
 }
 
@@ -82,7 +90,7 @@ fn permissive_mode_reads_a_header_that_strict_mode_refuses(rt: HostRuntime) -> R
     put(&mut file, 0x20, b"PE\0\0");
     let (strict, permissive) = mode_header(&file, &ParseOptions::default());
     assert!(rt; matches!(strict, Err(Error::Malformed(Cause::StubBeforeStart(0x20)))));
-    assert!(rt; permissive?.dos_header.pe_pointer == 0x20);
+    assert!(rt; matches!(&permissive, Ok(header) if header.dos_header.pe_pointer == 0x20));
     Ok(())
 }
 
@@ -95,26 +103,29 @@ const FRONT: ImportDirectoryEntry = ImportDirectoryEntry {
     import_address_table_rva: 0x1028,
 };
 
-/// The import data, and whether all else is what the file's front says.
-fn front_imports<'a>(
-    tables: Tables<'a, ImportDirectoryEntry>,
-) -> goblin_base::Result<(ImportData<'a>, bool)> {
-    let TablesOf {
-        lookup,
-        imports,
-        exports,
-        relocations,
-        name,
-        value,
-    } = tables;
-    let (data, exports) = exports?;
-    let is_right = lookup?.as_slice().len() == 1
-        && data.name == Some("x")
-        && exports.is_empty()
-        && relocations?.blocks().next().is_none()
-        && name? == Some("x")
-        && value? == FRONT;
-    Ok((imports?, is_right))
+/// Whether all but the import data is what the file's front says.
+fn is_front(tables: &Tables<ImportDirectoryEntry>) -> bool {
+    matches!(&tables.exports, Ok((data, exports)) if data.name == Some("x") && exports.is_empty())
+        && matches!(&tables.lookup, Ok(table) if table.as_slice().len() == 1)
+        && matches!(&tables.relocations, Ok(data) if data.blocks().next().is_none())
+        && matches!(&tables.name, Ok(Some(name)) if *name == "x")
+        && matches!(&tables.value, Ok(value) if *value == FRONT)
+}
+
+/// Whether these are the front's imports: one by the ordinal 1.
+fn are_front_imports<'a>(
+    alloc: Global,
+    file: &'a [u8],
+    sections: &[SectionTable],
+    imports: &goblin_base::Result<ImportData<'a>>,
+) -> goblin_base::Result<bool> {
+    let Ok(data) = imports else {
+        return Ok(false);
+    };
+    let imports = Import::parse::<u32>(alloc, file, data, sections)?;
+    Ok(
+        matches!(&imports[..], [import] if (&import.name[..], import.dll, import.offset) == ("ORDINAL 1", "x", 0x1028)),
+    )
 }
 
 #[test]
@@ -143,46 +154,35 @@ fn permissive_mode_has_no_imports_from_the_front_of_the_file(rt: HostRuntime) ->
             0x200,
             &ParseOptions::default(),
         );
-    let (data, is_right) = front_imports(strict)?;
-    let imports = Import::parse::<u32>(alloc, &file, &data, &sections)?;
-    let rows_are_right = match &imports[..] {
-        [import] => (&import.name[..], import.dll, import.offset) == ("ORDINAL 1", "x", 0x1028),
-        _ => false,
-    };
-    assert!(rt; is_right && rows_are_right);
-    let (data, is_right) = front_imports(permissive)?;
-    assert!(rt; is_right && data.import_data.is_empty());
+    assert!(rt; are_front_imports(alloc, &file, &sections, &strict.imports)? && is_front(&strict));
+    assert!(rt;
+        matches!(&permissive.imports, Ok(data) if data.import_data.is_empty())
+            && is_front(&permissive)
+    );
     Ok(())
 }
 
-/// Whether these are the sample file's tables.
-fn are_sample_tables<'a>(
+/// Whether this is the sample file's import data.
+fn are_sample_imports<'a>(
     alloc: Global,
     file: &'a [u8],
     sections: &[SectionTable],
-    tables: Tables<'a, ImportDirectoryEntry>,
+    imports: &goblin_base::Result<ImportData<'a>>,
 ) -> goblin_base::Result<bool> {
-    let TablesOf {
-        lookup,
-        imports,
-        exports,
-        relocations,
-        name,
-        value,
-    } = tables;
-    let imports = Import::parse::<u32>(alloc, file, &imports?, sections)?;
-    let (data, exports) = exports?;
-    // The five bytes of a name are no whole block.
-    let item = relocations?.blocks().next();
-    Ok(
-        are_rows(&imports, &[GO, SEVEN])
-            && are(&exports, &[PLAIN, FORWARDED])
-            && data.name == Some("a.dll")
-            && lookup?.as_slice().len() == 2
-            && matches!(item, Some(Err(_)))
-            && name? == Some("a.dll")
-            && value? == RECORD,
-    )
+    let Ok(data) = imports else {
+        return Ok(false);
+    };
+    let imports = Import::parse::<u32>(alloc, file, data, sections)?;
+    Ok(are_rows(&imports, &[GO, SEVEN]))
+}
+
+/// Whether these are the other tables of the sample file. The five bytes of a name are no whole block.
+fn are_other_tables(tables: &Tables<ImportDirectoryEntry>) -> bool {
+    matches!(&tables.exports, Ok((data, exports)) if data.name == Some("a.dll") && are(exports, &[PLAIN, FORWARDED]))
+        && matches!(&tables.lookup, Ok(table) if table.as_slice().len() == 2)
+        && matches!(&tables.relocations, Ok(data) if matches!(data.blocks().next(), Some(Err(_))))
+        && matches!(&tables.name, Ok(Some(name)) if *name == "a.dll")
+        && matches!(&tables.value, Ok(value) if *value == RECORD)
 }
 
 #[test]
@@ -194,8 +194,10 @@ fn sections_may_stand_in_any_order(rt: HostRuntime) -> Result<(), Fail> {
     let opts = ParseOptions::default();
     let (one, other): (Tables<ImportDirectoryEntry>, Tables<ImportDirectoryEntry>) =
         reorder_whole_tables::<u32, _>(alloc, &file, &first, &second, &REQUEST, ALIGNMENT, &opts);
-    assert!(rt; are_sample_tables(alloc, &file, &first, one)?);
-    assert!(rt; are_sample_tables(alloc, &file, &second, other)?);
+    assert!(rt; are_sample_imports(alloc, &file, &first, &one.imports)? && are_other_tables(&one));
+    assert!(rt;
+        are_sample_imports(alloc, &file, &second, &other.imports)? && are_other_tables(&other)
+    );
     Ok(())
 }
 
@@ -214,7 +216,7 @@ fn each_table_of_sections_has_its_own_answers(rt: HostRuntime) -> Result<(), Fai
             ALIGNMENT,
             &opts,
         );
-    assert_eq!(rt; one.name?, Some("a.dll"));
+    assert!(rt; matches!(&one.name, Ok(Some(name)) if *name == "a.dll"));
     assert!(rt; matches!(other.name, Err(Error::Malformed(Cause::Unmapped(0x1080)))));
     assert!(rt; other.imports.is_err() && other.exports.is_err());
     Ok(())

@@ -5,9 +5,9 @@ use fixture_tables::imports::{ALIGNMENT, DIRECTORY, RECORD};
 use goblin_base::{Cause, Error};
 use goblin_pe::header::{CoffHeader, Header};
 use goblin_pe::import::ImportDirectoryEntry;
-use goblin_pe::laws::{Parts, PartsOf, twin_header, twin_parts};
+use goblin_pe::laws::{Parts, twin_header, twin_parts};
 use goblin_pe::options::ParseOptions;
-use goblin_pe_sect::DataDirectory;
+use goblin_pe_sect::{DataDirectory, SectionTable};
 use std::alloc::{AllocError, Global};
 use std::test::Fail;
 
@@ -55,9 +55,11 @@ fn a_header_depends_on_the_bytes_before_the_sections(rt: HostRuntime) -> Result<
     for place in 0..file.len() {
         flip(&mut other, place);
         let (first, second) = twin_header(&file, &other, &opts);
-        let first = first?;
-        assert!(rt; is_sample_header(&first), "{place:#x}");
-        let is_the_same = matches!(second, Ok(header) if header == first);
+        assert!(rt;
+            matches!(&first, Ok(header) if is_sample_header(header)),
+            "{place:#x}"
+        );
+        let is_the_same = matches!((&first, &second), (Ok(first), Ok(second)) if first == second);
         assert!(rt; is_the_same == (TABLE <= place), "{place:#x}");
         flip(&mut other, place);
     }
@@ -65,33 +67,22 @@ fn a_header_depends_on_the_bytes_before_the_sections(rt: HostRuntime) -> Result<
         flip(&mut other, place);
     }
     let (first, second) = twin_header(&file, &other, &opts);
-    assert!(rt; is_sample_header(&first?) && is_sample_header(&second?));
+    assert!(rt; matches!(&first, Ok(header) if is_sample_header(header)));
+    assert!(rt; matches!(&second, Ok(header) if is_sample_header(header)));
     Ok(())
 }
 
 /// Whether these are the sample file's: without a DOS header its first four bytes are the signature,
 /// and the section's name says that less was stripped than a Terse Executable's header.
-fn are_sample_parts(parts: Parts<ImportDirectoryEntry>) -> goblin_base::Result<bool> {
-    let PartsOf {
-        header,
-        sections,
-        symbols,
-        strings,
-        te,
-        relocations,
-        value,
-    } = parts;
+fn are_sample_parts(parts: &Parts<ImportDirectoryEntry>) -> bool {
     // The five bytes of a name are no whole block.
-    let item = relocations?.blocks().next();
-    Ok(
-        header?.signature == 0x5A4D
-            && sections?[..] == [sample_section()]
-            && matches!(symbols, Ok(None))
-            && matches!(strings, Ok(None))
-            && matches!(te, Err(Error::Malformed(Cause::StrippedSize(0))))
-            && matches!(item, Some(Err(_)))
-            && value? == RECORD,
-    )
+    matches!(&parts.relocations, Ok(data) if matches!(data.blocks().next(), Some(Err(_))))
+        && matches!(&parts.header, Ok(header) if header.signature == 0x5A4D)
+        && matches!(&parts.sections, Ok(sections) if sections[..] == [sample_section()])
+        && matches!(&parts.symbols, Ok(None))
+        && matches!(&parts.strings, Ok(None))
+        && matches!(&parts.te, Err(Error::Malformed(Cause::StrippedSize(0))))
+        && matches!(&parts.value, Ok(value) if *value == RECORD)
 }
 
 #[test]
@@ -113,9 +104,14 @@ fn single_tables_of_one_file_are_what_their_readers_give(rt: HostRuntime) -> Res
         ALIGNMENT,
         &opts,
     );
-    assert!(rt; are_sample_parts(first)?);
-    assert!(rt; are_sample_parts(second)?);
+    assert!(rt; are_sample_parts(&first));
+    assert!(rt; are_sample_parts(&second));
     Ok(())
+}
+
+/// Whether this is one section with the name `.text`.
+fn is_text(sections: &[SectionTable]) -> bool {
+    matches!(sections, [section] if section.name == *b".text\0\0\0")
 }
 
 #[test]
@@ -139,11 +135,10 @@ fn single_tables_of_two_files_are_each_files_own(rt: HostRuntime) -> Result<(), 
         ALIGNMENT,
         &opts,
     );
-    assert!(rt; first.sections?[..] == [sample_section()]);
-    let sections = second.sections?;
-    assert!(rt; matches!(&sections[..], [section] if section.name == *b".text\0\0\0"));
-    assert!(rt; first.value?.import_address_table_rva == 0x1060);
-    assert!(rt; second.value?.import_address_table_rva == 0x1061);
+    assert!(rt; matches!(&first.sections, Ok(sections) if sections[..] == [sample_section()]));
+    assert!(rt; matches!(&second.sections, Ok(sections) if is_text(sections)));
+    assert!(rt; matches!(&first.value, Ok(value) if value.import_address_table_rva == 0x1060));
+    assert!(rt; matches!(&second.value, Ok(value) if value.import_address_table_rva == 0x1061));
     Ok(())
 }
 
@@ -160,28 +155,17 @@ fn terse_file(alloc: Global) -> Result<Vec<u8>, AllocError> {
 }
 
 /// Whether these are the parts of the Terse Executable, from whose addresses 8 is taken.
-fn are_terse_parts(parts: Parts<DataDirectory>) -> goblin_base::Result<bool> {
-    let PartsOf {
-        sections: records,
-        symbols,
-        strings,
-        te,
-        value,
-        ..
-    } = parts;
-    let (header, sections) = te?;
-    let names_are_right = match (symbols?, strings?) {
-        (Some(symbols), Some(strings)) => symbols.iter().next().is_some()
-            && strings.get_at(0) == Some("ab"),
-        _ => false,
-    };
-    Ok(
-        header.stripped_size == 0x30
-            && matches!(&sections[..], [section] if section.virtual_address == 0x1010)
-            && records?.len() == 1
-            && names_are_right
-            && value?.virtual_address == 7,
-    )
+fn are_terse_parts(parts: &Parts<DataDirectory>) -> bool {
+    matches!(&parts.te, Ok((header, sections)) if header.stripped_size == 0x30 && is_placed(sections))
+        && matches!(&parts.sections, Ok(sections) if sections.len() == 1)
+        && matches!(&parts.symbols, Ok(Some(symbols)) if symbols.iter().next().is_some())
+        && matches!(&parts.strings, Ok(Some(strings)) if strings.get_at(0) == Some("ab"))
+        && matches!(&parts.value, Ok(value) if value.virtual_address == 7)
+}
+
+/// Whether this is the one section of the Terse Executable.
+fn is_placed(sections: &[SectionTable]) -> bool {
+    matches!(sections, [section] if section.virtual_address == 0x1010)
 }
 
 #[test]
@@ -212,7 +196,7 @@ fn a_terse_executable_is_read_with_its_sections(rt: HostRuntime) -> Result<(), F
         ALIGNMENT,
         &opts,
     );
-    assert!(rt; are_terse_parts(first)?);
-    assert!(rt; are_terse_parts(second)?);
+    assert!(rt; are_terse_parts(&first));
+    assert!(rt; are_terse_parts(&second));
     Ok(())
 }
