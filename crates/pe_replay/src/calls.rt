@@ -32,31 +32,34 @@ const ALIGNMENT: u32 = 0x200;
 
 /// Makes the call of this word over the sample file, whose section has its name elsewhere, and shows its
 /// answer in a line.
-pub fn show_call(rt: &HostRuntime, word: Option<String>) -> Result<(), Refused> {
+pub fn show_call(rt: &HostRuntime, word: &str) -> Result<(), Refused> {
     let file = sample_named(rt.alloc(), ELSEWHERE)?;
+    show_answer(rt, &file, word)
+}
+
+fn show_answer(rt: &HostRuntime, file: &[u8], word: &str) -> Result<(), Refused> {
     match word {
-        Some(word) if word.as_str() == "section" => show_section(rt, &file),
-        Some(word) if word.as_str() == "clone" => show_clone(rt),
-        Some(word) if word.as_str() == "data" => show_data(rt),
-        Some(word) if word.as_str() == "sections" => show_sections(rt, &file),
-        Some(word) if word.as_str() == "te" => show_te_sections(rt),
-        Some(word) if word.as_str() == "strings" => show_strings(rt),
-        Some(word) if word.as_str() == "index" => show_index(rt),
-        Some(word) if word.as_str() == "lookup" => show_lookup_table(rt, &file),
-        Some(word) if word.as_str() == "library" => show_library(rt, &file),
-        Some(word) if word.as_str() == "imports" => show_imports(rt, &file),
-        Some(word) if word.as_str() == "exports" => show_exports(rt, &file),
-        Some(word) if word.as_str() == "whole" => show_whole(rt, &file, ParseMode::Strict),
-        Some(word) if word.as_str() == "permissive" => show_whole(rt, &file, ParseMode::Permissive),
-        Some(word) if word.as_str() == "section_with_opts" => by_options::show_section(rt, &file),
-        Some(word) if word.as_str() == "sections_with_opts" => by_options::show_sections(rt, &file),
-        Some(word) if word.as_str() == "lookup_with_opts" => by_options::show_lookup(rt, &file),
-        Some(word) if word.as_str() == "lookup_with_slots" => by_options::show_slots(rt, &file),
-        Some(word) if word.as_str() == "library_with_opts" => by_options::show_library(rt, &file),
-        Some(word) if word.as_str() == "imports_with_opts" => by_options::show_imports(rt, &file),
-        Some(word) if word.as_str() == "exports_with_opts" => by_options::show_exports(rt, &file),
-        Some(word) => show_law(rt, &file, word),
-        None => Err(Refused::Other),
+        "section" => show_section(rt, file),
+        "clone" => show_clone(rt),
+        "data" => show_data(rt),
+        "sections" => show_sections(rt, file),
+        "te" => show_te_sections(rt),
+        "strings" => show_strings(rt),
+        "index" => show_index(rt),
+        "lookup" => show_lookup_table(rt, file),
+        "library" => show_library(rt, file),
+        "imports" => show_imports(rt, file),
+        "exports" => show_exports(rt, file),
+        "whole" => show_whole(rt, file, ParseMode::Strict),
+        "permissive" => show_whole(rt, file, ParseMode::Permissive),
+        "section_with_opts" => by_options::show_section(rt, file),
+        "sections_with_opts" => by_options::show_sections(rt, file),
+        "lookup_with_opts" => by_options::show_lookup(rt, file),
+        "lookup_with_slots" => by_options::show_slots(rt, file),
+        "library_with_opts" => by_options::show_library(rt, file),
+        "imports_with_opts" => by_options::show_imports(rt, file),
+        "exports_with_opts" => by_options::show_exports(rt, file),
+        _ => show_law(rt, file, word),
     }
 }
 
@@ -238,14 +241,23 @@ fn show_rows(rt: &HostRuntime, exports: &[Export]) -> Result<(), Refused> {
 
 fn show_whole(rt: &HostRuntime, file: &[u8], mode: ParseMode) -> Result<(), Refused> {
     let opts = ParseOptions::default().with_parse_mode(mode);
-    let (sections, imports, exports) = counts(Whole::read(rt.alloc(), file, &opts))?;
+    let whole = Whole::read(rt.alloc(), file, &opts);
+    let (sections, imports, exports) = counts(&whole)?;
     println!(rt; "{sections} {imports} {exports}")?;
     Ok(())
 }
 
+// What was read, or why nothing is shown.
+fn read_of<T>(read: &goblin_base::Result<T>) -> Result<&T, Refused> {
+    match read {
+        Ok(value) => Ok(value),
+        Err(error) => Err(Refused::of(error)),
+    }
+}
+
 // How many sections, imports and exports a file that was read has.
-fn counts(read: goblin_base::Result<Whole>) -> Result<(usize, usize, usize), Refused> {
-    let whole = read?;
+fn counts(read: &goblin_base::Result<Whole>) -> Result<(usize, usize, usize), Refused> {
+    let whole = read_of(read)?;
     match (&whole.imports, &whole.exports) {
         (Part::Read(imports), Part::Read(exports)) => Ok((
             whole.sections.len(),

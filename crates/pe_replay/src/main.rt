@@ -36,6 +36,13 @@ pub enum Refused {
 }
 
 impl Refused {
+    fn of(error: &Error) -> Refused {
+        match error {
+            Error::Memory(_) => Refused::Memory,
+            _ => Refused::Other,
+        }
+    }
+
     fn line(self) -> &'static str {
         match self {
             Refused::Memory => "out of memory",
@@ -46,10 +53,7 @@ impl Refused {
 
 impl From<Error> for Refused {
     fn from(error: Error) -> Refused {
-        match error {
-            Error::Memory(_) => Refused::Memory,
-            _ => Refused::Other,
-        }
+        Refused::of(&error)
     }
 }
 
@@ -72,20 +76,33 @@ impl From<io::Error> for Refused {
 fn replay(rt: &HostRuntime) -> Result<(), Refused> {
     let mut words = env::args(rt)?;
     let _program = words.next();
-    let word = words.next();
-    let is_call = matches!(&word, Some(word) if word.as_str() == "call");
-    if is_call {
-        return show_call(rt, words.next());
+    let (word, operand) = (words.next(), words.next());
+    match (&word, &operand) {
+        (Some(word), Some(call)) if word.as_str() == "call" => show_call(rt, call.as_str()),
+        (Some(word), _) => show_file(rt, word.as_str(), &operand),
+        _ => Err(Refused::Other),
     }
+}
+
+// Shows what the word asks for of the file on standard input.
+fn show_file(rt: &HostRuntime, word: &str, count: &Option<String>) -> Result<(), Refused> {
     let mut file = Vec::new(rt.alloc());
     rt.stdin().read_to_end(&mut file)?;
     match word {
-        Some(word) if word.as_str() == "header" => show_header(rt, &file),
-        Some(word) if word.as_str() == "te" => show_te(rt, &file),
-        Some(word) if word.as_str() == "symbols" => show_symbols(rt, &file),
-        Some(word) if word.as_str() == "walk" => show_offsets(rt, &file, words.next(), false),
-        Some(word) if word.as_str() == "index" => show_offsets(rt, &file, words.next(), true),
+        "header" => show_header(rt, &file),
+        "te" => show_te(rt, &file),
+        "symbols" => show_symbols(rt, &file),
+        "walk" => show_offsets(rt, &file, number(count)?, false),
+        "index" => show_offsets(rt, &file, number(count)?, true),
         _ => Err(Refused::Other),
+    }
+}
+
+// The number that a word says.
+fn number(word: &Option<String>) -> Result<u32, Refused> {
+    match word {
+        Some(word) => word.parse::<u32>().map_err(|_| Refused::Other),
+        None => Err(Refused::Other),
     }
 }
 
@@ -175,18 +192,14 @@ const STEP: usize = 0x9E37_79B1;
 
 const SPAN: usize = 1 << 28;
 
-// The file offsets of many addresses of an object, as many as the word says, added up: by a walk over
+// The file offsets of `count` addresses of an object, added up: by a walk over
 // its sections for each, or by an index of them.
 fn show_offsets(
     rt: &HostRuntime,
     file: &[u8],
-    word: Option<String>,
+    count: u32,
     is_by_index: bool,
 ) -> Result<(), Refused> {
-    let count = match word {
-        Some(word) => word.parse::<u32>().map_err(|_| Refused::Other)?,
-        None => return Err(Refused::Other),
-    };
     let mut offset = 0;
     let header = CoffHeader::parse(file, &mut offset)?;
     let sections = header.sections(rt.alloc(), file, &mut offset)?;

@@ -2,15 +2,17 @@
 //! its answer, the call is refused here, too.
 
 use crate::Refused;
-use crate::calls::{ALIGNMENT, EXPORTS, IMPORTS, counts};
+use crate::calls::{ALIGNMENT, EXPORTS, IMPORTS, counts, read_of};
 use fixture::sample::{ELSEWHERE, put, sample_named, sample_section, section};
-use goblin_pe::import::ImportDirectoryEntry;
+use goblin_pe::export::{Export, ExportData};
+use goblin_pe::import::{ImportData, ImportDirectoryEntry, ImportLookupTable};
 use goblin_pe::laws::{
-    Parts, PartsOf, Request, Tables, TablesOf, footprint_imports, mode_tables, mode_whole,
-    reorder_whole_tables, twin_exports, twin_imports, twin_lookup, twin_parts, twin_whole,
+    Parts, Request, Tables, footprint_imports, mode_tables, mode_whole, reorder_whole_tables,
+    twin_exports, twin_imports, twin_lookup, twin_parts, twin_whole,
 };
 use goblin_pe_head::CoffHeader;
 use goblin_pe_sect::{DataDirectory, ParseOptions};
+use std::fmt::Debug;
 
 // Where the tables of the sample file lie; its library's name is asked for by its address.
 const REQUEST: Request = Request {
@@ -25,22 +27,52 @@ const REQUEST: Request = Request {
 /// Makes the call of this word over the sample file, and shows its answer in a line. One of two files
 /// is also handed the sample file without its imports, the second entry of its lookup table and its
 /// second export.
-pub fn show_law(rt: &HostRuntime, file: &[u8], word: String) -> Result<(), Refused> {
+pub fn show_law(rt: &HostRuntime, file: &[u8], word: &str) -> Result<(), Refused> {
     let mut other = sample_named(rt.alloc(), ELSEWHERE)?;
     put(&mut other, 0x20C, b"\0\0");
     put(&mut other, 0x244, b"\0\0\0\0");
     put(&mut other, 0x2B8, b"\x01");
+    show_answer(rt, file, &other, word)
+}
+
+fn show_answer(rt: &HostRuntime, file: &[u8], other: &[u8], word: &str) -> Result<(), Refused> {
     match word {
-        word if word.as_str() == "twin_lookup" => show_lookups(rt, file, &other),
-        word if word.as_str() == "twin_imports" => show_imports(rt, file, &other),
-        word if word.as_str() == "twin_exports" => show_exports(rt, file, &other),
-        word if word.as_str() == "twin_whole" => show_files(rt, file, &other),
-        word if word.as_str() == "twin_parts" => show_parts(rt),
-        word if word.as_str() == "footprint_imports" => show_footprint(rt, file),
-        word if word.as_str() == "mode_whole" => show_modes(rt, file),
-        word if word.as_str() == "mode_tables" => show_tables_by_mode(rt, file),
-        word if word.as_str() == "reorder_whole_tables" => show_tables_by_order(rt, file),
+        "twin_lookup" => show_lookups(rt, file, other),
+        "twin_imports" => show_imports(rt, file, other),
+        "twin_exports" => show_exports(rt, file, other),
+        "twin_whole" => show_files(rt, file, other),
+        "twin_parts" => show_parts(rt),
+        "footprint_imports" => show_footprint(rt, file),
+        "mode_whole" => show_modes(rt, file),
+        "mode_tables" => show_tables_by_mode(rt, file),
+        "reorder_whole_tables" => show_tables_by_order(rt, file),
         _ => Err(Refused::Other),
+    }
+}
+
+// Two answers in a line, or the refusal of the first that is refused.
+fn show_both<T: Copy + Debug>(
+    rt: &HostRuntime,
+    first: Result<T, Refused>,
+    second: Result<T, Refused>,
+) -> Result<(), Refused> {
+    let (first, second) = (first?, second?);
+    println!(rt; "{first:?} {second:?}")?;
+    Ok(())
+}
+
+fn entries(read: &goblin_base::Result<ImportLookupTable>) -> Result<usize, Refused> {
+    Ok(read_of(read)?.as_slice().len())
+}
+
+fn libraries(read: &goblin_base::Result<ImportData>) -> Result<usize, Refused> {
+    Ok(read_of(read)?.import_data.len())
+}
+
+fn exports(read: &goblin_base::Result<(ExportData, Vec<Export>)>) -> Result<usize, Refused> {
+    match read {
+        Ok((_, exports)) => Ok(exports.len()),
+        Err(error) => Err(Refused::of(error)),
     }
 }
 
@@ -49,9 +81,7 @@ fn show_lookups(rt: &HostRuntime, a: &[u8], b: &[u8]) -> Result<(), Refused> {
     let sections = [sample_section()];
     let opts = ParseOptions::default();
     let (first, second) = twin_lookup::<u32>(rt.alloc(), a, b, 0x240, &sections, ALIGNMENT, &opts);
-    let (first, second) = (first?, second?);
-    println!(rt; "{} {}", first.as_slice().len(), second.as_slice().len())?;
-    Ok(())
+    show_both(rt, entries(&first), entries(&second))
 }
 
 // How many libraries the import data of each file has.
@@ -67,9 +97,7 @@ fn show_imports(rt: &HostRuntime, a: &[u8], b: &[u8]) -> Result<(), Refused> {
         ALIGNMENT,
         &opts,
     );
-    let (first, second) = (first?, second?);
-    println!(rt; "{} {}", first.import_data.len(), second.import_data.len())?;
-    Ok(())
+    show_both(rt, libraries(&first), libraries(&second))
 }
 
 // How many exports each file has.
@@ -77,35 +105,29 @@ fn show_exports(rt: &HostRuntime, a: &[u8], b: &[u8]) -> Result<(), Refused> {
     let sections = [sample_section()];
     let opts = ParseOptions::default();
     let (first, second) = twin_exports(rt.alloc(), a, b, EXPORTS, &sections, ALIGNMENT, &opts);
-    let ((_, first), (_, second)) = (first?, second?);
-    println!(rt; "{} {}", first.len(), second.len())?;
-    Ok(())
+    show_both(rt, exports(&first), exports(&second))
 }
 
 // How many sections, imports and exports each file has.
 fn show_files(rt: &HostRuntime, a: &[u8], b: &[u8]) -> Result<(), Refused> {
     let (first, second) = twin_whole(rt.alloc(), a, b, &ParseOptions::default());
-    let (first, second) = (counts(first)?, counts(second)?);
-    println!(rt; "{first:?} {second:?}")?;
-    Ok(())
+    show_both(rt, counts(&first), counts(&second))
 }
 
 // How many sections the parts have, by their COFF header and as a Terse Executable's, and the length of
 // their first string.
-fn sizes(parts: Parts<DataDirectory>) -> Result<(usize, usize, usize), Refused> {
-    let PartsOf {
-        header,
-        sections,
-        symbols,
-        strings,
-        te,
-        relocations,
-        value,
-    } = parts;
-    let (_, _, _, _) = (header?, symbols?, relocations?, value?);
-    let (_, of_te) = te?;
-    match strings?.and_then(|strings| strings.get_at(0)) {
-        Some(text) => Ok((sections?.len(), of_te.len(), text.len())),
+fn sizes(parts: &Parts<DataDirectory>) -> Result<(usize, usize, usize), Refused> {
+    read_of(&parts.header)?;
+    read_of(&parts.symbols)?;
+    read_of(&parts.relocations)?;
+    read_of(&parts.value)?;
+    let (_, of_te) = read_of(&parts.te)?;
+    let sections = read_of(&parts.sections)?;
+    match read_of(&parts.strings)? {
+        Some(strings) => match strings.get_at(0) {
+            Some(text) => Ok((sections.len(), of_te.len(), text.len())),
+            None => Err(Refused::Other),
+        },
         None => Err(Refused::Other),
     }
 }
@@ -137,9 +159,7 @@ fn show_parts(rt: &HostRuntime) -> Result<(), Refused> {
         ALIGNMENT,
         &opts,
     );
-    let (first, second) = (sizes(first)?, sizes(second)?);
-    println!(rt; "{first:?} {second:?}")?;
-    Ok(())
+    show_both(rt, sizes(&first), sizes(&second))
 }
 
 // How many bytes of the file its imports depend on.
@@ -158,28 +178,17 @@ fn show_footprint(rt: &HostRuntime, file: &[u8]) -> Result<(), Refused> {
 // How many sections, imports and exports the file has in each mode.
 fn show_modes(rt: &HostRuntime, file: &[u8]) -> Result<(), Refused> {
     let (strict, permissive) = mode_whole(rt.alloc(), file, &ParseOptions::default());
-    let (strict, permissive) = (counts(strict)?, counts(permissive)?);
-    println!(rt; "{strict:?} {permissive:?}")?;
-    Ok(())
+    show_both(rt, counts(&strict), counts(&permissive))
 }
 
 // How many entries, libraries and exports the tables have.
-fn lengths(tables: Tables<ImportDirectoryEntry>) -> Result<(usize, usize, usize), Refused> {
-    let TablesOf {
-        lookup,
-        imports,
-        exports,
-        relocations,
-        name,
-        value,
-    } = tables;
-    let (_, _, _) = (relocations?, name?, value?);
-    let (lookup, imports, (_, exports)) = (lookup?, imports?, exports?);
-    Ok((
-        lookup.as_slice().len(),
-        imports.import_data.len(),
-        exports.len(),
-    ))
+fn lengths(tables: &Tables<ImportDirectoryEntry>) -> Result<(usize, usize, usize), Refused> {
+    read_of(&tables.relocations)?;
+    read_of(&tables.name)?;
+    read_of(&tables.value)?;
+    let lookup = entries(&tables.lookup)?;
+    let imports = libraries(&tables.imports)?;
+    Ok((lookup, imports, exports(&tables.exports)?))
 }
 
 fn show_tables_by_mode(rt: &HostRuntime, file: &[u8]) -> Result<(), Refused> {
@@ -187,9 +196,7 @@ fn show_tables_by_mode(rt: &HostRuntime, file: &[u8]) -> Result<(), Refused> {
     let opts = ParseOptions::default();
     let (strict, permissive): (Tables<ImportDirectoryEntry>, Tables<ImportDirectoryEntry>) =
         mode_tables::<u32, _>(rt.alloc(), file, &sections, &REQUEST, ALIGNMENT, &opts);
-    let (strict, permissive) = (lengths(strict)?, lengths(permissive)?);
-    println!(rt; "{strict:?} {permissive:?}")?;
-    Ok(())
+    show_both(rt, lengths(&strict), lengths(&permissive))
 }
 
 fn show_tables_by_order(rt: &HostRuntime, file: &[u8]) -> Result<(), Refused> {
@@ -206,7 +213,5 @@ fn show_tables_by_order(rt: &HostRuntime, file: &[u8]) -> Result<(), Refused> {
             ALIGNMENT,
             &opts,
         );
-    let (one, other) = (lengths(one)?, lengths(other)?);
-    println!(rt; "{one:?} {other:?}")?;
-    Ok(())
+    show_both(rt, lengths(&one), lengths(&other))
 }
