@@ -99,9 +99,11 @@ fn exports_are_read_from_where_the_options_say(rt: HostRuntime) -> Result<(), Fa
     let sections = [section(0x1000, 0x100, 0x100, 0x210)];
     let opts = ParseOptions::default().with_raw_pointer_rule(RawPointerRule::RoundedTo512);
     let tables = ExportData::parse_with_opts(alloc, &file, DIRECTORY, &sections, ALIGNMENT, &opts)?;
-    assert!(rt; tables.name == Some("a.dll") && tables.export_directory_table.ordinal_base == 1);
     let exports = Export::parse_with_opts(alloc, &file, &tables, &sections, ALIGNMENT, &opts)?;
-    assert!(rt; are(&exports, &[PLAIN, FORWARDED]));
+    let is_right = tables.name == Some("a.dll")
+        && tables.export_directory_table.ordinal_base == 1
+        && are(&exports, &[PLAIN, FORWARDED]);
+    assert!(rt; is_right);
     Ok(())
 }
 

@@ -139,16 +139,11 @@ fn are_all_blocks(relocations: &RelocationData) -> bool {
 fn is_read(alloc: Global, file: &[u8], mode: ParseMode) -> goblin_base::Result<bool> {
     let opts = ParseOptions::default().with_parse_mode(mode);
     let whole = Whole::read(alloc, file, &opts)?;
-    let Part::Read(imports) = &whole.imports else {
-        return Ok(false);
-    };
-    let Part::Read(exports) = &whole.exports else {
-        return Ok(false);
-    };
-    let Part::Read(relocations) = &whole.relocations else {
-        return Ok(false);
-    };
-    Ok(are_all_imports(imports) && are_all_exports(exports) && are_all_blocks(relocations))
+    Ok(
+        matches!(&whole.imports, Part::Read(imports) if are_all_imports(imports))
+            && matches!(&whole.exports, Part::Read(exports) if are_all_exports(exports))
+            && matches!(&whole.relocations, Part::Read(relocations) if are_all_blocks(relocations)),
+    )
 }
 
 #[test]

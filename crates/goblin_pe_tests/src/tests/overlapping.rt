@@ -103,20 +103,14 @@ fn exports_agree(
     file: &[u8],
     sections: &[SectionTable],
 ) -> goblin_base::Result<bool> {
-    let tables = ExportData::parse(alloc, file, EXPORTS, sections, ALIGNMENT)?;
-    let exports = Export::parse(alloc, file, &tables, sections, ALIGNMENT)?;
     let name = pread_str(file, at(0x1240, sections))?;
     let rva = pread_u32(file, at(0x1280, sections), Endian::Little)? as usize;
-    let Some(export) = exports.first() else {
-        return Ok(false);
-    };
-    let opts = ParseOptions::default();
-    Ok(
-        tables.name == Some(name)
-            && export.name == Some(name)
-            && export.rva == rva
-            && export.offset == find_offset(rva, sections, ALIGNMENT, &opts),
-    )
+    let offset = find_offset(rva, sections, ALIGNMENT, &ParseOptions::default());
+    let tables = ExportData::parse(alloc, file, EXPORTS, sections, ALIGNMENT)?;
+    let exports = Export::parse(alloc, file, &tables, sections, ALIGNMENT)?;
+    let is_first = |export: &Export| (export.name, export.rva, export.offset)
+        == (Some(name), rva, offset);
+    Ok(tables.name == Some(name) && exports.first().is_some_and(is_first))
 }
 
 /// Whether the name stands at this offset, and all readers take what stands where `find_offset` says.
