@@ -49,9 +49,8 @@ first_owner opts sections alignment rva =
 abbrev pub reached : List ℕ → ℕ → ℕ
 reached begins rva = prefix_len (λ b. nat_le b rva) begins
 
--- How many comparisons a search by halving makes until it has found that k of n rising numbers lie at or before the one that it
--- looks for: none among no numbers, else one with the number in the middle, of which as many lie below as above or one more, and
--- those among the half that is left. The first argument bounds them; n is enough.
+-- the comparisons that `halvings` counts, up to so many of them: none among no numbers, else one with the number in the middle, and
+-- those among the half that is left
 unfoldable pub halvings_within : ℕ → ℕ → ℕ → ℕ
 halvings_within zero n k = 0
 halvings_within (suc most) n k =
@@ -59,6 +58,8 @@ halvings_within (suc most) n k =
     else if nat_lt (n / 2) k then 1 + halvings_within most (n - n / 2 - 1) (k - n / 2 - 1)
     else 1 + halvings_within most (n / 2) k
 
+-- How many comparisons a search by halving makes until it has found that k of n rising numbers lie at or before the one that it
+-- looks for. Any such search makes as many that splits evenly, the lower half the greater; they are never more than n.
 unfoldable pub halvings : ℕ → ℕ → ℕ
 halvings n k = halvings_within n n k
 

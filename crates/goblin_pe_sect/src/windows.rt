@@ -150,7 +150,8 @@ impl WindowIndex {
 
     /// The answer of [`WindowIndex::find`], and how many probes were made: calls of
     /// [`Bounds::reaches`], the only call that tells where a piece begins. Fewer than 2 to the
-    /// power d pieces take at most d probes.
+    /// power d pieces take at most d probes. It is the number that a search by halving makes for
+    /// this address.
     #[tactic(auto, using(crate::proofs::Halving::none_needed, crate::proofs::Halving::none_counted), unfolding(crate::specs::WindowIndex::located))]
     pub fn find_counted(&self, rva: usize) -> (Option<usize>, usize)
         ensures value { result.0 ≡ located self.now rva }
