@@ -59,7 +59,7 @@ halvings_within (suc most) n k =
     else 1 + halvings_within most (n / 2) k
 
 -- How many comparisons a search by halving makes until it has found that k of n rising numbers lie at or before the one that it
--- looks for. Any such search makes as many that splits evenly, the lower half the greater; they are never more than n.
+-- looks for. Each search that splits evenly, the lower half the greater, makes as many; they are never more than n.
 unfoldable pub halvings : ℕ → ℕ → ℕ
 halvings n k = halvings_within n n k
 
