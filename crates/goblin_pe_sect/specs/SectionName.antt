@@ -1,5 +1,5 @@
 -- What the eight bytes of a section's name say: the name itself, or where it stands in the string table.
-use Rattle.std.specs.Prelude.{zero, suc, IsTrue, IsSomeAnd, ◌≢◌, ◌≡◌, ◌≤◌, ℕ, ◌+◌, ◌-◌, ◌*◌, ◌/◌, ◌%◌, ◌^◌, ◌++◌, ◌==◌, if◌then◌else◌, Bool, List, [], ◌∷◌, length, drop, map, slice_index, codes, replicate, Option, Some, None, option_map, option_and_then, nat_lt, nat_le}
+use Rattle.std.specs.Prelude.{zero, suc, IsTrue, IsSomeAnd, ◌≢◌, ◌≡◌, ◌<◌, ◌≤◌, ℕ, ◌+◌, ◌-◌, ◌*◌, ◌/◌, ◌%◌, ◌^◌, ◌++◌, ◌==◌, if◌then◌else◌, Bool, List, [], ◌∷◌, length, drop, map, slice_index, codes, replicate, Option, Some, None, option_map, option_and_then, nat_lt, nat_le}
 use Rattle.std.specs.List.{list_all, position_or_len}
 use Rattle.goblin_base.specs.declared.error.ErrorOf.{ErrorOf}
 use Rattle.goblin_base.specs.declared.error.ErrorOf.TheVariants.{Malformed}
@@ -95,3 +95,7 @@ IsNameOffsetFault n e = ⊥
 -- the name that stands in the string table at `table`: the text at the value of an indirect name, where one is there
 abbrev pub real_name_at : List ℕ → ℕ → Option ℕ → Option (List ℕ)
 real_name_at bytes table value = option_and_then (λ n. text_at bytes (table + n)) value
+
+-- a text is there that has a byte: a copy of it takes memory, and a copy of an empty one takes none
+abbrev pub HasBytes : Option (List ℕ) → Type 0
+HasBytes text = IsSomeAnd text (λ bytes. 0 < length bytes)

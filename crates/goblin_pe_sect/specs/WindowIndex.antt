@@ -1,5 +1,5 @@
 -- The line of addresses, cut into pieces at the windows of sections, and what an index of the pieces answers.
-use Rattle.std.specs.Prelude.{ℕ, zero, suc, ◌+◌, ◌-◌, ◌*◌, ◌≡◌, ◌<◌, ◌≤◌, ◌^◌, ◌⊎◌, Bool, false, nat_le, if◌then◌else◌, List, [], Option, Some, None, length, slice_index, slice_index_or, slice_get, Contains, position, IsTrue}
+use Rattle.std.specs.Prelude.{ℕ, zero, suc, ◌+◌, ◌-◌, ◌*◌, ◌/◌, ◌≡◌, ◌<◌, ◌≤◌, ◌^◌, ◌==◌, ◌⊎◌, Bool, false, nat_le, nat_lt, if◌then◌else◌, List, [], Option, Some, None, length, slice_index, slice_index_or, slice_get, Contains, position, IsTrue}
 use Rattle.std.specs.List.{prefix_len}
 use Rattle.std.specs.List.Sorted.{IsStrictlyIncreasing}
 use Rattle.std.specs.Int.{is_power_of_two}
@@ -48,6 +48,20 @@ first_owner opts sections alignment rva =
 -- how many pieces begin at or before an address
 abbrev pub reached : List ℕ → ℕ → ℕ
 reached begins rva = prefix_len (λ b. nat_le b rva) begins
+
+-- the comparisons that `halvings` counts, up to so many of them: none among no numbers, else one with the number in the middle, and
+-- those among the half that is left
+unfoldable pub halvings_within : ℕ → ℕ → ℕ → ℕ
+halvings_within zero n k = 0
+halvings_within (suc most) n k =
+    if n == 0 then 0
+    else if nat_lt (n / 2) k then 1 + halvings_within most (n - n / 2 - 1) (k - n / 2 - 1)
+    else 1 + halvings_within most (n / 2) k
+
+-- How many comparisons a search by halving makes until it has found that k of n rising numbers lie at or before the one that it
+-- looks for. Each search that splits evenly, the lower half the greater, makes as many; they are never more than n.
+unfoldable pub halvings : ℕ → ℕ → ℕ
+halvings n k = halvings_within n n k
 
 -- the owner of the last of the first n pieces
 abbrev pub last_owner : List (Option Owner) → ℕ → Option Owner

@@ -1,6 +1,6 @@
 //! The section records of a PE file.
 
-ghost use Rattle.std.specs.Prelude.{◌≡◌, ◌↔◌, ◌+◌, ◌*◌, ◌<◌, ◌≤◌, Bool, Err, IfErr, IfOk, IfSome, IsSome, IsSomeAnd, IsTrue, None, Ok, OnErr, OnOk, Some, if◌then◌else◌, length, nat_eq, string_bytes, true};
+ghost use Rattle.std.specs.Prelude.{◌≡◌, ◌↔◌, ◌+◌, ◌*◌, ◌<◌, ◌≤◌, Bool, Err, IfErr, IfOk, IfSome, IsSomeAnd, IsTrue, None, Ok, OnErr, OnOk, Some, if◌then◌else◌, length, nat_eq, string_bytes, true};
 ghost use Rattle.std.specs.Cow.{cow_slice_items, IsBorrowedSlice};
 ghost use Rattle.std.specs.Option.{option_eq, option_map};
 ghost use Rattle.std.specs.Cmp.Lexicographic.{pointwise};
@@ -11,7 +11,7 @@ ghost use Rattle.goblin_base.specs.Bytes.{overwritten, replaced};
 ghost use Rattle.goblin_base.specs.Record.{WritesBack, encoding};
 ghost use Rattle.goblin_pe_sect.specs.Options.{is_strict};
 ghost use Rattle.goblin_pe_sect.specs.Relocations.{relocations_at, relocations_left};
-ghost use Rattle.goblin_pe_sect.specs.SectionName.{name_value, IsNameFault, indirect_name, IsNameOffsetFault, real_name_at};
+ghost use Rattle.goblin_pe_sect.specs.SectionName.{name_value, IsNameFault, indirect_name, IsNameOffsetFault, real_name_at, HasBytes};
 ghost use Rattle.goblin_pe_sect.specs.SectionTable.{Section, section_eq, section_per, SectionReadsBack, SectionWritesBack, section_record, section_fields, section_at, IsSectionFault, name_of, IsNoName, raw_data, section_data, OverlapRawData};
 
 use crate::digits::{Digits, decimal_number, indirect_name};
@@ -166,7 +166,7 @@ impl SectionTable {
         string_table_offset: usize,
     ) -> Result<SectionTable>
         ensures value { AnswersOrMemory (λ s. s) result (section_at true string_table_offset bytes.now offset.old) (IsSectionFault true bytes.now offset.old) }
-        ensures grown { IfErr result (λ e. IsMemory e → IsSomeAnd (section_at true string_table_offset bytes.now offset.old) (λ s. IsSome s.real_name)) }
+        ensures grown { IfErr result (λ e. IsMemory e → IsSomeAnd (section_at true string_table_offset bytes.now offset.old) (λ s. HasBytes s.real_name)) }
         ensures ok { OnOk result (offset.new ≡ offset.old + 40) }
         ensures err { OnErr result (offset.new ≡ offset.old) }
     {
@@ -176,7 +176,8 @@ impl SectionTable {
 
     /// Reads the record at the file offset `offset` and moves `offset` past it. Where its name is
     /// indirect, the real name is a copy of the text that it points to in the string table at
-    /// `string_table_offset`, a file offset, if a text stands there.
+    /// `string_table_offset`, a file offset, if a text stands there; a copy of an empty text takes no
+    /// memory.
     ///
     /// # Errors
     /// [`Error::Read`] where the 40 bytes pass the end of the file; as
@@ -193,7 +194,7 @@ impl SectionTable {
         ensures value { let strict = is_strict opts.now.parse_mode in
             AnswersOrMemory (λ s. s) result (section_at strict string_table_offset bytes.now offset.old) (IsSectionFault strict bytes.now offset.old) }
         ensures grown { let section = section_at (is_strict opts.now.parse_mode) string_table_offset bytes.now offset.old in
-            IfErr result (λ e. IsMemory e → IsSomeAnd section (λ s. IsSome s.real_name)) }
+            IfErr result (λ e. IsMemory e → IsSomeAnd section (λ s. HasBytes s.real_name)) }
         ensures ok { OnOk result (offset.new ≡ offset.old + 40) }
         ensures err { OnErr result (offset.new ≡ offset.old) }
     {
@@ -206,16 +207,17 @@ impl SectionTable {
         Ok(section)
     }
 
-    /// A copy with its own text. One without a real name takes no memory.
+    /// A copy with its own text. One without a real name takes no memory, nor does one whose real name is
+    /// empty.
     ///
     /// # Errors
     /// [`Error::Memory`] where memory for the text is refused.
     pub fn clone(&self, alloc: Global) -> Result<SectionTable>
         ensures value { GivesOrMemory (λ s. s) result self.now }
-        ensures grown { OnErr result (IsSome self.now.real_name) }
+        ensures grown { OnErr result (HasBytes self.now.real_name) }
     {
         let real_name = match &self.real_name {
-            Some(name) => Some(String::from_str(alloc, name.as_str())?),
+            Some(name) => Some(copy_of(alloc, name.as_str())?),
             None => None,
         };
         Ok(SectionTable {
@@ -479,13 +481,24 @@ fn real_name(
     value: Option<usize>,
 ) -> Result<Option<String>>
     ensures value { GivesOrMemory (λ name. option_map string_bytes name) result (real_name_at bytes.now string_table_offset value) }
-    ensures grown { OnErr result (IsSome (real_name_at bytes.now string_table_offset value)) }
+    ensures grown { OnErr result (HasBytes (real_name_at bytes.now string_table_offset value)) }
 {
     let Some(offset) = value.and_then(|value| string_table_offset.checked_add(value)) else {
         return Ok(None);
     };
     match pread_str(bytes, offset) {
-        Ok(name) => Ok(Some(String::from_str(alloc, name)?)),
+        Ok(name) => Ok(Some(copy_of(alloc, name)?)),
         Err(_) => Ok(None),
     }
+}
+
+// A copy of a text; that of an empty one takes no memory.
+fn copy_of(alloc: Global, text: &str) -> Result<String>
+    ensures value { GivesOrMemory string_bytes result text.now }
+    ensures grown { OnErr result (0 < length text.now) }
+{
+    if text.is_empty() {
+        return Ok(String::new(alloc));
+    }
+    Ok(String::from_str(alloc, text)?)
 }

@@ -12,7 +12,7 @@ ghost use Rattle.std.specs.Option.{option_map};
 ghost use Rattle.std.specs.List.Sorted.{IsStrictlyIncreasing};
 ghost use Rattle.goblin_base.specs.Answers.{IsMemory};
 ghost use Rattle.goblin_pe_sect.specs.Mapping.{file_offset};
-ghost use Rattle.goblin_pe_sect.specs.WindowIndex.{IsCut, first_owner, last_owner, located, owner_offset, reached, HasPieces};
+ghost use Rattle.goblin_pe_sect.specs.WindowIndex.{IsCut, first_owner, last_owner, located, owner_offset, reached, halvings, HasPieces};
 
 mod bounds;
 mod cuts;
@@ -28,12 +28,12 @@ use std::alloc::Global;
 use std::marker::Model;
 
 // The index in the middle of those from `low` up to, and without, `high`: at most half of the others
-// stand on either side, and at most one more on one side than on the other.
+// stand on either side, and below it as many as above it or one more.
 fn middle(low: usize, high: usize) -> usize
     requires { low < high }
     ensures within { (low ≤ result) × (result < high) }
     ensures halves { (2 * (result - low) ≤ high - low) × (2 * (high - (result + 1)) ≤ high - low) }
-    ensures even { (high - low ≤ 2 * (result - low) + 2) × (high - low ≤ 2 * (high - (result + 1)) + 2) }
+    ensures even { (high - low ≤ 2 * (result - low) + 1) × (high - low ≤ 2 * (high - (result + 1)) + 2) }
 {
     low + (high - low) / 2
 }
@@ -44,6 +44,7 @@ fn count_reached(bounds: &Bounds, rva: usize) -> (usize, usize)
     ensures value { result.0 ≡ reached bounds.now rva }
     ensures most { (d : ℕ) → length bounds.now < 2 ^ d → result.1 ≤ d }
     ensures fewest { (d : ℕ) → 2 ^ d ≤ length bounds.now + 1 → d ≤ result.1 }
+    ensures counted { result.1 ≡ halvings (length bounds.now) (reached bounds.now rva) }
 {
     let mut probes = 0;
     let mut low = 0;
@@ -149,12 +150,14 @@ impl WindowIndex {
 
     /// The answer of [`WindowIndex::find`], and how many probes were made: calls of
     /// [`Bounds::reaches`], the only call that tells where a piece begins. Fewer than 2 to the
-    /// power d pieces take at most d probes.
-    #[tactic(auto, using(crate::proofs::Halving::none_needed), unfolding(crate::specs::WindowIndex::located))]
+    /// power d pieces take at most d probes. It is the number that a search by halving makes for
+    /// this address.
+    #[tactic(auto, using(crate::proofs::Halving::none_needed, crate::proofs::Halving::none_counted), unfolding(crate::specs::WindowIndex::located))]
     pub fn find_counted(&self, rva: usize) -> (Option<usize>, usize)
         ensures value { result.0 ≡ located self.now rva }
         ensures most { (d : ℕ) → length self.now.begins < 2 ^ d → result.1 ≤ d }
         ensures fewest { (d : ℕ) → 2 ^ d ≤ length self.now.begins + 1 → d ≤ result.1 }
+        ensures counted { result.1 ≡ halvings (length self.now.begins) (reached self.now.begins rva) }
     {
         if !self.resolves {
             return (Some(rva), 0);

@@ -44,6 +44,33 @@ fn a_section_with_its_name_elsewhere_is_refused_at_each_growth(
 }
 
 #[test]
+fn a_section_with_an_empty_name_elsewhere_takes_no_memory(rt: HostRuntime) -> Result<(), Fail> {
+    let alloc = rt.alloc();
+    // (where a NUL stands)
+    let name = b"/50\0\0\0\0\0";
+    let file = sample_named(alloc, name)?;
+    let want = SectionTable {
+        name: *name,
+        real_name: Some(String::new(alloc)),
+        ..sample_section()
+    };
+    let mut answers = 0u32;
+    let was_refused = is_refused_until_right(alloc, || {
+        let mut offset = TABLE;
+        let read = SectionTable::parse(alloc, &file, &mut offset, 0);
+        let outcome = outcome_of(&read, &want);
+        if !matches!(outcome, Outcome::Right) {
+            return outcome;
+        }
+        answers = answers.saturating_add(1);
+        outcome_of(&want.clone(alloc), &want)
+    })?;
+    // One answer with ample memory, and one at once where none is left.
+    assert!(rt; !was_refused && answers == 2);
+    Ok(())
+}
+
+#[test]
 fn data_with_zeros_is_refused_at_each_growth(rt: HostRuntime) -> Result<(), Fail> {
     let alloc = rt.alloc();
     let padded = section(0, 6, 4, 4);

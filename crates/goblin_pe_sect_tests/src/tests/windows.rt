@@ -55,18 +55,20 @@ fn an_address_of_two_windows_belongs_to_the_first(rt: HostRuntime) -> Result<(),
     let sections = [narrow(), wide()];
     let index = WindowIndex::prepare(rt.alloc(), &sections, 0x200, &opts)?;
     assert_eq!(rt; index.pieces(), 5);
+    // The pieces begin at 0, 0x1000, 0x1200, 0x1400 and 0x1800. The first probe is of 0x1200; below
+    // it the second is of 0x1000, and below that a third of 0; from it on the second is of 0x1800,
+    // and below that a third of 0x1400.
     let rows = [
-        (0, None),
-        (0xFFF, None),
-        (0x1100, Some(0x900)),
-        (0x1250, Some(0x450)),
-        (0x1500, Some(0xD00)),
-        (0x1800, None),
-        (usize::MAX, None),
+        (0, None, 3),
+        (0xFFF, None, 3),
+        (0x1100, Some(0x900), 2),
+        (0x1250, Some(0x450), 3),
+        (0x1500, Some(0xD00), 3),
+        (0x1800, None, 2),
+        (usize::MAX, None, 2),
     ];
-    for (rva, want) in rows {
-        let (found, probes) = index.find_counted(rva);
-        assert!(rt; found == want && probes <= 4, "{rva:#x} by {probes} probes");
+    for (rva, want, probes) in rows {
+        assert_eq!(rt; index.find_counted(rva), (want, probes), "{rva:#x}");
         assert_eq!(rt; index.find(rva), want, "{rva:#x}");
         assert_eq!(rt; find_offset(rva, &sections, 0x200, &opts), want, "{rva:#x}");
     }
@@ -83,9 +85,11 @@ fn a_hidden_window_still_cuts_the_line(rt: HostRuntime) -> Result<(), Fail> {
         section(0x1000, 0x200, 0x200, 0x800),
     ];
     let twice = WindowIndex::prepare(rt.alloc(), &pair, 0x200, &opts)?;
-    let (found, probes) = twice.find_counted(0x1010);
-    assert_eq!(rt; (twice.pieces(), found), (3, Some(0x410)));
-    assert!(rt; probes <= 3, "{probes} probes");
+    // Of 0, 0x1000 and 0x1200 the second is the middle, and then the third is left.
+    assert_eq!(rt;
+        (twice.pieces(), twice.find_counted(0x1010)),
+        (3, (Some(0x410), 2))
+    );
     Ok(())
 }
 
@@ -93,11 +97,7 @@ fn a_hidden_window_still_cuts_the_line(rt: HostRuntime) -> Result<(), Fail> {
 fn an_index_of_no_windows_has_one_piece_or_none(rt: HostRuntime) -> Result<(), Fail> {
     let opts = ParseOptions::default();
     let none = WindowIndex::prepare(rt.alloc(), &[], 0x200, &opts)?;
-    let (found, probes) = none.find_counted(0);
-    assert!(rt;
-        none.pieces() == 1 && found == None && probes <= 2,
-        "{probes} probes"
-    );
+    assert_eq!(rt; (none.pieces(), none.find_counted(0)), (1, (None, 1)));
     for alignment in [0, 0x300] {
         let index = WindowIndex::prepare(rt.alloc(), &[wide()], alignment, &opts)?;
         assert_eq!(rt;

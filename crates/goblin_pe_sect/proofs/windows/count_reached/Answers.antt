@@ -1,6 +1,6 @@
 use Rattle.std.proofs.Common.{length, ◌<◌, ◌^◌, arith, rules}
 use Rattle.std.proofs.lemmas.Grind.{common_steps}
-use Rattle.goblin_pe_sect.proofs.Halving.{searched_up, searched_down, searched_all, searched_fewest}
+use Rattle.goblin_pe_sect.proofs.Halving.{searched_up, searched_down, searched_all, searched_fewest, searched_counted}
 use Rattle.goblin_pe_sect.proofs.windows.count_reached.Goals as goal
 
 pub reaches-requires-clause-room : goal.reaches-requires-clause-room
@@ -10,7 +10,7 @@ reaches-requires-clause-room c =
 
 pub halving-preserved-then-reaches : goal.halving-preserved-then-reaches
 halving-preserved-then-reaches c =
-    rw c.reaches.ensures.counted (searched_up _ _ _ _ _ _ c.requires c.halving.invariant c.middle-half.ensures.within.0 c.middle-half.ensures.within.1 c.middle-half.ensures.halves.1 c.middle-half.ensures.even.1 (search rules))
+    rw c.reaches.ensures.counted (searched_up _ _ _ _ _ _ c.requires c.halving.invariant c.middle-half.ensures.within.0 c.middle-half.ensures.within.1 c.middle-half.ensures.halves.0 c.middle-half.ensures.even.0 (search rules))
 
 pub halving-preserved : goal.halving-preserved
 halving-preserved c =
@@ -21,3 +21,6 @@ returns-clause-value c = searched_all _ _ _ _ _ c.halving.invariant c.halving-te
 
 pub returns-clause-fewest : goal.returns-clause-fewest
 returns-clause-fewest c = searched_fewest _ _ _ _ _ c.halving.invariant c.halving-test.false
+
+pub returns-clause-counted : goal.returns-clause-counted
+returns-clause-counted c = searched_counted _ _ _ _ _ c.halving.invariant c.halving-test.false
