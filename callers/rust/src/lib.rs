@@ -20,32 +20,20 @@
 #![deny(unsafe_code)]
 #![warn(missing_docs)]
 
+mod numbers;
 #[allow(unsafe_code)]
 mod raw;
 
 use std::cell::Cell;
 use std::fmt;
 
+use numbers::Forwards;
+pub use numbers::{Cause, Counted, DirectoryType, ErrorKind, Part, ReadFault};
 pub use raw::{CoffHeader, DataDirectory, DosHeader, OptionalHeader, Options, RichEntry, TeHeader};
-
-/// How a table of the file stands.
-#[derive(Clone, Copy, Debug, PartialEq, Eq)]
-pub enum Part {
-    /// The file has no such table, or it was not asked for.
-    Absent,
-    /// It was read, and may be empty.
-    Read,
-    /// The file has it, and it is damaged; permissive mode passed over that.
-    Refused,
-}
 
 impl From<raw::Table> for Part {
     fn from(table: raw::Table) -> Part {
-        match table.state {
-            0 => Part::Absent,
-            1 => Part::Read,
-            _ => Part::Refused,
-        }
+        Part::try_from(table.state).unwrap_or(Part::Refused)
     }
 }
 
@@ -267,9 +255,9 @@ impl<'a> From<&raw::Export<'a>> for Export<'a> {
             name: x.has_name.then(|| Text(x.name.get())),
             offset: x.has_offset.then_some(x.offset),
             rva: x.rva,
-            forwarder: match x.forwards {
-                0 => None,
-                1 => Some(Forwarder::Name { lib, export }),
+            forwarder: match Forwards::try_from(u32::from(x.forwards)) {
+                Ok(Forwards::Nothing) => None,
+                Ok(Forwards::Name) => Some(Forwarder::Name { lib, export }),
                 _ => Some(Forwarder::Ordinal { lib, ordinal }),
             },
         }
@@ -307,21 +295,6 @@ impl<'a> From<&raw::Block<'a>> for Block<'a> {
     }
 }
 
-/// What kind of refusal it is.
-#[derive(Clone, Copy, Debug, PartialEq, Eq)]
-pub enum ErrorKind {
-    /// The bytes are not what the format says.
-    Malformed,
-    /// A magic number that no format has.
-    BadMagic,
-    /// The file is too short for as many entries as it counts.
-    BufferTooShort,
-    /// A read at an offset was refused.
-    Read,
-    /// Memory was refused.
-    Memory,
-}
-
 /// Why a file was refused.
 #[derive(Clone, Copy, PartialEq, Eq)]
 pub struct Error(raw::Fault);
@@ -339,19 +312,34 @@ impl Error {
 
     /// What kind of refusal it is.
     pub fn kind(&self) -> ErrorKind {
-        match self.0.status {
-            1 => ErrorKind::Malformed,
-            2 => ErrorKind::BadMagic,
-            3 => ErrorKind::BufferTooShort,
-            4 => ErrorKind::Read,
-            _ => ErrorKind::Memory,
-        }
+        ErrorKind::try_from(self.0.status).unwrap_or(ErrorKind::Memory)
     }
 
     /// The triple (number of the cause, its first number, its second number), each 0 where there is
-    /// none. The cause 0 means that the kind says all.
+    /// none. By the kind the cause is a [`Cause`], a [`Counted`] or a [`ReadFault`].
     pub fn cause(&self) -> (u32, u64, u64) {
         (self.0.cause, self.0.first, self.0.second)
+    }
+
+    /// What is wrong with the file, where the kind is [`ErrorKind::Malformed`].
+    pub fn named_cause(&self) -> Option<Cause> {
+        self.named(ErrorKind::Malformed)
+    }
+
+    /// What the file is too short for, where the kind is [`ErrorKind::BufferTooShort`].
+    pub fn counted(&self) -> Option<Counted> {
+        self.named(ErrorKind::BufferTooShort)
+    }
+
+    /// Why a read was refused, where the kind is [`ErrorKind::Read`].
+    pub fn read_fault(&self) -> Option<ReadFault> {
+        self.named(ErrorKind::Read)
+    }
+
+    // The cause by name, where the refusal is of this kind.
+    fn named<T: TryFrom<u32>>(&self, kind: ErrorKind) -> Option<T> {
+        let cause = (self.kind() == kind).then_some(self.0.cause)?;
+        T::try_from(cause).ok()
     }
 }
 
@@ -480,7 +468,15 @@ impl<'a> Pe<'a> {
         Error::of(self.file.rich_header.rest)
     }
 
-    /// The data directories that are there, as pairs (index, directory), by rising index.
+    /// The data directory of a kind; `None` where the file has none, or one of zeros.
+    pub fn data_directory(&self, kind: DirectoryType) -> Option<DataDirectory> {
+        let mut directories = self.data_directories();
+        let found = directories.find(|(index, _)| *index == kind as usize);
+        found.map(|(_, directory)| directory)
+    }
+
+    /// The data directories that are there, as pairs (index, directory), by rising index; an index
+    /// below 15 is that of a [`DirectoryType`].
     pub fn data_directories(&self) -> impl Iterator<Item = (usize, DataDirectory)> + '_ {
         let directories = self.records.directories.iter().enumerate();
         directories.filter(|(_, d)| d.is_present).map(|(index, d)| {

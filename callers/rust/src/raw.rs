@@ -57,9 +57,9 @@ pub struct Options {
 #[repr(C)]
 #[derive(Clone, Copy, Debug, Default, PartialEq, Eq)]
 pub struct Fault {
-    /// 0 nothing is refused, 1 a cause, 2 a magic number, 3 too short, 4 a read, 5 memory.
+    /// What kind of refusal it is: 0 where nothing is refused, else an `ErrorKind`.
     pub status: u32,
-    /// Which cause, which refusal of a read, or what the file is too short for, from 1 on; else 0.
+    /// By the status a `Cause`, a `ReadFault` or a `Counted`; else 0.
     pub cause: u32,
     /// The first number of the cause, else 0.
     pub first: u64,
@@ -373,7 +373,7 @@ pub struct Export<'a> {
     pub has_name: bool,
     /// Whether the address has a file offset.
     pub has_offset: bool,
-    /// 0 no forwarder, 1 a forwarder by name, 2 a forwarder by ordinal.
+    /// What it forwards to: a `Forwards`.
     pub forwards: u8,
 }
 
@@ -396,7 +396,7 @@ pub struct Block<'a> {
 pub struct Table {
     /// How many entries it has, whatever the room.
     pub count: usize,
-    /// 0 the file has no such table, 1 it was read, 2 it is refused and was passed over.
+    /// Whether it was read: a `Part`.
     pub state: u32,
 }
 
