@@ -200,7 +200,7 @@ struct goblin_pe_options {
     /* Whether the mapping rounds the raw pointer of a section down to 512, as the Windows loader
        does; where not, it takes the pointer as stored. */
     bool rounds_raw_pointers;
-    /* Whether the imports are read. */
+    /* Whether the imports are read; where not, their table is absent. */
     bool parse_imports;
 };
 
@@ -491,7 +491,8 @@ struct goblin_pe_export {
     struct goblin_pe_text export_name;
     /* Of a forwarder by ordinal the ordinal in that library. */
     size_t ordinal;
-    /* The file offset of rva, where it has one. */
+    /* The file offset of rva, where it has one; else 0. Where the options say that addresses are
+       offsets, rva itself. */
     size_t offset;
     /* The export's address, relative to the image's base; of a forwarder that of its text. */
     size_t rva;
@@ -499,7 +500,8 @@ struct goblin_pe_export {
     size_t size;
     /* Whether the name can be read. */
     bool has_name;
-    /* Whether the address has a file offset. */
+    /* Whether rva has a file offset: a section maps it and the file alignment is a power of two, or
+       the options say that addresses are offsets. */
     bool has_offset;
     /* What it forwards to: a goblin_pe_forwards. */
     uint8_t forwards;
@@ -507,10 +509,10 @@ struct goblin_pe_export {
 
 /* A block of base relocations, for one page of the image in memory. */
 struct goblin_pe_block {
-    /* The words, of two bytes each: the type in the high four bits, and in the low twelve the
-       place, in bytes from the page's address. A byte that is left is no word. */
+    /* The words, of two bytes each: the type in the high four bits, and in the low twelve the offset
+       in the page, in bytes. A byte that is left is no word. */
     struct goblin_pe_text words;
-    /* The page's address, relative to the image's base, to which each place is added. */
+    /* The page's address, relative to the image's base, to which each offset is added. */
     uint32_t rva;
     /* The size of the block with its head, in bytes. */
     uint32_t size;
@@ -632,7 +634,9 @@ struct goblin_pe_fault goblin_pe_read_te(
     struct goblin_pe_section *sections, size_t section_room);
 
 /* Puts the file offset of an address into `offset`, and answers whether there is one: by sections that
-   were filled in and the file alignment of the optional header. */
+   were filled in and the file alignment of the optional header. There is none where no section maps
+   the address or the alignment is no power of two; where the options say that addresses are offsets,
+   it is the address itself. */
 bool goblin_pe_find_offset(
     size_t rva, const struct goblin_pe_section *sections, size_t section_count,
     uint32_t file_alignment, const struct goblin_pe_options *options, size_t *offset);

@@ -561,7 +561,8 @@ class Pe:
     """An image that was read: Pe(data, how), where `data` are the file's bytes and `how` is what options()
     answers. Texts are bytes. An import by ordinal has None as its name, and of one by name
     the ordinal is the hint. The forwarder of an export is None, or the pair (library, name or ordinal). The
-    words of a block are numbers: the type in the high four bits, the place in the page in the low twelve.
+    words of a block are numbers: the type in the high four bits, the offset in the page in the low twelve. The
+    offset of an export is what find_offset answers of its address.
     The lists are empty where their tables are absent or refused, as import_table, export_table and
     relocation_table say ("absent", "read" or "refused"). data_directories has the directories by their index, a
     DirectoryType below 15. A file that is refused raises Refused."""
@@ -596,7 +597,8 @@ class Pe:
         self.block_rest = Refused(file.relocations.rest) if file.relocations.rest.status else None
 
     def find_offset(self, rva):
-        """The file offset of an address, or None, by the sections and the file alignment."""
+        """The file offset of an address: None where no section maps it or the file alignment is no power of two;
+        the address itself where the options say that addresses are offsets."""
         offset = c.c_size_t()
         alignment = self.optional_header.file_alignment if self.optional_header else 0
         is_found = _LIB.goblin_pe_find_offset(rva, self._sections, self._count, alignment, c.byref(self._options), c.byref(offset))

@@ -238,7 +238,7 @@ pub enum Forwarder<'a> {
 pub struct Export<'a> {
     /// The name; `None` where no text stands at its address.
     pub name: Option<Text<'a>>,
-    /// The file offset of `rva`; `None` where no section maps it.
+    /// The file offset of `rva`, as [`Pe::find_offset`] gives it.
     pub offset: Option<usize>,
     /// The address, relative to the image's base; of a forwarder that of its text.
     pub rva: usize,
@@ -267,7 +267,7 @@ impl<'a> From<&raw::Export<'a>> for Export<'a> {
 /// A block of base relocations, for one page of the image in memory.
 #[derive(Clone, Copy, Debug, PartialEq, Eq)]
 pub struct Block<'a> {
-    /// The page's address, relative to the image's base, to which each place is added.
+    /// The page's address, relative to the image's base, to which each offset is added.
     pub rva: u32,
     /// The size of the block with its head, in bytes.
     pub size: u32,
@@ -275,8 +275,8 @@ pub struct Block<'a> {
 }
 
 impl<'a> Block<'a> {
-    /// The words as pairs (type, place in bytes from the page's address). A byte that is left after
-    /// them is no word.
+    /// The words as pairs (type, offset in the page in bytes). A byte that is left after them is no
+    /// word.
     pub fn words(&self) -> impl ExactSizeIterator<Item = (u8, u16)> + use<'a> {
         self.bytes.chunks_exact(2).map(|bytes| {
             let word = u16::from_le_bytes([bytes[0], bytes[1]]);
@@ -539,8 +539,9 @@ impl<'a> Pe<'a> {
     }
 
     /// The file offset of an address, by the sections, the file alignment and the options with
-    /// which the file was read; `None` where no section maps it. It walks over the sections each
-    /// time.
+    /// which the file was read; `None` where no section maps it or the alignment is no power of
+    /// two. Where the options say that addresses are offsets, it is the address itself. It walks
+    /// over the sections each time.
     pub fn find_offset(&self, rva: usize) -> Option<usize> {
         let alignment = self.file.optional_header.file_alignment;
         raw::find_offset(rva, self.section_records(), alignment, &self.options)

@@ -49,7 +49,7 @@ pub struct Options {
     /// Whether the mapping rounds the raw pointer of a section down to 512, as the Windows loader
     /// does; where not, it takes the pointer as stored.
     pub rounds_raw_pointers: bool,
-    /// Whether the imports are read.
+    /// Whether the imports are read; where not, their table is absent.
     pub parse_imports: bool,
 }
 
@@ -363,7 +363,8 @@ pub struct Export<'a> {
     pub export_name: Slice<'a>,
     /// Of a forwarder by ordinal the ordinal in that library.
     pub ordinal: usize,
-    /// The file offset of `rva`, where it has one.
+    /// The file offset of `rva`, where it has one; else 0. Where the options say that addresses are
+    /// offsets, `rva` itself.
     pub offset: usize,
     /// The export's address, relative to the image's base; of a forwarder that of its text.
     pub rva: usize,
@@ -371,7 +372,8 @@ pub struct Export<'a> {
     pub size: usize,
     /// Whether the name can be read.
     pub has_name: bool,
-    /// Whether the address has a file offset.
+    /// Whether `rva` has a file offset: a section maps it and the file alignment is a power of two,
+    /// or the options say that addresses are offsets.
     pub has_offset: bool,
     /// What it forwards to: a `Forwards`.
     pub forwards: u8,
@@ -382,9 +384,9 @@ pub struct Export<'a> {
 #[derive(Clone, Copy)]
 pub struct Block<'a> {
     /// The words, of two bytes each: the type in the high four bits, and in the low twelve the
-    /// place, in bytes from the page's address. A byte that is left is no word.
+    /// offset in the page, in bytes. A byte that is left is no word.
     pub words: Slice<'a>,
-    /// The page's address, relative to the image's base, to which each place is added.
+    /// The page's address, relative to the image's base, to which each offset is added.
     pub rva: u32,
     /// The size of the block with its head, in bytes.
     pub size: u32,
