@@ -131,7 +131,7 @@ impl TeHeader {
     ///
     /// # Errors
     /// [`Error::Read`] where the 40 bytes pass the end of the file; [`Error::Malformed`] with
-    /// [`Cause::StrippedSize`] where less than 40 bytes were stripped. `offset` then stays.
+    /// [`Cause::StrippedSize`] where fewer than 40 bytes were stripped. `offset` then stays.
     #[tactic(auto, unfolding(crate::specs::TeHeader::te_header, crate::specs::TeHeader::te_adjusted, crate::specs::TeHeader::IsTeFault))]
     pub fn parse(bytes: &[u8], offset: &mut usize) -> Result<TeHeader>
         ensures value { Answers (λ h. h) result (te_header bytes.now offset.old) (IsTeFault bytes.now offset.old) }
@@ -160,7 +160,7 @@ impl TeHeader {
     /// # Errors
     /// [`Error::BufferTooShort`] of the number of sections where the whole file has no room for
     /// that many records, tested first; [`Error::Malformed`] with [`Cause::StrippedSize`] where
-    /// less than 40 bytes were stripped; as [`SectionTable::parse`] where a record passes the end
+    /// fewer than 40 bytes were stripped; as [`SectionTable::parse`] where a record passes the end
     /// or its name is refused; [`Error::Memory`] where memory is refused. `offset` then stays.
     #[tactic(auto, unfolding(crate::specs::TeHeader::te_sections_at))]
     pub fn sections(
