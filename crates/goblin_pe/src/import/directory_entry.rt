@@ -27,7 +27,7 @@ pub struct ImportDirectoryEntry {
     /// The address of the library's name, at 12. The record with 0 here is the directory's last.
     pub name_rva: u32,
     /// The address of the address table, at 16: a copy of the lookup table, in which the loader
-    /// puts an address in the place of each entry. The record with 0 here is the directory's last.
+    /// puts an address in place of each entry. The record with 0 here is the directory's last.
     pub import_address_table_rva: u32,
 }
 

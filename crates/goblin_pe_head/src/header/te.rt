@@ -29,7 +29,7 @@ const SIZEOF_TE_HEADER: usize = 40;
 ///
 /// Source: UEFI Platform Initialization Specification, volume 3, "TE Image". Numbers are as stored,
 /// but for the four that [`TeHeader::parse`] adjusts; the record has 40 bytes, and `at` says where
-/// in it a field stands. It stands in the place of the headers of a PE file, of which it keeps what
+/// in it a field stands. It stands in place of the headers of a PE file, of which it keeps what
 /// a loader of firmware needs; its addresses still count the bytes that were stripped.
 #[derive(Debug, PartialEq, Copy, Clone, Default)]
 pub struct TeHeader {
