@@ -22,7 +22,8 @@
    - malloc, realloc and free are those of one allocator, and no call is made from a signal handler.
    A call may be made from any thread, and from several at once. After a refusal nothing is changed.
 
-   The fields are those of the crate goblin_pe_c, in the same order; callers/layout.py compares them. */
+   The fields are those of the crate goblin_pe_c, in the same order, and so are the numbers;
+   callers/layout.py compares them. */
 #ifndef GOBLIN_PE_H
 #define GOBLIN_PE_H
 
@@ -37,20 +38,151 @@ extern "C" {
 /* The version of this interface, which goblin_pe_interface answers. */
 #define GOBLIN_PE_INTERFACE 1
 
-/* The state of a table: the file has none, it was read, or it is refused and was passed over. */
-enum { GOBLIN_PE_ABSENT, GOBLIN_PE_READ, GOBLIN_PE_REFUSED };
+/* The state of a table: the file has none or it was not asked for, it was read, or it is refused and
+   was passed over. */
+enum goblin_pe_state { GOBLIN_PE_ABSENT, GOBLIN_PE_READ, GOBLIN_PE_REFUSED };
 
 /* What an export forwards to. */
-enum { GOBLIN_PE_NO_FORWARDER, GOBLIN_PE_FORWARDS_NAME, GOBLIN_PE_FORWARDS_ORDINAL };
+enum goblin_pe_forwards {
+    GOBLIN_PE_NO_FORWARDER,
+    GOBLIN_PE_FORWARDS_NAME,
+    GOBLIN_PE_FORWARDS_ORDINAL
+};
 
-/* The status of a fault. */
-enum {
-    GOBLIN_PE_OK,
-    GOBLIN_PE_MALFORMED,
-    GOBLIN_PE_BAD_MAGIC,
-    GOBLIN_PE_TOO_SHORT,
-    GOBLIN_PE_BAD_READ,
-    GOBLIN_PE_NO_MEMORY
+/* The status of a fault: what kind of refusal it is. A later version may add numbers, here and in the
+   lists below, but changes none. */
+enum goblin_pe_status {
+    /* Nothing is refused. */
+    GOBLIN_PE_OK = 0,
+    /* The bytes are not what the format says: the cause is a goblin_pe_cause. */
+    GOBLIN_PE_MALFORMED = 1,
+    /* An optional header has the magic number `first`, neither of the two that are read. */
+    GOBLIN_PE_BAD_MAGIC = 2,
+    /* The file is too short for `first` entries: the cause is a goblin_pe_counted. */
+    GOBLIN_PE_TOO_SHORT = 3,
+    /* A read at an offset was refused: the cause is a goblin_pe_read_fault. */
+    GOBLIN_PE_BAD_READ = 4,
+    /* Memory was asked for and refused. */
+    GOBLIN_PE_NO_MEMORY = 5
+};
+
+/* What is wrong with a file. `first` and `second` are those of the fault; offsets are file offsets in
+   bytes. */
+enum goblin_pe_cause {
+    /* A message of a caller's own, in Rattle alone. */
+    GOBLIN_PE_CAUSE_MESSAGE = 1,
+    /* The file is too short for the DOS signature. */
+    GOBLIN_PE_CAUSE_NO_DOS_SIGNATURE = 2,
+    /* The file begins with `first` in place of the DOS signature. */
+    GOBLIN_PE_CAUSE_DOS_MAGIC = 3,
+    /* The file is too short for the DOS header. */
+    GOBLIN_PE_CAUSE_NO_PE_POINTER = 4,
+    /* The file has no four bytes at offset `first`, where the PE signature is placed. */
+    GOBLIN_PE_CAUSE_NO_PE_SIGNATURE = 5,
+    /* `first` stands where the PE signature is placed. */
+    GOBLIN_PE_CAUSE_PE_MAGIC = 6,
+    /* The PE signature is placed at offset `first`, before 0x40, where the DOS stub begins. */
+    GOBLIN_PE_CAUSE_STUB_BEFORE_START = 7,
+    /* The DOS stub would pass the file's `first` bytes: it would end at offset `second`. */
+    GOBLIN_PE_CAUSE_STUB_PAST_END = 8,
+    /* The DOS stub has the marker Rich with a key, but under that key no marker DanS. */
+    GOBLIN_PE_CAUSE_NO_DANS = 9,
+    /* The data of the Rich header would begin at `first` and end at `second`, not after it, in
+       bytes counted from offset 0x40. */
+    GOBLIN_PE_CAUSE_RICH_BOUNDS = 10,
+    /* The header of a Terse Executable says that `first` bytes were stripped, fewer than its own
+       40. */
+    GOBLIN_PE_CAUSE_STRIPPED_SIZE = 11,
+    /* The length of a string table is below 4, the size of the field that says it. */
+    GOBLIN_PE_CAUSE_COFF_LENGTH = 12,
+    /* No kind of data directory has the index `first`. */
+    GOBLIN_PE_CAUSE_DIRECTORY_INDEX = 13,
+    /* There are `first` data directories, more than sixteen. */
+    GOBLIN_PE_CAUSE_DIRECTORY_COUNT = 14,
+    /* The bytes after the slash of a section's indirect name are not UTF-8. */
+    GOBLIN_PE_CAUSE_NAME_TEXT = 15,
+    /* A section's indirect name has a character that is no digit of base 64. */
+    GOBLIN_PE_CAUSE_NAME_BASE64 = 16,
+    /* A section's name has no decimal number after its slash. */
+    GOBLIN_PE_CAUSE_NAME_DECIMAL = 17,
+    /* No section name can hold `first`, an offset in a string table. */
+    GOBLIN_PE_CAUSE_NAME_OFFSET = 18,
+    /* A symbol's name: no text stands at offset `first` of the string table, or the stored number is
+       `first`, below 4. */
+    GOBLIN_PE_CAUSE_SYMBOL_NAME = 19,
+    /* A string table at offset `first`, of `second` bytes, would pass the file. */
+    GOBLIN_PE_CAUSE_STRING_TABLE = 20,
+    /* A Windows field of 64 bits has a value that does not fit 32. */
+    GOBLIN_PE_CAUSE_FIELD_TOO_WIDE = 21,
+    /* The address `first` has no file offset. */
+    GOBLIN_PE_CAUSE_UNMAPPED = 22,
+    /* No text stands at offset `first`, to which the address of a name is mapped. */
+    GOBLIN_PE_CAUSE_NAME_READ = 23,
+    /* The two bytes of a hint would pass the file at offset `first`. */
+    GOBLIN_PE_CAUSE_HINT_ENTRY = 24,
+    /* A lookup table of imports meets the file's end at offset `first`, before its last entry. */
+    GOBLIN_PE_CAUSE_LOOKUP_END = 25,
+    /* An import directory meets the file's end at offset `first`, before its last record. */
+    GOBLIN_PE_CAUSE_IMPORT_RECORD_END = 26,
+    /* An export directory's record would pass the file at offset `first`. */
+    GOBLIN_PE_CAUSE_EXPORT_TABLE = 27,
+    /* A forwarder's text has no dot, or nothing after its first dot. */
+    GOBLIN_PE_CAUSE_FORWARDER = 28,
+    /* A forwarder's text has no decimal number below 2^32 after its #. */
+    GOBLIN_PE_CAUSE_FORWARDER_ORDINAL = 29,
+    /* A base relocation directory at offset `first`, of `second` bytes, would pass the file, or
+       begins at or past its end. */
+    GOBLIN_PE_CAUSE_RELOC_RANGE = 30,
+    /* A base relocation block says that it has `first` bytes, below the 8 of its own head. */
+    GOBLIN_PE_CAUSE_BLOCK_SIZE = 31,
+    /* The words of a base relocation block, `second` bytes at `first` from the directory's front,
+       would pass the directory, or begin at its end. */
+    GOBLIN_PE_CAUSE_BLOCK_RANGE = 32,
+    /* A sum or a product of offsets passes 64 bits. */
+    GOBLIN_PE_CAUSE_OVERFLOW = 33,
+    /* A library of imports made by hand has `first` entries, but `second` slots. */
+    GOBLIN_PE_CAUSE_SLOT_COUNT = 34
+};
+
+/* What a file is too short for. */
+enum goblin_pe_counted {
+    /* Something else, which the text calls entries. */
+    GOBLIN_PE_COUNTED_OTHER = 0,
+    /* Section records. */
+    GOBLIN_PE_COUNTED_SECTIONS = 1,
+    /* Entries of the export name pointer table. */
+    GOBLIN_PE_COUNTED_NAME_POINTERS = 2,
+    /* Entries of the export address table. */
+    GOBLIN_PE_COUNTED_ADDRESS_TABLE_ENTRIES = 3
+};
+
+/* Why a read was refused. */
+enum goblin_pe_read_fault {
+    /* It begins at or past the end. */
+    GOBLIN_PE_READ_FAULT_BAD_OFFSET = 1,
+    /* There are not enough bytes from there on. */
+    GOBLIN_PE_READ_FAULT_TOO_BIG = 2,
+    /* The bytes are not UTF-8. */
+    GOBLIN_PE_READ_FAULT_BAD_INPUT = 3
+};
+
+/* The kinds of data directories, by their indexes; the sixteenth is reserved and has no kind. */
+enum goblin_pe_directory_type {
+    GOBLIN_PE_DIRECTORY_EXPORT_TABLE = 0,
+    GOBLIN_PE_DIRECTORY_IMPORT_TABLE = 1,
+    GOBLIN_PE_DIRECTORY_RESOURCE_TABLE = 2,
+    GOBLIN_PE_DIRECTORY_EXCEPTION_TABLE = 3,
+    GOBLIN_PE_DIRECTORY_CERTIFICATE_TABLE = 4,
+    GOBLIN_PE_DIRECTORY_BASE_RELOCATION_TABLE = 5,
+    GOBLIN_PE_DIRECTORY_DEBUG_TABLE = 6,
+    GOBLIN_PE_DIRECTORY_ARCHITECTURE = 7,
+    GOBLIN_PE_DIRECTORY_GLOBAL_PTR = 8,
+    GOBLIN_PE_DIRECTORY_TLS_TABLE = 9,
+    GOBLIN_PE_DIRECTORY_LOAD_CONFIG_TABLE = 10,
+    GOBLIN_PE_DIRECTORY_BOUND_IMPORT_TABLE = 11,
+    GOBLIN_PE_DIRECTORY_IMPORT_ADDRESS_TABLE = 12,
+    GOBLIN_PE_DIRECTORY_DELAY_IMPORT_DESCRIPTOR = 13,
+    GOBLIN_PE_DIRECTORY_CLR_RUNTIME_HEADER = 14
 };
 
 /* Bytes of the file; not ended by a NUL. */
@@ -68,15 +200,15 @@ struct goblin_pe_options {
     /* Whether the mapping rounds the raw pointer of a section down to 512, as the Windows loader
        does; where not, it takes the pointer as stored. */
     bool rounds_raw_pointers;
-    /* Whether the imports are read. */
+    /* Whether the imports are read; where not, their table is absent. */
     bool parse_imports;
 };
 
 /* Why a call gave no value, in numbers; the status 0 is that it gave one. */
 struct goblin_pe_fault {
-    /* 0 nothing is refused, 1 a cause, 2 a magic number, 3 too short, 4 a read, 5 memory. */
+    /* What kind of refusal it is: a goblin_pe_status. */
     uint32_t status;
-    /* Which cause, which refusal of a read, or what the file is too short for, from 1 on; else 0. */
+    /* By the status a goblin_pe_cause, a goblin_pe_read_fault or a goblin_pe_counted; else 0. */
     uint32_t cause;
     /* The first number of the cause, else 0. */
     uint64_t first;
@@ -359,7 +491,8 @@ struct goblin_pe_export {
     struct goblin_pe_text export_name;
     /* Of a forwarder by ordinal the ordinal in that library. */
     size_t ordinal;
-    /* The file offset of rva, where it has one. */
+    /* The file offset of rva, where it has one; else 0. Where the options say that addresses are
+       offsets, rva itself. */
     size_t offset;
     /* The export's address, relative to the image's base; of a forwarder that of its text. */
     size_t rva;
@@ -367,18 +500,19 @@ struct goblin_pe_export {
     size_t size;
     /* Whether the name can be read. */
     bool has_name;
-    /* Whether the address has a file offset. */
+    /* Whether rva has a file offset: a section maps it and the file alignment is a power of two, or
+       the options say that addresses are offsets. */
     bool has_offset;
-    /* 0 no forwarder, 1 a forwarder by name, 2 a forwarder by ordinal. */
+    /* What it forwards to: a goblin_pe_forwards. */
     uint8_t forwards;
 };
 
 /* A block of base relocations, for one page of the image in memory. */
 struct goblin_pe_block {
-    /* The words, of two bytes each: the type in the high four bits, and in the low twelve the
-       place, in bytes from the page's address. A byte that is left is no word. */
+    /* The words, of two bytes each: the type in the high four bits, and in the low twelve the offset
+       in the page, in bytes. A byte that is left is no word. */
     struct goblin_pe_text words;
-    /* The page's address, relative to the image's base, to which each place is added. */
+    /* The page's address, relative to the image's base, to which each offset is added. */
     uint32_t rva;
     /* The size of the block with its head, in bytes. */
     uint32_t size;
@@ -388,7 +522,7 @@ struct goblin_pe_block {
 struct goblin_pe_table {
     /* How many entries it has, whatever the room. */
     size_t count;
-    /* 0 the file has no such table, 1 it was read, 2 it is refused and was passed over. */
+    /* Whether it was read: a goblin_pe_state. */
     uint32_t state;
 };
 
@@ -500,7 +634,9 @@ struct goblin_pe_fault goblin_pe_read_te(
     struct goblin_pe_section *sections, size_t section_room);
 
 /* Puts the file offset of an address into `offset`, and answers whether there is one: by sections that
-   were filled in and the file alignment of the optional header. */
+   were filled in and the file alignment of the optional header. There is none where no section maps
+   the address or the alignment is no power of two; where the options say that addresses are offsets,
+   it is the address itself. */
 bool goblin_pe_find_offset(
     size_t rva, const struct goblin_pe_section *sections, size_t section_count,
     uint32_t file_alignment, const struct goblin_pe_options *options, size_t *offset);

@@ -3,7 +3,7 @@ names, and what the module says of wrong input: fields.py FILE.."""
 import struct
 import sys
 
-from goblin_pe import Fault, ObjectFile, Pe, Refused, Te, options
+from goblin_pe import Cause, Counted, DirectoryType, Fault, ObjectFile, Pe, ReadFault, Refused, Status, Te, options
 
 DOS = ("signature bytes_on_last_page pages_in_file relocations size_of_header_in_paragraphs minimum_extra_paragraphs_needed "
        "maximum_extra_paragraphs_needed initial_relative_ss initial_sp checksum initial_ip initial_relative_cs "
@@ -42,6 +42,7 @@ def headers(path):
     place += 24 if is_wide else 28
     same(path, pe.optional_header, WINDOWS, struct.unpack_from(form, data, place))
     place += struct.calcsize(form)
+    assert all(isinstance(index, DirectoryType) for index in pe.data_directories), pe.data_directories
     for index in range(pe.optional_header.number_of_rva_and_sizes):
         address, size = struct.unpack_from("<II", data, place + 8 * index)
         d = pe.data_directories.get(index)
@@ -86,11 +87,20 @@ def texts():
     assert not any(text.endswith("..") for text in told), told
 
 
+def names():
+    """A status and a cause are numbers by their names, where they have one."""
+    named = [(it.status, it.cause) for it in (Refused(Fault(*it, 0, 0)) for it in ((1, 22), (3, 1), (4, 3), (5, 0), (1, 35)))]
+    assert [type(cause) for _, cause in named] == [Cause, Counted, ReadFault, int, int], named
+    assert named == [(Status.MALFORMED, Cause.UNMAPPED), (Status.TOO_SHORT, Counted.SECTIONS), (Status.BAD_READ, ReadFault.BAD_INPUT),
+                     (Status.NO_MEMORY, 0), (Status.MALFORMED, 35)], named
+
+
 def main(paths):
     for path in paths:
         headers(path)
         rich_header(path)
     texts()
+    names()
     refused(Pe, b"", "the file is too short for the DOS signature")
     refused(lambda data: Pe(data, options(is_permissive=True)), b"no image", "the file begins with 0x6f6e in place of the DOS signature")
     refused(ObjectFile, b"", "the offset lies at or past the end")

@@ -1,22 +1,140 @@
 """Reads PE files that can't be trusted: images with their headers, sections, imports, exports and base
 relocations, objects with their symbols, and Terse Executables.
 
-The reader is the proved library goblin_pe_c, as a shared library: ../lib/libgoblin_pe.so, or
-where the variable GOBLIN_PE_SO says. This module declares it and copies its records. Their fields are
-those of the crate, in the same order; callers/layout.py compares them, and ../c/goblin_pe.h says of each
-field what it is. Addresses (rva) are relative to the image's base, offsets are file offsets, both in bytes;
-but the offset of an import is the address of its entry in the address table.
+    from goblin_pe import Pe, Refused, options
 
-    pe = Pe(open("some.dll", "rb").read())
-    for x in pe.imports:
-        print(x.dll, x.name, x.ordinal)
+    try:
+        pe = Pe(open("some.dll", "rb").read(), options(is_permissive=True))
+    except Refused as refused:
+        print("%s: %r, %r" % (refused, refused.status, refused.cause))
+    else:
+        for x in pe.imports:
+            print(x.dll, x.name, x.ordinal)
+
+Python finds the module where its folder, callers/python, is on the path, by PYTHONPATH or sys.path. The
+reader is the proved library goblin_pe_c, as a shared library: callers/build puts it into callers/lib, where
+this module looks for it, or where the variable GOBLIN_PE_SO says when the module is imported. Where there is
+no such file, the import raises OSError, and where it has another interface, ImportError.
+
+Pe, ObjectFile and Te read bytes, and options() says how. A refusal raises Refused, also where the library is
+refused memory: its status is then Status.NO_MEMORY. MemoryError comes from Python alone, where there is no
+memory for the records.
+
+This module declares the library's records and copies what was read. Their fields are those of the crate, in
+the same order; callers/layout.py compares them, and callers/c/goblin_pe.h says of each field what it is.
+Addresses (rva) are relative to the image's base, offsets are file offsets, both in bytes; but the offset of
+an import is the address of its entry in the address table.
 """
 import ctypes as c
+import enum
 import os
 from collections import namedtuple
 
 _INTERFACE = 1
-_STATES = ("absent", "read", "refused")
+
+
+class State(enum.IntEnum):
+    """The state of a table: the file has none or it was not asked for, it was read, or it is refused and was
+    passed over."""
+
+    ABSENT = 0
+    READ = 1
+    REFUSED = 2
+
+
+class Forwards(enum.IntEnum):
+    """What an export forwards to."""
+
+    NO_FORWARDER = 0
+    NAME = 1
+    ORDINAL = 2
+
+
+class Status(enum.IntEnum):
+    """What kind of refusal it is; goblin_pe.h says what each means, also of those below."""
+
+    OK = 0
+    MALFORMED = 1
+    BAD_MAGIC = 2
+    TOO_SHORT = 3
+    BAD_READ = 4
+    NO_MEMORY = 5
+
+
+class Cause(enum.IntEnum):
+    """What is wrong with a file: the cause where the status is MALFORMED."""
+
+    MESSAGE = 1
+    NO_DOS_SIGNATURE = 2
+    DOS_MAGIC = 3
+    NO_PE_POINTER = 4
+    NO_PE_SIGNATURE = 5
+    PE_MAGIC = 6
+    STUB_BEFORE_START = 7
+    STUB_PAST_END = 8
+    NO_DANS = 9
+    RICH_BOUNDS = 10
+    STRIPPED_SIZE = 11
+    COFF_LENGTH = 12
+    DIRECTORY_INDEX = 13
+    DIRECTORY_COUNT = 14
+    NAME_TEXT = 15
+    NAME_BASE64 = 16
+    NAME_DECIMAL = 17
+    NAME_OFFSET = 18
+    SYMBOL_NAME = 19
+    STRING_TABLE = 20
+    FIELD_TOO_WIDE = 21
+    UNMAPPED = 22
+    NAME_READ = 23
+    HINT_ENTRY = 24
+    LOOKUP_END = 25
+    IMPORT_RECORD_END = 26
+    EXPORT_TABLE = 27
+    FORWARDER = 28
+    FORWARDER_ORDINAL = 29
+    RELOC_RANGE = 30
+    BLOCK_SIZE = 31
+    BLOCK_RANGE = 32
+    OVERFLOW = 33
+    SLOT_COUNT = 34
+
+
+class Counted(enum.IntEnum):
+    """What a file is too short for: the cause where the status is TOO_SHORT."""
+
+    OTHER = 0
+    SECTIONS = 1
+    NAME_POINTERS = 2
+    ADDRESS_TABLE_ENTRIES = 3
+
+
+class ReadFault(enum.IntEnum):
+    """Why a read was refused: the cause where the status is BAD_READ."""
+
+    BAD_OFFSET = 1
+    TOO_BIG = 2
+    BAD_INPUT = 3
+
+
+class DirectoryType(enum.IntEnum):
+    """The kinds of data directories, by their indexes. The sixteenth is reserved and has no kind."""
+
+    EXPORT_TABLE = 0
+    IMPORT_TABLE = 1
+    RESOURCE_TABLE = 2
+    EXCEPTION_TABLE = 3
+    CERTIFICATE_TABLE = 4
+    BASE_RELOCATION_TABLE = 5
+    DEBUG_TABLE = 6
+    ARCHITECTURE = 7
+    GLOBAL_PTR = 8
+    TLS_TABLE = 9
+    LOAD_CONFIG_TABLE = 10
+    BOUND_IMPORT_TABLE = 11
+    IMPORT_ADDRESS_TABLE = 12
+    DELAY_IMPORT_DESCRIPTOR = 13
+    CLR_RUNTIME_HEADER = 14
 
 
 class Text(c.Structure):
@@ -346,14 +464,27 @@ if _LIB.goblin_pe_interface() != _INTERFACE:
     raise ImportError("libgoblin_pe.so has another interface than this module")
 
 
+def _named(kind, number):
+    # the number by its name, where it has one
+    try:
+        return kind(number)
+    except ValueError:
+        return number
+
+
 class Refused(ValueError):
-    """The file was refused: the fault's text, and its numbers."""
+    """A call was refused. The error's text is that of the refusal; `status` is a Status, `cause` by the status
+    a Cause, a Counted or a ReadFault, else 0, and `first` and `second` are the numbers of the cause. A number
+    that has no name here is an int."""
+
+    _CAUSES = {Status.MALFORMED: Cause, Status.TOO_SHORT: Counted, Status.BAD_READ: ReadFault}
 
     def __init__(self, fault):
         text = c.create_string_buffer(160)
         length = _LIB.goblin_pe_fault_text(c.byref(fault), text, len(text))
         super().__init__(text.raw[: min(length, len(text))].decode())
-        self.status, self.cause = fault.status, fault.cause
+        self.status = _named(Status, fault.status)
+        self.cause = _named(self._CAUSES.get(fault.status, int), fault.cause)
         self.first, self.second = fault.first, fault.second
 
 
@@ -380,7 +511,14 @@ def _records(kind, count):
 
 
 def options(is_permissive=False, resolve_rva=True, rounds_raw_pointers=False, parse_imports=True):
-    """How a file is read; by default strictly."""
+    """How a file is read; by default strictly, with all its tables.
+
+    is_permissive: whether damaged parts are passed over.
+    resolve_rva: whether an address is mapped to a file offset by the sections; where not, it is the offset.
+    rounds_raw_pointers: whether the mapping rounds the raw pointer of a section down to 512, as the Windows
+        loader does; where not, it takes the pointer as stored.
+    parse_imports: whether the imports are read; where not, their table is absent.
+    """
     return Options(is_permissive, resolve_rva, rounds_raw_pointers, parse_imports)
 
 
@@ -402,8 +540,12 @@ def _import(x):
 
 
 def _export(x):
-    forwarder = (x.lib.get(), x.export_name.get() if x.forwards == 1 else x.ordinal) if x.forwards else None
+    forwarder = (x.lib.get(), x.export_name.get() if x.forwards == Forwards.NAME else x.ordinal) if x.forwards else None
     return ExportRow(x.name.get() if x.has_name else None, x.rva, x.offset if x.has_offset else None, forwarder)
+
+
+def _state(table):
+    return State(table.state).name.lower()
 
 
 def _block(b):
@@ -416,11 +558,14 @@ def _symbol(s):
 
 
 class Pe:
-    """An image that was read. Texts are bytes. An import by ordinal has None as its name, and of one by name
+    """An image that was read: Pe(data, how), where `data` are the file's bytes and `how` is what options()
+    answers. Texts are bytes. An import by ordinal has None as its name, and of one by name
     the ordinal is the hint. The forwarder of an export is None, or the pair (library, name or ordinal). The
-    words of a block are numbers: the type in the high four bits, the place in the page in the low twelve.
+    words of a block are numbers: the type in the high four bits, the offset in the page in the low twelve. The
+    offset of an export is what find_offset answers of its address.
     The lists are empty where their tables are absent or refused, as import_table, export_table and
-    relocation_table say. A file that is refused raises Refused."""
+    relocation_table say ("absent", "read" or "refused"). data_directories has the directories by their index, a
+    DirectoryType below 15. A file that is refused raises Refused."""
 
     _KINDS = (RichEntry, Directory, Section, Import, Export, Block)
 
@@ -443,16 +588,17 @@ class Pe:
         self.optional_header = file.optional_header if file.coff_header.size_of_optional_header else None
         self.rich_header = file.rich_header if file.rich_header.is_present else None
         self.rich_entries = list(entries[: file.rich_header.entries])
-        self.data_directories = {index: d for index, d in enumerate(directories[:16]) if d.is_present}
+        self.data_directories = {_named(DirectoryType, i): d for i, d in enumerate(directories[:16]) if d.is_present}
         self.sections = [_section(s) for s in self._sections[: file.sections]]
-        self.import_table, self.imports = _STATES[file.imports.state], [_import(x) for x in imports[: file.imports.count]]
-        self.export_table, self.exports = _STATES[file.exports.state], [_export(x) for x in exports[: file.exports.count]]
-        self.relocation_table = _STATES[file.relocations.blocks.state]
+        self.import_table, self.imports = _state(file.imports), [_import(x) for x in imports[: file.imports.count]]
+        self.export_table, self.exports = _state(file.exports), [_export(x) for x in exports[: file.exports.count]]
+        self.relocation_table = _state(file.relocations.blocks)
         self.blocks = [_block(b) for b in blocks[: file.relocations.blocks.count]]
         self.block_rest = Refused(file.relocations.rest) if file.relocations.rest.status else None
 
     def find_offset(self, rva):
-        """The file offset of an address, or None, by the sections and the file alignment."""
+        """The file offset of an address: None where no section maps it or the file alignment is no power of two;
+        the address itself where the options say that addresses are offsets."""
         offset = c.c_size_t()
         alignment = self.optional_header.file_alignment if self.optional_header else 0
         is_found = _LIB.goblin_pe_find_offset(rva, self._sections, self._count, alignment, c.byref(self._options), c.byref(offset))
@@ -460,7 +606,7 @@ class Pe:
 
 
 class ObjectFile:
-    """An object that was read; of the options only the mode counts."""
+    """An object that was read; of the options only is_permissive counts."""
 
     def __init__(self, data, how=None):
         data, how, found = bytes(data), how or options(), Object()

@@ -20,32 +20,20 @@
 #![deny(unsafe_code)]
 #![warn(missing_docs)]
 
+mod numbers;
 #[allow(unsafe_code)]
 mod raw;
 
 use std::cell::Cell;
 use std::fmt;
 
+use numbers::Forwards;
+pub use numbers::{Cause, Counted, DirectoryType, ErrorKind, Part, ReadFault};
 pub use raw::{CoffHeader, DataDirectory, DosHeader, OptionalHeader, Options, RichEntry, TeHeader};
-
-/// How a table of the file stands.
-#[derive(Clone, Copy, Debug, PartialEq, Eq)]
-pub enum Part {
-    /// The file has no such table, or it was not asked for.
-    Absent,
-    /// It was read, and may be empty.
-    Read,
-    /// The file has it, and it is damaged; permissive mode passed over that.
-    Refused,
-}
 
 impl From<raw::Table> for Part {
     fn from(table: raw::Table) -> Part {
-        match table.state {
-            0 => Part::Absent,
-            1 => Part::Read,
-            _ => Part::Refused,
-        }
+        Part::try_from(table.state).unwrap_or(Part::Refused)
     }
 }
 
@@ -250,7 +238,7 @@ pub enum Forwarder<'a> {
 pub struct Export<'a> {
     /// The name; `None` where no text stands at its address.
     pub name: Option<Text<'a>>,
-    /// The file offset of `rva`; `None` where no section maps it.
+    /// The file offset of `rva`, as [`Pe::find_offset`] gives it.
     pub offset: Option<usize>,
     /// The address, relative to the image's base; of a forwarder that of its text.
     pub rva: usize,
@@ -267,9 +255,9 @@ impl<'a> From<&raw::Export<'a>> for Export<'a> {
             name: x.has_name.then(|| Text(x.name.get())),
             offset: x.has_offset.then_some(x.offset),
             rva: x.rva,
-            forwarder: match x.forwards {
-                0 => None,
-                1 => Some(Forwarder::Name { lib, export }),
+            forwarder: match Forwards::try_from(u32::from(x.forwards)) {
+                Ok(Forwards::Nothing) => None,
+                Ok(Forwards::Name) => Some(Forwarder::Name { lib, export }),
                 _ => Some(Forwarder::Ordinal { lib, ordinal }),
             },
         }
@@ -279,7 +267,7 @@ impl<'a> From<&raw::Export<'a>> for Export<'a> {
 /// A block of base relocations, for one page of the image in memory.
 #[derive(Clone, Copy, Debug, PartialEq, Eq)]
 pub struct Block<'a> {
-    /// The page's address, relative to the image's base, to which each place is added.
+    /// The page's address, relative to the image's base, to which each offset is added.
     pub rva: u32,
     /// The size of the block with its head, in bytes.
     pub size: u32,
@@ -287,8 +275,8 @@ pub struct Block<'a> {
 }
 
 impl<'a> Block<'a> {
-    /// The words as pairs (type, place in bytes from the page's address). A byte that is left after
-    /// them is no word.
+    /// The words as pairs (type, offset in the page in bytes). A byte that is left after them is no
+    /// word.
     pub fn words(&self) -> impl ExactSizeIterator<Item = (u8, u16)> + use<'a> {
         self.bytes.chunks_exact(2).map(|bytes| {
             let word = u16::from_le_bytes([bytes[0], bytes[1]]);
@@ -305,21 +293,6 @@ impl<'a> From<&raw::Block<'a>> for Block<'a> {
             bytes: b.words.get(),
         }
     }
-}
-
-/// What kind of refusal it is.
-#[derive(Clone, Copy, Debug, PartialEq, Eq)]
-pub enum ErrorKind {
-    /// The bytes are not what the format says.
-    Malformed,
-    /// A magic number that no format has.
-    BadMagic,
-    /// The file is too short for as many entries as it counts.
-    BufferTooShort,
-    /// A read at an offset was refused.
-    Read,
-    /// Memory was refused.
-    Memory,
 }
 
 /// Why a file was refused.
@@ -339,19 +312,34 @@ impl Error {
 
     /// What kind of refusal it is.
     pub fn kind(&self) -> ErrorKind {
-        match self.0.status {
-            1 => ErrorKind::Malformed,
-            2 => ErrorKind::BadMagic,
-            3 => ErrorKind::BufferTooShort,
-            4 => ErrorKind::Read,
-            _ => ErrorKind::Memory,
-        }
+        ErrorKind::try_from(self.0.status).unwrap_or(ErrorKind::Memory)
     }
 
     /// The triple (number of the cause, its first number, its second number), each 0 where there is
-    /// none. The cause 0 means that the kind says all.
+    /// none. By the kind the cause is a [`Cause`], a [`Counted`] or a [`ReadFault`].
     pub fn cause(&self) -> (u32, u64, u64) {
         (self.0.cause, self.0.first, self.0.second)
+    }
+
+    /// What is wrong with the file, where the kind is [`ErrorKind::Malformed`].
+    pub fn named_cause(&self) -> Option<Cause> {
+        self.named(ErrorKind::Malformed)
+    }
+
+    /// What the file is too short for, where the kind is [`ErrorKind::BufferTooShort`].
+    pub fn counted(&self) -> Option<Counted> {
+        self.named(ErrorKind::BufferTooShort)
+    }
+
+    /// Why a read was refused, where the kind is [`ErrorKind::Read`].
+    pub fn read_fault(&self) -> Option<ReadFault> {
+        self.named(ErrorKind::Read)
+    }
+
+    // The cause by name, where the refusal is of this kind.
+    fn named<T: TryFrom<u32>>(&self, kind: ErrorKind) -> Option<T> {
+        let cause = (self.kind() == kind).then_some(self.0.cause)?;
+        T::try_from(cause).ok()
     }
 }
 
@@ -480,7 +468,15 @@ impl<'a> Pe<'a> {
         Error::of(self.file.rich_header.rest)
     }
 
-    /// The data directories that are there, as pairs (index, directory), by rising index.
+    /// The data directory of a kind; `None` where the file has none, or one of zeros.
+    pub fn data_directory(&self, kind: DirectoryType) -> Option<DataDirectory> {
+        let mut directories = self.data_directories();
+        let found = directories.find(|(index, _)| *index == kind as usize);
+        found.map(|(_, directory)| directory)
+    }
+
+    /// The data directories that are there, as pairs (index, directory), by rising index; an index
+    /// below 15 is that of a [`DirectoryType`].
     pub fn data_directories(&self) -> impl Iterator<Item = (usize, DataDirectory)> + '_ {
         let directories = self.records.directories.iter().enumerate();
         directories.filter(|(_, d)| d.is_present).map(|(index, d)| {
@@ -543,8 +539,9 @@ impl<'a> Pe<'a> {
     }
 
     /// The file offset of an address, by the sections, the file alignment and the options with
-    /// which the file was read; `None` where no section maps it. It walks over the sections each
-    /// time.
+    /// which the file was read; `None` where no section maps it or the alignment is no power of
+    /// two. Where the options say that addresses are offsets, it is the address itself. It walks
+    /// over the sections each time.
     pub fn find_offset(&self, rva: usize) -> Option<usize> {
         let alignment = self.file.optional_header.file_alignment;
         raw::find_offset(rva, self.section_records(), alignment, &self.options)

@@ -49,7 +49,7 @@ pub struct Options {
     /// Whether the mapping rounds the raw pointer of a section down to 512, as the Windows loader
     /// does; where not, it takes the pointer as stored.
     pub rounds_raw_pointers: bool,
-    /// Whether the imports are read.
+    /// Whether the imports are read; where not, their table is absent.
     pub parse_imports: bool,
 }
 
@@ -57,9 +57,9 @@ pub struct Options {
 #[repr(C)]
 #[derive(Clone, Copy, Debug, Default, PartialEq, Eq)]
 pub struct Fault {
-    /// 0 nothing is refused, 1 a cause, 2 a magic number, 3 too short, 4 a read, 5 memory.
+    /// What kind of refusal it is: 0 where nothing is refused, else an `ErrorKind`.
     pub status: u32,
-    /// Which cause, which refusal of a read, or what the file is too short for, from 1 on; else 0.
+    /// By the status a `Cause`, a `ReadFault` or a `Counted`; else 0.
     pub cause: u32,
     /// The first number of the cause, else 0.
     pub first: u64,
@@ -363,7 +363,8 @@ pub struct Export<'a> {
     pub export_name: Slice<'a>,
     /// Of a forwarder by ordinal the ordinal in that library.
     pub ordinal: usize,
-    /// The file offset of `rva`, where it has one.
+    /// The file offset of `rva`, where it has one; else 0. Where the options say that addresses are
+    /// offsets, `rva` itself.
     pub offset: usize,
     /// The export's address, relative to the image's base; of a forwarder that of its text.
     pub rva: usize,
@@ -371,9 +372,10 @@ pub struct Export<'a> {
     pub size: usize,
     /// Whether the name can be read.
     pub has_name: bool,
-    /// Whether the address has a file offset.
+    /// Whether `rva` has a file offset: a section maps it and the file alignment is a power of two,
+    /// or the options say that addresses are offsets.
     pub has_offset: bool,
-    /// 0 no forwarder, 1 a forwarder by name, 2 a forwarder by ordinal.
+    /// What it forwards to: a `Forwards`.
     pub forwards: u8,
 }
 
@@ -382,9 +384,9 @@ pub struct Export<'a> {
 #[derive(Clone, Copy)]
 pub struct Block<'a> {
     /// The words, of two bytes each: the type in the high four bits, and in the low twelve the
-    /// place, in bytes from the page's address. A byte that is left is no word.
+    /// offset in the page, in bytes. A byte that is left is no word.
     pub words: Slice<'a>,
-    /// The page's address, relative to the image's base, to which each place is added.
+    /// The page's address, relative to the image's base, to which each offset is added.
     pub rva: u32,
     /// The size of the block with its head, in bytes.
     pub size: u32,
@@ -396,7 +398,7 @@ pub struct Block<'a> {
 pub struct Table {
     /// How many entries it has, whatever the room.
     pub count: usize,
-    /// 0 the file has no such table, 1 it was read, 2 it is refused and was passed over.
+    /// Whether it was read: a `Part`.
     pub state: u32,
 }
 

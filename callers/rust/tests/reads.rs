@@ -1,5 +1,8 @@
 //! Reads samples, and what is no image.
-use goblin_pe::{ErrorKind, Forwarder, Imported, Object, Options, Part, Pe, Te, Text};
+use goblin_pe::{
+    Cause, DirectoryType, ErrorKind, Forwarder, Imported, Object, Options, Part, Pe, ReadFault, Te,
+    Text,
+};
 
 fn sample(name: &str) -> Vec<u8> {
     let folder = std::env::var("GOBLIN_PE_SAMPLES").expect("GOBLIN_PE_SAMPLES names the samples");
@@ -97,7 +100,10 @@ fn fields_stand_where_the_format_says() {
             number(&bytes, place, 4)
         );
         assert_eq!(u64::from(directory.size), number(&bytes, place + 4, 4));
+        let kind = DirectoryType::try_from(index as u32).unwrap();
+        assert_eq!(pe.data_directory(kind), Some(directory));
     }
+    assert_eq!(pe.data_directory(DirectoryType::Architecture), None);
 }
 
 #[test]
@@ -159,6 +165,8 @@ fn refusals() {
             "the file is too short for the DOS signature"
         )
     );
+    assert_eq!(error.named_cause(), Some(Cause::NoDosSignature));
+    assert_eq!((error.counted(), error.read_fault()), (None, None));
     let options = Options {
         is_permissive: true,
         ..Options::default()
@@ -168,7 +176,16 @@ fn refusals() {
         error.to_string(),
         "the file begins with 0x6f6e in place of the DOS signature"
     );
-    assert_eq!(Te::read(b"VZ").err().unwrap().kind(), ErrorKind::Read);
+    assert_eq!(error.cause(), (Cause::DosMagic.into(), 0x6f6e, 0));
+    let error = Te::read(b"VZ").err().unwrap();
+    assert_eq!(
+        (error.kind(), error.read_fault(), error.named_cause()),
+        (ErrorKind::Read, Some(ReadFault::TooBig), None)
+    );
+    assert_eq!(
+        (Cause::try_from(22), Cause::try_from(35)),
+        (Ok(Cause::Unmapped), Err(35))
+    );
 }
 
 // The records of one file are taken over by the next: no text of the first may come out again.

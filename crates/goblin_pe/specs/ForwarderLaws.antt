@@ -1,4 +1,4 @@
--- What the reader of a forwarder keeps to: it takes no more bytes than there are, and is never refused for want of memory.
+-- What the reader of a forwarder keeps to: it takes no more bytes than there are, and is never refused with Memory.
 use Rattle.std.proofs.Common.{ℕ, ◌+◌, ◌≤◌, List, length, Option, Some, None}
 use Rattle.std.specs.Prelude.{IfSome, min}
 use Rattle.std.proofs.Math.Nat.{min-le_right}

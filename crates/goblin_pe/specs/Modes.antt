@@ -15,7 +15,7 @@ abbrev pub Repeats : {X Y : Type 0} → (X → Y) → (Y → Y) → Result X Err
 Repeats view becomes (Ok x) second = IsOkAnd second (λ y. view y ≡ becomes (view x))
 Repeats view becomes (Err e) second = ⊤
 
--- The same of calls that take memory: the second may be refused for want of it.
+-- The same of calls that take memory: the second may be refused with Memory.
 abbrev pub RepeatsOrMemory : {X Y : Type 0} → (X → Y) → (Y → Y) → Result X ErrorOf → Result X ErrorOf → Type 0
 RepeatsOrMemory view becomes (Ok x) (Ok y) = view y ≡ becomes (view x)
 RepeatsOrMemory view becomes (Ok x) (Err e) = IsMemory e

@@ -49,7 +49,7 @@ part_map table Absent = Absent
 part_map table (part.Read from) = part.Read (table from)
 part_map table Refused = Refused
 
--- What becomes of a table that was asked for: it is read; strict mode refuses all where it is refused, permissive mode keeps that it is, and want of memory refuses all in both.
+-- What becomes of a table that was asked for: it is read; strict mode refuses all where it is refused, permissive mode keeps that it is, and refused memory refuses all in both.
 abbrev pub BecomesPart : {A : Type 0} → Bool → Result A ErrorOf → Result (Part A) ErrorOf → Type 0
 BecomesPart strict (Ok table) result = result ≡ Ok (part.Read table)
 BecomesPart strict (Err (Memory m)) result = result ≡ Err (Memory m)

@@ -171,7 +171,9 @@ impl<'a> ExportData<'a> {
 pub struct Export<'a> {
     /// The export's name; `None` where no text stands at its address.
     pub name: Option<&'a str>,
-    /// The file offset of `rva`; `None` where no section maps it.
+    /// The file offset of `rva`, as [`find_offset`](crate::utils::find_offset) gives it: `None`
+    /// where no section maps it or the file alignment is no power of two; where the options say
+    /// that addresses are offsets, `rva` itself.
     pub offset: Option<usize>,
     /// The export's address, relative to the image's base; of a forwarder that of its text.
     pub rva: usize,

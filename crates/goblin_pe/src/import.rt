@@ -1,6 +1,6 @@
 //! The imports of an image: what it takes from which libraries.
 //!
-//! Source: PE Format, "The .idata Section". An import directory is a list of records, one a
+//! Source: PE Format, "The .idata Section". An import directory is a list of records, one for each
 //! library. Each leads to a lookup table and an address table, whose entries with one index are one
 //! import: the lookup table says which, and the loader puts its address into the other.
 

@@ -9,7 +9,7 @@
 //! it. Each call here with two files, `a` and `b`, answers what the reader answers for each of them,
 //! where a refusal of one stands in its place and the other still runs; and it is proved that the two
 //! are equal values or both refusals wherever the files agree on the footprint of the read in `a`, if
-//! neither is refused for want of memory. Nothing is said of equal causes.
+//! neither is `Error::Memory`. Nothing is said of equal causes.
 //!
 //! The calls whose names begin with `mode` read one file in both modes, and
 //! [`reorder_whole_tables`] reads it under two tables of sections: permissive mode repeats what strict

@@ -78,8 +78,8 @@ impl<'a> Model for Whole<'a> {
     } };
 }
 
-// What becomes of a table that was asked for. Permissive mode passes over each refusal but that for
-// want of memory.
+// What becomes of a table that was asked for. Permissive mode passes over each refusal but
+// `Error::Memory`.
 fn part_of<T: Drop>(table: Result<T>, opts: &ParseOptions) -> Result<Part<T>>
     ensures { BecomesPart (is_strict opts.now.parse_mode) table.entry result }
 {

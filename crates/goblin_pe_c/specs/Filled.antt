@@ -1,7 +1,7 @@
 -- What a call does to the records of its caller.
 use Rattle.std.specs.Prelude.{◌≡◌, ℕ, List, [], length, map, take, drop}
 
--- a value, and nothing in the place of a text that it does not have
+-- a value, and nothing in place of a text that it does not have
 abbrev pub alone : {A : Type 0} → A → A × List ℕ
 alone x = (x, [])
 

@@ -7,7 +7,7 @@ use Rattle.goblin_pe_c.specs.declared.import.PeImport.{PeImport}
 abbrev pub with_ordinal_name : ImportValue → ImportValue
 with_ordinal_name x = record x { name = if x.is_borrowed then x.name else ordinal_name x.ordinal }
 
--- what a record says of an import, and what stands in the place of a name where the import is by ordinal
+-- what a record says of an import, and what stands in place of a name where the import is by ordinal
 abbrev pub import_view : PeImport → ImportValue × List ℕ
 import_view x = (
   record {

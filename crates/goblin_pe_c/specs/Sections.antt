@@ -28,7 +28,7 @@ section_view s = record {
   characteristics = s.characteristics;
 }
 
--- the same, and what stands in the place of a name where the section has none from the string table
+-- the same, and what stands in place of a name where the section has none from the string table
 abbrev pub section_said : PeSection → Section × List ℕ
 section_said s = (section_view s, if s.has_real_name then [] else s.real_name.now)
 

@@ -21,7 +21,7 @@ name_in strings inline_name symbol = if slice_index symbol.name 0 == 0 then (nam
 abbrev pub symbol_row : List ℕ → SymbolItem → SymbolRow × List ℕ
 symbol_row strings item = alone (record { index = item.0; name = name_in strings item.1 item.2; symbol = item.2 })
 
--- what a record says of a symbol, and what stands in the place of a name where there is none
+-- what a record says of a symbol, and what stands in place of a name where there is none
 abbrev pub symbol_view : PeSymbol → SymbolRow × List ℕ
 symbol_view s = (
   record {

@@ -17,10 +17,10 @@ use goblin_pe::relocation::{RelocationBlock, RelocationData};
 #[repr(C)]
 #[derive(Copy, Clone)]
 pub struct PeBlock<'a> {
-    /// The words, of two bytes each: the type in the high four bits, and in the low twelve the place,
-    /// in bytes from the page's address. A byte that is left is no word.
+    /// The words, of two bytes each: the type in the high four bits, and in the low twelve the
+    /// offset in the page, in bytes. A byte that is left is no word.
     pub words: &'a [u8],
-    /// The page's address, relative to the image's base, to which each place is added.
+    /// The page's address, relative to the image's base, to which each offset is added.
     pub rva: u32,
     /// The size of the block with its head, in bytes.
     pub size: u32,

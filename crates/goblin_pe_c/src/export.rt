@@ -18,7 +18,8 @@ pub struct PeExport<'a> {
     pub export_name: &'a [u8],
     /// Of a forwarder by ordinal the ordinal in that library.
     pub ordinal: usize,
-    /// The file offset of `rva`, where it has one.
+    /// The file offset of `rva`, where it has one; else 0. Where the options say that addresses are
+    /// offsets, `rva` itself.
     pub offset: usize,
     /// The export's address, relative to the image's base; of a forwarder that of its text.
     pub rva: usize,
@@ -26,7 +27,8 @@ pub struct PeExport<'a> {
     pub size: usize,
     /// Whether the name can be read.
     pub has_name: bool,
-    /// Whether the address has a file offset.
+    /// Whether `rva` has a file offset: a section maps it and the file alignment is a power of two,
+    /// or the options say that addresses are offsets.
     pub has_offset: bool,
     /// 0 no forwarder, 1 a forwarder by name, 2 a forwarder by ordinal.
     pub forwards: u8,

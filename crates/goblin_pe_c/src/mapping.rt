@@ -49,8 +49,9 @@ fn offset_by(
 }
 
 /// The file offset of the address `rva`, by the records of a file's sections and its file alignment, as
-/// the file's readers map it. It is put into `offset`, and whether there is one is the answer; where
-/// there is none, `offset` stays.
+/// the file's readers map it: there is none where no section maps it or the alignment is no power of
+/// two; where the options say that addresses are offsets, it is `rva` itself. It is put into `offset`,
+/// and whether there is one is the answer; where there is none, `offset` stays.
 #[unsafe(no_mangle)]
 pub extern "C" fn goblin_pe_find_offset(
     rva: usize,

@@ -16,7 +16,7 @@ pub struct PeOptions {
     /// Whether the mapping rounds the raw pointer of a section down to 512, as the Windows loader does;
     /// where not, it takes the pointer as stored.
     pub rounds_raw_pointers: bool,
-    /// Whether the imports are read.
+    /// Whether the imports are read; where not, their table is absent.
     pub parse_imports: bool,
 }
 

@@ -83,7 +83,7 @@ abbrev pub IsNoSignature : List ℕ → ℕ → ErrorOf → Type 0
 IsNoSignature bytes p (Malformed (NoPeSignature pointer)) = (pointer ≡ p) × (length bytes < p + 4)
 IsNoSignature bytes p e = ⊥
 
--- the refusal is that this number stands in the place of the PE signature
+-- the refusal is that this number stands in place of the PE signature
 abbrev pub IsPeMagic : ℕ → ErrorOf → Type 0
 IsPeMagic n (Malformed (PeMagic magic)) = (magic ≡ n) × (n ≢ 0x4550)
 IsPeMagic n e = ⊥

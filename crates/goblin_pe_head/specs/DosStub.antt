@@ -23,7 +23,7 @@ stub_bytes stub = stub.bytes.now
 abbrev pub stub_at : List ℕ → ℕ → Option (List ℕ)
 stub_at bytes p = if nat_le 64 p && nat_le p (length bytes) then Some (slice_range bytes 64 p) else None
 
--- which cause is true of a file that has no stub: the signature stands within the DOS header, or behind that and past the end
+-- which cause is true of a file that has no stub: the signature stands within the DOS header, or after it and past the end
 abbrev pub IsStubFault : List ℕ → ℕ → ErrorOf → Type 0
 IsStubFault bytes p (Malformed (StubBeforeStart pointer)) = (pointer ≡ p) × (p < 64)
 IsStubFault bytes p (Malformed (StubPastEnd len end)) = (len ≡ length bytes) × (end ≡ p) × (64 ≤ p) × (length bytes < p)

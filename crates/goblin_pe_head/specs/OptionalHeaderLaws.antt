@@ -1,4 +1,4 @@
--- What a reader of an optional header keeps to: it takes no more bytes than there are, and is never refused for want of memory.
+-- What a reader of an optional header keeps to: it takes no more bytes than there are, and is never refused with Memory.
 use Rattle.std.proofs.Common.{◌≡◌, ℕ, ◌+◌, ◌*◌, ◌≤◌, ◌&&◌, ◌||◌, Bool, true, false, cond, nat_eq, nat_lt, nat_le, List, length, Option, Some, None, refl, sym, subst, add-zero, inl, inr}
 use Rattle.std.specs.Prelude.{IfSome, option_map, slice_range}
 use Rattle.std.proofs.lemmas.Bool.{eqb-true, leb-true}
@@ -98,7 +98,7 @@ fixed-none magic bytes m (inl bad) = bad
 fixed-none magic bytes m (inr (inl narrow)) = fields_32-none bytes m narrow.1
 fixed-none magic bytes m (inr (inr wide)) = fields_64-none bytes m wide.1
 
--- an optional header is never refused for want of memory
+-- an optional header is never refused with Memory
 pub optional_fault-no_memory : (bytes : List ℕ) (e : ErrorOf) → IsMemory e → IsOptionalFault bytes e → ⊥
 unfolding IsOptionalFault
 optional_fault-no_memory bytes (Memory m) h fault =

@@ -35,7 +35,7 @@ entry_ending end d = if d.virtual_address == 0 && d.size == 0 then None else Som
 abbrev pub directory_entry_at : ℕ → List ℕ → ℕ → ℕ → Option (ℕ × DataDirectory)
 directory_entry_at count bytes p i = if nat_lt i count then entry_ending (p + 8 * i + 8) (directory_record Little (slice_range bytes (p + 8 * i) (p + 8 * i + 8))) else None
 
--- the sixteen entries of which `count` stand one after the other from p on, where these are no more than sixteen and all there; none are there at any offset
+-- the sixteen entries of which `count` stand one after the other from p on, where these are no more than sixteen and the file has each of them; a count of 0 has them at any offset
 unfoldable pub directories_at : ℕ → List ℕ → ℕ → Option (List (Option (ℕ × DataDirectory)))
 directories_at count bytes p =
     if nat_le count 16 && (count == 0 || nat_le (p + 8 * count) (length bytes)) then Some (map (directory_entry_at count bytes p) (range_with_len 0 16)) else None

@@ -31,7 +31,7 @@ relocation_fields r = uint 4 r.virtual_address ∷ uint 4 r.symbol_table_index �
 abbrev pub relocations_in : List ℕ → List Relocation
 relocations_in bytes = records_in 10 (relocation_record Little) bytes
 
--- the n relocations at p, where they are all there
+-- the n relocations at p, where the file has each of them
 abbrev pub relocations_at : List ℕ → ℕ → ℕ → Option (List Relocation)
 relocations_at bytes p n = option_map relocations_in (slice_at bytes p (10 * n))
 

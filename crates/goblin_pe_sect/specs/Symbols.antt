@@ -50,7 +50,7 @@ named_symbol bytes = (inline_name bytes, symbol_record Little bytes)
 abbrev pub named_value : Option (Bor (List ℕ)) × Symbol → Option (List ℕ) × Symbol
 named_value x = (option_map (λ s. s.now) x.0, x.1)
 
--- the number that stands in the place of a name: that of the last four of the eight bytes, where the first is 0
+-- the number that stands in place of a name: that of the last four of the eight bytes, where the first is 0
 abbrev pub stored_number : List ℕ → Option ℕ
 stored_number name = if slice_index name 0 == 0 then Some (number Little 4 name 4) else None
 
@@ -62,7 +62,7 @@ stored_offset n = if nat_le 4 n then Some (n - 4) else None
 abbrev pub name_offset_of : List ℕ → Option ℕ
 name_offset_of name = stored_number name >>= stored_offset
 
--- eight bytes that store a number in the place of a name
+-- eight bytes that store a number in place of a name
 abbrev pub offset_name : ℕ → List ℕ
 offset_name n = replicate 4 0 ++ number_bytes Little 4 n
 

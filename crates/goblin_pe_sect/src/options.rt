@@ -62,7 +62,8 @@ impl Default for ParseOptions {
 }
 
 impl ParseOptions {
-    /// The options for a TE image, whose addresses are offsets already and which has no certificates.
+    /// The options for a Terse Executable, whose addresses are offsets already and which has no
+    /// certificates.
     pub fn te() -> ParseOptions
         ensures { result ≡ te_options }
     {

@@ -134,13 +134,13 @@ pub const COFF_RELOCATION_SIZE: usize = 10;
 
 const _: () = prove!(COFF_RELOCATION_SIZE == 10);
 
-/// A relocation of a COFF object: a place in a section that a linker changes.
+/// A relocation of a COFF object: which bytes of a section a linker changes, and how.
 ///
 /// Source: PE Format, "COFF Relocations (Object Only)". Numbers are as stored; the record has 10
 /// bytes, and `at` says where in it a field stands.
 #[derive(Debug, PartialEq, Copy, Clone, Default)]
 pub struct Relocation {
-    /// Where the place is, at 0: its offset in the section, in bytes, plus the section's own
+    /// Where they begin, at 0: their offset in the section, in bytes, plus the section's own
     /// address, which is mostly 0. Of the first relocation of a section with
     /// [`IMAGE_SCN_LNK_NRELOC_OVFL`](crate::section_table::IMAGE_SCN_LNK_NRELOC_OVFL) it is the
     /// number of all.

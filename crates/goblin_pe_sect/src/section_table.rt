@@ -79,7 +79,7 @@ pub struct SectionTable {
     /// How many line numbers the section has, at 34. Deprecated.
     pub number_of_linenumbers: u16,
     /// What the section holds and how it may be used, as bits `IMAGE_SCN_*`, at 36. The loader
-    /// protects its pages by them: a section that is written and executed is worth a look.
+    /// protects its pages by them: a section that may be written and executed is worth a look.
     pub characteristics: u32,
 }
 

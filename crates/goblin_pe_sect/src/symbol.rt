@@ -130,7 +130,7 @@ impl Symbol {
         Ok(named(record))
     }
 
-    // The number that stands in the place of a name.
+    // The number that stands in place of a name.
     fn stored_number(&self) -> Option<u32>
         ensures { result ≡ stored_number self.now.name }
     {
@@ -175,7 +175,7 @@ impl Symbol {
         self.stored_number()?.checked_sub(LENGTH_FIELD_SIZE)
     }
 
-    /// Stores `offset` in the place of the name. It counts the four bytes of the string table's
+    /// Stores `offset` in place of the name. It counts the four bytes of the string table's
     /// length, so [`Symbol::name_offset`] is then 4 less, and `None` where it is below 4.
     #[tactic(auto, using(crate::proofs::SymbolsRoundTrip::offset_name_bytes, crate::proofs::SymbolsRoundTrip::offset_name_says))]
     pub fn set_name_offset(&mut self, offset: u32)

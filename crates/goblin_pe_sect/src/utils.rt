@@ -166,8 +166,8 @@ fn file_offset(
 ///
 /// The windows are those that [`window`] answers. The offset is the raw pointer, as stored or
 /// rounded down to 512 as `opts` says, plus the distance from the section's address; it may lie
-/// past the file, so who reads there tests it again. Where `opts` leaves addresses unmapped, the
-/// answer is the address itself. Else it is `None` where no window holds the address, and where
+/// past the file, so who reads there tests it again. Where `opts` says that addresses are offsets,
+/// the answer is the address itself. Else it is `None` where no window holds the address, and where
 /// `file_alignment` is no power of two.
 #[tactic(auto, using(crate::proofs::Mapped::file_offset_first))]
 pub fn find_offset(

@@ -95,8 +95,8 @@ impl WindowIndex {
 
     /// An index of the sections' windows, which maps every address as
     /// [`find_offset`](crate::utils::find_offset) does with the same arguments. It has at most two pieces
-    /// for each section and one more; none where `opts` leaves addresses unmapped or `file_alignment` is no
-    /// power of two, and then no memory is taken.
+    /// for each section and one more; none where `opts` says that addresses are offsets or
+    /// `file_alignment` is no power of two, and then no memory is taken.
     ///
     /// # Errors
     /// [`Error::Memory`](goblin_base::Error::Memory) alone.

@@ -15,7 +15,7 @@ abbrev pub IfRefused : {T : Type 0} → Result T RunFault → (ErrorOf → Type 
 IfRefused (Err (Refused cause)) P = P cause
 IfRefused _ P = ⊤
 
--- the run was refused for want of memory
+-- the run was refused with Memory
 abbrev pub IsOutOfMemory : RunFault → Type 0
 IsOutOfMemory (Refused (Memory e)) = ⊤
 IsOutOfMemory _ = ⊥

@@ -4,11 +4,11 @@
 //! |---|---|
 //! | `header machine=H sections=D magic=H entry=H` | always; without an optional header up to `sections=D` |
 //! | `section va=H vsize=H raw=H ptr=H name=N` | each section; the name from the string table, else the eight bytes up to a NUL |
-//! | `imports absent`, `imports refused` or `imports D` | always |
+//! | `imports absent` or `imports D` | always; never `refused`: of a directory that can't be read permissive mode makes an empty list |
 //! | `import offset=H ordinal=D rva=H size=D slot=D dll=N name=N` | each import |
-//! | `exports absent`, `exports refused` or `exports D` | always |
+//! | `exports absent`, `exports refused` or `exports D` | always; `refused` in permissive mode alone, since strict mode refuses the file |
 //! | `export rva=H offset=H forward=N name=N` | each export; what there is none of is left out, and a forwarder is `library.name` or `library.#D` |
-//! | `relocations absent`, `relocations refused` or `relocations D` | always; the number of the blocks that come without error |
+//! | `relocations absent`, `relocations refused` or `relocations D` | always; `refused` as of exports; the number of the blocks that come without error |
 //! | `block rva=H size=H words=D` | each block |
 //! | `block refused` | where a rest follows the blocks |
 //!

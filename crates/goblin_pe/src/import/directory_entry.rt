@@ -17,8 +17,8 @@ const _: () = prove!(SIZEOF_IMPORT_DIRECTORY_ENTRY == 20);
 /// `at` says where in it a field stands. Addresses are relative to the image's base.
 #[derive(Debug, PartialEq, Copy, Clone, Default)]
 pub struct ImportDirectoryEntry {
-    /// The address of the lookup table, which says what is imported, at 0. Where no section maps
-    /// it, the address table is read in its place, as images of some old linkers ask for.
+    /// The address of the lookup table, which says what is imported, at 0. Where it has no file
+    /// offset, the address table is read instead, as images of some old linkers ask for.
     pub import_lookup_table_rva: u32,
     /// When the imports were bound, at 4; 0 where they are not.
     pub time_date_stamp: u32,
@@ -27,7 +27,7 @@ pub struct ImportDirectoryEntry {
     /// The address of the library's name, at 12. The record with 0 here is the directory's last.
     pub name_rva: u32,
     /// The address of the address table, at 16: a copy of the lookup table, in which the loader
-    /// puts an address in the place of each entry. The record with 0 here is the directory's last.
+    /// puts an address in place of each entry. The record with 0 here is the directory's last.
     pub import_address_table_rva: u32,
 }
 

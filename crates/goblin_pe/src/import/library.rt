@@ -140,8 +140,8 @@ impl<'a> SyntheticImportDirectoryEntry<'a> {
     /// What a record leads to: the library's name, its lookup table and its address table, of
     /// entries of type `T`.
     ///
-    /// The lookup table is read at its address, and where no section maps that, at the address of
-    /// the address table; where that has no file offset either, there is none. The address table is
+    /// The lookup table is read at its address, and where that has no file offset, at the address of
+    /// the address table; where that has none either, there is no lookup table. The address table is
     /// read at its address, and where that is 0, at the address of the lookup table; it keeps the
     /// numbers up to one that is 0. The slots are those of
     /// [`SyntheticImportLookupTableEntry::parse_with_slots`].

@@ -151,8 +151,8 @@ impl<'a> SyntheticImportLookupTableEntry<'a> {
     /// The lookup table at the file offset `offset`: what is kept of the entries of type `T` there, up
     /// to one whose number is 0.
     ///
-    /// An entry by ordinal is kept. One whose address no section maps is left out, in both modes; and
-    /// in permissive mode also one whose hint is not whole.
+    /// An entry by ordinal is kept. One whose address has no file offset is left out, in both modes;
+    /// and in permissive mode also one whose hint is not whole.
     ///
     /// # Errors
     /// In strict mode [`Error::Malformed`] with [`Cause::LookupEnd`] where the table meets the end of

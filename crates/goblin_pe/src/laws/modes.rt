@@ -36,10 +36,10 @@ pub fn mode_header<'a>(
 }
 
 /// A whole file in strict and in permissive mode, with all other options of `opts`. A refusal of one,
-/// also for want of memory, stands in its place, and the other still runs.
+/// `Error::Memory` too, stands in its place, and the other still runs.
 ///
-/// Where strict mode has a value, permissive mode has the same, unless it is refused for want of
-/// memory; but import lists that are read from a directory at the front of the file are then empty.
+/// Where strict mode has a value, permissive mode has the same, unless it answers `Error::Memory`; but
+/// import lists that are read from a directory at the front of the file are then empty.
 pub fn mode_whole<'a>(
     alloc: Global,
     bytes: &'a [u8],
@@ -55,11 +55,11 @@ pub fn mode_whole<'a>(
 }
 
 /// Runs the readers of [`Tables`](crate::laws::Tables) in strict and in permissive mode, with all
-/// other options of `opts`. A refusal of one reader, also for want of memory, stands in its place, and
+/// other options of `opts`. A refusal of one reader, `Error::Memory` too, stands in its place, and
 /// the others still run.
 ///
-/// Where a reader has a value in strict mode, it has the same in permissive mode, unless it is refused
-/// for want of memory; but imports of a directory at the front of the file are then none.
+/// Where a reader has a value in strict mode, it has the same in permissive mode, unless it answers
+/// `Error::Memory`; but imports of a directory at the front of the file are then none.
 pub fn mode_tables<'a, 'e, T: Bitfield<'a>, D: TryFromCtx<'a>>(
     alloc: Global,
     bytes: &'a [u8],

@@ -103,12 +103,12 @@ pub(super) fn read_tables<'a, 'e, T: Bitfield<'a>, D: TryFromCtx<'a>>(
     }
 }
 
-/// Runs the readers of [`Tables`] with two tables of sections. A refusal of one reader, also for want
-/// of memory, stands in its place, and the others still run.
+/// Runs the readers of [`Tables`] with two tables of sections. A refusal of one reader,
+/// `Error::Memory` too, stands in its place, and the others still run.
 ///
 /// Each answer is its reader's own. Where the second table is the first in another order and the
 /// windows of any two sections are disjoint, both answers of a reader are equal, or both are refusals,
-/// unless one is refused for want of memory.
+/// unless one is `Error::Memory`.
 pub fn reorder_whole_tables<'a, 'e, T: Bitfield<'a>, D: TryFromCtx<'a>>(
     alloc: Global,
     bytes: &'a [u8],

@@ -85,7 +85,7 @@ fn read_parts<'a, 'e, D: TryFromCtx<'a>>(
 /// Runs the readers of [`Parts`] on two files: the sections of `coff_header` at `offset`, where a
 /// Terse Executable would begin, too; its symbols and strings; the base relocations of the directory
 /// `relocations`, and the value at the address of the directory `value`, by the handed table of
-/// sections. A refusal of one reader, also for want of memory, stands in its place, and the others
+/// sections. A refusal of one reader, `Error::Memory` too, stands in its place, and the others
 /// still run.
 ///
 /// Each reader has a footprint of its own. The header's: the signature, the COFF header, and what

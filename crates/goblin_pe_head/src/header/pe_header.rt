@@ -100,7 +100,7 @@ impl<'a> Header<'a> {
     }
 
     /// Reads the header of a file. Permissive mode puts the default DOS stub where the stub is
-    /// refused, and nothing in the place of another part.
+    /// refused, and no substitute for another part.
     ///
     /// # Errors
     /// As [`DosHeader::parse`]; in strict mode as [`DosStub::parse`]; as [`RichHeader::parse`];

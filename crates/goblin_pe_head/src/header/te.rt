@@ -29,7 +29,7 @@ const SIZEOF_TE_HEADER: usize = 40;
 ///
 /// Source: UEFI Platform Initialization Specification, volume 3, "TE Image". Numbers are as stored,
 /// but for the four that [`TeHeader::parse`] adjusts; the record has 40 bytes, and `at` says where
-/// in it a field stands. It stands in the place of the headers of a PE file, of which it keeps what
+/// in it a field stands. It stands in place of the headers of a PE file, of which it keeps what
 /// a loader of firmware needs; its addresses still count the bytes that were stripped.
 #[derive(Debug, PartialEq, Copy, Clone, Default)]
 pub struct TeHeader {
@@ -131,7 +131,7 @@ impl TeHeader {
     ///
     /// # Errors
     /// [`Error::Read`] where the 40 bytes pass the end of the file; [`Error::Malformed`] with
-    /// [`Cause::StrippedSize`] where less than 40 bytes were stripped. `offset` then stays.
+    /// [`Cause::StrippedSize`] where fewer than 40 bytes were stripped. `offset` then stays.
     #[tactic(auto, unfolding(crate::specs::TeHeader::te_header, crate::specs::TeHeader::te_adjusted, crate::specs::TeHeader::IsTeFault))]
     pub fn parse(bytes: &[u8], offset: &mut usize) -> Result<TeHeader>
         ensures value { Answers (λ h. h) result (te_header bytes.now offset.old) (IsTeFault bytes.now offset.old) }
@@ -160,7 +160,7 @@ impl TeHeader {
     /// # Errors
     /// [`Error::BufferTooShort`] of the number of sections where the whole file has no room for
     /// that many records, tested first; [`Error::Malformed`] with [`Cause::StrippedSize`] where
-    /// less than 40 bytes were stripped; as [`SectionTable::parse`] where a record passes the end
+    /// fewer than 40 bytes were stripped; as [`SectionTable::parse`] where a record passes the end
     /// or its name is refused; [`Error::Memory`] where memory is refused. `offset` then stays.
     #[tactic(auto, unfolding(crate::specs::TeHeader::te_sections_at))]
     pub fn sections(

@@ -28,7 +28,8 @@ const _: () = prove!(RELOCATION_BLOCK_SIZE == 8);
 const RELOCATION_WORD_SIZE: usize = 2;
 
 /// The base relocations of an image: the bytes of their directory. Where a loader can't load the
-/// image at the base that it was linked for, it adds the distance to each place that they name.
+/// image at the base that it was linked for, it adds the distance to the number at each address that
+/// they name.
 ///
 /// Source: PE Format, "The .reloc Section (Image Only)".
 #[derive(Debug, PartialEq, Clone, Default, Drop)]
@@ -105,7 +106,8 @@ pub struct RelocationBlock<'a> {
     /// The page's address, relative to the image's base, at 0. The offset of each word is added to
     /// it.
     pub rva: u32,
-    /// The size of the block with its head, in bytes, at 4: the next block begins so far on.
+    /// The size of the block with its head, in bytes, at 4: the next block begins this far after its
+    /// begin.
     pub size: u32,
     /// The bytes after the head, which are the words.
     pub bytes: &'a [u8],
@@ -198,7 +200,8 @@ impl<'a> Iterator for RelocationBlockIterator<'a> {
 
 impl FusedIterator for RelocationBlockIterator<'_> {}
 
-/// A word of a base relocation block: a place in the block's page, and how a loader changes it.
+/// A word of a base relocation block: an address in the block's page, and how a loader changes what
+/// stands there.
 ///
 /// Source: PE Format, "Base Relocation Block" and "Base Relocation Types". The number is as stored;
 /// the record has 2 bytes.
@@ -235,15 +238,15 @@ impl Record for RelocationWord {
 }
 
 impl RelocationWord {
-    /// How the place is changed, an `IMAGE_REL_BASED_*`: the high four bits. Type 0 changes nothing
-    /// and fills up a block.
+    /// How what stands there is changed, an `IMAGE_REL_BASED_*`: the high four bits. Type 0 changes
+    /// nothing and fills up a block.
     pub fn reloc_type(&self) -> u8
         ensures { result ≡ self.now.value / 4096 }
     {
         (self.value >> 12) as u8
     }
 
-    /// The place, in bytes from the block's address: the low twelve bits.
+    /// Where it stands, in bytes from the block's address: the low twelve bits.
     pub fn offset(&self) -> u16
         ensures { result ≡ self.now.value % 4096 }
     {

@@ -1,5 +1,5 @@
-//! The calls that take memory and options, over the sample file, in permissive mode: it passes over no
-//! refusal for want of memory.
+//! The calls that take memory and options, over the sample file, in permissive mode, which does
+//! not pass over `Error::Memory`.
 
 use crate::Refused;
 use crate::calls::{
