@@ -8,10 +8,11 @@ ghost use Rattle.std.specs.Prelude.{◌≡◌, ◌≤◌, IfOk, OnOk, length, Is
 ghost use Rattle.goblin_pe_head.specs.PeHeader.{header_bytes, pe_header};
 
 use calls::show_call;
-use goblin_base::{Endian, Error};
+use goblin_base::{Endian, Error, Strtab};
 use goblin_pe_head::{CoffHeader, Header, TeHeader};
+use goblin_pe_sect::symbol::Symbol;
 use goblin_pe_sect::utils::find_offset;
-use goblin_pe_sect::{ParseOptions, WindowIndex};
+use goblin_pe_sect::{ParseOptions, SectionTable, WindowIndex};
 use std::alloc::AllocError;
 use std::io::{ErrorKind, Read, Write};
 use std::process::ExitCode;
@@ -130,6 +131,14 @@ fn write_header(file: &[u8], written: &mut [u8]) -> goblin_base::Result<usize>
 fn show_te(rt: &HostRuntime, file: &[u8]) -> Result<(), Refused> {
     let mut offset = 0;
     let header = TeHeader::parse(file, &mut offset)?;
+    show_te_header(rt, &header)?;
+    for section in &header.sections(rt.alloc(), file, &mut offset)? {
+        show_section(rt, section)?;
+    }
+    Ok(())
+}
+
+fn show_te_header(rt: &HostRuntime, header: &TeHeader) -> Result<(), Refused> {
     println!(rt; "signature {:#x}", header.signature)?;
     println!(rt; "machine {:#x}", header.machine)?;
     println!(rt; "number_of_sections {:#x}", header.number_of_sections)?;
@@ -146,17 +155,19 @@ fn show_te(rt: &HostRuntime, file: &[u8]) -> Result<(), Refused> {
         "debug_dir {:#x} {}",
         header.debug_dir.virtual_address, header.debug_dir.size
     )?;
-    for section in &header.sections(rt.alloc(), file, &mut offset)? {
-        println!(rt;
-            "section {} va={:#x} vsize={:#x} raw={:#x} ptr={:#x} characteristics={:#x}",
-            section.name()?,
-            section.virtual_address,
-            section.virtual_size,
-            section.size_of_raw_data,
-            section.pointer_to_raw_data,
-            section.characteristics
-        )?;
-    }
+    Ok(())
+}
+
+fn show_section(rt: &HostRuntime, section: &SectionTable) -> Result<(), Refused> {
+    println!(rt;
+        "section {} va={:#x} vsize={:#x} raw={:#x} ptr={:#x} characteristics={:#x}",
+        section.name()?,
+        section.virtual_address,
+        section.virtual_size,
+        section.size_of_raw_data,
+        section.pointer_to_raw_data,
+        section.characteristics
+    )?;
     Ok(())
 }
 
@@ -169,20 +180,36 @@ fn show_symbols(rt: &HostRuntime, file: &[u8]) -> Result<(), Refused> {
         return Err(Refused::Other);
     };
     for (index, _, symbol) in symbols.iter() {
-        println!(rt;
-            "symbol {index} value={} section={} class={} aux={} name={}",
-            symbol.value,
-            symbol.section_number,
-            symbol.storage_class,
-            symbol.number_of_aux_symbols,
-            symbol.name(&strings)?
-        )?;
+        show_symbol(rt, index, &symbol, &strings)?;
     }
     for section in &header.sections(rt.alloc(), file, &mut offset)? {
-        let (count, _) = section.relocations(file)?.size_hint();
-        if count > 0 {
-            println!(rt; "relocations {} {count}", section.name()?)?;
-        }
+        show_relocations(rt, section, file)?;
+    }
+    Ok(())
+}
+
+fn show_symbol(
+    rt: &HostRuntime,
+    index: usize,
+    symbol: &Symbol,
+    strings: &Strtab,
+) -> Result<(), Refused> {
+    println!(rt;
+        "symbol {index} value={} section={} class={} aux={} name={}",
+        symbol.value,
+        symbol.section_number,
+        symbol.storage_class,
+        symbol.number_of_aux_symbols,
+        symbol.name(strings)?
+    )?;
+    Ok(())
+}
+
+// The number of a section's relocations, where it has some.
+fn show_relocations(rt: &HostRuntime, section: &SectionTable, file: &[u8]) -> Result<(), Refused> {
+    let (count, _) = section.relocations(file)?.size_hint();
+    if count > 0 {
+        println!(rt; "relocations {} {count}", section.name()?)?;
     }
     Ok(())
 }
