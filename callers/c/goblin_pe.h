@@ -17,7 +17,7 @@
    - The bytes are as many as `length` says, and nothing changes them during the call. What is filled
      overlaps neither itself nor the bytes.
    - What is filled holds values before the call and is not uninitialized memory: each text in it
-     points somewhere but to null, each bool is 0 or 1. A file, an object, a header and the records
+     has a pointer that is not null, each bool is 0 or 1. A file, an object, a header and the records
      without texts may be zeros; GOBLIN_PE_EMPTY_* are the other records.
    - malloc, realloc and free are those of one allocator, and no call is made from a signal handler.
    A call may be made from any thread, and from several at once. After a refusal nothing is changed.
@@ -274,7 +274,7 @@ struct goblin_pe_coff_header {
     /* The size of the optional header, in bytes; 0 where there is none, as in an object. It says
        where the section table begins. */
     uint16_t size_of_optional_header;
-    /* What kind of file it is, as bits IMAGE_FILE_*. */
+    /* What kind of file it is, as bits IMAGE_FILE_* (PE Format, "Characteristics"). */
     uint16_t characteristics;
 };
 
@@ -315,8 +315,8 @@ struct goblin_pe_optional_header {
     /* The size of the image in memory with all headers, in bytes: how much the loader reserves,
        a multiple of the section alignment. */
     uint32_t size_of_image;
-    /* The size of all headers together, in bytes, rounded up to the file alignment. So much of
-       the file's front is loaded at the image's base. */
+    /* The size of all headers together, in bytes, rounded up to the file alignment. The loader
+       maps this much of the file's front at the image's base. */
     uint32_t size_of_headers;
     /* The image's checksum. The loader tests that of drivers and of what is loaded at boot; no
        reader does. */
@@ -340,10 +340,10 @@ struct goblin_pe_optional_header {
     uint16_t major_subsystem_version;
     /* The minor version of the subsystem that the image needs. */
     uint16_t minor_subsystem_version;
-    /* The subsystem that runs the image, an IMAGE_SUBSYSTEM_*. */
+    /* The subsystem that runs the image, an IMAGE_SUBSYSTEM_* (PE Format, "Windows Subsystem"). */
     uint16_t subsystem;
-    /* What the loader may and has to do, as bits IMAGE_DLLCHARACTERISTICS_*: whether it may move
-       the image, and which guards it turns on. */
+    /* What the loader may and has to do, as bits IMAGE_DLLCHARACTERISTICS_* (PE Format, "DLL
+       Characteristics"): whether it may move the image, and which guards it turns on. */
     uint16_t dll_characteristics;
     /* The linker's major version. */
     uint8_t major_linker_version;

@@ -210,7 +210,7 @@ numbers! {
         ImportAddressTable = 12,
         /// The delayed imports: libraries that are loaded at the first call.
         DelayImportDescriptor = 13,
-        /// The header of the common language runtime (`.cormeta`).
+        /// The header of the common language runtime: an image with it has managed code.
         ClrRuntimeHeader = 14,
     }
 }

@@ -47,8 +47,8 @@ pub forwarder-parts : (text lib tail : List ℕ) → lib ≡ before_first is_dot
 unfolding forwarder_of
 forwarder-parts text lib tail a b = rw (a, b) refl
 
-pub nothing-behind : (text : List ℕ) → position_or_len is_dot text ≡ length text → after_first is_dot text ≡ []
-nothing-behind text h = drop_all (position_or_len is_dot text + 1) text (omega (arith, h))
+pub nothing-after : (text : List ℕ) → position_or_len is_dot text ≡ length text → after_first is_dot text ≡ []
+nothing-after text h = drop_all (position_or_len is_dot text + 1) text (omega (arith, h))
 
 pub forwarder-missing : (text : List ℕ) → after_first is_dot text ≡ [] → forwarder_of text ≡ None
 unfolding forwarder_of export_of

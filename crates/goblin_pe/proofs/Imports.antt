@@ -29,10 +29,10 @@ module _ (size : ℕ) (dll : List ℕ) (rva : ℕ) (entries : List LookupEntry) 
   pub record AtEntry (position : ℕ) (old now : List ImportValue) : Type 0 where
     pub made : List ImportValue
     pub so_far : all_at (import_at size dll rva entries slots) position ≡ Some made
-    pub behind : now ≡ old ++ made
+    pub after : now ≡ old ++ made
 
   pub entry-start : (old : List ImportValue) → AtEntry 0 old old
-  entry-start old = record { made = []; so_far = all_at-zero (import_at size dll rva entries slots); behind = sym (append-nil old) }
+  entry-start old = record { made = []; so_far = all_at-zero (import_at size dll rva entries slots); after = sym (append-nil old) }
 
   -- one entry further
   pub entry-next : (position slot offset : ℕ) (entry : LookupEntry) (x : ImportValue) (old now : List ImportValue) → AtEntry position old now → slice_get entries position ≡ Some entry → slice_get slots position ≡ Some slot → Some offset ≡ import_offset rva size slot → Some (import_of dll slot offset size entry) ≡ Some x → AtEntry (position + 1) old (now ++ x ∷ [])
@@ -41,7 +41,7 @@ module _ (size : ℕ) (dll : List ℕ) (rva : ℕ) (entries : List LookupEntry) 
       record {
         made = h.made ++ x ∷ [];
         so_far = all_at-more (import_at size dll rva entries slots) position h.made x h.so_far this;
-        behind = ap (λ ys. ys ++ x ∷ []) h.behind ∙ append_assoc old h.made (x ∷ []);
+        after = ap (λ ys. ys ++ x ∷ []) h.after ∙ append_assoc old h.made (x ∷ []);
       }
 
   no_offset : (slot : ℕ) (entry : Option LookupEntry) → import_offset rva size slot ≡ None → (entry >>= (λ e. import_offset rva size slot >>= (λ o. Some (import_of dll slot o size e)))) ≡ None
@@ -61,7 +61,7 @@ module _ (size : ℕ) (dll : List ℕ) (rva : ℕ) (entries : List LookupEntry) 
   unfolding imports_by
   entry-end position old now h end =
       let all : all_at (import_at size dll rva entries slots) (length entries) ≡ Some h.made = ap (all_at (import_at size dll rva entries slots)) (sym end) ∙ h.so_far in
-      rw all (ap Some (sym h.behind))
+      rw all (ap Some (sym h.after))
 
 pub entry-read : {A : Type 0} (view : A → LookupEntry) (entries : List A) (position : ℕ) (d : A) → position < length entries → slice_get (map view entries) position ≡ Some (view (get_or entries position d))
 entry-read view entries position d below =

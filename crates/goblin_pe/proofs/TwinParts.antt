@@ -22,9 +22,9 @@ unfolding te_image_at te_footprint
 same-te_image_at a b p h =
     let Sections = λ (header : TeHeader). sections_footprint true 0 header.number_of_sections a (p + 40) in
     let own = agree-left (slice_footprint a p 40) (led_to (te_header a p) Sections) a b h in
-    let behind = agree-right (slice_footprint a p 40) (led_to (te_header a p) Sections) a b h in
+    let after = agree-right (slice_footprint a p 40) (led_to (te_header a p) Sections) a b h in
     same-led (te_header a p) (te_header b p) _ _ Sections a b (same-te_header a b p own)
-    (λ header _ of_sections. same-then (te_sections_at header a (p + 40)) (te_sections_at header b (p + 40)) _ _ (same-te_sections_at header a b (p + 40) of_sections) (λ sections _. refl)) behind
+    (λ header _ of_sections. same-then (te_sections_at header a (p + 40)) (te_sections_at header b (p + 40)) _ _ (same-te_sections_at header a b (p + 40) of_sections) (λ sections _. refl)) after
 
 pub are_same_parts : {Y : Type 0} (value_of : Endian → List ℕ → Option (Y × ℕ)) (strict : Bool) (offset_of : ℕ → Option ℕ) (asked : PartsAsked) (a b : List ℕ) → AreSameParts value_of strict offset_of asked a b
 are_same_parts value_of strict offset_of asked a b =

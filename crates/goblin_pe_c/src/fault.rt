@@ -25,7 +25,8 @@ const TEXT_ROOM: usize = 160;
 pub struct PeFault {
     /// 0 nothing is refused, 1 a cause, 2 a magic number, 3 too short, 4 a read, 5 memory.
     pub status: u32,
-    /// Which cause, which refusal of a read, or what the file is too short for, from 1 on; else 0.
+    /// By the status: which cause or which refusal of a read, from 1 on, or what the file is too
+    /// short for, from 0 on; else 0.
     pub cause: u32,
     /// The first number of the cause, else 0.
     pub first: u64,

@@ -68,7 +68,7 @@ pub struct PeCoffHeader {
     /// The size of the optional header, in bytes; 0 where there is none, as in an object. It says
     /// where the section table begins.
     pub size_of_optional_header: u16,
-    /// What kind of file it is, as bits `IMAGE_FILE_*`.
+    /// What kind of file it is, as bits `IMAGE_FILE_*` (PE Format, "Characteristics").
     pub characteristics: u16,
 }
 
@@ -110,8 +110,8 @@ pub struct PeOptionalHeader {
     /// The size of the image in memory with all headers, in bytes: how much the loader reserves, a
     /// multiple of the section alignment.
     pub size_of_image: u32,
-    /// The size of all headers together, in bytes, rounded up to the file alignment. So much of the
-    /// file's front is loaded at the image's base.
+    /// The size of all headers together, in bytes, rounded up to the file alignment. The loader maps
+    /// this much of the file's front at the image's base.
     pub size_of_headers: u32,
     /// The image's checksum. The loader tests that of drivers and of what is loaded at boot; no
     /// reader does.
@@ -135,10 +135,10 @@ pub struct PeOptionalHeader {
     pub major_subsystem_version: u16,
     /// The minor version of the subsystem that the image needs.
     pub minor_subsystem_version: u16,
-    /// The subsystem that runs the image, an `IMAGE_SUBSYSTEM_*`.
+    /// The subsystem that runs the image, an `IMAGE_SUBSYSTEM_*` (PE Format, "Windows Subsystem").
     pub subsystem: u16,
-    /// What the loader may and has to do, as bits `IMAGE_DLLCHARACTERISTICS_*`: whether it may move
-    /// the image, and which guards it turns on.
+    /// What the loader may and has to do, as bits `IMAGE_DLLCHARACTERISTICS_*` (PE Format, "DLL
+    /// Characteristics"): whether it may move the image, and which guards it turns on.
     pub dll_characteristics: u16,
     /// The linker's major version.
     pub major_linker_version: u8,

@@ -146,8 +146,8 @@ fn read<'a>(
 }
 
 /// Reads an object, which begins with a COFF header: says in `object` what it is, and fills the records
-/// of its sections and symbols as far as there is room. After a refusal nothing is changed; the
-/// status 5 comes only where the header is there.
+/// of its sections and symbols as far as there is room. After a refusal nothing is changed; memory is
+/// refused (the status 5) only where the header is there.
 #[unsafe(no_mangle)]
 pub extern "C" fn goblin_pe_read_object<'a>(
     alloc: Global,

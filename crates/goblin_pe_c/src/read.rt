@@ -107,7 +107,8 @@ fn read<'a>(
 
 /// Reads a whole file: says in `file` what it is, and fills the records of its Rich header's
 /// entries, data directories, sections, imports, exports and base relocation blocks as far as there is
-/// room. After a refusal nothing is changed; the status 5 comes only where the file has a header.
+/// room. After a refusal nothing is changed; memory is refused (the status 5) only where the file has a
+/// header.
 #[unsafe(no_mangle)]
 pub extern "C" fn goblin_pe_read<'a>(
     alloc: Global,

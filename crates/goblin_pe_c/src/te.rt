@@ -145,7 +145,8 @@ fn read<'a>(
 
 /// Reads the header at the front of a Terse Executable and the sections that follow it, and fills the
 /// records of sections as far as there is room; `header` says how many there are. The signature is not
-/// looked at. After a refusal nothing is changed; the status 5 comes only where the header is there.
+/// looked at. After a refusal nothing is changed; memory is refused (the status 5) only where the header
+/// is there.
 #[unsafe(no_mangle)]
 pub extern "C" fn goblin_pe_read_te<'a>(
     alloc: Global,

@@ -2,7 +2,7 @@
 #![tactic(auto)]
 
 ghost use Rattle.std.specs.Prelude.{◌≡◌, drop, length, option_map};
-ghost use Rattle.goblin_pe.specs.Answers.{Answers};
+ghost use Rattle.goblin_pe.specs.Answers.{Answers, AnswersOrMemory};
 ghost use Rattle.goblin_pe.specs.BaseRelocations.{block_items, relocation_bytes, word_items};
 ghost use Rattle.goblin_pe.specs.DataDirectories.{present_from};
 ghost use Rattle.goblin_pe.specs.Mapping.{IsDataFault, data_at, file_offset};
@@ -11,16 +11,20 @@ ghost use Rattle.goblin_pe.specs.Relocations.{relocations_left};
 ghost use Rattle.goblin_pe.specs.RichHeader.{IsRichFault, rich_header};
 ghost use Rattle.goblin_pe.specs.RichMetadata.{metadata_items};
 ghost use Rattle.goblin_pe.specs.Symbols.{symbols_in, table_bytes};
+ghost use Rattle.goblin_pe.specs.Whole.{IsWholeFault};
 ghost use Rattle.goblin_pe.specs.declared.error.CauseOf.TheVariants.{Message};
 ghost use Rattle.goblin_pe.specs.declared.error.ErrorOf.TheVariants.{Malformed};
+ghost use Rattle.goblin_pe_caller.specs.Counts.{entry_count, import_count, permissive_options};
 
 use goblin_pe::data_directories::{DataDirectories, DataDirectory};
 use goblin_pe::header::RichHeader;
+use goblin_pe::options::{ParseMode, ParseOptions};
 use goblin_pe::relocation::{RelocationBlock, RelocationData, Relocations};
 use goblin_pe::section_table::SectionTable;
 use goblin_pe::symbol::SymbolTable;
 use goblin_pe::utils::get_data;
-use goblin_pe::{Cause, Error, Result, ResultOf, TryFromCtx};
+use goblin_pe::{Cause, Error, Part, Result, ResultOf, TryFromCtx, Whole};
+use std::alloc::Global;
 
 #[cfg(test)]
 mod tests;
@@ -72,6 +76,29 @@ pub fn count_entries(bytes: &[u8]) -> Result<Option<usize>>
     match RichHeader::parse(bytes)? {
         Some(rich) => Ok(Some(rich.metadatas().count())),
         None => Ok(None),
+    }
+}
+
+/// How many functions a file imports, damaged parts passed over.
+///
+/// # Errors
+/// As [`Whole::read`] in permissive mode.
+pub fn count_imports(alloc: Global, bytes: &[u8]) -> Result<usize>
+    ensures { AnswersOrMemory (λ n. n) result (import_count bytes.now) (IsWholeFault permissive_options bytes.now) }
+{
+    let opts = ParseOptions::default().with_parse_mode(ParseMode::Permissive);
+    let whole = Whole::read(alloc, bytes, &opts)?;
+    Ok(imports_in(&whole))
+}
+
+/// How many imports were read, 0 where none were.
+#[tactic(auto, unfolding(goblin_pe::specs::Whole::part_map))]
+fn imports_in(whole: &Whole) -> usize
+    ensures { result ≡ entry_count whole.now.imports }
+{
+    match &whole.imports {
+        Part::Read(imports) => imports.len(),
+        _ => 0,
     }
 }
 

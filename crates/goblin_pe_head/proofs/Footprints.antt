@@ -36,28 +36,28 @@ same-dos_header : (a b : List ℕ) → Agree (dos_footprint a) a b → dos_heade
 unfolding dos_header dos_footprint
 same-dos_header a b h =
     let Signature = λ (header : DosHeader). slice_footprint a header.pe_pointer 4 in
-    let Behind = led_to (record_at 64 (dos_record Little) a 0) Signature in
-    let records = agree-left (slice_footprint a 0 2 ++ slice_footprint a 0 64) Behind a b h in
-    let behind = agree-right (slice_footprint a 0 2 ++ slice_footprint a 0 64) Behind a b h in
+    let After = led_to (record_at 64 (dos_record Little) a 0) Signature in
+    let records = agree-left (slice_footprint a 0 2 ++ slice_footprint a 0 64) After a b h in
+    let after = agree-right (slice_footprint a 0 2 ++ slice_footprint a 0 64) After a b h in
     let magic = agree-left (slice_footprint a 0 2) (slice_footprint a 0 64) a b records in
     let own = agree-right (slice_footprint a 0 2) (slice_footprint a 0 64) a b records in
     same-then (number_at Little 2 a 0) (number_at Little 2 b 0) _ _ (same-number_at Little 2 a b 0 magic) (λ first _.
     same-led (record_at 64 (dos_record Little) a 0) (record_at 64 (dos_record Little) b 0) _ _ Signature a b (same-record_at 64 (dos_record Little) a b 0 own) (λ header _ signature.
-    same-then (number_at Little 4 a header.pe_pointer) (number_at Little 4 b header.pe_pointer) _ _ (same-number_at Little 4 a b header.pe_pointer signature) (λ _ _. refl)) behind)
+    same-then (number_at Little 4 a header.pe_pointer) (number_at Little 4 b header.pe_pointer) _ _ (same-number_at Little 4 a b header.pe_pointer signature) (λ _ _. refl)) after)
 
 same-stub_at : (a b : List ℕ) (p : ℕ) → p ≤ length a → Agree (stub_footprint a p) a b → stub_at a p ≡ stub_at b p
 unfolding stub_footprint
 same-stub_at a b p le h =
     elim (cases_lt p 64) [
       | inl before ↦ rw (lt-leb 64 p before) refl
-      | inr behind ↦
-          let low : nat_le 64 p ≡ true = le-leb 64 p behind in
+      | inr after ↦
+          let low : nat_le 64 p ≡ true = le-leb 64 p after in
           let high : nat_le p (length a) ≡ true = le-leb p (length a) le in
           let high_b : nat_le p (length b) ≡ true = le-leb p (length b) (omega (arith, le, h.same_length)) in
           let there : stub_at a p ≡ Some (slice_range a 64 p) = rw (low, high) refl in
           let there_b : stub_at b p ≡ Some (slice_range b 64 p) = rw (low, high_b) refl in
           let own : Agree (positions 64 p) a b = agree-led (stub_at a p) (λ _. positions 64 p) (slice_range a 64 p) a b there h in
-          let end : 64 + (p - 64) ≡ p = omega (arith, behind) in
+          let end : 64 + (p - 64) ≡ p = omega (arith, after) in
           let same : slice_range a 64 p ≡ slice_range b 64 p = subst (λ (k : ℕ). slice_range a 64 k ≡ slice_range b 64 k) end (same-within 64 p a b 64 (p - 64) own (omega arith) (omega (arith, end)) (omega (arith, end, le))) in
           there ∙ ap (λ (s : List ℕ). Some s) same ∙ sym there_b
     ]
@@ -110,13 +110,13 @@ same-optional_header a b h =
     let Entries = λ (fields : FixedFields). directories_footprint fields.windows_fields.number_of_rva_and_sizes a fields.size in
     let Fields = λ (magic : ℕ). fixed_footprint magic a ++ led_to (fixed_fields magic a) Entries in
     let magic = agree-left (slice_footprint a 0 2) (led_to (number_at Little 2 a 0) Fields) a b h in
-    let behind = agree-right (slice_footprint a 0 2) (led_to (number_at Little 2 a 0) Fields) a b h in
+    let after = agree-right (slice_footprint a 0 2) (led_to (number_at Little 2 a 0) Fields) a b h in
     same-led (number_at Little 2 a 0) (number_at Little 2 b 0) _ _ Fields a b (same-number_at Little 2 a b 0 magic) (λ magic _ own.
     let fixed = agree-left (fixed_footprint magic a) (led_to (fixed_fields magic a) Entries) a b own in
     let entries = agree-right (fixed_footprint magic a) (led_to (fixed_fields magic a) Entries) a b own in
     same-led (fixed_fields magic a) (fixed_fields magic b) _ _ Entries a b (same-fixed_fields magic a b fixed) (λ fields _ own.
     let count = fields.windows_fields.number_of_rva_and_sizes in
-    same-then (directories_at count a fields.size) (directories_at count b fields.size) _ _ (same-directories_at count a b fields.size own) (λ entries _. refl)) entries) behind
+    same-then (directories_at count a fields.size) (directories_at count b fields.size) _ _ (same-directories_at count a b fields.size own) (λ entries _. refl)) entries) after
 
 same_unless : {A : Type 0} (none : Bool) (x y z : A) (ranges : List Range) (a b : List ℕ) → (Agree ranges a b → x ≡ y) → Agree (cond none [] ranges) a b → cond none z x ≡ cond none z y
 same_unless true x y z ranges a b same h = refl
@@ -135,14 +135,14 @@ same-header_at : (a b : List ℕ) (p : ℕ) → Agree (header_at_footprint a p) 
 unfolding header_at header_at_footprint
 same-header_at a b p h dos stub rich =
     let Optional = λ (coff : CoffHeader). optional_at_footprint coff.size_of_optional_header a (p + 24) in
-    let Behind = led_to (record_at 20 (coff_header Little) a (p + 4)) Optional in
-    let records = agree-left (slice_footprint a p 4 ++ slice_footprint a (p + 4) 20) Behind a b h in
-    let behind = agree-right (slice_footprint a p 4 ++ slice_footprint a (p + 4) 20) Behind a b h in
+    let After = led_to (record_at 20 (coff_header Little) a (p + 4)) Optional in
+    let records = agree-left (slice_footprint a p 4 ++ slice_footprint a (p + 4) 20) After a b h in
+    let after = agree-right (slice_footprint a p 4 ++ slice_footprint a (p + 4) 20) After a b h in
     let signature = agree-left (slice_footprint a p 4) (slice_footprint a (p + 4) 20) a b records in
     let coff = agree-right (slice_footprint a p 4) (slice_footprint a (p + 4) 20) a b records in
     same-then (number_at Little 4 a p) (number_at Little 4 b p) _ _ (same-number_at Little 4 a b p signature) (λ signature _.
     same-led (record_at 20 (coff_header Little) a (p + 4)) (record_at 20 (coff_header Little) b (p + 4)) _ _ Optional a b (same-record_at 20 (coff_header Little) a b (p + 4) coff) (λ coff _ own.
-    same-then (optional_at coff.size_of_optional_header a (p + 24)) (optional_at coff.size_of_optional_header b (p + 24)) _ _ (same-optional_at coff.size_of_optional_header a b (p + 24) own) (λ optional _. refl)) behind)
+    same-then (optional_at coff.size_of_optional_header a (p + 24)) (optional_at coff.size_of_optional_header b (p + 24)) _ _ (same-optional_at coff.size_of_optional_header a b (p + 24) own) (λ optional _. refl)) after)
 
 same_stub_in : (strict : Bool) (a b : List ℕ) (p : ℕ) → stub_at a p ≡ stub_at b p → stub_in strict a p ≡ stub_in strict b p
 unfolding stub_in
@@ -152,10 +152,10 @@ same_stub_in strict a b p same = rw same refl
 pub same-header : (strict : Bool) (a b : List ℕ) → Agree (header_footprint a) a b → pe_header strict a ≡ pe_header strict b
 unfolding pe_header header_footprint
 same-header strict a b h =
-    let Behind = λ (dos : DosHeader). stub_footprint a dos.pe_pointer ++ rich_footprint a dos.pe_pointer ++ header_at_footprint a dos.pe_pointer in
-    let dos = agree-left (dos_footprint a) (led_to (dos_header a) Behind) a b h in
-    let behind = agree-right (dos_footprint a) (led_to (dos_header a) Behind) a b h in
-    same-led (dos_header a) (dos_header b) _ _ Behind a b (same-dos_header a b dos) (λ dos is own.
+    let After = λ (dos : DosHeader). stub_footprint a dos.pe_pointer ++ rich_footprint a dos.pe_pointer ++ header_at_footprint a dos.pe_pointer in
+    let dos = agree-left (dos_footprint a) (led_to (dos_header a) After) a b h in
+    let after = agree-right (dos_footprint a) (led_to (dos_header a) After) a b h in
+    same-led (dos_header a) (dos_header b) _ _ After a b (same-dos_header a b dos) (λ dos is own.
     let p = dos.pe_pointer in
     let front = agree-left (stub_footprint a p ++ rich_footprint a p) (header_at_footprint a p) a b own in
     let parts = agree-right (stub_footprint a p ++ rich_footprint a p) (header_at_footprint a p) a b own in
@@ -164,7 +164,7 @@ same-header strict a b h =
     let signature = number_at-some Little 4 a p 0x4550 (dos_of a dos is).signature in
     let le : p ≤ length a = omega (arith, signature.end) in
     same-then (stub_in strict a p) (stub_in strict b p) _ _ (same_stub_in strict a b p (same-stub_at a b p le stub)) (λ stub _.
-    same-then (rich_at a p) (rich_at b p) _ _ (same-rich_at a b p le rich) (λ rich _. same-header_at a b p parts dos stub rich))) behind
+    same-then (rich_at a p) (rich_at b p) _ _ (same-rich_at a b p le rich) (λ rich _. same-header_at a b p parts dos stub rich))) after
 
 -- the header of bytes that begin with a signature
 pub same-header_without_dos : (a b : List ℕ) → Agree (header_at_footprint a 0) a b → header_without_dos a ≡ header_without_dos b
@@ -203,9 +203,9 @@ unfolding strings_at_footprint
 same-strings_at a b p h =
     let Table = λ (n : ℕ). cond (nat_lt n 4) [] (slice_footprint a (p + 4) (n - 4)) in
     let own = agree-left (slice_footprint a p 4) (led_to (number_at Little 4 a p) Table) a b h in
-    let behind = agree-right (slice_footprint a p 4) (led_to (number_at Little 4 a p) Table) a b h in
+    let after = agree-right (slice_footprint a p 4) (led_to (number_at Little 4 a p) Table) a b h in
     same-led (number_at Little 4 a p) (number_at Little 4 b p) _ _ Table a b (same-number_at Little 4 a b p own)
-    (λ n _ table. same_unless (nat_lt n 4) (string_table a (p + 4) (n - 4)) (string_table b (p + 4) (n - 4)) None (slice_footprint a (p + 4) (n - 4)) a b (same-string_table a b (p + 4) (n - 4)) table) behind
+    (λ n _ table. same_unless (nat_lt n 4) (string_table a (p + 4) (n - 4)) (string_table b (p + 4) (n - 4)) None (slice_footprint a (p + 4) (n - 4)) a b (same-string_table a b (p + 4) (n - 4)) table) after
 
 same-strings_where : (place : Option ℕ) (a b : List ℕ) → Agree (led_to place (strings_at_footprint a)) a b → strings_where place a ≡ strings_where place b
 unfolding led_to

@@ -152,8 +152,8 @@ read_64 bytes f h magic e =
     )) in
     subst (Goal bytes) (same_value made f second.then) there
 
-pub bytes_behind : (bytes : List ℕ) (p : ℕ) → IsBytes bytes → IsBytes (drop p bytes)
-bytes_behind bytes p h i = rw (get_or-drop p bytes i 0) (h (p + i))
+pub bytes_after : (bytes : List ℕ) (p : ℕ) → IsBytes bytes → IsBytes (drop p bytes)
+bytes_after bytes p h i = rw (get_or-drop p bytes i 0) (h (p + i))
 
 pub pick : {A : Type 0} (b c : Bool) (x y : Option A) (z : A) → cond b x (cond c y None) ≡ Some z → ((b ≡ true) × (x ≡ Some z)) ⊎ ((c ≡ true) × (y ≡ Some z))
 pick true c x y z e = inl (refl, e)

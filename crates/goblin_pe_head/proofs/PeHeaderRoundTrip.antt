@@ -19,13 +19,13 @@ use Rattle.goblin_pe_head.specs.declared.optional_header.FixedFields.{FixedField
 use Rattle.goblin_pe_head.specs.DosStub.{stub_at}
 use Rattle.goblin_pe_head.specs.CoffHeader.{coff_fields, coff_header}
 use Rattle.goblin_pe_head.specs.DosHeader.{dos_fields, dos_header, dos_record}
-use Rattle.goblin_pe_head.specs.HeaderLaws.{DosWritesBack, HeaderWritesBack, end_behind, filling, filling_behind, optional_size, HeaderReadsBack, header_end}
+use Rattle.goblin_pe_head.specs.HeaderLaws.{DosWritesBack, HeaderWritesBack, end_after, filling, filling_after, optional_size, HeaderReadsBack, header_end}
 use Rattle.goblin_pe_head.specs.OptionalHeader.{optional_header, fields_32, fields_64, fixed_fields, standard_32_record, standard_64_record, windows_32_record, windows_64_record}
 use Rattle.goblin_pe_head.specs.PeHeader.{PeHeader, header_at, header_bytes, header_parts, optional_at, optional_part, pe_header, stub_in}
 use Rattle.goblin_pe_head.specs.RichHeader.{rich_at, rich_in}
 use Rattle.goblin_pe_head.proofs.CoffHeaderRoundTrip.{coff_back}
 use Rattle.goblin_pe_head.proofs.DosHeaderRoundTrip.{dos_back}
-use Rattle.goblin_pe_head.proofs.OptionalHeaderRoundTrip.{bytes_behind, read_optional, pick}
+use Rattle.goblin_pe_head.proofs.OptionalHeaderRoundTrip.{bytes_after, read_optional, pick}
 
 -- the parts of a header that was read in strict mode
 pub record IsHeaderOf (bytes : List ℕ) (h : PeHeader) : Type 0 where
@@ -83,8 +83,8 @@ of_dos bytes h is = rw (is.magic, is.own, is.signature) refl
 
 -- an optional header that is there ends within the file, and is written as it stands
 record IsOptionalPart (bytes : List ℕ) (p : ℕ) (optional : Option OptionalHeader) : Type 0 where
-  pub end : end_behind p optional ≤ length bytes
-  pub written : IsSomeAnd (optional_part Little optional) (λ xs. take (p + 24) bytes ++ (xs ++ []) ≡ take (end_behind p optional) bytes ++ filling_behind optional)
+  pub end : end_after p optional ≤ length bytes
+  pub written : IsSomeAnd (optional_part Little optional) (λ xs. take (p + 24) bytes ++ (xs ++ []) ≡ take (end_after p optional) bytes ++ filling_after optional)
 
 part : (bytes : List ℕ) (p : ℕ) (none : Bool) (optional : Option OptionalHeader) → IsBytes bytes → p + 24 ≤ length bytes
     → cond none (Some None) (option_map (λ (header : OptionalHeader × ℕ). Some header.0) (optional_header (drop (p + 24) bytes))) ≡ Some optional
@@ -95,7 +95,7 @@ part bytes p false optional h room e =
     let found = mapped (optional_header (drop at bytes)) (λ (header : OptionalHeader × ℕ). Some header.0) optional e in
     let header = found.value.0 in
     let n = found.value.1 in
-    let back = read_optional (drop at bytes) header n (bytes_behind bytes at h) found.is in
+    let back = read_optional (drop at bytes) header n (bytes_after bytes at h) found.is in
     let long = length-drop at bytes in
     let place : at + n ≡ at + optional_size header = ap (λ (k : ℕ). at + k) back.0 in
     let here : IsOptionalPart bytes p (Some header) = record {
@@ -171,7 +171,7 @@ header_back file h fits e =
     let lies = laid file h fits is in
     let p = h.dos_header.pe_pointer in
     let last = part file p (h.coff_header.size_of_optional_header == 0) h.optional_header fits lies.end is.optional in
-    let bytes = there (optional_part Little h.optional_header) (λ xs. take (p + 24) file ++ (xs ++ []) ≡ take (end_behind p h.optional_header) file ++ filling_behind h.optional_header) last.written in
+    let bytes = there (optional_part Little h.optional_header) (λ xs. take (p + 24) file ++ (xs ++ []) ≡ take (end_after p h.optional_header) file ++ filling_after h.optional_header) last.written in
     (last.end, ap (option_map (header_parts Little h)) bytes.is ∙ ap (λ (xs : List ℕ). Some xs) (in_front file h bytes.value lies ∙ bytes.holds))
 
 -- ---- a header depends on the bytes up to its end alone, so it is read again
@@ -257,7 +257,7 @@ optional_header-front n k h a b front le e =
     let three = directories-front n count f.size third.value a b front (omega (arith, end, le)) third.is in
     rw (one, two, three) third.then
 
-optional-front : (n p : ℕ) (none : Bool) (optional : Option OptionalHeader) (a b : List ℕ) → IsBytes a → HaveFront n a b → end_behind p optional ≤ n
+optional-front : (n p : ℕ) (none : Bool) (optional : Option OptionalHeader) (a b : List ℕ) → IsBytes a → HaveFront n a b → end_after p optional ≤ n
     → cond none (Some None) (option_map (λ (header : OptionalHeader × ℕ). Some header.0) (optional_header (drop (p + 24) a))) ≡ Some optional
     → cond none (Some None) (option_map (λ (header : OptionalHeader × ℕ). Some header.0) (optional_header (drop (p + 24) b))) ≡ Some optional
 optional-front n p true optional a b fits front le e = e
@@ -266,13 +266,13 @@ optional-front n p false optional a b fits front le e =
     let found = mapped (optional_header (drop at a)) (λ (header : OptionalHeader × ℕ). Some header.0) optional e in
     let h = found.value.0 in
     let k = found.value.1 in
-    let size = (read_optional (drop at a) h k (bytes_behind a at fits) found.is).0 in
-    let end : end_behind p (Some h) ≤ n = subst (λ (o : Option OptionalHeader). end_behind p o ≤ n) (sym found.made) le in
-    let behind = front-drop n at a b front (omega (arith, end)) in
-    let there = optional_header-front (n - at) k h (drop at a) (drop at b) behind (omega (arith, size, end)) found.is in
+    let size = (read_optional (drop at a) h k (bytes_after a at fits) found.is).0 in
+    let end : end_after p (Some h) ≤ n = subst (λ (o : Option OptionalHeader). end_after p o ≤ n) (sym found.made) le in
+    let after = front-drop n at a b front (omega (arith, end)) in
+    let there = optional_header-front (n - at) k h (drop at a) (drop at b) after (omega (arith, size, end)) found.is in
     rw there (ap (λ (o : Option OptionalHeader). Some o) found.made)
 
-least_end : (p : ℕ) (optional : Option OptionalHeader) → p + 24 ≤ end_behind p optional
+least_end : (p : ℕ) (optional : Option OptionalHeader) → p + 24 ≤ end_after p optional
 least_end p None = omega arith
 least_end p (Some h) = omega arith
 
@@ -300,7 +300,7 @@ unfolding HeaderReadsBack HeaderWritesBack
 header_again file old new h fits e written =
     let back = header_back file h fits e in
     let n = header_end h in
-    let zeros = filling_behind h.optional_header in
+    let zeros = filling_after h.optional_header in
     let xs = take n file ++ zeros in
     let over : overwritten old 0 xs ≡ Some new = sym (ap (option_and_then (overwritten old 0)) back.1) ∙ written in
     let made = mapped (slice_at old 0 (length xs)) (λ _. replaced old 0 xs) new over in

@@ -55,9 +55,9 @@ stored_entries key bytes (suc n) a h le =
     let rest = stored_entries key bytes n (a + 1) h (omega arith) in
     let next : 8 * (a + 1) ≡ 8 * a + 8 = omega arith in
     let size : 8 * suc n ≡ 8 + 8 * n = omega arith in
-    let behind : take (8 * n) (drop (8 * (a + 1)) bytes) ≡ take (8 * n) (drop 8 (drop (8 * a) bytes)) = rw (next, drop-drop 8 (8 * a) bytes) refl in
+    let after : take (8 * n) (drop (8 * (a + 1)) bytes) ≡ take (8 * n) (drop 8 (drop (8 * a) bytes)) = rw (next, drop-drop 8 (8 * a) bytes) refl in
     flat_map-cons (stored_entry key) (f a) (map f (range_with_len (a + 1) n)) ∙ ap (λ (xs : List ℕ). xs ++ flat_map (stored_entry key) (map f (range_with_len (a + 1) n))) first
-    ∙ ap (λ (xs : List ℕ). take 8 (drop (8 * a) bytes) ++ xs) (rest ∙ behind) ∙ sym (ap (λ (k : ℕ). take k (drop (8 * a) bytes)) size ∙ take-add 8 (8 * n) (drop (8 * a) bytes))
+    ∙ ap (λ (xs : List ℕ). take 8 (drop (8 * a) bytes) ++ xs) (rest ∙ after) ∙ sym (ap (λ (k : ℕ). take k (drop (8 * a) bytes)) size ∙ take-add 8 (8 * n) (drop (8 * a) bytes))
 
 -- whole words are entries up to a rest of one word
 words_are_entries : (key : ℕ) (bytes : List ℕ) → IsBytes bytes → length bytes % 4 ≡ 0 → AreEntriesOf key bytes (metadata_items key bytes)
@@ -133,8 +133,8 @@ unfolding rich_in marker_place
 in_stretch stretch r e = before stretch (marker_place stretch) r (λ i is. let lt = least_below-lt (length stretch - 7) _ i is in omega (arith, lt)) e
 
 -- the data after the padding are entries
-entries_behind : (stretch : List ℕ) (r : Rich) → IsBytes stretch → IsRichOf stretch r → AreEntriesOf r.key (drop r.padding_size r.bytes) (metadata_items r.key (drop r.padding_size r.bytes))
-entries_behind stretch r h is =
+entries_after : (stretch : List ℕ) (r : Rich) → IsBytes stretch → IsRichOf stretch r → AreEntriesOf r.key (drop r.padding_size r.bytes) (metadata_items r.key (drop r.padding_size r.bytes))
+entries_after stretch r h is =
     let own : IsBytes r.bytes = subst IsBytes (sym is.bytes) (IsBytes-range stretch is.start is.end h) in
     let size : length r.bytes ≡ is.end - is.start = ap length is.bytes ∙ omega (arith, length-take (is.end - is.start) (drop is.start stretch), length-drop is.start stretch, is.inside) in
     let most = leading_words-le r.key r.bytes in
@@ -153,4 +153,4 @@ rich_entries header bytes h e =
     let n = header.padding_size in
     let own = header.bytes.now in
     let all : slice_range own n (length own) ≡ drop n own = take_all (length own - n) (drop n own) (omega (arith, length-drop n own)) in
-    rw all (entries_behind stretch (rich_value header) (IsBytes-range bytes 64 p h) is)
+    rw all (entries_after stretch (rich_value header) (IsBytes-range bytes 64 p h) is)

@@ -25,15 +25,15 @@ sections_at-too_short strict table n bytes p short =
     all_at-none (λ i. section_at strict table bytes (p + 40 * i)) n (n - 1) (omega (arith, short)) (section_at-none strict table bytes (p + 40 * (n - 1)) (omega (arith, short)))
 
 -- nor has it the sections of a Terse Executable
-te_behind : (shift : Option ℕ) (n : ℕ) (bytes : List ℕ) (p : ℕ) → length bytes / 40 < n → (shift >>= λ d. moved_sections_at (Some d) true 0 n bytes p) ≡ None
-te_behind None n bytes p short = refl
-te_behind (Some d) n bytes p short =
+te_after : (shift : Option ℕ) (n : ℕ) (bytes : List ℕ) (p : ℕ) → length bytes / 40 < n → (shift >>= λ d. moved_sections_at (Some d) true 0 n bytes p) ≡ None
+te_after None n bytes p short = refl
+te_after (Some d) n bytes p short =
     all_at-none (λ i. option_map (section_adjusted d) (section_at true 0 bytes (p + 40 * i))) n (n - 1) (omega (arith, short))
     (ap (option_map (section_adjusted d)) (section_at-none true 0 bytes (p + 40 * (n - 1)) (omega (arith, short))))
 
 pub te_sections_at-too_short : (h : TeHeader) (bytes : List ℕ) (p : ℕ) → length bytes / 40 < h.number_of_sections → te_sections_at h bytes p ≡ None
 unfolding te_sections_at
-te_sections_at-too_short h bytes p short = te_behind (displacement h) h.number_of_sections bytes p short
+te_sections_at-too_short h bytes p short = te_after (displacement h) h.number_of_sections bytes p short
 
 -- as it stands, a section is itself
 as_it_stands : (o : Option Section) → option_map (section_moved None) o ≡ o

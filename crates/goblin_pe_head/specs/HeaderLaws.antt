@@ -27,24 +27,24 @@ OptionalWritesBack =
     (bytes : List ℕ) (h : OptionalHeader) (n : ℕ) → IsBytes bytes → optional_header bytes ≡ Some (h, n)
     → (n ≡ optional_size h) × (n ≤ length bytes) × (optional_bytes Little h ≡ Some (take n bytes ++ filling h))
 
--- where a header ends in its file: 24 bytes after the begin of the signature, or where the optional header ends
-abbrev pub end_behind : ℕ → Option OptionalHeader → ℕ
-end_behind p None = p + 24
-end_behind p (Some h) = p + 24 + optional_size h
+-- where a header ends in its file: 24 bytes after the start of the signature, or where the optional header ends
+abbrev pub end_after : ℕ → Option OptionalHeader → ℕ
+end_after p None = p + 24
+end_after p (Some h) = p + 24 + optional_size h
 
 abbrev pub header_end : PeHeader → ℕ
-header_end h = end_behind h.dos_header.pe_pointer h.optional_header
+header_end h = end_after h.dos_header.pe_pointer h.optional_header
 
 -- the zeros that are written after a header
-abbrev pub filling_behind : Option OptionalHeader → List ℕ
-filling_behind None = []
-filling_behind (Some h) = filling h
+abbrev pub filling_after : Option OptionalHeader → List ℕ
+filling_after None = []
+filling_after (Some h) = filling h
 
 -- A header that was read in strict mode is written as the file's bytes up to its end, with the missing directories after them.
 unfoldable pub HeaderWritesBack : Type 0
 HeaderWritesBack =
     (file : List ℕ) (h : PeHeader) → IsBytes file → pe_header true file ≡ Some h
-    → (header_end h ≤ length file) × (header_bytes Little h ≡ Some (take (header_end h) file ++ filling_behind h.optional_header))
+    → (header_end h ≤ length file) × (header_bytes Little h ≡ Some (take (header_end h) file ++ filling_after h.optional_header))
 
 -- It is read again from any bytes over which it was written.
 unfoldable pub HeaderReadsBack : Type 0

@@ -12,7 +12,7 @@ use Rattle.goblin_pe_sect.specs.SectionTable.{Section, section_at, IsSectionFaul
 use Rattle.goblin_pe_head.specs.declared.header.te.TeHeader.{TeHeader}
 use Rattle.goblin_pe_head.specs.CoffHeader.{IsTooManySections}
 
--- Source: UEFI Platform Initialization Specification, volume 3, "TE Image".
+-- Source: UEFI Platform Initialization Specification, volume 1, "TE Image".
 
 -- the header in a record's 40 bytes, as stored
 unfoldable pub te_record : Endian → List ℕ → TeHeader
@@ -41,16 +41,16 @@ abbrev pub displacement : TeHeader → Option ℕ
 displacement h = if nat_le 40 h.stripped_size then Some (h.stripped_size - 40) else None
 
 -- a number less d, modulo 2 ^ 32
-abbrev pub lessened : ℕ → ℕ → ℕ
-lessened d x = (x + (2 ^ 32 - d)) % 2 ^ 32
+abbrev pub moved : ℕ → ℕ → ℕ
+moved d x = (x + (2 ^ 32 - d)) % 2 ^ 32
 
 -- a header whose entry point, base of code and directories are addresses in the stripped file
 unfoldable pub te_adjusted : ℕ → TeHeader → TeHeader
 te_adjusted d h = record h {
-  entry_point = lessened d h.entry_point;
-  base_of_code = lessened d h.base_of_code;
-  reloc_dir = record h.reloc_dir { virtual_address = lessened d h.reloc_dir.virtual_address };
-  debug_dir = record h.debug_dir { virtual_address = lessened d h.debug_dir.virtual_address };
+  entry_point = moved d h.entry_point;
+  base_of_code = moved d h.base_of_code;
+  reloc_dir = record h.reloc_dir { virtual_address = moved d h.reloc_dir.virtual_address };
+  debug_dir = record h.debug_dir { virtual_address = moved d h.debug_dir.virtual_address };
 }
 
 -- the header at p, adjusted; there is none where less was stripped than stands in its place
@@ -72,16 +72,16 @@ IsTeFault bytes p =
     FirstFault (displacement header) (IsStrippedFault header) (λ d e. ⊥))
 
 -- a pointer less d, where it points to something; 0 points to nothing
-abbrev pub pointer_lessened : ℕ → ℕ → ℕ
-pointer_lessened d x = if x == 0 then 0 else lessened d x
+abbrev pub pointer_moved : ℕ → ℕ → ℕ
+pointer_moved d x = if x == 0 then 0 else moved d x
 
 -- a section whose address and pointers are those in the stripped file
 unfoldable pub section_adjusted : ℕ → Section → Section
 section_adjusted d s = record s {
-  virtual_address = lessened d s.virtual_address;
-  pointer_to_raw_data = pointer_lessened d s.pointer_to_raw_data;
-  pointer_to_relocations = pointer_lessened d s.pointer_to_relocations;
-  pointer_to_linenumbers = pointer_lessened d s.pointer_to_linenumbers;
+  virtual_address = moved d s.virtual_address;
+  pointer_to_raw_data = pointer_moved d s.pointer_to_raw_data;
+  pointer_to_relocations = pointer_moved d s.pointer_to_relocations;
+  pointer_to_linenumbers = pointer_moved d s.pointer_to_linenumbers;
 }
 
 -- a section as it stands, or as it is in a file from whose front something was stripped

@@ -52,7 +52,7 @@ at_by directory p (Some head) b first e =
     record {
       large = omega (arith, t.0, size_is);
       within = omega (arith, s.end, t.0, size_is);
-      behind = λ _. s.start;
+      after = λ _. s.start;
       rva = sym (ap (λ (x : Block). x.rva) w.2 ∙ rva_at);
       size = sym (size_is ∙ size_at);
       words = sym (ap (λ (x : Block). x.words) w.2 ∙ s.value ∙ ap (slice_range directory (p + 8)) to);
@@ -78,7 +78,7 @@ head_with_words directory head q n rva words size_is rva_is large second =
 read_from_at : (directory : List ℕ) (p : ℕ) (b : Block) → IsBlockAt directory p b → block_at directory p ≡ Ok b
 unfolding block_at
 read_from_at directory p b h =
-    let room : p + 8 < length directory = elim (cases_lt 8 b.size) [ inl more ↦ omega (arith, more, h.within) | inr most ↦ h.behind (omega (arith, most, h.large)) ] in
+    let room : p + 8 < length directory = elim (cases_lt 8 b.size) [ inl more ↦ omega (arith, more, h.within) | inr most ↦ h.after (omega (arith, most, h.large)) ] in
     let head = slice_range directory p (p + 8) in
     let here : p + 0 ≡ p = omega arith in
     let to : p + 8 + (b.size - 8) ≡ p + b.size = omega (arith, h.large) in

@@ -28,7 +28,7 @@ unfolding read_size
 read_size_le s alignment =
     read-bounded (s.size_of_raw_data == 0) (s.virtual_size == 0) _ _ _ _ (omega (arith, up_near 4096 s.size_of_raw_data (omega arith)))
 
--- an address in a window lies between its begin and its end
+-- an address in a window lies between its start and its end
 pub in_window : (alignment rva : ℕ) (s : Section) → is_in_window alignment rva s ≡ true → InWindow alignment rva s
 in_window alignment rva s h = grind (arith, nat_tests)
 

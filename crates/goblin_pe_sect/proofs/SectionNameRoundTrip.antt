@@ -47,8 +47,8 @@ pub before_nul-padded : (text : List ℕ) (k : ℕ) → list_all is_nonzero_asci
 before_nul-padded text k h = ap (λ (n : ℕ). take n (text ++ replicate k 0)) (first_nul text k h) ∙ take-append_seam text (replicate k 0)
 
 -- the text after two slashes
-pub behind_two : (text : List ℕ) → list_all is_nonzero_ascii text ≡ true → length text ≡ 6 → bounded_text_at (47 ∷ 47 ∷ text) 2 6 ≡ Some text
-behind_two text h len =
+pub after_two : (text : List ℕ) → list_all is_nonzero_ascii text ≡ true → length text ≡ 6 → bounded_text_at (47 ∷ 47 ∷ text) 2 6 ≡ Some text
+after_two text h len =
     let all : length (47 ∷ 47 ∷ text) ≡ 8 = omega (arith, len) in
     let whole : take 6 text ≡ text = take_all 6 text (omega (arith, len)) in
     let nul : before_nul text ≡ text = ap before_nul (sym (append-nil text)) ∙ before_nul-padded text 0 h in
@@ -56,8 +56,8 @@ behind_two text h len =
     rw (all, whole, nul, good) refl
 
 -- the text after one slash, with NULs after it
-pub behind_one : (text : List ℕ) (k : ℕ) → list_all is_nonzero_ascii text ≡ true → length text + k ≡ 7 → bounded_text_at (47 ∷ (text ++ replicate k 0)) 1 7 ≡ Some text
-behind_one text k h len =
+pub after_one : (text : List ℕ) (k : ℕ) → list_all is_nonzero_ascii text ≡ true → length text + k ≡ 7 → bounded_text_at (47 ∷ (text ++ replicate k 0)) 1 7 ≡ Some text
+after_one text k h len =
     let padded : length (text ++ replicate k 0) ≡ 7 = length-append text (replicate k 0) ∙ ap (λ (n : ℕ). length text + n) (length-replicate k 0) ∙ len in
     let all : length (47 ∷ (text ++ replicate k 0)) ≡ 8 = omega (arith, padded) in
     let whole : take 7 (text ++ replicate k 0) ≡ text ++ replicate k 0 = take_all 7 (text ++ replicate k 0) (omega (arith, padded)) in
@@ -92,7 +92,7 @@ pub base64_back : (strict : Bool) (n : ℕ) → n < 64 ^ 6 → name_value strict
 unfolding alphabet name_value
 base64_back strict n h =
     let text = map (digit_byte Base64) (last_digits 64 6 n) in
-    let there = behind_two text (all_plain Base64 (last_digits 64 6 n) (last_digits-below 64 6 n (omega arith))) (length-map (last_digits 64 6 n) (digit_byte Base64) ∙ length-last_digits 64 6 n) in
+    let there = after_two text (all_plain Base64 (last_digits 64 6 n) (last_digits-below 64 6 n (omega arith))) (length-map (last_digits 64 6 n) (digit_byte Base64) ∙ length-last_digits 64 6 n) in
     ap (λ (o : Option (List ℕ)). text_value strict o (numeral Base64)) there ∙ ap (option_map (λ (m : ℕ). Some m)) (numeral-written Base64 6 n h)
 
 -- a digit is no slash and no plus
@@ -111,7 +111,7 @@ decimal_read strict [] k n digits some len value = absurd (omega (arith, some))
 decimal_read strict (d ∷ ds) k n digits some len value =
     let text = map (digit_byte Decimal) (d ∷ ds) in
     let apart = digit_apart d (ltb-true d 10 (and_parts (nat_lt d 10) (list_all (λ d. nat_lt d 10) ds) digits).0) in
-    let there = behind_one text k (all_plain Decimal (d ∷ ds) digits) (ap (λ (m : ℕ). m + k) (length-map (d ∷ ds) (digit_byte Decimal)) ∙ len) in
+    let there = after_one text k (all_plain Decimal (d ∷ ds) digits) (ap (λ (m : ℕ). m + k) (length-map (d ∷ ds) (digit_byte Decimal)) ∙ len) in
     let nonempty : nat_eq (length text) 0 ≡ false = false_from_ne_true (nat_eq (length text) 0) (λ e. omega (arith, eqb-true (length text) 0 e)) in
     let read : decimal_number text ≡ Some n = rw (apart.1, nonempty) value in
     let here : name_value strict (47 ∷ text ++ replicate k 0) ≡ text_value strict (bounded_text_at (47 ∷ (text ++ replicate k 0)) 1 7) decimal_number = rw apart.0 refl in

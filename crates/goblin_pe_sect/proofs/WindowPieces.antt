@@ -56,7 +56,7 @@ begins_after begins up rva k h v has high =
       | inr earlier ↦ absurd (omega (arith, here, rising_to begins up i k earlier h.within))
     ]
 
--- a window holds an address as it holds the begin of its piece
+-- a window holds an address as it holds the start of its piece
 same_window : (sections : List Section) (alignment : ℕ) (begins : List ℕ) → IsCut sections alignment begins → (rva k : ℕ) → IsBetween begins rva k → (j : ℕ) (s : Section) → slice_get sections j ≡ Some s → is_in_window alignment (slice_index begins k) s ≡ is_in_window alignment rva s
 same_window sections alignment begins cut rva k h j s is =
     elim (cases_lt 0 (read_size s alignment)) [

@@ -25,7 +25,7 @@ function_definition_record endian bytes = record {
 unfoldable pub function_definition_fields : AuxFunctionDefinition → List FieldValue
 function_definition_fields r = uint 4 r.tag_index ∷ uint 4 r.total_size ∷ uint 4 r.pointer_to_line_number ∷ uint 4 r.pointer_to_next_function ∷ octets r.unused ∷ []
 
--- what follows a symbol of a function's begin or end, in a record's 18 bytes
+-- what follows a symbol of a function's start or end, in a record's 18 bytes
 unfoldable pub begin_and_end_function_record : Endian → List ℕ → AuxBeginAndEndFunction
 begin_and_end_function_record endian bytes = record {
   unused1 = slice_range bytes 0 4;

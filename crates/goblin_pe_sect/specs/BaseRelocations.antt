@@ -93,7 +93,7 @@ blocks_left it = block_items it.bytes.now it.offset
 pub record IsBlockAt (directory : List ℕ) (p : ℕ) (b : Block) : Type 0 where
   pub large : 8 ≤ b.size
   pub within : p + b.size ≤ length directory
-  pub behind : b.size ≡ 8 → p + 8 < length directory
+  pub after : b.size ≡ 8 → p + 8 < length directory
   pub rva : number Little 4 directory p ≡ b.rva
   pub size : number Little 4 directory (p + 4) ≡ b.size
   pub words : slice_range directory (p + 8) (p + b.size) ≡ b.words

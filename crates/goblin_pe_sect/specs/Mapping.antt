@@ -30,7 +30,7 @@ read_size s alignment =
 abbrev pub window_end : Section → ℕ → ℕ
 window_end s alignment = s.virtual_address + read_size s alignment
 
--- the begin and the end of a section's window; there is none where the alignment is no power of two
+-- the start and the end of a section's window; there is none where the alignment is no power of two
 abbrev pub window_of : Section → ℕ → Option (ℕ × ℕ)
 window_of s alignment = if is_power_of_two alignment then Some (s.virtual_address, window_end s alignment) else None
 
@@ -47,7 +47,7 @@ pointer_by RoundedTo512 pointer = greatest_multiple 512 pointer
 abbrev pub raw_begin : ParseOptions → Section → ℕ
 raw_begin opts s = pointer_by opts.raw_pointer_rule s.pointer_to_raw_data
 
--- where the file has what stands at an address of a section's window: as far after the raw data's begin
+-- where the file has what stands at an address of a section's window: as far after the raw data's start
 abbrev pub offset_in : ParseOptions → Section → ℕ → ℕ
 offset_in opts s rva = raw_begin opts s + (rva - s.virtual_address)
 

@@ -21,7 +21,7 @@ HasPieces opts alignment = IsTrue opts.resolve_rva × IsTrue (is_power_of_two al
 
 -- ---- the pieces
 
--- a place where the line is cut: 0, and each begin and end of a window that is not empty
+-- a place where the line is cut: 0, and each start and end of a window that is not empty
 abbrev pub IsBorder : List Section → ℕ → ℕ → Type 0
 IsBorder sections alignment x =
     (x ≡ 0)
@@ -49,7 +49,7 @@ first_owner opts sections alignment rva =
 abbrev pub reached : List ℕ → ℕ → ℕ
 reached begins rva = prefix_len (λ b. nat_le b rva) begins
 
--- the comparisons that `halvings` counts, up to so many of them: none among no numbers, else one with the number in the middle, and
+-- the comparisons that `halvings` counts, up to `most` of them: none among no numbers, else one with the number in the middle, and
 -- those among the half that is left
 unfoldable pub halvings_within : ℕ → ℕ → ℕ → ℕ
 halvings_within zero n k = 0

@@ -134,7 +134,7 @@ pub enum DataDirectoryType {
     ImportAddressTable,
     /// The delayed imports, at index 13: libraries that are loaded at the first call.
     DelayImportDescriptor,
-    /// The header of the common language runtime (`.cormeta`), at index 14.
+    /// The header of the common language runtime, at index 14: an image with it has managed code.
     ClrRuntimeHeader,
 }
 
@@ -301,7 +301,7 @@ impl DataDirectories {
         self.get(5)
     }
 
-    /// Where the debug data lie (index 6).
+    /// Where the debug data lies (index 6).
     pub fn get_debug_table(&self) -> Option<&DataDirectory>
         ensures { option_map (λ d. d.now) result ≡ directory_in self.now.data_directories 6 }
     {

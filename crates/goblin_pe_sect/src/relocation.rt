@@ -140,8 +140,8 @@ const _: () = prove!(COFF_RELOCATION_SIZE == 10);
 /// bytes, and `at` says where in it a field stands.
 #[derive(Debug, PartialEq, Copy, Clone, Default)]
 pub struct Relocation {
-    /// Where they begin, at 0: their offset in the section, in bytes, plus the section's own
-    /// address, which is mostly 0. Of the first relocation of a section with
+    /// Where the bytes that are changed begin, at 0: their offset in the section, in bytes, plus the
+    /// section's own address, which is mostly 0. Of the first relocation of a section with
     /// [`IMAGE_SCN_LNK_NRELOC_OVFL`](crate::section_table::IMAGE_SCN_LNK_NRELOC_OVFL) it is the
     /// number of all.
     pub virtual_address: u32,

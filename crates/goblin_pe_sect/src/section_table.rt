@@ -356,6 +356,8 @@ impl SectionTable {
     /// record says. The number of 0xFFFF is taken as it stands, also where
     /// [`IMAGE_SCN_LNK_NRELOC_OVFL`] is set.
     ///
+    /// Source: PE Format, "COFF Relocations (Object Only)".
+    ///
     /// # Errors
     /// [`Error::Read`] where they pass the end of the file, or begin at it, also where there are
     /// none.

@@ -192,7 +192,7 @@ impl Symbol {
         self.typ & IMAGE_SYM_TYPE_MASK
     }
 
-    /// The symbol's derived type, an `IMAGE_SYM_DTYPE_*`: its type without the low four bits.
+    /// The symbol's derived type, an `IMAGE_SYM_DTYPE_*`: its type shifted right by four bits.
     pub fn derived_type(&self) -> u16
         ensures { result ≡ self.now.typ / 16 }
     {
@@ -323,7 +323,7 @@ impl<'a> SymbolTable<'a> {
         Some(AuxFunctionDefinition::in_record(record, Endian::Little))
     }
 
-    /// The record at `index`, whatever it is, as an auxiliary record of a function's begin or end.
+    /// The record at `index`, whatever it is, as an auxiliary record of a function's start or end.
     /// `None` where the table has no such record.
     pub fn aux_begin_and_end_function(&self, index: usize) -> Option<AuxBeginAndEndFunction>
         ensures { result ≡ record_at 18 (begin_and_end_function_record Endian.Little) (table_bytes self.now) (18 * index) }

@@ -64,7 +64,7 @@ fn read_size(section: &SectionTable, file_alignment: u32) -> usize
     }
 }
 
-// The begin and the end of the section's window.
+// The start and the end of the section's window.
 pub(crate) fn section_window(section: &SectionTable, file_alignment: u32) -> (usize, usize)
     requires { 0 < file_alignment }
     ensures begin { result.0 ≡ section.now.virtual_address }
@@ -75,13 +75,15 @@ pub(crate) fn section_window(section: &SectionTable, file_alignment: u32) -> (us
     (begin, begin + read_size(section, file_alignment))
 }
 
-/// The addresses that the section maps, as the pair (begin, end), the end not among them; `None`
+/// The addresses that the section maps, as the pair (start, end), the end not among them; `None`
 /// where `file_alignment` is no power of two.
 ///
 /// The window begins at the section's address. It is empty where the raw size is 0; else it has the
-/// least of these: the raw data's end rounded up to `file_alignment`, less its begin rounded down
+/// least of these: the raw data's end rounded up to `file_alignment`, less its start rounded down
 /// to 512; the raw size rounded up to 4,096; and, where the virtual size is not 0, that rounded up
 /// to 4,096. It may pass the raw data and the file.
+///
+/// Source: none; PE Format leaves the mapping to loaders. These are goblin's windows.
 #[tactic(auto, using(crate::proofs::Mapped::power_positive))]
 pub fn window(section: &SectionTable, file_alignment: u32) -> Option<(usize, usize)>
     ensures { result ≡ window_of section.now file_alignment }
@@ -169,6 +171,8 @@ fn file_offset(
 /// past the file, so who reads there tests it again. Where `opts` says that addresses are offsets,
 /// the answer is the address itself. Else it is `None` where no window holds the address, and where
 /// `file_alignment` is no power of two.
+///
+/// Source: none, as for [`window`]; the rounding of raw pointers is that of the Windows loader.
 #[tactic(auto, using(crate::proofs::Mapped::file_offset_first))]
 pub fn find_offset(
     rva: usize,

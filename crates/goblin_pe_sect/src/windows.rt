@@ -3,7 +3,7 @@
 //!
 //! A walk over the sections, as [`find_offset`](crate::utils::find_offset) makes it, takes as many
 //! steps for each address as there are sections. Here the line of addresses is cut once, at 0 and
-//! at each begin and end of a window that is not empty, and each piece keeps its first section; an
+//! at each start and end of a window that is not empty, and each piece keeps its first section; an
 //! address is then found among n pieces by about log n comparisons.
 
 ghost use Rattle.std.specs.Prelude.{◌≡◌, ℕ, ◌+◌, ◌-◌, ◌*◌, ◌^◌, ◌<◌, ◌≤◌, IsTrue, IfOk, IfErr, length, map, []};

@@ -20,7 +20,8 @@ pub struct ImportDirectoryEntry {
     /// The address of the lookup table, which says what is imported, at 0. Where it has no file
     /// offset, the address table is read instead, as images of some old linkers ask for.
     pub import_lookup_table_rva: u32,
-    /// When the imports were bound, at 4; 0 where they are not.
+    /// 0 until the imports are bound, at 4; then the time stamp of the library to which they were
+    /// bound, or 2^32 - 1 where the bound imports say it.
     pub time_date_stamp: u32,
     /// The index of the first forwarder, at 8.
     pub forwarder_chain: u32,

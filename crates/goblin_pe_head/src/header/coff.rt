@@ -51,7 +51,7 @@ pub struct CoffHeader {
     /// The size of the optional header, in bytes, at 16; 0 where there is none, as in an object. It
     /// alone says where the section table begins, and nothing of the optional header's own layout.
     pub size_of_optional_header: u16,
-    /// What kind of file it is, as bits `IMAGE_FILE_*`, at 18.
+    /// What kind of file it is, as bits `IMAGE_FILE_*` (PE Format, "Characteristics"), at 18.
     pub characteristics: u16,
 }
 

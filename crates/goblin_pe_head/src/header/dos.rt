@@ -72,7 +72,8 @@ pub struct DosHeader {
     /// Reserved, at 0x28.
     pub reserved2: [u16; 10],
     /// The file offset of the PE signature, at 0x3C. It may lie anywhere in the file, also inside
-    /// the DOS header, and need not be aligned.
+    /// the DOS header, and need not be aligned; a whole header is read in strict mode only where
+    /// this is at least 0x40.
     pub pe_pointer: u32,
 }
 

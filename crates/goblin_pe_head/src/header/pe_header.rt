@@ -40,9 +40,9 @@ pub struct Header<'a> {
     /// The PE signature, to which the DOS header points. The DOS header's reader compares it;
     /// [`Header::parse_without_dos`] takes any.
     pub signature: u32,
-    /// The COFF header, 4 bytes after the signature's begin.
+    /// The COFF header, 4 bytes after the signature's start.
     pub coff_header: CoffHeader,
-    /// The optional header, 24 bytes after the signature's begin; `None` where the COFF header
+    /// The optional header, 24 bytes after the signature's start; `None` where the COFF header
     /// gives it no size.
     pub optional_header: Option<OptionalHeader>,
 }

@@ -5,7 +5,7 @@ ghost use Rattle.std.specs.Prelude.{◌≡◌, ◌+◌, ◌*◌, ◌/◌, ◌<�
 ghost use Rattle.goblin_base.specs.Answers.{Answers, AnswersOrMemory, IsMemory};
 ghost use Rattle.goblin_pe_head.specs.declared.header.te.TeHeader.{TeHeader};
 ghost use Rattle.goblin_pe_head.specs.CoffHeader.{IsTooManySections};
-ghost use Rattle.goblin_pe_head.specs.TeHeader.{displacement, lessened, pointer_lessened, section_moved, te_adjusted, te_fields, te_header, te_record, te_sections_at, IsStrippedFault, IsTeFault, IsTeSectionsFault};
+ghost use Rattle.goblin_pe_head.specs.TeHeader.{displacement, moved, pointer_moved, section_moved, te_adjusted, te_fields, te_header, te_record, te_sections_at, IsStrippedFault, IsTeFault, IsTeSectionsFault};
 
 use crate::header::sections::read_sections;
 use goblin_base::{
@@ -27,7 +27,7 @@ const SIZEOF_TE_HEADER: usize = 40;
 
 /// The header of a Terse Executable.
 ///
-/// Source: UEFI Platform Initialization Specification, volume 3, "TE Image". Numbers are as stored,
+/// Source: UEFI Platform Initialization Specification, volume 1, "TE Image". Numbers are as stored,
 /// but for the four that [`TeHeader::parse`] adjusts; the record has 40 bytes, and `at` says where
 /// in it a field stands. It stands in place of the headers of a PE file, of which it keeps what
 /// a loader of firmware needs; its addresses still count the bytes that were stripped.
@@ -142,10 +142,10 @@ impl TeHeader {
         let record = gread_slice(bytes, &mut end, SIZEOF_TE_HEADER)?;
         let mut header = TeHeader::in_record(record, Endian::Little);
         let displacement = header.displacement()?;
-        header.entry_point = lessened(header.entry_point, displacement);
-        header.base_of_code = lessened(header.base_of_code, displacement);
-        header.reloc_dir.virtual_address = lessened(header.reloc_dir.virtual_address, displacement);
-        header.debug_dir.virtual_address = lessened(header.debug_dir.virtual_address, displacement);
+        header.entry_point = moved(header.entry_point, displacement);
+        header.base_of_code = moved(header.base_of_code, displacement);
+        header.reloc_dir.virtual_address = moved(header.reloc_dir.virtual_address, displacement);
+        header.debug_dir.virtual_address = moved(header.debug_dir.virtual_address, displacement);
         *offset = end;
         Ok(header)
     }
@@ -187,20 +187,20 @@ impl TeHeader {
 }
 
 // A number less the displacement, modulo 2^32.
-fn lessened(number: u32, displacement: u32) -> u32
-    ensures { result ≡ lessened displacement number }
+fn moved(number: u32, displacement: u32) -> u32
+    ensures { result ≡ moved displacement number }
 {
     number.wrapping_sub(displacement)
 }
 
 // A pointer less the displacement, where it points to something.
-fn pointer_lessened(pointer: u32, displacement: u32) -> u32
-    ensures { result ≡ pointer_lessened displacement pointer }
+fn pointer_moved(pointer: u32, displacement: u32) -> u32
+    ensures { result ≡ pointer_moved displacement pointer }
 {
     if pointer == 0 {
         0
     } else {
-        lessened(pointer, displacement)
+        moved(pointer, displacement)
     }
 }
 
@@ -213,8 +213,8 @@ pub(super) fn adjust(section: &mut SectionTable, displacement: Option<u32>)
     let Some(displacement) = displacement else {
         return;
     };
-    section.virtual_address = lessened(section.virtual_address, displacement);
-    section.pointer_to_raw_data = pointer_lessened(section.pointer_to_raw_data, displacement);
-    section.pointer_to_relocations = pointer_lessened(section.pointer_to_relocations, displacement);
-    section.pointer_to_linenumbers = pointer_lessened(section.pointer_to_linenumbers, displacement);
+    section.virtual_address = moved(section.virtual_address, displacement);
+    section.pointer_to_raw_data = pointer_moved(section.pointer_to_raw_data, displacement);
+    section.pointer_to_relocations = pointer_moved(section.pointer_to_relocations, displacement);
+    section.pointer_to_linenumbers = pointer_moved(section.pointer_to_linenumbers, displacement);
 }

@@ -65,10 +65,11 @@ pub struct WindowsFields32 {
     /// The image's checksum, at 36. The loader tests that of drivers and of what is loaded at boot;
     /// no reader does.
     pub check_sum: u32,
-    /// The subsystem that runs the image, an `IMAGE_SUBSYSTEM_*`, at 40.
+    /// The subsystem that runs the image, an `IMAGE_SUBSYSTEM_*` (PE Format, "Windows Subsystem"),
+    /// at 40.
     pub subsystem: u16,
-    /// What the loader may and has to do, as bits `IMAGE_DLLCHARACTERISTICS_*`, at 42: whether it
-    /// may move the image, and which guards it turns on.
+    /// What the loader may and has to do, as bits `IMAGE_DLLCHARACTERISTICS_*` (PE Format, "DLL
+    /// Characteristics"), at 42: whether it may move the image, and which guards it turns on.
     pub dll_characteristics: u16,
     /// How much of the stack to reserve, in bytes, at 44.
     pub size_of_stack_reserve: u32,
@@ -191,10 +192,11 @@ pub struct WindowsFields64 {
     /// The image's checksum, at 40. The loader tests that of drivers and of what is loaded at boot;
     /// no reader does.
     pub check_sum: u32,
-    /// The subsystem that runs the image, an `IMAGE_SUBSYSTEM_*`, at 44.
+    /// The subsystem that runs the image, an `IMAGE_SUBSYSTEM_*` (PE Format, "Windows Subsystem"),
+    /// at 44.
     pub subsystem: u16,
-    /// What the loader may and has to do, as bits `IMAGE_DLLCHARACTERISTICS_*`, at 46: whether it
-    /// may move the image, and which guards it turns on.
+    /// What the loader may and has to do, as bits `IMAGE_DLLCHARACTERISTICS_*` (PE Format, "DLL
+    /// Characteristics"), at 46: whether it may move the image, and which guards it turns on.
     pub dll_characteristics: u16,
     /// How much of the stack to reserve, in bytes, at 48.
     pub size_of_stack_reserve: u64,

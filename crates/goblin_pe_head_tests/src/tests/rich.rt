@@ -103,7 +103,7 @@ fn a_rich_header_without_its_first_marker_is_refused(rt: HostRuntime) -> Result<
 }
 
 #[test]
-fn a_first_marker_behind_the_second_is_refused(rt: HostRuntime) {
+fn a_first_marker_after_the_second_is_refused(rt: HostRuntime) {
     let mut file = [0; 0x68];
     put(&mut file, 0, &small());
     put(&mut file, 0x40, b"\x44");

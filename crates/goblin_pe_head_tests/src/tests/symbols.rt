@@ -122,7 +122,7 @@ fn symbols_have_a_count_and_places(rt: HostRuntime) -> Result<(), Fail> {
 }
 
 #[test]
-fn records_behind_symbols_are_read(rt: HostRuntime) -> Result<(), Fail> {
+fn records_after_symbols_are_read(rt: HostRuntime) -> Result<(), Fail> {
     let file = object();
     let Some(symbols) = object_header().symbols(&file)? else {
         assert!(rt; false, "the table is missing");
@@ -150,7 +150,7 @@ fn records_behind_symbols_are_read(rt: HostRuntime) -> Result<(), Fail> {
 }
 
 #[test]
-fn records_behind_a_symbol_are_no_symbols(rt: HostRuntime) -> Result<(), Fail> {
+fn records_after_a_symbol_are_no_symbols(rt: HostRuntime) -> Result<(), Fail> {
     let mut file = [0; 54];
     put(&mut file, 17, b"\x01");
     let mut symbols = SymbolTable::parse(&file, 0, 3)?.iter();

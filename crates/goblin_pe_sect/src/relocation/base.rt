@@ -208,7 +208,7 @@ impl FusedIterator for RelocationBlockIterator<'_> {}
 #[derive(Debug, PartialEq, Copy, Clone, Default)]
 pub struct RelocationWord {
     /// The type in the high four bits, the offset in bytes from the block's address in the low
-    /// twelve.
+    /// twelve, at 0.
     pub value: u16,
 }
 

@@ -16,7 +16,7 @@ use goblin_base::{Endian, Field, Record, field_array, field_u8, field_u16, field
 /// has 18 bytes, and `at` says where in it a field stands.
 #[derive(Debug, PartialEq, Copy, Clone, Default)]
 pub struct AuxFunctionDefinition {
-    /// The index in the symbol table of the function's begin, a record of class
+    /// The index in the symbol table of the function's start, a record of class
     /// [`IMAGE_SYM_CLASS_FUNCTION`](super::IMAGE_SYM_CLASS_FUNCTION), at 0.
     pub tag_index: u32,
     /// The size of the function's code, in bytes, at 4.
@@ -65,7 +65,7 @@ impl Record for AuxFunctionDefinition {
     }
 }
 
-/// What follows a symbol of a function's begin or end.
+/// What follows a symbol of a function's start or end.
 ///
 /// Source: PE Format, "Auxiliary Format 2: .bf and .ef Symbols". Numbers are as stored; the record
 /// has 18 bytes, and `at` says where in it a field stands.
@@ -77,7 +77,7 @@ pub struct AuxBeginAndEndFunction {
     pub line_number: u16,
     /// Not used, at 6.
     pub unused2: [u8; 6],
-    /// At 12, of a begin alone: the index in the symbol table of the next function's begin, 0 where
+    /// At 12, of a start alone: the index in the symbol table of the next function's start, 0 where
     /// this is the last.
     pub pointer_to_next_function: u32,
     /// Not used, at 16.

@@ -125,9 +125,9 @@ pub const IMAGE_SYM_CLASS_MEMBER_OF_ENUM: u8 = 16;
 pub const IMAGE_SYM_CLASS_REGISTER_PARAM: u8 = 17;
 /// A symbol's class: a field of bits.
 pub const IMAGE_SYM_CLASS_BIT_FIELD: u8 = 18;
-/// A symbol's class: the begin or the end of a block.
+/// A symbol's class: the start or the end of a block.
 pub const IMAGE_SYM_CLASS_BLOCK: u8 = 100;
-/// A symbol's class: the begin or the end of a function, or its lines.
+/// A symbol's class: the start or the end of a function, or its lines.
 pub const IMAGE_SYM_CLASS_FUNCTION: u8 = 101;
 /// A symbol's class: the end of a structure.
 pub const IMAGE_SYM_CLASS_END_OF_STRUCT: u8 = 102;

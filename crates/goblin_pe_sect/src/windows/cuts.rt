@@ -7,7 +7,7 @@ use crate::section_table::SectionTable;
 use crate::utils::section_window;
 use std::alloc::{AllocError, Global};
 
-/// Where the line of addresses is cut, in rising order: at 0 and at each begin and end of a window that is
+/// Where the line of addresses is cut, in rising order: at 0 and at each start and end of a window that is
 /// not empty.
 pub(super) fn cut_points(
     alloc: Global,

@@ -159,7 +159,7 @@ fn push_owners(
     Ok(())
 }
 
-/// What is kept of the section of each piece: the first whose window holds the piece's begin, if one does.
+/// What is kept of the section of each piece: the first whose window holds the piece's start, if one does.
 pub(super) fn owners_of(
     alloc: Global,
     begins: &[usize],

@@ -29,7 +29,7 @@ fn records() -> goblin_base::Result<[u8; 128]> {
 }
 
 #[test]
-fn directories_are_read_with_the_offsets_behind_them(rt: HostRuntime) -> Result<(), Fail> {
+fn directories_are_read_with_the_offsets_after_them(rt: HostRuntime) -> Result<(), Fail> {
     let mut offset = 0;
     let read = DataDirectories::parse(&records()?, 16, &mut offset)?;
     let mut want = DataDirectories::default();

@@ -125,7 +125,7 @@ fn the_words_of_a_library_are_those_that_another_tool_shows(rt: HostRuntime) -> 
 }
 
 #[test]
-fn a_block_without_words_needs_a_byte_behind_it(rt: HostRuntime) -> Result<(), Fail> {
+fn a_block_without_words_needs_a_byte_after_it(rt: HostRuntime) -> Result<(), Fail> {
     let mut blocks = directory(b"\0\x10\0\0\x08\0\0\0", 8)?.blocks();
     assert!(rt; matches!(blocks.next(), Some(Err(_))));
     assert!(rt; blocks.next().is_none());

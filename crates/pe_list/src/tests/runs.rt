@@ -12,7 +12,7 @@ fn is_joined(text: &[u8], parts: &[&[u8]]) -> bool {
     let mut rest = text;
     for part in parts {
         match rest.strip_prefix(*part) {
-            Some(behind) => rest = behind,
+            Some(after) => rest = after,
             None => return false,
         }
     }

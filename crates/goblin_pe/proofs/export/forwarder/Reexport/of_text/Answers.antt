@@ -2,12 +2,12 @@ use Rattle.std.proofs.Common.{Some, None, sym, ap, ◌∙◌, arith}
 use Rattle.std.proofs.lemmas.Str.Pattern.{split_once_first, strip_prefix_char}
 use Rattle.std.specs.Option.{option_map}
 use Rattle.goblin_pe.specs.Forwarders.Forwarder.{ByOrdinal}
-use Rattle.goblin_pe.proofs.Grammar.{forwarder-parts, nothing-behind, forwarder-missing, export-numbered, export-named, no-hash, no-length, some-length}
+use Rattle.goblin_pe.proofs.Grammar.{forwarder-parts, nothing-after, forwarder-missing, export-numbered, export-named, no-hash, no-length, some-length}
 use Rattle.goblin_pe.proofs.export.forwarder.Reexport.of_text.Goals as goal
 
 pub returns-in_default : goal.returns-in_default
 returns-in_default c =
-    let none = nothing-behind c.args.text.now (split_once_first 46 c.args.text.now None c.in_default.ensures.cases (omega arith)) in
+    let none = nothing-after c.args.text.now (split_once_first 46 c.args.text.now None c.in_default.ensures.cases (omega arith)) in
     (forwarder-missing c.args.text.now none, none)
 
 pub returns-in-Some-ordinal_of : goal.returns-in-Some-ordinal_of

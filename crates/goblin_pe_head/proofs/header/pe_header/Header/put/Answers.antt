@@ -24,8 +24,8 @@ returns c =
     let long_2 : length two ≡ length old = ap length c.put_bytes-2.ensures ∙ length-replaced one 64 stub (omega (arith, c.requires, long_1)) ∙ long_1 in
     let long_3 : length three ≡ length old = ap length c.put_bytes-3.ensures ∙ length-replaced two at signature (omega (arith, c.requires, long_2)) ∙ long_2 in
     let last : five ≡ replaced four (at + 24) (optional ++ []) = c.put_bytes-5.ensures ∙ ap (replaced four (at + 24)) (sym (append-nil optional)) in
-    let behind_3 = written_then three four five (at + 4) (at + 24) coff (optional ++ []) (omega arith) (omega (arith, c.requires, long_3)) c.put_bytes-4.ensures last in
-    let behind_2 = written_then two three five at (at + 4) signature (coff ++ (optional ++ [])) (omega arith) (omega (arith, c.requires, long_2)) c.put_bytes-3.ensures behind_3 in
-    let behind_1 = written_then one two five 64 at stub (signature ++ (coff ++ (optional ++ []))) (omega arith) (omega (arith, c.requires, long_1)) c.put_bytes-2.ensures behind_2 in
-    let all : five ≡ replaced old 0 (dos ++ (stub ++ (signature ++ (coff ++ (optional ++ []))))) = written_then old one five 0 64 dos (stub ++ (signature ++ (coff ++ (optional ++ [])))) (omega arith) (omega (arith, c.requires)) c.put_bytes.ensures behind_1 in
+    let after_3 = written_then three four five (at + 4) (at + 24) coff (optional ++ []) (omega arith) (omega (arith, c.requires, long_3)) c.put_bytes-4.ensures last in
+    let after_2 = written_then two three five at (at + 4) signature (coff ++ (optional ++ [])) (omega arith) (omega (arith, c.requires, long_2)) c.put_bytes-3.ensures after_3 in
+    let after_1 = written_then one two five 64 at stub (signature ++ (coff ++ (optional ++ []))) (omega arith) (omega (arith, c.requires, long_1)) c.put_bytes-2.ensures after_2 in
+    let all : five ≡ replaced old 0 (dos ++ (stub ++ (signature ++ (coff ++ (optional ++ []))))) = written_then old one five 0 64 dos (stub ++ (signature ++ (coff ++ (optional ++ [])))) (omega arith) (omega (arith, c.requires)) c.put_bytes.ensures after_1 in
     rw (sym c.to_bytes.ensures.made, sym c.record_bytes-signature.ensures.made, sym c.encode-coff.ensures.made) all
