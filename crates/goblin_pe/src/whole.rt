@@ -1,6 +1,6 @@
 //! A whole file: its header, its sections, and the tables to which its directories lead.
 
-ghost use Rattle.std.specs.Prelude.{◌≡◌, ◌<◌, ◌/◌, IfErr, IfSome, IsErrAnd, IsSome, length};
+ghost use Rattle.std.specs.Prelude.{◌+◌, ◌≡◌, ◌<◌, ◌/◌, IfErr, IfSome, IsErrAnd, IsSome, length};
 ghost use Rattle.goblin_base.specs.Answers.{Answers, AnswersOrMemory, GivesOrMemory, IsMemory};
 ghost use Rattle.goblin_pe_sect.specs.BaseRelocations.{relocation_bytes};
 ghost use Rattle.goblin_pe_sect.specs.Mapping.{IsNameAtFault, name_at};
@@ -10,7 +10,7 @@ ghost use Rattle.goblin_pe_head.specs.CoffHeader.{IsTooManySections};
 ghost use Rattle.goblin_pe.specs.ImportDirectory.{IsImportDataFault, import_data};
 ghost use Rattle.goblin_pe.specs.Imports.{IsImportsFault, imports_of};
 ghost use Rattle.goblin_pe.specs.Addresses.{offset_of, reads_strictly};
-ghost use Rattle.goblin_pe.specs.Whole.{BecomesPart, IsExportPartFault, IsFileSectionsFault, IsImportPartFault, IsPartThenFault, IsRelocationsPartFault, IsWholeFault, entry_format, export_data_part, exports_part, file_sections, import_data_part, imports_part, items_part, offset_by, part_map, places_by, relocations_part, table_places, places_in, whole_file};
+ghost use Rattle.goblin_pe.specs.Whole.{BecomesPart, IsExportPartFault, IsFileSectionsFault, IsImportPartFault, IsPartThenFault, IsRelocationsPartFault, IsWholeFault, entry_format, export_data_part, exports_part, file_sections, import_data_part, imports_part, items_part, offset_by, part_map, places_by, relocations_part, table_places, places_in, whole_file, IsTablesFault, tables_of};
 
 use crate::address_map::AddressMap;
 use crate::export::{Export, ExportData};
@@ -271,6 +271,65 @@ impl Tables {
             opts,
         )
     }
+
+    // All tables, the first that is refused told.
+    #[tactic(auto, unfolding(crate::specs::Whole::tables_of, crate::specs::Whole::IsTablesFault))]
+    fn read<'a>(
+        &self,
+        alloc: Global,
+        bytes: &'a [u8],
+        sections: &[SectionTable],
+        opts: &ParseOptions,
+    ) -> Result<FileTables<'a>>
+        ensures { let places = table_places self.now in
+            AnswersOrMemory (λ x. x) result (tables_of opts.now sections.now bytes.now places) (IsTablesFault opts.now sections.now bytes.now places) }
+    {
+        let address_map = AddressMap::prepare(alloc, sections, self.file_alignment, opts)?;
+        let import_data = self.import_data(alloc, bytes, &address_map)?;
+        let imports = self.imports(alloc, bytes, &import_data, sections, opts)?;
+        let export_data = self.export_data(alloc, bytes, &address_map)?;
+        let exports = self.exports(alloc, bytes, &export_data, &address_map)?;
+        let relocations = self.relocations(bytes, sections, opts)?;
+        drop(address_map);
+        Ok(FileTables {
+            import_data,
+            imports,
+            export_data,
+            exports,
+            relocations,
+        })
+    }
+}
+
+// The tables of a file, and the lists that are made from them.
+struct FileTables<'a> {
+    import_data: Part<ImportData<'a>>,
+    imports: Part<Vec<Import<'a>>>,
+    export_data: Part<ExportData<'a>>,
+    exports: Part<Vec<Export<'a>>>,
+    relocations: Part<RelocationData<'a>>,
+}
+
+impl<'a> Model for FileTables<'a> {
+    ghost use Rattle.goblin_pe_sect.specs.BaseRelocations.{relocation_bytes};
+    ghost use Rattle.goblin_pe.specs.Whole.{FileTables, items_part, part_map};
+
+    ghost Value = { FileTables };
+
+    ghost view = { λ x. record {
+      import_data = x.import_data;
+      imports = items_part x.imports;
+      export_data = x.export_data;
+      exports = items_part x.exports;
+      relocations = part_map relocation_bytes x.relocations;
+    } };
+}
+
+// The file offset at which an optional header of this size ends.
+fn after_optional_header(pe_pointer: u32, size_of_optional_header: u16) -> usize
+    ensures { result ≡ pe_pointer + 24 + size_of_optional_header }
+{
+    pe_pointer as usize + SIZEOF_PE_MAGIC + SIZEOF_COFF_HEADER + size_of_optional_header as usize
 }
 
 // The sections of a file with this header, whose records follow the optional header.
@@ -288,8 +347,10 @@ fn sections_of(
         length bytes.now / 40 < count → IsErrAnd result (IsTooManySections count bytes.now) }
 {
     let coff_header = &header.coff_header;
-    let mut offset = header.dos_header.pe_pointer as usize + SIZEOF_PE_MAGIC + SIZEOF_COFF_HEADER;
-    offset += coff_header.size_of_optional_header as usize;
+    let mut offset = after_optional_header(
+        header.dos_header.pe_pointer,
+        coff_header.size_of_optional_header,
+    );
     coff_header.sections_with_opts(alloc, bytes, &mut offset, opts)
 }
 
@@ -308,7 +369,7 @@ impl<'a> Whole<'a> {
     /// [`CoffHeader::sections_with_opts`](goblin_pe_head::CoffHeader::sections_with_opts); in strict
     /// mode as the readers of the tables; [`Error::Memory`] where memory is refused, in both modes, and
     /// never of a file whose header is refused.
-    #[tactic(auto, unfolding(crate::specs::Whole::whole_file, crate::specs::Whole::tables_of, crate::specs::Whole::IsWholeFault, crate::specs::Whole::IsTablesFault), using(goblin_pe_head::proofs::HeaderFaults::header_there))]
+    #[tactic(auto, unfolding(crate::specs::Whole::whole_file, crate::specs::Whole::IsWholeFault), using(goblin_pe_head::proofs::HeaderFaults::header_there))]
     pub fn read(alloc: Global, bytes: &'a [u8], opts: &ParseOptions) -> Result<Whole<'a>>
         ensures value { AnswersOrMemory (λ x. x) result (whole_file opts.now bytes.now) (IsWholeFault opts.now bytes.now) }
         ensures first { IfSome (pe_header (is_strict opts.now.parse_mode) bytes.now) (λ header.
@@ -319,13 +380,13 @@ impl<'a> Whole<'a> {
         let header = Header::parse_with_opts(bytes, opts)?;
         let sections = sections_of(alloc, bytes, &header, opts)?;
         let tables = Tables::of(&header.optional_header);
-        let address_map = AddressMap::prepare(alloc, &sections, tables.file_alignment, opts)?;
-        let import_data = tables.import_data(alloc, bytes, &address_map)?;
-        let imports = tables.imports(alloc, bytes, &import_data, &sections, opts)?;
-        let export_data = tables.export_data(alloc, bytes, &address_map)?;
-        let exports = tables.exports(alloc, bytes, &export_data, &address_map)?;
-        let relocations = tables.relocations(bytes, &sections, opts)?;
-        drop(address_map);
+        let FileTables {
+            import_data,
+            imports,
+            export_data,
+            exports,
+            relocations,
+        } = tables.read(alloc, bytes, &sections, opts)?;
         Ok(Whole {
             header,
             sections,

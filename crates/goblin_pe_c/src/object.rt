@@ -1,12 +1,12 @@
 //! The call that reads an object.
 
-ghost use Rattle.std.specs.Prelude.{◌≡◌, IfErr, IsSome, Some, map, option_map};
+ghost use Rattle.std.specs.Prelude.{◌+◌, ◌≡◌, IfErr, IsSome, Some, map, option_map};
 ghost use Rattle.goblin_base.specs.Answers.{AnswersOrMemory, IsMemory};
 ghost use Rattle.goblin_pe_sect.specs.Options.{is_strict};
 ghost use Rattle.goblin_pe_sect.specs.Symbols.{table_bytes};
 ghost use Rattle.goblin_pe_c.specs.Calls.{Reads, Reported};
 ghost use Rattle.goblin_pe_c.specs.Filled.{Filled, alone};
-ghost use Rattle.goblin_pe_c.specs.Objects.{IsObjectFault, ObjectRecords, SaysObject, object_file, object_header, object_record, symbols_table, symbol_rows};
+ghost use Rattle.goblin_pe_c.specs.Objects.{IsObjectFault, IsObjectSectionsFault, ObjectRecords, SaysObject, object_file, object_header, object_record, object_sections, symbols_table, symbol_rows};
 ghost use Rattle.goblin_pe_c.specs.Options.{options_of};
 ghost use Rattle.goblin_pe_c.specs.Sections.{section_said};
 ghost use Rattle.goblin_pe_c.specs.Symbols.{symbol_view};
@@ -17,7 +17,7 @@ use crate::headers::{PeCoffHeader, coff_record};
 use crate::options::{PeOptions, options_of};
 use crate::section::{PeSection, fill_sections};
 use crate::symbol::{PeSymbol, fill_symbols};
-use goblin_pe::header::CoffHeader;
+use goblin_pe::header::{CoffHeader, SIZEOF_COFF_HEADER};
 use goblin_pe::options::ParseOptions;
 use goblin_pe::section_table::SectionTable;
 use goblin_pe::symbol::SymbolTable;
@@ -61,6 +61,27 @@ impl<'a> Model for Object<'a> {
     } };
 }
 
+// The sections of an object with this header, whose records follow the optional header.
+fn sections_of(
+    alloc: Global,
+    bytes: &[u8],
+    header: &CoffHeader,
+    opts: &ParseOptions,
+) -> Result<Vec<SectionTable>>
+    ensures { let strict = is_strict opts.now.parse_mode in
+        AnswersOrMemory (λ v. v.items) result (object_sections strict bytes.now header.now) (IsObjectSectionsFault strict bytes.now header.now) }
+{
+    let mut offset = after_optional_header(header.size_of_optional_header);
+    header.sections_with_opts(alloc, bytes, &mut offset, opts)
+}
+
+// The file offset at which the optional header of an object ends.
+fn after_optional_header(size_of_optional_header: u16) -> usize
+    ensures { result ≡ 20 + size_of_optional_header }
+{
+    SIZEOF_COFF_HEADER + size_of_optional_header as usize
+}
+
 impl<'a> Object<'a> {
     // Reads the COFF header at the front of a file, and what it leads to.
     #[tactic(auto, unfolding(crate::specs::Objects::object_file, crate::specs::Objects::IsObjectFault), using(crate::proofs::Refusals::header_there))]
@@ -69,10 +90,8 @@ impl<'a> Object<'a> {
             AnswersOrMemory (λ x. x) result (object_file strict bytes.now) (IsObjectFault strict bytes.now) }
         ensures grown { IfErr result (λ e. IsMemory e → IsSome (object_header bytes.now)) }
     {
-        let mut offset = 0;
-        let header = CoffHeader::parse(bytes, &mut offset)?;
-        offset += header.size_of_optional_header as usize;
-        let sections = header.sections_with_opts(alloc, bytes, &mut offset, opts)?;
+        let header = CoffHeader::parse(bytes, &mut 0)?;
+        let sections = sections_of(alloc, bytes, &header, opts)?;
         let symbols = header.symbols(bytes)?;
         let strings = header.strings(alloc, bytes)?;
         Ok(Object {

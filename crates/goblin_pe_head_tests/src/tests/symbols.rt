@@ -252,6 +252,15 @@ fn a_name_outlives_its_table(rt: HostRuntime) -> Result<(), Fail> {
     Ok(())
 }
 
+/// Whether what is read from a record's bytes is written as they are.
+fn is_written_again<T: Record>(record: &[u8; 18], endian: Endian) -> bool {
+    let Ok(value) = T::read_at(record, 0, endian) else {
+        return false;
+    };
+    let mut written = [0; 18];
+    value.try_into_ctx(&mut written, endian).is_ok() && written == *record
+}
+
 #[test]
 fn records_are_written_in_either_order(rt: HostRuntime) -> Result<(), Fail> {
     let mut record = [0; 18];
@@ -259,22 +268,12 @@ fn records_are_written_in_either_order(rt: HostRuntime) -> Result<(), Fail> {
         *place = *byte;
     }
     for endian in [Endian::Little, Endian::Big] {
-        let mut written = [0; 18];
-        let (symbol, _) = Symbol::try_from_ctx(&record, endian)?;
-        symbol.try_into_ctx(&mut written, endian)?;
-        assert!(rt; written == record, "{symbol:?}");
-        let (function, _) = AuxFunctionDefinition::try_from_ctx(&record, endian)?;
-        function.try_into_ctx(&mut written, endian)?;
-        assert!(rt; written == record, "{function:?}");
-        let (ends, _) = AuxBeginAndEndFunction::try_from_ctx(&record, endian)?;
-        ends.try_into_ctx(&mut written, endian)?;
-        assert!(rt; written == record, "{ends:?}");
-        let (weak, _) = AuxWeakExternal::try_from_ctx(&record, endian)?;
-        weak.try_into_ctx(&mut written, endian)?;
-        assert!(rt; written == record, "{weak:?}");
-        let (section, _) = AuxSectionDefinition::try_from_ctx(&record, endian)?;
-        section.try_into_ctx(&mut written, endian)?;
-        assert!(rt; written == record, "{section:?}");
+        let is_right = is_written_again::<Symbol>(&record, endian)
+            && is_written_again::<AuxFunctionDefinition>(&record, endian)
+            && is_written_again::<AuxBeginAndEndFunction>(&record, endian)
+            && is_written_again::<AuxWeakExternal>(&record, endian)
+            && is_written_again::<AuxSectionDefinition>(&record, endian);
+        assert!(rt; is_right, "{endian:?}");
     }
     Ok(())
 }

@@ -1,5 +1,6 @@
 //! Readers in both modes, and under two tables of sections.
 
+use super::table_footprints::is_sample;
 use fixture::memory::{Outcome, is_refused_until_right};
 use fixture::sample::{put, sample, sample_section, section};
 use fixture_tables::exports::{FORWARDED, PLAIN, are};
@@ -10,7 +11,7 @@ use goblin_pe::laws::{
     Request, Tables, mode_header, mode_tables, mode_whole, reorder_whole_tables,
 };
 use goblin_pe::options::ParseOptions;
-use goblin_pe::{Part, Whole};
+use goblin_pe::Whole;
 use goblin_pe_sect::{DataDirectory, SectionTable};
 use std::alloc::Global;
 use std::test::Fail;
@@ -30,24 +31,6 @@ const REQUEST: Request = Request {
     value: DIRECTORY,
     name: 0x1080,
 };
-
-/// Whether this is the sample file.
-fn is_sample(whole: &Whole) -> bool {
-    let lists_are_right = match (&whole.imports, &whole.exports) {
-        (Part::Read(imports), Part::Read(exports)) => are_rows(imports, &[GO, SEVEN])
-            && are(exports, &[PLAIN, FORWARDED]),
-        _ => false,
-    };
-    let tables_are_right = match (&whole.import_data, &whole.export_data, &whole.relocations) {
-        (Part::Read(data), Part::Read(tables), Part::Absent) => data.import_data.len() == 1
-            && tables.name == Some("a.dll"),
-        _ => false,
-    };
-    whole.header.coff_header.machine == 0x14C
-        && whole.sections[..] == [sample_section()]
-        && lists_are_right
-        && tables_are_right
-}
 
 #[test]
 fn both_modes_read_the_same_file(rt: HostRuntime) -> Result<(), Fail> {

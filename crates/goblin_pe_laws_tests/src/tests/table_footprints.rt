@@ -7,7 +7,7 @@ use fixture_tables::imports::{
     ALIGNMENT, DIRECTORY, GO, RECORD, SEVEN, Short, are_rows, is_sample_table,
 };
 use goblin_base::{Error, ParseMode};
-use goblin_pe::export::{ExportAddressTableEntry, ExportData, ExportDirectoryTable};
+use goblin_pe::export::{Export, ExportAddressTableEntry, ExportData, ExportDirectoryTable};
 use goblin_pe::import::{
     Import, ImportData, SyntheticImportDirectoryEntry, SyntheticImportLookupTableEntry,
 };
@@ -173,14 +173,29 @@ fn are_sample_tables(tables: &ExportData) -> bool {
         && tables.export_address_table.as_slice() == addresses.as_slice()
 }
 
-/// Whether these are the sample file's sections and tables.
-fn is_sample(whole: &Whole) -> bool {
-    whole.sections[..] == [sample_section()]
-        && matches!(&whole.import_data, Part::Read(data) if are_sample_imports(data))
-        && matches!(&whole.imports, Part::Read(imports) if are_rows(imports, &[GO, SEVEN]))
-        && matches!(&whole.export_data, Part::Read(tables) if are_sample_tables(tables))
-        && matches!(&whole.exports, Part::Read(exports) if are(exports, &[PLAIN, FORWARDED]))
-        && matches!(&whole.relocations, Part::Absent)
+fn has_sample_imports(data: &Part<ImportData>, imports: &Part<Vec<Import>>) -> bool {
+    match (data, imports) {
+        (Part::Read(data), Part::Read(imports)) => are_sample_imports(data)
+            && are_rows(imports, &[GO, SEVEN]),
+        _ => false,
+    }
+}
+
+fn has_sample_exports(tables: &Part<ExportData>, exports: &Part<Vec<Export>>) -> bool {
+    match (tables, exports) {
+        (Part::Read(tables), Part::Read(exports)) => are_sample_tables(tables)
+            && are(exports, &[PLAIN, FORWARDED]),
+        _ => false,
+    }
+}
+
+/// Whether these are the sample file's machine, sections and tables.
+pub(super) fn is_sample(whole: &Whole) -> bool {
+    whole.header.coff_header.machine == 0x14C
+        && whole.sections[..] == [sample_section()]
+        && has_sample_imports(&whole.import_data, &whole.imports)
+        && has_sample_exports(&whole.export_data, &whole.exports)
+        && matches!(whole.relocations, Part::Absent)
 }
 
 /// Whether both files have the sample file's lookup table.
@@ -332,7 +347,7 @@ fn tables_of_two_files_are_read_by_each_entry_type(rt: HostRuntime) -> Result<()
 }
 
 #[test]
-fn a_name_may_be_an_ordinals_and_may_reach_the_end(rt: HostRuntime) -> Result<(), Fail> {
+fn a_name_may_be_an_ordinals(rt: HostRuntime) -> Result<(), Fail> {
     let alloc = rt.alloc();
     let sections = [sample_section()];
     let opts = ParseOptions::default();
@@ -349,6 +364,14 @@ fn a_name_may_be_an_ordinals_and_may_reach_the_end(rt: HostRuntime) -> Result<()
         _ => false,
     };
     assert!(rt; rows_are_right);
+    Ok(())
+}
+
+#[test]
+fn a_name_may_reach_the_end(rt: HostRuntime) -> Result<(), Fail> {
+    let alloc = rt.alloc();
+    let sections = [sample_section()];
+    let opts = ParseOptions::default();
     // A name that runs to the end of a longer file.
     let mut long = sample(alloc)?;
     long.resize(0x400, b'A')?;
@@ -360,7 +383,7 @@ fn a_name_may_be_an_ordinals_and_may_reach_the_end(rt: HostRuntime) -> Result<()
     )?;
     let imports = Import::parse::<u32>(alloc, &long, &data, &sections)?;
     let is_long =
-        matches!(&imports[..], [import, _] if import.name.len() == 366 && import.name.bytes().all(|b| b == b'A'));
+        matches!(&imports[..], [import, _] if import.name.as_bytes() == [b'A'; 366].as_slice());
     assert!(rt; is_long);
     Ok(())
 }

@@ -350,9 +350,8 @@ fn a_record_that_ends_a_directory_is_told_from_one_of_zeros(rt: HostRuntime) {
 }
 
 #[test]
-fn each_refusal_of_imports_tells_its_cause(rt: HostRuntime) -> Result<(), Fail> {
+fn each_refusal_of_a_lookup_table_tells_its_cause(rt: HostRuntime) -> Result<(), Fail> {
     let alloc = rt.alloc();
-    let file = sample(alloc)?;
     let sections = [sample_section()];
     // The table by ordinals, which meets the end of the file; and as it stands, where the hint of its
     // first entry is missing before that.
@@ -368,6 +367,14 @@ fn each_refusal_of_imports_tells_its_cause(rt: HostRuntime) -> Result<(), Fail> 
         alloc, &names, 0x240, &sections, ALIGNMENT,
     );
     assert!(rt; matches!(no_hint, Err(Error::Malformed(Cause::HintEntry(0x290)))));
+    Ok(())
+}
+
+#[test]
+fn each_refusal_of_import_data_tells_its_cause(rt: HostRuntime) -> Result<(), Fail> {
+    let alloc = rt.alloc();
+    let file = sample(alloc)?;
+    let sections = [sample_section()];
     let record = ImportDirectoryEntry {
         import_address_table_rva: 0x9000,
         ..RECORD

@@ -70,31 +70,44 @@ fn is_library(
     )
 }
 
-/// Whether the readers of imports take what stands where `find_offset` says.
+/// Whether a lookup table takes the name that stands where `find_offset` says.
+fn names_agree(alloc: Global, file: &[u8], sections: &[SectionTable]) -> goblin_base::Result<bool> {
+    let want = HintNameTableEntry::parse(file, at(0x1250, sections))?;
+    let offset = at(0x1210, sections);
+    let table = SyntheticImportLookupTableEntry::parse::<u32>(
+        alloc, file, offset, sections, ALIGNMENT,
+    )?;
+    Ok(match table.as_slice().first() {
+        Some(SyntheticImportLookupTableEntry::HintNameTableRVA(named)) => named.1.hint == want.hint
+            && named.1.name == want.name,
+        _ => false,
+    })
+}
+
+/// Whether a library has what stands where `find_offset` says.
+fn libraries_agree(
+    alloc: Global,
+    file: &[u8],
+    sections: &[SectionTable],
+) -> goblin_base::Result<bool> {
+    let record = ImportDirectoryEntry::read_at(file, at(0x1000, sections), Endian::Little)?;
+    let library = SyntheticImportDirectoryEntry::parse::<u32>(
+        alloc, file, record, sections, ALIGNMENT,
+    )?;
+    is_library(&library, file, sections)
+}
+
+/// Whether import data begin with the library that stands where `find_offset` says.
 fn imports_agree(
     alloc: Global,
     file: &[u8],
     sections: &[SectionTable],
 ) -> goblin_base::Result<bool> {
-    let offset = at(0x1210, sections);
-    let table = SyntheticImportLookupTableEntry::parse::<u32>(
-        alloc, file, offset, sections, ALIGNMENT,
-    )?;
-    let want = HintNameTableEntry::parse(file, at(0x1250, sections))?;
-    let named = match table.as_slice().first() {
-        Some(SyntheticImportLookupTableEntry::HintNameTableRVA(named)) => named.1.hint == want.hint
-            && named.1.name == want.name,
-        _ => false,
-    };
-    let record = ImportDirectoryEntry::read_at(file, at(0x1000, sections), Endian::Little)?;
-    let library = SyntheticImportDirectoryEntry::parse::<u32>(
-        alloc, file, record, sections, ALIGNMENT,
-    )?;
     let imports = ImportData::parse::<u32>(alloc, file, IMPORTS, sections, ALIGNMENT)?;
-    let Some(first) = imports.import_data.first() else {
-        return Ok(false);
-    };
-    Ok(named && is_library(&library, file, sections)? && is_library(first, file, sections)?)
+    match imports.import_data.first() {
+        Some(first) => is_library(first, file, sections),
+        None => Ok(false),
+    }
 }
 
 /// Whether the readers of exports take what stands where `find_offset` says.
@@ -122,6 +135,8 @@ fn readers_agree(
 ) -> goblin_base::Result<bool> {
     Ok(
         at(0x1240, sections) == name_offset
+            && names_agree(alloc, file, sections)?
+            && libraries_agree(alloc, file, sections)?
             && imports_agree(alloc, file, sections)?
             && exports_agree(alloc, file, sections)?,
     )
