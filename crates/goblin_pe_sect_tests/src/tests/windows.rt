@@ -6,6 +6,7 @@ use goblin_base::Error;
 use goblin_pe_sect::utils::{find_offset, window};
 use goblin_pe_sect::windows::Bounds;
 use goblin_pe_sect::{ParseOptions, RawPointerRule, SectionTable, WindowIndex};
+use std::alloc::Global;
 use std::test::Fail;
 
 /// A section inside the window of [`wide`].
@@ -68,48 +69,52 @@ fn an_address_of_two_windows_belongs_to_the_first(rt: HostRuntime) -> Result<(),
         (usize::MAX, None, 2),
     ];
     for (rva, want, probes) in rows {
-        assert_eq!(rt; index.find_counted(rva), (want, probes), "{rva:#x}");
-        assert_eq!(rt; index.find(rva), want, "{rva:#x}");
-        assert_eq!(rt; find_offset(rva, &sections, 0x200, &opts), want, "{rva:#x}");
+        let is_right = index.find_counted(rva) == (want, probes)
+            && index.find(rva) == want
+            && find_offset(rva, &sections, 0x200, &opts) == want;
+        assert!(rt; is_right, "{rva:#x}");
     }
     Ok(())
+}
+
+/// How many pieces an index has, and what it finds for an address in how many probes.
+fn found(
+    alloc: Global,
+    sections: &[SectionTable],
+    alignment: u32,
+    opts: &ParseOptions,
+    rva: usize,
+) -> goblin_base::Result<(usize, (Option<usize>, usize))> {
+    let index = WindowIndex::prepare(alloc, sections, alignment, opts)?;
+    Ok((index.pieces(), index.find_counted(rva)))
 }
 
 #[test]
 fn a_hidden_window_still_cuts_the_line(rt: HostRuntime) -> Result<(), Fail> {
     let opts = ParseOptions::default();
-    let hidden = WindowIndex::prepare(rt.alloc(), &[wide(), narrow()], 0x200, &opts)?;
-    assert_eq!(rt; (hidden.pieces(), hidden.find(0x1250)), (5, Some(0xA50)));
+    let (pieces, (hidden, _)) = found(rt.alloc(), &[wide(), narrow()], 0x200, &opts, 0x1250)?;
+    assert_eq!(rt; (pieces, hidden), (5, Some(0xA50)));
     let pair = [
         section(0x1000, 0x200, 0x200, 0x400),
         section(0x1000, 0x200, 0x200, 0x800),
     ];
-    let twice = WindowIndex::prepare(rt.alloc(), &pair, 0x200, &opts)?;
     // Of 0, 0x1000 and 0x1200 the second is the middle, and then the third is left.
-    assert_eq!(rt;
-        (twice.pieces(), twice.find_counted(0x1010)),
-        (3, (Some(0x410), 2))
-    );
+    let twice = found(rt.alloc(), &pair, 0x200, &opts, 0x1010)?;
+    assert_eq!(rt; twice, (3, (Some(0x410), 2)));
     Ok(())
 }
 
 #[test]
 fn an_index_of_no_windows_has_one_piece_or_none(rt: HostRuntime) -> Result<(), Fail> {
     let opts = ParseOptions::default();
-    let none = WindowIndex::prepare(rt.alloc(), &[], 0x200, &opts)?;
-    assert_eq!(rt; (none.pieces(), none.find_counted(0)), (1, (None, 1)));
+    let none = found(rt.alloc(), &[], 0x200, &opts, 0)?;
+    assert_eq!(rt; none, (1, (None, 1)));
     for alignment in [0, 0x300] {
-        let index = WindowIndex::prepare(rt.alloc(), &[wide()], alignment, &opts)?;
-        assert_eq!(rt;
-            (index.pieces(), index.find_counted(0x1100)),
-            (0, (None, 0))
-        );
+        let unmapped = found(rt.alloc(), &[wide()], alignment, &opts, 0x1100)?;
+        assert_eq!(rt; unmapped, (0, (None, 0)));
     }
-    let direct = WindowIndex::prepare(rt.alloc(), &[wide()], 0x200, &ParseOptions::te())?;
-    assert_eq!(rt;
-        (direct.pieces(), direct.find_counted(0x1100)),
-        (0, (Some(0x1100), 0))
-    );
+    let direct = found(rt.alloc(), &[wide()], 0x200, &ParseOptions::te(), 0x1100)?;
+    assert_eq!(rt; direct, (0, (Some(0x1100), 0)));
     Ok(())
 }
 
