@@ -6,12 +6,12 @@ use fixture::sample::{put, sample, sample_section, section};
 use fixture_tables::exports::{FORWARDED, PLAIN, are};
 use fixture_tables::imports::{ALIGNMENT, DIRECTORY, GO, RECORD, SEVEN, are_rows, front_file};
 use goblin_base::{Cause, Error};
+use goblin_pe::Whole;
 use goblin_pe::import::{Import, ImportData, ImportDirectoryEntry};
 use goblin_pe::laws::{
     Request, Tables, mode_header, mode_tables, mode_whole, reorder_whole_tables,
 };
 use goblin_pe::options::ParseOptions;
-use goblin_pe::Whole;
 use goblin_pe_sect::{DataDirectory, SectionTable};
 use std::alloc::Global;
 use std::test::Fail;
