@@ -10,7 +10,7 @@ ghost use Rattle.goblin_pe_head.specs.CoffHeader.{IsTooManySections};
 ghost use Rattle.goblin_pe.specs.ImportDirectory.{IsImportDataFault, import_data};
 ghost use Rattle.goblin_pe.specs.Imports.{IsImportsFault, imports_of};
 ghost use Rattle.goblin_pe.specs.Addresses.{offset_of, reads_strictly};
-ghost use Rattle.goblin_pe.specs.Whole.{BecomesPart, IsExportPartFault, IsFileSectionsFault, IsImportPartFault, IsPartThenFault, IsRelocationsPartFault, IsWholeFault, entry_format, export_data_part, exports_part, file_sections, import_data_part, imports_part, items_part, offset_by, part_map, places_by, relocations_part, table_places, places_in, whole_file, IsTablesFault, tables_of};
+ghost use Rattle.goblin_pe.specs.Whole.{BecomesPart, IsExportPartFault, IsFileSectionsFault, IsImportPartFault, IsPartThenFault, IsRelocationsPartFault, IsTablesFault, IsWholeFault, entry_format, export_data_part, exports_part, file_sections, import_data_part, imports_part, items_part, offset_by, part_map, places_by, relocations_part, table_places, tables_of, places_in, whole_file};
 
 use crate::address_map::AddressMap;
 use crate::export::{Export, ExportData};
@@ -272,7 +272,7 @@ impl Tables {
         )
     }
 
-    // All tables, the first that is refused told.
+    // All tables, and the lists that are made from them; refused for the first of them that refuses all.
     #[tactic(auto, unfolding(crate::specs::Whole::tables_of, crate::specs::Whole::IsTablesFault))]
     fn read<'a>(
         &self,

@@ -79,7 +79,7 @@ pub fn count_entries(bytes: &[u8]) -> Result<Option<usize>>
     }
 }
 
-/// How many functions a file imports, damaged parts passed over.
+/// How many functions a file imports, damaged parts passed over; 0 where its imports are refused.
 ///
 /// # Errors
 /// As [`Whole::read`] in permissive mode.

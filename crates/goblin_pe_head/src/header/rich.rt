@@ -67,7 +67,7 @@ impl<'a> RichHeader<'a> {
     /// # Errors
     /// As [`DosHeader::parse`] where the file has no DOS header; [`Error::Malformed`] with
     /// [`Cause::NoDans`] where no word is [`DANS_MARKER`] under the key, with [`Cause::RichBounds`]
-    /// where the data would end before it starts, both counted from offset 0x40; [`Error::Read`]
+    /// where the data would not end after it starts, both counted from offset 0x40; [`Error::Read`]
     /// with [`ReadFault::TooBig`] where the data is no whole number of words.
     pub fn parse(bytes: &'a [u8]) -> Result<Option<Self>>
         ensures value { Answers (option_map rich_value) result (rich_header bytes.now) (IsRichFault bytes.now) }
