@@ -10,7 +10,7 @@ ghost use Rattle.goblin_base.specs.Bytes.{text_at};
 ghost use Rattle.goblin_pe_sect.specs.Mapping.{file_offset};
 ghost use Rattle.goblin_pe_sect.specs.Options.{default_options};
 ghost use Rattle.goblin_pe.specs.Addresses.{offset_of};
-ghost use Rattle.goblin_pe.specs.Exports.{HasEntries, HasExports, IsExportDataFault, export_data, export_row, exports};
+ghost use Rattle.goblin_pe.specs.Exports.{HasEntries, HasExports, IsExportDataFault, export_data, export_row, exports, reexport_of, rva_of};
 ghost use Rattle.goblin_pe.specs.Forwarders.{forwarder_at, forwarder_value};
 ghost use Rattle.goblin_pe_sect.specs.WindowIndex.{HasPieces};
 
@@ -42,6 +42,34 @@ fn forwarder_at(bytes: &[u8], offset: Option<usize>) -> Option<Reexport<'_>>
     ensures { option_map forwarder_value result ≡ option_and_then (forwarder_at bytes.now) offset }
 {
     Reexport::parse(bytes, offset?).ok()
+}
+
+// The address that an entry of the address table holds.
+fn rva_of(address: &ExportAddressTableEntry) -> u32
+    ensures { result ≡ rva_of address.now }
+{
+    match *address {
+        ExportAddressTableEntry::ExportRVA(rva) | ExportAddressTableEntry::ForwarderRVA(rva) => rva,
+    }
+}
+
+// What an entry of the address table stands for in another library, if it is a forwarder; nothing
+// where that can't be read.
+#[tactic(auto, unfolding(crate::specs::Exports::reexport_of))]
+fn reexport_of<'a>(
+    bytes: &'a [u8],
+    address: &ExportAddressTableEntry,
+    address_map: &AddressMap,
+) -> Option<Option<Reexport<'a>>>
+    ensures { option_map (option_map forwarder_value) result ≡ reexport_of (offset_of address_map.now) bytes.now address.now }
+{
+    match *address {
+        ExportAddressTableEntry::ExportRVA(_) => Some(None),
+        ExportAddressTableEntry::ForwarderRVA(rva) => {
+            let forwarder = forwarder_at(bytes, address_map.offset_of(rva))?;
+            Some(Some(forwarder))
+        }
+    }
 }
 
 /// What an export directory leads to: the library's name and the three tables.
@@ -215,7 +243,7 @@ fn add_row<'a>(exports: &mut Vec<Export<'a>>, row: Option<Export<'a>>) -> Result
 impl<'a> Export<'a> {
     // The export of the name pointer at an index, where its ordinal, its address and, of a forwarder,
     // the text are there.
-    #[tactic(auto, unfolding(crate::specs::Exports::export_row, crate::specs::Exports::reexport_of))]
+    #[tactic(auto, unfolding(crate::specs::Exports::export_row))]
     fn of_pointer(
         bytes: &'a [u8],
         tables: &ExportData,
@@ -226,21 +254,13 @@ impl<'a> Export<'a> {
     {
         let pointer = *tables.export_name_pointer_table.as_slice().get(index)?;
         let ordinal = *tables.export_ordinal_table.as_slice().get(index)?;
-        let address = *tables
-            .export_address_table
-            .as_slice()
-            .get(usize::from(ordinal))?;
-        let mapped = |rva: u32| address_map.offset_of(rva);
-        let (rva, reexport) = match address {
-            ExportAddressTableEntry::ExportRVA(rva) => (rva, None),
-            ExportAddressTableEntry::ForwarderRVA(rva) => (
-                rva,
-                Some(forwarder_at(bytes, mapped(rva))?),
-            ),
-        };
+        let addresses = tables.export_address_table.as_slice();
+        let address = addresses.get(usize::from(ordinal))?;
+        let reexport = reexport_of(bytes, address, address_map)?;
+        let rva = rva_of(address);
         Some(Export {
-            name: text_at(bytes, mapped(pointer)),
-            offset: mapped(rva),
+            name: text_at(bytes, address_map.offset_of(pointer)),
+            offset: address_map.offset_of(rva),
             rva: rva as usize,
             size: 0,
             reexport,

@@ -1,6 +1,6 @@
 //! A run of the program: the whole input is read, listed, and the listing is written.
 
-ghost use Rattle.std.specs.Prelude.{◌≡◌, ◌≢◌, ◌<◌, length, Err, IfSome, IsSomeAnd, IsTrue, None, OnErr, OnOk, Some};
+ghost use Rattle.std.specs.Prelude.{◌≡◌, ◌≢◌, ◌<◌, length, string_bytes, Err, IfErr, IfOk, IfSome, IsSomeAnd, IsTrue, None, OnErr, OnOk, Some};
 ghost use Rattle.std.specs.Io.KnownBytes.{Appends, Keeps};
 ghost use Rattle.goblin_base.specs.Answers.{IsMemory};
 ghost use Rattle.pe_list.specs.Listing.{IsLayoutFault, listing_of};
@@ -40,13 +40,36 @@ impl RunFault {
     }
 }
 
+// The listing of all that the reader has left, which is judged only when all of it was read.
+#[tactic(auto, using(crate::proofs::Headers::some_bytes))]
+fn read_listing<R: Read>(
+    alloc: Global,
+    reader: &mut Watched<R>,
+    mode: ParseMode,
+) -> Result<String, RunFault>
+    ensures listed { IfOk result (λ text. IfSome (R.remaining reader.old.inner) (λ file. listing_of mode file ≡ Some (string_bytes text))) }
+    ensures refused { IfRefused result (λ cause. ¬ IsMemory cause → IfSome (R.remaining reader.old.inner) (λ file.
+        (listing_of mode file ≡ None) × IsLayoutFault mode file cause)) }
+    ensures grown { IfRefused result (λ cause. IsMemory cause → IfSome (R.remaining reader.old.inner) (λ file. 0 < length file)) }
+    ensures output { IfErr result (λ fault. fault ≢ RunFault.Output) }
+    ensures input { result ≡ Err RunFault.Input → IsTrue reader.new.failed }
+    ensures once { result ≢ Err RunFault.Input → reader.new.failed ≡ reader.old.failed }
+    ensures ended { OnOk result (IsTrue reader.new.ended) }
+    ensures judged { IfRefused result (λ cause. ¬ IsMemory cause → IsTrue reader.new.ended) }
+{
+    let bytes = read_all(alloc, reader)?;
+    match list(alloc, &bytes, mode) {
+        Ok(text) => Ok(text),
+        Err(cause) => Err(RunFault::Refused(cause)),
+    }
+}
+
 /// Reads to the end, and writes the listing of what was read.
 ///
 /// # Errors
 /// [`RunFault::Refused`] where the bytes have no listing, or where memory was refused;
 /// [`RunFault::Input`] and [`RunFault::Output`] where a read or a write failed, which isn't tried
 /// again. Nothing goes out before the whole listing is there; on `Output` a beginning of it went out.
-#[tactic(auto, using(crate::proofs::Headers::some_bytes))]
 pub fn run<R: Read, W: Write>(
     alloc: Global,
     reader: &mut Watched<R>,
@@ -79,9 +102,6 @@ pub fn run<R: Read, W: Write>(
     ensures ended { OnOk result (IsTrue reader.new.ended) }
     ensures judged { IfRefused result (λ cause. ¬ IsMemory cause → IsTrue reader.new.ended) }
 {
-    let bytes = read_all(alloc, reader)?;
-    match list(alloc, &bytes, mode) {
-        Ok(text) => write_text(writer, text.as_bytes()),
-        Err(cause) => Err(RunFault::Refused(cause)),
-    }
+    let text = read_listing(alloc, reader, mode)?;
+    write_text(writer, text.as_bytes())
 }
