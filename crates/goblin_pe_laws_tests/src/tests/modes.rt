@@ -194,6 +194,18 @@ fn sections_may_stand_in_any_order(rt: HostRuntime) -> Result<(), Fail> {
     Ok(())
 }
 
+/// Whether the library's name was read.
+fn have_the_name(tables: &Tables<ImportDirectoryEntry>) -> bool {
+    matches!(&tables.name, Ok(Some(name)) if *name == "a.dll")
+}
+
+/// Whether no section maps the name's address, and neither table was read.
+fn are_unmapped(tables: &Tables<ImportDirectoryEntry>) -> bool {
+    matches!(&tables.name, Err(Error::Malformed(Cause::Unmapped(0x1080))))
+        && tables.imports.is_err()
+        && tables.exports.is_err()
+}
+
 #[test]
 fn each_table_of_sections_has_its_own_answers(rt: HostRuntime) -> Result<(), Fail> {
     let alloc = rt.alloc();
@@ -209,12 +221,7 @@ fn each_table_of_sections_has_its_own_answers(rt: HostRuntime) -> Result<(), Fai
             ALIGNMENT,
             &opts,
         );
-    assert!(rt;
-        matches!(&one.name, Ok(Some(name)) if *name == "a.dll")
-            && matches!(other.name, Err(Error::Malformed(Cause::Unmapped(0x1080))))
-            && other.imports.is_err()
-            && other.exports.is_err()
-    );
+    assert!(rt; have_the_name(&one) && are_unmapped(&other));
     Ok(())
 }
 

@@ -4,9 +4,9 @@ use fixture::memory::{Outcome, is_refused_until_right};
 use fixture::sample::{SAMPLE_LEN, put, sample, sample_section};
 use fixture_tables::exports::{FORWARDED, PLAIN, are};
 use fixture_tables::imports::{
-    ALIGNMENT, DIRECTORY, GO, RECORD, SEVEN, Short, are_rows, is_sample_table,
+    ALIGNMENT, DIRECTORY, GO, RECORD, SEVEN, Short, are_rows, is_sample_table, is_seven,
 };
-use goblin_base::{Error, ParseMode};
+use goblin_base::{Error, ParseMode, ResultOf};
 use goblin_pe::export::{Export, ExportAddressTableEntry, ExportData, ExportDirectoryTable};
 use goblin_pe::import::{
     Import, ImportData, SyntheticImportDirectoryEntry, SyntheticImportLookupTableEntry,
@@ -151,9 +151,9 @@ fn is_sample_library(library: &SyntheticImportDirectoryEntry) -> bool {
         && library.import_address_table.as_slice() == [0x1090, 0x8000_0007].as_slice()
 }
 
-/// Whether this is the sample file's export data.
-fn are_sample_tables(tables: &ExportData) -> bool {
-    let table = ExportDirectoryTable {
+/// Whether this is the sample file's export record.
+fn is_sample_record(record: &ExportDirectoryTable) -> bool {
+    let want = ExportDirectoryTable {
         name_rva: 0x1080,
         ordinal_base: 1,
         address_table_entries: 2,
@@ -163,14 +163,25 @@ fn are_sample_tables(tables: &ExportData) -> bool {
         ordinal_table_rva: 0x10D8,
         ..ExportDirectoryTable::default()
     };
-    let addresses = [
+    *record == want
+}
+
+/// Whether these are the entries of its export address table.
+fn are_sample_addresses(entries: &[ExportAddressTableEntry]) -> bool {
+    let want = [
         ExportAddressTableEntry::ExportRVA(0x1010),
         ExportAddressTableEntry::ForwarderRVA(0x10E0),
     ];
-    (tables.name, tables.export_directory_table) == (Some("a.dll"), table)
+    entries == want.as_slice()
+}
+
+/// Whether this is the sample file's export data.
+fn are_sample_tables(tables: &ExportData) -> bool {
+    tables.name == Some("a.dll")
+        && is_sample_record(&tables.export_directory_table)
         && tables.export_name_pointer_table.as_slice() == [0x10F0, 0x1080].as_slice()
         && tables.export_ordinal_table.as_slice() == [0, 1].as_slice()
-        && tables.export_address_table.as_slice() == addresses.as_slice()
+        && are_sample_addresses(tables.export_address_table.as_slice())
 }
 
 fn has_sample_imports(data: &Part<ImportData>, imports: &Part<Vec<Import>>) -> bool {
@@ -243,26 +254,38 @@ fn are_wholes<'a>(alloc: Global, a: &'a [u8], b: &'a [u8]) -> bool {
 }
 
 #[test]
-fn tables_depend_on_their_footprints_alone(rt: HostRuntime) -> Result<(), Fail> {
+fn a_lookup_table_depends_on_its_footprint_alone(rt: HostRuntime) -> Result<(), Fail> {
     let alloc = rt.alloc();
     let file = sample(alloc)?;
     let mut other = sample(alloc)?;
-    assert!(rt;
-        depends_on(&mut other, LOOKUP, |b| have_lookups(alloc, &file, b)),
-        "lookup table"
-    );
-    assert!(rt;
-        depends_on(&mut other, IMPORTS, |b| have_imports(alloc, &file, b)),
-        "imports"
-    );
-    assert!(rt;
-        depends_on(&mut other, EXPORTS, |b| have_exports(alloc, &file, b)),
-        "exports"
-    );
-    assert!(rt;
-        depends_on(&mut other, WHOLE, |b| are_wholes(alloc, &file, b)),
-        "whole file"
-    );
+    assert!(rt; depends_on(&mut other, LOOKUP, |b| have_lookups(alloc, &file, b)));
+    Ok(())
+}
+
+#[test]
+fn imports_depend_on_their_footprint_alone(rt: HostRuntime) -> Result<(), Fail> {
+    let alloc = rt.alloc();
+    let file = sample(alloc)?;
+    let mut other = sample(alloc)?;
+    assert!(rt; depends_on(&mut other, IMPORTS, |b| have_imports(alloc, &file, b)));
+    Ok(())
+}
+
+#[test]
+fn exports_depend_on_their_footprint_alone(rt: HostRuntime) -> Result<(), Fail> {
+    let alloc = rt.alloc();
+    let file = sample(alloc)?;
+    let mut other = sample(alloc)?;
+    assert!(rt; depends_on(&mut other, EXPORTS, |b| have_exports(alloc, &file, b)));
+    Ok(())
+}
+
+#[test]
+fn a_whole_file_depends_on_its_footprint_alone(rt: HostRuntime) -> Result<(), Fail> {
+    let alloc = rt.alloc();
+    let file = sample(alloc)?;
+    let mut other = sample(alloc)?;
+    assert!(rt; depends_on(&mut other, WHOLE, |b| are_wholes(alloc, &file, b)));
     Ok(())
 }
 
@@ -324,13 +347,24 @@ fn a_directory_that_is_not_read_has_no_footprint(rt: HostRuntime) -> Result<(), 
 }
 
 #[test]
-fn tables_of_two_files_are_read_by_each_entry_type(rt: HostRuntime) -> Result<(), Fail> {
+fn lookup_tables_of_two_files_are_read_by_entries_of_eight_bytes(
+    rt: HostRuntime,
+) -> Result<(), Fail> {
     let alloc = rt.alloc();
     let file = sample(alloc)?;
     let sections = [sample_section()];
     let opts = ParseOptions::default();
     let (first, second) = twin_lookup::<u64>(alloc, &file, &[], 0x240, &sections, ALIGNMENT, &opts);
     assert!(rt; matches!(&first, Ok(table) if table.as_slice().len() == 1) && second.is_err());
+    Ok(())
+}
+
+#[test]
+fn imports_of_two_files_are_read_by_entries_of_two_bytes(rt: HostRuntime) -> Result<(), Fail> {
+    let alloc = rt.alloc();
+    let file = sample(alloc)?;
+    let sections = [sample_section()];
+    let opts = ParseOptions::default();
     let (first, second) = twin_imports::<Short>(
         alloc,
         &[],
@@ -341,61 +375,82 @@ fn tables_of_two_files_are_read_by_each_entry_type(rt: HostRuntime) -> Result<()
         &opts,
     );
     assert!(rt; first.is_err() && matches!(&second, Ok(data) if data.import_data.len() == 1));
+    Ok(())
+}
+
+#[test]
+fn the_footprint_of_imports_goes_by_the_entry_type(rt: HostRuntime) -> Result<(), Fail> {
+    let alloc = rt.alloc();
+    let file = sample(alloc)?;
+    let sections = [sample_section()];
+    let opts = ParseOptions::default();
     let spans = footprint_imports::<Short>(alloc, &file, DIRECTORY, &sections, ALIGNMENT, &opts)?;
     assert!(rt; is_in(&spans, 0x243) && !is_in(&spans, 0x244));
     Ok(())
 }
 
+/// The imports of the sample directory. What they borrow is the file's.
+fn imports_of<'a, 'e>(alloc: Global, file: &'a [u8]) -> ResultOf<'e, Vec<Import<'a>>> {
+    let sections = [sample_section()];
+    let opts = ParseOptions::default();
+    let data = ImportData::parse_with_opts::<u32>(
+        alloc, file, DIRECTORY, &sections, ALIGNMENT, &opts,
+    )?;
+    Import::parse::<u32>(alloc, file, &data, &sections)
+}
+
+/// Whether this is one import by the ordinal 4096, without a name.
+fn is_nameless(imports: &[Import]) -> bool {
+    match imports {
+        [import] => &import.name[..] == ""
+            && import.ordinal == 4096
+            && import.dll == "a.dll"
+            && import.offset == 0x1060
+            && import.rva == 0x1000,
+        _ => false,
+    }
+}
+
 #[test]
 fn a_name_may_be_an_ordinals(rt: HostRuntime) -> Result<(), Fail> {
     let alloc = rt.alloc();
-    let sections = [sample_section()];
-    let opts = ParseOptions::default();
     // A lookup table at the directory's own place: its one entry leads to its own bytes.
     let mut file = sample(alloc)?;
     put(&mut file, 0x200, b"\x00\x10");
-    let data = ImportData::parse_with_opts::<u32>(
-        alloc, &file, DIRECTORY, &sections, ALIGNMENT, &opts,
-    )?;
-    let imports = Import::parse::<u32>(alloc, &file, &data, &sections)?;
-    let rows_are_right = match &imports[..] {
-        [import] => (&import.name[..], import.ordinal, import.dll) == ("", 4096, "a.dll")
-            && (import.offset, import.rva) == (0x1060, 0x1000),
-        _ => false,
-    };
-    assert!(rt; rows_are_right);
+    let imports = imports_of(alloc, &file)?;
+    assert!(rt; is_nameless(&imports));
     Ok(())
 }
 
 #[test]
 fn a_name_may_reach_the_end(rt: HostRuntime) -> Result<(), Fail> {
     let alloc = rt.alloc();
-    let sections = [sample_section()];
-    let opts = ParseOptions::default();
     // A name that runs to the end of a longer file.
     let mut long = sample(alloc)?;
     long.resize(0x400, b'A')?;
     for place in 0x292..0x300 {
         put(&mut long, place, b"A");
     }
-    let data = ImportData::parse_with_opts::<u32>(
-        alloc, &long, DIRECTORY, &sections, ALIGNMENT, &opts,
-    )?;
-    let imports = Import::parse::<u32>(alloc, &long, &data, &sections)?;
+    let imports = imports_of(alloc, &long)?;
     let is_long =
         matches!(&imports[..], [import, _] if import.name.as_bytes() == [b'A'; 366].as_slice());
     assert!(rt; is_long);
     Ok(())
 }
 
+/// Whether these are so many entries by the ordinal 7.
+fn are_sevens(entries: &[SyntheticImportLookupTableEntry], count: usize) -> bool {
+    entries.len() == count && entries.iter().all(|entry| is_seven(entry))
+}
+
 #[test]
-fn a_lookup_table_may_meet_the_end(rt: HostRuntime) -> Result<(), Fail> {
+fn a_lookup_table_that_meets_the_end_is_refused_in_strict_mode(
+    rt: HostRuntime,
+) -> Result<(), Fail> {
     let alloc = rt.alloc();
     let sections = [sample_section()];
     let strict = ParseOptions::default();
-    let permissive = strict.with_parse_mode(ParseMode::Permissive);
-    // The length of the file, and how many entries permissive mode keeps.
-    for (len, count) in [(0x248, 1), (0x247, 0)] {
+    for len in [0x248, 0x247] {
         let mut file = sample(alloc)?;
         file.truncate(len);
         let refused = SyntheticImportLookupTableEntry::parse_with_opts::<u32>(
@@ -405,6 +460,21 @@ fn a_lookup_table_may_meet_the_end(rt: HostRuntime) -> Result<(), Fail> {
             matches!(refused, Err(Error::Malformed(_) | Error::Read(_))),
             "{len:#x}"
         );
+    }
+    Ok(())
+}
+
+#[test]
+fn a_lookup_table_that_meets_the_end_is_cut_in_permissive_mode(
+    rt: HostRuntime,
+) -> Result<(), Fail> {
+    let alloc = rt.alloc();
+    let sections = [sample_section()];
+    let permissive = ParseOptions::default().with_parse_mode(ParseMode::Permissive);
+    // The length of the file, and how many entries are kept.
+    for (len, count) in [(0x248, 1), (0x247, 0)] {
+        let mut file = sample(alloc)?;
+        file.truncate(len);
         let kept = SyntheticImportLookupTableEntry::parse_with_opts::<u32>(
             alloc,
             &file,
@@ -413,20 +483,13 @@ fn a_lookup_table_may_meet_the_end(rt: HostRuntime) -> Result<(), Fail> {
             ALIGNMENT,
             &permissive,
         )?;
-        let sevens = kept.as_slice().iter().filter(|entry| matches!(
-            entry,
-            SyntheticImportLookupTableEntry::OrdinalNumber(7)
-        ));
-        assert!(rt;
-            kept.as_slice().len() == count && sevens.count() == count,
-            "{len:#x}"
-        );
+        assert!(rt; are_sevens(kept.as_slice(), count), "{len:#x}");
     }
     Ok(())
 }
 
 #[test]
-fn each_growth_refused_stands_in_its_place(rt: HostRuntime) -> Result<(), Fail> {
+fn a_footprint_is_refused_at_each_growth(rt: HostRuntime) -> Result<(), Fail> {
     let alloc = rt.alloc();
     let file = sample(alloc)?;
     let sections = [sample_section()];
@@ -438,7 +501,32 @@ fn each_growth_refused_stands_in_its_place(rt: HostRuntime) -> Result<(), Fail> 
             _ => Outcome::Wrong,
         }
     })?;
-    assert!(rt; is_listed, "footprint");
+    assert!(rt; is_listed);
+    Ok(())
+}
+
+/// How the imports of two files were read, of which the second has no directory; that is told where its
+/// own index has memory.
+fn outcome_of_both(
+    first: &goblin_base::Result<ImportData>,
+    second: &goblin_base::Result<ImportData>,
+) -> Outcome {
+    let is_told = matches!(second, Err(Error::Malformed(_)));
+    let is_refused = matches!(second, Err(Error::Memory(_)));
+    match first {
+        Ok(data) if is_told && are_sample_imports(data) => Outcome::Right,
+        Ok(_) if is_refused => Outcome::Refused,
+        Err(Error::Memory(_)) if is_told || is_refused => Outcome::Refused,
+        _ => Outcome::Wrong,
+    }
+}
+
+#[test]
+fn each_growth_refused_stands_in_its_place(rt: HostRuntime) -> Result<(), Fail> {
+    let alloc = rt.alloc();
+    let file = sample(alloc)?;
+    let sections = [sample_section()];
+    let opts = ParseOptions::default();
     let is_read = is_refused_until_right(alloc, || {
         let (first, second) = twin_imports::<u32>(
             alloc,
@@ -449,16 +537,8 @@ fn each_growth_refused_stands_in_its_place(rt: HostRuntime) -> Result<(), Fail> 
             ALIGNMENT,
             &opts,
         );
-        // The second file has no directory; that is told where its own index has memory.
-        let is_told = matches!(&second, Err(Error::Malformed(_)));
-        let is_refused = matches!(&second, Err(Error::Memory(_)));
-        match first {
-            Ok(data) if is_told && are_sample_imports(&data) => Outcome::Right,
-            Ok(_) if is_refused => Outcome::Refused,
-            Err(Error::Memory(_)) if is_told || is_refused => Outcome::Refused,
-            _ => Outcome::Wrong,
-        }
+        outcome_of_both(&first, &second)
     })?;
-    assert!(rt; is_read, "imports");
+    assert!(rt; is_read);
     Ok(())
 }

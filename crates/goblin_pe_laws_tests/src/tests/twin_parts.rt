@@ -145,12 +145,17 @@ fn single_tables_of_two_files_are_each_files_own(rt: HostRuntime) -> Result<(), 
 /// A Terse Executable with one section, and after it a symbol and a string table.
 fn terse_file(alloc: Global) -> Result<Vec<u8>, AllocError> {
     let mut file = vec![in alloc; 0u8; 0x70]?;
-    put(&mut file, 0x00, b"VZ");
-    put(&mut file, 0x04, b"\x01");
-    put(&mut file, 0x06, b"\x30");
-    put(&mut file, 0x28, b".text");
-    put(&mut file, 0x34, b"\x18\x10");
-    put(&mut file, 0x62, b"\x07\0\0\0ab");
+    let parts: [(usize, &[u8]); 6] = [
+        (0x00, b"VZ"),
+        (0x04, b"\x01"),
+        (0x06, b"\x30"),
+        (0x28, b".text"),
+        (0x34, b"\x18\x10"),
+        (0x62, b"\x07\0\0\0ab"),
+    ];
+    for (offset, bytes) in parts {
+        put(&mut file, offset, bytes);
+    }
     Ok(file)
 }
 

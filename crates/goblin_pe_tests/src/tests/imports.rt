@@ -217,16 +217,32 @@ fn a_record_without_an_address_table_has_it_at_its_lookup_table(
     Ok(())
 }
 
-#[test]
-fn a_record_whose_address_table_is_not_mapped_is_left_out(rt: HostRuntime) -> Result<(), Fail> {
-    let alloc = rt.alloc();
+/// The sample file with a record whose address table no section maps, and its own record after that.
+fn with_unmapped_addresses<'e>(alloc: Global) -> ResultOf<'e, Vec<u8>> {
     let mut file = sample_with(alloc, 0x210, b"\x00\x90")?;
     let mut second = [0; SIZEOF_IMPORT_DIRECTORY_ENTRY];
     RECORD.try_into_ctx(&mut second, Endian::Little)?;
     put(&mut file, 0x214, &second);
+    Ok(file)
+}
+
+#[test]
+fn strict_mode_refuses_a_record_whose_address_table_is_not_mapped(
+    rt: HostRuntime,
+) -> Result<(), Fail> {
+    let alloc = rt.alloc();
+    let file = with_unmapped_addresses(alloc)?;
     let sections = [sample_section()];
     let strict = ImportData::parse::<u32>(alloc, &file, DIRECTORY, &sections, ALIGNMENT);
     assert!(rt; matches!(strict, Err(Error::Malformed(Cause::Unmapped(0x9000)))));
+    Ok(())
+}
+
+#[test]
+fn a_record_whose_address_table_is_not_mapped_is_left_out(rt: HostRuntime) -> Result<(), Fail> {
+    let alloc = rt.alloc();
+    let file = with_unmapped_addresses(alloc)?;
+    let sections = [sample_section()];
     let opts = options(ParseMode::Permissive);
     let read = ImportData::parse_with_opts::<u32>(
         alloc, &file, DIRECTORY, &sections, ALIGNMENT, &opts,
@@ -355,18 +371,19 @@ fn each_refusal_of_a_lookup_table_tells_its_cause(rt: HostRuntime) -> Result<(),
     let sections = [sample_section()];
     // The table by ordinals, which meets the end of the file; and as it stands, where the hint of its
     // first entry is missing before that.
-    let mut ordinals = sample_with(alloc, 0x240, b"\x05\x00\x00\x80")?;
-    ordinals.truncate(0x248);
-    let mut names = sample(alloc)?;
-    names.truncate(0x248);
-    let no_end = SyntheticImportLookupTableEntry::parse::<u32>(
-        alloc, &ordinals, 0x240, &sections, ALIGNMENT,
-    );
-    assert!(rt; matches!(no_end, Err(Error::Malformed(Cause::LookupEnd(0x248)))));
-    let no_hint = SyntheticImportLookupTableEntry::parse::<u32>(
-        alloc, &names, 0x240, &sections, ALIGNMENT,
-    );
-    assert!(rt; matches!(no_hint, Err(Error::Malformed(Cause::HintEntry(0x290)))));
+    let rows: [(&[u8], Cause); 2] = [
+        (b"\x05\x00\x00\x80", Cause::LookupEnd(0x248)),
+        (b"\x90\x10\x00\x00", Cause::HintEntry(0x290)),
+    ];
+    for (entry, cause) in rows {
+        let mut file = sample_with(alloc, 0x240, entry)?;
+        file.truncate(0x248);
+        let read = SyntheticImportLookupTableEntry::parse::<u32>(
+            alloc, &file, 0x240, &sections, ALIGNMENT,
+        );
+        let is_told = matches!(read, Err(Error::Malformed(told)) if told == cause);
+        assert!(rt; is_told, "{entry:?}");
+    }
     Ok(())
 }
 
@@ -492,6 +509,15 @@ fn import_data_is_refused_at_each_growth(rt: HostRuntime) -> Result<(), Fail> {
     Ok(())
 }
 
+/// How the listing of the sample file's imports ended.
+fn outcome(read: &goblin_base::Result<Vec<Import>>) -> Outcome {
+    match read {
+        Ok(imports) if are_rows(imports, &[GO, SEVEN]) => Outcome::Right,
+        Err(Error::Memory(_)) => Outcome::Refused,
+        _ => Outcome::Wrong,
+    }
+}
+
 #[test]
 fn the_list_of_imports_is_refused_at_each_growth(rt: HostRuntime) -> Result<(), Fail> {
     let alloc = rt.alloc();
@@ -500,11 +526,7 @@ fn the_list_of_imports_is_refused_at_each_growth(rt: HostRuntime) -> Result<(), 
     let data = ImportData::parse::<u32>(alloc, &file, DIRECTORY, &sections, ALIGNMENT)?;
     let is_right = is_refused_until_right(
         alloc,
-        || match Import::parse::<u32>(alloc, &file, &data, &sections) {
-            Ok(imports) if are_rows(&imports, &[GO, SEVEN]) => Outcome::Right,
-            Err(Error::Memory(_)) => Outcome::Refused,
-            _ => Outcome::Wrong,
-        },
+        || outcome(&Import::parse::<u32>(alloc, &file, &data, &sections)),
     )?;
     assert!(rt; is_right);
     Ok(())

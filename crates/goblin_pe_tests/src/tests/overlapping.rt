@@ -52,6 +52,11 @@ fn at(rva: usize, sections: &[SectionTable]) -> usize {
     find_offset(rva, sections, ALIGNMENT, &ParseOptions::default()).unwrap_or(0)
 }
 
+/// Whether an address table begins with a number.
+fn begins_with(table: &[u64], number: u32) -> bool {
+    matches!(table, [first, ..] if *first == u64::from(number))
+}
+
 /// Whether a library has the name and the number that stand where `find_offset` says.
 fn is_library(
     library: &SyntheticImportDirectoryEntry,
@@ -60,14 +65,16 @@ fn is_library(
 ) -> goblin_base::Result<bool> {
     let name = pread_str(file, at(0x1240, sections))?;
     let number = pread_u32(file, at(0x1220, sections), Endian::Little)?;
-    Ok(
-        library.name == name
-            && library
-                .import_address_table
-                .as_slice()
-                .first()
-                .is_some_and(|first| *first == u64::from(number)),
-    )
+    Ok(library.name == name && begins_with(library.import_address_table.as_slice(), number))
+}
+
+/// Whether an entry of a lookup table has this name.
+fn is_named(entry: &SyntheticImportLookupTableEntry, want: &HintNameTableEntry) -> bool {
+    match entry {
+        SyntheticImportLookupTableEntry::HintNameTableRVA((_, named)) => named.hint == want.hint
+            && named.name == want.name,
+        SyntheticImportLookupTableEntry::OrdinalNumber(_) => false,
+    }
 }
 
 /// Whether a lookup table takes the name that stands where `find_offset` says.
@@ -78,9 +85,8 @@ fn names_agree(alloc: Global, file: &[u8], sections: &[SectionTable]) -> goblin_
         alloc, file, offset, sections, ALIGNMENT,
     )?;
     Ok(match table.as_slice().first() {
-        Some(SyntheticImportLookupTableEntry::HintNameTableRVA(named)) => named.1.hint == want.hint
-            && named.1.name == want.name,
-        _ => false,
+        Some(first) => is_named(first, &want),
+        None => false,
     })
 }
 
@@ -110,6 +116,14 @@ fn imports_agree(
     }
 }
 
+/// Whether exports begin with one of this name, address and offset.
+fn begins_with_export(exports: &[Export], name: &str, rva: usize, offset: Option<usize>) -> bool {
+    match exports {
+        [first, ..] => first.name == Some(name) && first.rva == rva && first.offset == offset,
+        [] => false,
+    }
+}
+
 /// Whether the readers of exports take what stands where `find_offset` says.
 fn exports_agree(
     alloc: Global,
@@ -121,9 +135,7 @@ fn exports_agree(
     let offset = find_offset(rva, sections, ALIGNMENT, &ParseOptions::default());
     let tables = ExportData::parse(alloc, file, EXPORTS, sections, ALIGNMENT)?;
     let exports = Export::parse(alloc, file, &tables, sections, ALIGNMENT)?;
-    let is_first = |export: &Export| (export.name, export.rva, export.offset)
-        == (Some(name), rva, offset);
-    Ok(tables.name == Some(name) && exports.first().is_some_and(is_first))
+    Ok(tables.name == Some(name) && begins_with_export(&exports, name, rva, offset))
 }
 
 /// Whether the name stands at this offset, and all readers take what stands where `find_offset` says.

@@ -46,6 +46,16 @@ fn a_file_without_bytes_is_refused(rt: HostRuntime) {
     }
 }
 
+/// How the reading of the sample file ended.
+fn outcome(read: &goblin_base::Result<Whole>) -> Outcome {
+    match read {
+        Ok(whole) if count(&whole.imports) == Some(2) && count(&whole.exports) == Some(2) =>
+            Outcome::Right,
+        Err(Error::Memory(_)) => Outcome::Refused,
+        _ => Outcome::Wrong,
+    }
+}
+
 #[test]
 fn a_whole_file_is_refused_at_each_growth_in_both_modes(rt: HostRuntime) -> Result<(), Fail> {
     let alloc = rt.alloc();
@@ -53,12 +63,10 @@ fn a_whole_file_is_refused_at_each_growth_in_both_modes(rt: HostRuntime) -> Resu
     assert_eq!(rt; file.len(), SAMPLE_LEN);
     for mode in [ParseMode::Strict, ParseMode::Permissive] {
         let opts = ParseOptions::default().with_parse_mode(mode);
-        let is_right = is_refused_until_right(alloc, || match Whole::read(alloc, &file, &opts) {
-            Ok(whole) if count(&whole.imports) == Some(2) && count(&whole.exports) == Some(2) =>
-                Outcome::Right,
-            Err(Error::Memory(_)) => Outcome::Refused,
-            _ => Outcome::Wrong,
-        })?;
+        let is_right = is_refused_until_right(
+            alloc,
+            || outcome(&Whole::read(alloc, &file, &opts)),
+        )?;
         assert!(rt; is_right, "{mode:?}");
     }
     Ok(())
