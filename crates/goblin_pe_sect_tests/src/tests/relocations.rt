@@ -139,12 +139,15 @@ fn is_at(word: RelocationWord, block: &RelocationBlock, want: Option<&(u8, u32)>
     }
 }
 
-/// Whether the words of a block have these types and addresses, and there are no others.
-fn has_words(block: &RelocationBlock, want: &[(u8, u32)]) -> bool {
+/// Whether a block was read, and its words have these types and addresses, and there are no others.
+fn has_words(read: Option<goblin_base::Result<RelocationBlock<'_>>>, want: &[(u8, u32)]) -> bool {
+    let Some(Ok(block)) = read else {
+        return false;
+    };
     let mut want = want.iter();
     for word in block.words() {
         let row = want.next();
-        if !matches!(word, Ok(word) if is_at(word, block, row)) {
+        if !matches!(word, Ok(word) if is_at(word, &block, row)) {
             return false;
         }
     }
@@ -155,11 +158,7 @@ fn has_words(block: &RelocationBlock, want: &[(u8, u32)]) -> bool {
 fn the_words_of_a_library_are_those_that_another_tool_shows(rt: HostRuntime) -> Result<(), Fail> {
     let mut blocks = library()?;
     for want in ADDRESSES {
-        let read = blocks.next();
-        assert!(rt;
-            matches!(&read, Some(Ok(block)) if has_words(block, want)),
-            "{want:?}"
-        );
+        assert!(rt; has_words(blocks.next(), want), "{want:?}");
     }
     assert!(rt; blocks.next().is_none());
     Ok(())
