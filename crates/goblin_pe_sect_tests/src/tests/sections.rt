@@ -46,20 +46,26 @@ fn a_section_that_is_not_whole_is_refused(rt: HostRuntime) -> Result<(), Fail> {
     Ok(())
 }
 
+/// Whether a clone is equal to its original, and keeps its name where that loses it.
+fn is_own(mut original: SectionTable, copy: &SectionTable) -> bool {
+    let was_equal = *copy == original;
+    original.real_name = None;
+    was_equal && *copy != original && is_named(copy, "a.dll")
+}
+
 #[test]
 fn a_clone_has_a_name_of_its_own(rt: HostRuntime) -> Result<(), Fail> {
-    let mut original = SectionTable {
+    let original = SectionTable {
         real_name: import_name(rt.alloc())?,
         ..sample_section()
     };
     let copy = original.clone(rt.alloc())?;
-    let was_equal = copy == original;
-    original.real_name = None;
-    assert!(rt; was_equal && copy != original && is_named(&copy, "a.dll"));
+    assert!(rt; is_own(original, &copy));
     Ok(())
 }
 
-/// Whether a section is written as these bytes, where there might be too little room, and where not.
+/// Whether a section is written as these bytes, by the call that may refuse and by the one that does
+/// not.
 fn is_written(section: &SectionTable, want: &[u8]) -> bool {
     let mut tried = [0xFF; 40];
     let mut written = [0xFF; 40];
