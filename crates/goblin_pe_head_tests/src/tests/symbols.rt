@@ -109,16 +109,25 @@ fn tables_of_object(alloc: Global, file: &[u8]) -> Option<(SymbolTable<'_>, Strt
     }
 }
 
-#[test]
-fn the_symbols_of_an_object_are_those_that_another_tool_shows(rt: HostRuntime) -> Result<(), Fail> {
-    let file = object();
-    let (symbols, strings) = tables_of_object(rt.alloc(), &file).ok_or("a table is missing")?;
+/// The index of the first symbol that is not as that tool shows it, or comes after those that it shows.
+fn first_unlike(symbols: &SymbolTable<'_>, strings: &Strtab<'_>) -> Option<usize> {
     let mut read = symbols.iter();
     for row in SYMBOLS {
-        assert!(rt; is_symbol(read.next(), &strings, row), "at {}", row.0);
+        if !is_symbol(read.next(), strings, row) {
+            return Some(row.0);
+        }
     }
-    assert!(rt; read.next().is_none());
-    Ok(())
+    read.next().map(|(index, _, _)| index)
+}
+
+#[test]
+fn the_symbols_of_an_object_are_those_that_another_tool_shows(rt: HostRuntime) {
+    let file = object();
+    let unlike = match &tables_of_object(rt.alloc(), &file) {
+        Some((symbols, strings)) => Some(first_unlike(symbols, strings)),
+        None => None,
+    };
+    assert!(rt; unlike == Some(None), "{unlike:?}");
 }
 
 #[test]
