@@ -89,14 +89,21 @@ fn entries_of(file: &[u8]) -> Option<RichMetadataIterator<'_>> {
     }
 }
 
+/// Where the first entry stands that is not that of its row, or where the entries should have ended.
+fn first_unlike(mut entries: RichMetadataIterator<'_>) -> Option<usize> {
+    for row in ENTRIES {
+        if !is_entry(entries.next(), row) {
+            return Some(row.0);
+        }
+    }
+    entries.next().map(|_| 0xE0)
+}
+
 #[test]
 fn the_entries_of_a_rich_header_are_read_in_turn(rt: HostRuntime) -> Result<(), Fail> {
     let file = large()?;
-    let mut entries = entries_of(&file).ok_or("there is no Rich header")?;
-    for row in ENTRIES {
-        assert!(rt; is_entry(entries.next(), row), "{row:?}");
-    }
-    assert!(rt; entries.next().is_none());
+    let unlike = entries_of(&file).map(first_unlike);
+    assert!(rt; unlike == Some(None), "{unlike:?}");
     Ok(())
 }
 
