@@ -6,7 +6,6 @@ use goblin_base::{Cause, Endian, Error, Record};
 use goblin_pe_head::TeHeader;
 use goblin_pe_head::header::TE_MAGIC;
 use goblin_pe_sect::{DataDirectory, SectionTable};
-use std::alloc::Global;
 use std::test::Fail;
 
 /// A header of a file of which `stripped_size` bytes were stripped, with an entry point and one section.
@@ -21,13 +20,11 @@ fn header(stripped_size: u16) -> TeHeader {
 }
 
 /// A file of that header, and the record of a section after it.
-fn file(alloc: Global, stripped_size: u16) -> goblin_base::Result<Vec<u8>> {
-    let mut front = [0; 40];
-    header(stripped_size).try_into_ctx(&mut front, Endian::Little)?;
+fn file(stripped_size: u16) -> goblin_base::Result<[u8; 80]> {
     let mut record = [0; 40];
-    section(0x1000, 0, 0, 0x200).try_into_ctx(&mut record, Endian::Little)?;
-    let mut file = vec![in alloc; 0u8; 80]?;
-    put(&mut file, 0, &front);
+    section(0x1000, 0, 0, 0x200).into_ctx(&mut record, Endian::Little);
+    let mut file = [0; 80];
+    header(stripped_size).try_into_ctx(&mut file, Endian::Little)?;
     put(&mut file, 40, &record);
     Ok(file)
 }
@@ -43,7 +40,7 @@ fn is_adjusted(header: &TeHeader) -> bool {
 
 #[test]
 fn a_header_is_adjusted_by_what_was_stripped(rt: HostRuntime) -> Result<(), Fail> {
-    let file = file(rt.alloc(), 0x128)?;
+    let file = file(0x128)?;
     let mut offset = 0;
     let read = TeHeader::parse(&file, &mut offset);
     assert!(rt; matches!(&read, Ok(header) if is_adjusted(header)) && offset == 40);
@@ -52,7 +49,7 @@ fn a_header_is_adjusted_by_what_was_stripped(rt: HostRuntime) -> Result<(), Fail
 
 #[test]
 fn a_header_of_which_too_little_was_stripped_is_refused(rt: HostRuntime) -> Result<(), Fail> {
-    let file = file(rt.alloc(), 0x17)?;
+    let file = file(0x17)?;
     let mut offset = 0;
     let refused = TeHeader::parse(&file, &mut offset);
     let is_refused = matches!(refused, Err(Error::Malformed(Cause::StrippedSize(0x17))));
@@ -63,7 +60,7 @@ fn a_header_of_which_too_little_was_stripped_is_refused(rt: HostRuntime) -> Resu
 #[test]
 fn sections_are_adjusted_at_each_growth(rt: HostRuntime) -> Result<(), Fail> {
     let alloc = rt.alloc();
-    let file = file(alloc, 0x128)?;
+    let file = file(0x128)?;
     let want = section(0xF00, 0, 0, 0x100);
     let is_right = is_refused_until_right(alloc, || {
         let mut offset = 40;
