@@ -8,26 +8,39 @@ use goblin_pe_sect::{DataDirectories, ParseOptions};
 use std::alloc::{AllocError, Global};
 use std::test::Fail;
 
+/// A file of a length, with these bytes at its front, at 0x3C, and at 0x40.
+fn dos_file(
+    alloc: Global,
+    len: usize,
+    (front, pointer, signature): (&[u8], &[u8], &[u8]),
+) -> Result<Vec<u8>, AllocError> {
+    let mut file = vec![in alloc; 0u8; len]?;
+    put(&mut file, 0, front);
+    put(&mut file, 0x3C, pointer);
+    put(&mut file, 0x40, signature);
+    Ok(file)
+}
+
+/// Whether the DOS header of a file is refused for this cause.
+fn is_refused(file: &[u8], want: Cause) -> bool {
+    matches!(DosHeader::parse(file), Err(Error::Malformed(cause)) if cause == want)
+}
+
 #[test]
 fn a_dos_header_is_refused_for_the_first_part_that_is_missing(rt: HostRuntime) -> Result<(), Fail> {
     // How many bytes there are, those at the front, those at 0x3C, and those at 0x40.
-    let rows: [(usize, &[u8], &[u8], &[u8], Cause); 7] = [
-        (0, b"", b"", b"", Cause::NoDosSignature),
-        (1, b"M", b"", b"", Cause::NoDosSignature),
-        (10, b"ZZ", b"", b"", Cause::DosMagic(0x5A5A)),
-        (68, b"ZZ", b"\x40", b"PF", Cause::DosMagic(0x5A5A)),
-        (63, b"MZ", b"\x40", b"", Cause::NoPePointer),
-        (67, b"MZ", b"\x40", b"PF", Cause::NoPeSignature(0x40)),
-        (68, b"MZ", b"\x40", b"PF", Cause::PeMagic(0x4650)),
+    let rows: [(usize, (&[u8], &[u8], &[u8]), Cause); 7] = [
+        (0, (b"", b"", b""), Cause::NoDosSignature),
+        (1, (b"M", b"", b""), Cause::NoDosSignature),
+        (10, (b"ZZ", b"", b""), Cause::DosMagic(0x5A5A)),
+        (68, (b"ZZ", b"\x40", b"PF"), Cause::DosMagic(0x5A5A)),
+        (63, (b"MZ", b"\x40", b""), Cause::NoPePointer),
+        (67, (b"MZ", b"\x40", b"PF"), Cause::NoPeSignature(0x40)),
+        (68, (b"MZ", b"\x40", b"PF"), Cause::PeMagic(0x4650)),
     ];
-    for (len, front, pointer, signature, want) in rows {
-        let mut file = vec![in rt.alloc(); 0u8; len]?;
-        put(&mut file, 0, front);
-        put(&mut file, 0x3C, pointer);
-        put(&mut file, 0x40, signature);
-        let read = DosHeader::parse(&file);
-        let is_right = matches!(read, Err(Error::Malformed(cause)) if cause == want);
-        assert!(rt; is_right, "{len} bytes: {want:?}");
+    for (len, parts, want) in rows {
+        let file = dos_file(rt.alloc(), len, parts)?;
+        assert!(rt; is_refused(&file, want), "{len} bytes: {want:?}");
     }
     Ok(())
 }
@@ -60,14 +73,9 @@ fn sections_are_read_up_to_the_end_and_refused_past_it(rt: HostRuntime) -> Resul
             parse_mode,
             ..ParseOptions::default()
         };
-        assert!(rt;
-            has_section(rt.alloc(), TABLE_END, &opts)?,
-            "{parse_mode:?}"
-        );
-        assert!(rt;
-            !has_section(rt.alloc(), TABLE_END - 1, &opts)?,
-            "{parse_mode:?}"
-        );
+        let is_whole = has_section(rt.alloc(), TABLE_END, &opts)?;
+        let is_cut = !has_section(rt.alloc(), TABLE_END - 1, &opts)?;
+        assert!(rt; is_whole && is_cut, "{parse_mode:?}");
     }
     Ok(())
 }

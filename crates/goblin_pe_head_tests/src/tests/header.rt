@@ -60,10 +60,24 @@ const PROGRAM_X64: &[(usize, &[u8])] = &[
     (0x128, b"\x00\x40\x00\x00\x10"),
 ];
 
-#[test]
-fn the_parts_of_a_header_are_read_in_both_modes(rt: HostRuntime) -> Result<(), Fail> {
-    let file = sample(rt.alloc())?;
-    let want = Header {
+/// What is read of a file's header in a mode.
+fn parse_in(file: &[u8], mode: ParseMode) -> goblin_base::Result<Header<'_>> {
+    Header::parse_with_opts(file, &ParseOptions::default().with_parse_mode(mode))
+}
+
+/// Whether a file's header is read, and is this.
+fn is_header(file: &[u8], want: &Header<'_>) -> bool {
+    matches!(Header::parse(file), Ok(header) if header == *want)
+}
+
+/// Whether it is read in permissive mode, and is this.
+fn is_permissive_header(file: &[u8], want: &Header<'_>) -> bool {
+    matches!(parse_in(file, ParseMode::Permissive), Ok(header) if header == *want)
+}
+
+/// The sample file's header.
+fn sample_header() -> Header<'static> {
+    Header {
         dos_header: DosHeader {
             signature: DOS_MAGIC,
             pe_pointer: 0x40,
@@ -71,19 +85,20 @@ fn the_parts_of_a_header_are_read_in_both_modes(rt: HostRuntime) -> Result<(), F
         },
         dos_stub: DosStub { bytes: &[] },
         ..sample_from_signature()
-    };
-    assert!(rt; Header::parse(&file)? == want);
-    let opts = ParseOptions::default().with_parse_mode(ParseMode::Permissive);
-    assert!(rt; Header::parse_with_opts(&file, &opts)? == want);
-    Ok(())
+    }
 }
 
 #[test]
-fn the_header_of_a_program_for_32_bits_is_read(rt: HostRuntime) -> Result<(), Fail> {
-    let mut file = [0; 0x170];
-    fill(&mut file, PROGRAM_FRONT);
-    fill(&mut file, PROGRAM_X86);
-    let want = Header {
+fn the_parts_of_a_header_are_read_in_both_modes(rt: HostRuntime) -> Result<(), Fail> {
+    let file = sample(rt.alloc())?;
+    let want = sample_header();
+    assert!(rt; is_header(&file, &want) && is_permissive_header(&file, &want));
+    Ok(())
+}
+
+/// The header of the program for 32 bits.
+fn program_x86() -> Header<'static> {
+    Header {
         coff_header: CoffHeader {
             machine: COFF_MACHINE_X86,
             number_of_sections: 4,
@@ -101,17 +116,20 @@ fn the_header_of_a_program_for_32_bits_is_read(rt: HostRuntime) -> Result<(), Fa
             data_directories: exports_and_relocations((104, 0x4D), (144, 0x20)),
         }),
         ..program()
-    };
-    assert!(rt; Header::parse(&file)? == want);
-    Ok(())
+    }
 }
 
 #[test]
-fn the_header_of_a_program_for_64_bits_is_read(rt: HostRuntime) -> Result<(), Fail> {
-    let mut file = [0; 0x180];
+fn the_header_of_a_program_for_32_bits_is_read(rt: HostRuntime) {
+    let mut file = [0; 0x170];
     fill(&mut file, PROGRAM_FRONT);
-    fill(&mut file, PROGRAM_X64);
-    let want = Header {
+    fill(&mut file, PROGRAM_X86);
+    assert!(rt; is_header(&file, &program_x86()));
+}
+
+/// The header of the program for 64 bits.
+fn program_x64() -> Header<'static> {
+    Header {
         coff_header: CoffHeader {
             machine: COFF_MACHINE_X86_64,
             number_of_sections: 4,
@@ -129,49 +147,78 @@ fn the_header_of_a_program_for_64_bits_is_read(rt: HostRuntime) -> Result<(), Fa
             data_directories: exports_and_relocations((120, 0x4D), (160, 0x10)),
         }),
         ..program()
-    };
-    assert!(rt; Header::parse(&file)? == want);
+    }
+}
+
+#[test]
+fn the_header_of_a_program_for_64_bits_is_read(rt: HostRuntime) {
+    let mut file = [0; 0x180];
+    fill(&mut file, PROGRAM_FRONT);
+    fill(&mut file, PROGRAM_X64);
+    assert!(rt; is_header(&file, &program_x64()));
+}
+
+#[test]
+fn too_many_directories_refuse_the_header_in_both_modes(rt: HostRuntime) -> Result<(), Fail> {
+    let mut file = sample(rt.alloc())?;
+    put(&mut file, 0xB4, b"\x11");
+    for mode in [ParseMode::Strict, ParseMode::Permissive] {
+        let read = parse_in(&file, mode);
+        let is_refused = matches!(read, Err(Error::Malformed(Cause::DirectoryCount(17))));
+        assert!(rt; is_refused, "{mode:?}");
+    }
     Ok(())
 }
 
 #[test]
-fn a_refused_optional_header_refuses_the_header_in_both_modes(rt: HostRuntime) -> Result<(), Fail> {
+fn a_magic_of_no_width_refuses_the_header_in_both_modes(rt: HostRuntime) -> Result<(), Fail> {
+    let mut file = sample(rt.alloc())?;
+    put(&mut file, 0x58, b"\x07\x01");
     for mode in [ParseMode::Strict, ParseMode::Permissive] {
-        let opts = ParseOptions::default().with_parse_mode(mode);
-        let mut file = sample(rt.alloc())?;
-        put(&mut file, 0xB4, b"\x11");
-        let read = Header::parse_with_opts(&file, &opts);
-        let is_refused = matches!(read, Err(Error::Malformed(Cause::DirectoryCount(17))));
-        assert!(rt; is_refused, "{mode:?}");
-        put(&mut file, 0xB4, b"\x10");
-        put(&mut file, 0x58, b"\x07\x01");
-        let read = Header::parse_with_opts(&file, &opts);
+        let read = parse_in(&file, mode);
         assert!(rt; matches!(read, Err(Error::BadMagic(0x107))), "{mode:?}");
     }
     Ok(())
 }
 
+/// A file's optional header, if it has one.
+fn optional_of(file: &[u8]) -> Option<OptionalHeader> {
+    match Header::parse(file) {
+        Ok(header) => header.optional_header,
+        Err(_) => None,
+    }
+}
+
 #[test]
 fn the_size_of_an_optional_header_does_not_choose_its_width(rt: HostRuntime) -> Result<(), Fail> {
     let mut file = sample(rt.alloc())?;
-    let want = Header::parse(&file)?.optional_header;
+    let want = optional_of(&file);
     for size in [b"\x01", b"\xF0"] {
         put(&mut file, 0x54, size);
-        let read = Header::parse(&file)?.optional_header;
+        let read = optional_of(&file);
         assert!(rt; read.is_some() && read == want, "{size:?}");
     }
     Ok(())
 }
 
-#[test]
-fn a_signature_within_the_dos_header_has_no_stub_in_front(rt: HostRuntime) -> Result<(), Fail> {
+/// A file whose signature stands within its DOS header.
+fn early_signature() -> [u8; 64] {
     let mut file = [0; 64];
     put(&mut file, 0, b"MZ");
     put(&mut file, 4, b"PE");
     put(&mut file, 0x3C, b"\x04");
-    let strict = Header::parse(&file);
-    assert!(rt; matches!(strict, Err(Error::Malformed(Cause::StubBeforeStart(4)))));
-    let opts = ParseOptions::default().with_parse_mode(ParseMode::Permissive);
+    file
+}
+
+#[test]
+fn a_signature_within_the_dos_header_is_refused_in_strict_mode(rt: HostRuntime) {
+    let file = early_signature();
+    let read = Header::parse(&file);
+    assert!(rt; matches!(read, Err(Error::Malformed(Cause::StubBeforeStart(4)))));
+}
+
+#[test]
+fn a_signature_within_the_dos_header_has_no_stub_in_front(rt: HostRuntime) {
     let want = Header {
         dos_header: DosHeader {
             signature: DOS_MAGIC,
@@ -182,8 +229,16 @@ fn a_signature_within_the_dos_header_has_no_stub_in_front(rt: HostRuntime) -> Re
         signature: PE_MAGIC,
         ..Header::default()
     };
-    assert!(rt; Header::parse_with_opts(&file, &opts)? == want);
-    Ok(())
+    assert!(rt; is_permissive_header(&early_signature(), &want));
+}
+
+/// Whether the bytes are the sample file's from the signature on, with this one in its place.
+fn is_from_signature(bytes: &[u8], signature: u32) -> bool {
+    let want = Header {
+        signature,
+        ..sample_from_signature()
+    };
+    matches!(Header::parse_without_dos(bytes), Ok(header) if header == want)
 }
 
 #[test]
@@ -191,12 +246,8 @@ fn a_header_without_dos_header_begins_with_any_signature(rt: HostRuntime) -> Res
     let mut file = sample(rt.alloc())?;
     for (bytes, signature) in [(b"PE\0\0", PE_MAGIC), (b"\x01\x02\x03\x04", 0x0403_0201)] {
         put(&mut file, 0x40, bytes);
-        let want = Header {
-            signature,
-            ..sample_from_signature()
-        };
         let rest = file.get(0x40..).unwrap_or(&[]);
-        assert!(rt; Header::parse_without_dos(rest)? == want, "{signature:#x}");
+        assert!(rt; is_from_signature(rest, signature), "{signature:#x}");
     }
     Ok(())
 }
@@ -215,25 +266,33 @@ fn the_default_stub_prints_its_message(rt: HostRuntime) {
     let want: &[u8; 64] =
         b"\x0E\x1F\xBA\x0E\x00\xB4\x09\xCD\x21\xB8\x01\x4C\xCD\x21This program cannot be run in DOS mode.\x0D\x0D\x0A\x24\0\0\0\0\0\0\0";
     let stub = DosStub::default();
-    assert_eq!(rt; stub.bytes, want.as_slice());
-    assert!(rt; Header::default().dos_stub == stub);
+    assert!(rt; stub.bytes == want.as_slice() && Header::default().dos_stub == stub);
+}
+
+/// Whether the stub in front of a signature at an offset is this.
+fn is_stub(bytes: &[u8], pe_pointer: u32, want: &[u8]) -> bool {
+    matches!(DosStub::parse(bytes, pe_pointer), Ok(stub) if stub.bytes == want)
 }
 
 #[test]
-fn a_stub_lies_between_the_dos_header_and_the_signature(rt: HostRuntime) -> Result<(), Fail> {
+fn a_stub_lies_between_the_dos_header_and_the_signature(rt: HostRuntime) {
     let mut file = [0; 0x43];
     put(&mut file, 0x40, b"abc");
-    assert!(rt; DosStub::parse(&[0; 0x40], 0x40)?.bytes.is_empty());
+    assert!(rt; is_stub(&[0; 0x40], 0x40, b""));
     let rows: [(u32, &[u8]); 3] = [(0x40, b""), (0x42, b"ab"), (0x43, b"abc")];
     for (pe_pointer, want) in rows {
-        let stub = DosStub::parse(&file, pe_pointer)?;
-        assert_eq!(rt; stub.bytes, want, "{pe_pointer:#x}");
+        assert!(rt; is_stub(&file, pe_pointer, want), "{pe_pointer:#x}");
     }
+}
+
+#[test]
+fn a_stub_lies_within_the_file_and_after_the_dos_header(rt: HostRuntime) {
+    let mut file = [0; 0x43];
+    put(&mut file, 0x40, b"abc");
     let before = DosStub::parse(&file, 0x3F);
-    assert!(rt; matches!(before, Err(Error::Malformed(Cause::StubBeforeStart(0x3F)))));
     let past = DosStub::parse(&file, 0x44);
+    assert!(rt; matches!(before, Err(Error::Malformed(Cause::StubBeforeStart(0x3F)))));
     assert!(rt; matches!(past, Err(Error::Malformed(Cause::StubPastEnd(0x43, 0x44)))));
-    Ok(())
 }
 
 /// Writes over the file's bytes at each offset.

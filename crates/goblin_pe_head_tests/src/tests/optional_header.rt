@@ -29,24 +29,46 @@ const RAMP: [u8; 88] = [
     75, 76, 77, 78, 79, 80, 81, 82, 83, 84, 85, 86, 87, 88,
 ];
 
-#[test]
-fn directories_for_64_bits_end_where_the_header_counts(rt: HostRuntime) -> Result<(), Fail> {
+/// A header for 64 bits with those directories, and a byte after it.
+fn header_of_directories() -> goblin_base::Result<[u8; 241]> {
     let mut bytes = [0; 241];
     put(&mut bytes, 0, b"\x0B\x02");
     put(&mut bytes, 108, b"\x10");
-    let mut want = DataDirectories::default();
-    for (index, virtual_address, size, end) in ENTRIES {
+    for (_, virtual_address, size, end) in ENTRIES {
         pwrite_u32(&mut bytes, end - 8, virtual_address, Endian::Little)?;
         pwrite_u32(&mut bytes, end - 4, size, Endian::Little)?;
+    }
+    Ok(bytes)
+}
+
+/// The directories that should be read from it.
+fn directories() -> DataDirectories {
+    let mut table = DataDirectories::default();
+    for (index, virtual_address, size, end) in ENTRIES {
         let directory = DataDirectory {
             virtual_address,
             size,
         };
-        want.data_directories[index] = Some((end, directory));
+        table.data_directories[index] = Some((end, directory));
     }
-    let (header, size) = OptionalHeader::try_from_ctx(&bytes, Endian::Little)?;
-    assert!(rt; header.data_directories == want && size == 240);
+    table
+}
+
+#[test]
+fn directories_for_64_bits_end_where_the_header_counts(rt: HostRuntime) -> Result<(), Fail> {
+    let read = OptionalHeader::try_from_ctx(&header_of_directories()?, Endian::Little);
+    assert!(rt; matches!(read, Ok((header, 240)) if header.data_directories == directories()));
     Ok(())
+}
+
+/// Whether the sample file's optional header is read from the bytes.
+fn is_sample(bytes: &[u8], endian: Endian) -> bool {
+    match OptionalHeader::try_from_ctx(bytes, endian) {
+        Ok((header, size)) => header.standard_fields.magic == MAGIC_32
+            && header.windows_fields.file_alignment == 0x200
+            && size == 224,
+        Err(_) => false,
+    }
 }
 
 #[test]
@@ -56,10 +78,7 @@ fn a_header_is_read_with_its_lowest_bytes_first_in_both_orders(
     let file = sample(rt.alloc())?;
     let bytes = file.get(0x58..).unwrap_or(&[]);
     for endian in [Endian::Little, Endian::Big] {
-        let (header, size) = OptionalHeader::try_from_ctx(bytes, endian)?;
-        let is_right = header.standard_fields.magic == MAGIC_32
-            && header.windows_fields.file_alignment == 0x200;
-        assert!(rt; is_right && size == 224, "{endian:?}");
+        assert!(rt; is_sample(bytes, endian), "{endian:?}");
     }
     Ok(())
 }
@@ -75,6 +94,23 @@ fn a_header_that_is_not_whole_is_refused(rt: HostRuntime) -> Result<(), Fail> {
     Ok(())
 }
 
+/// Whether a header of this magic has this width, or is refused where it should have none.
+fn is_width(magic: u16, want: Option<Container>) -> bool {
+    let header = OptionalHeader {
+        standard_fields: StandardFields {
+            magic,
+            ..StandardFields::default()
+        },
+        windows_fields: WindowsFields::default(),
+        data_directories: DataDirectories::default(),
+    };
+    match header.container() {
+        Ok(width) => want == Some(width),
+        Err(Error::BadMagic(refused)) => want.is_none() && refused == u64::from(magic),
+        Err(_) => false,
+    }
+}
+
 #[test]
 fn the_magic_says_the_width(rt: HostRuntime) {
     let rows = [
@@ -83,20 +119,7 @@ fn the_magic_says_the_width(rt: HostRuntime) {
         (0x107, None),
     ];
     for (magic, want) in rows {
-        let header = OptionalHeader {
-            standard_fields: StandardFields {
-                magic,
-                ..StandardFields::default()
-            },
-            windows_fields: WindowsFields::default(),
-            data_directories: DataDirectories::default(),
-        };
-        let is_right = match header.container() {
-            Ok(width) => want == Some(width),
-            Err(Error::BadMagic(refused)) => want.is_none() && refused == u64::from(magic),
-            Err(_) => false,
-        };
-        assert!(rt; is_right, "{magic:#x}");
+        assert!(rt; is_width(magic, want), "{magic:#x}");
     }
 }
 
@@ -258,8 +281,8 @@ fn windows_fields_that_do_not_fit_are_refused(rt: HostRuntime) {
 }
 
 #[test]
-fn standard_fields_of_each_width_are_read_and_written(rt: HostRuntime) -> Result<(), Fail> {
-    let of_32 = StandardFields32 {
+fn standard_fields_for_32_bits_are_read_and_written(rt: HostRuntime) {
+    let want = StandardFields32 {
         magic: 0x0102,
         major_linker_version: 0x03,
         minor_linker_version: 0x04,
@@ -271,10 +294,16 @@ fn standard_fields_of_each_width_are_read_and_written(rt: HostRuntime) -> Result
         base_of_data: 0x191A_1B1C,
     };
     let size = StandardFields32::size_with(&Endian::Big);
-    assert!(rt; StandardFields32::try_from_ctx(&RAMP, Endian::Big)? == (of_32, size));
+    let read = StandardFields32::try_from_ctx(&RAMP, Endian::Big);
+    assert!(rt; matches!(read, Ok((fields, taken)) if fields == want && taken == size));
     let mut room = [0; 28];
-    assert!(rt; of_32.try_into_ctx(&mut room, Endian::Big)? == 28 && &room[..] == &RAMP[..28]);
-    let of_64 = StandardFields64 {
+    let written = want.try_into_ctx(&mut room, Endian::Big);
+    assert!(rt; matches!(written, Ok(28)) && &room[..] == &RAMP[..28]);
+}
+
+#[test]
+fn standard_fields_for_64_bits_are_read_and_written(rt: HostRuntime) {
+    let want = StandardFields64 {
         magic: 0x0102,
         major_linker_version: 0x03,
         minor_linker_version: 0x04,
@@ -285,15 +314,16 @@ fn standard_fields_of_each_width_are_read_and_written(rt: HostRuntime) -> Result
         base_of_code: 0x1516_1718,
     };
     let size = StandardFields64::size_with(&Endian::Big);
-    assert!(rt; StandardFields64::try_from_ctx(&RAMP, Endian::Big)? == (of_64, size));
+    let read = StandardFields64::try_from_ctx(&RAMP, Endian::Big);
+    assert!(rt; matches!(read, Ok((fields, taken)) if fields == want && taken == size));
     let mut room = [0; 24];
-    assert!(rt; of_64.try_into_ctx(&mut room, Endian::Big)? == 24 && &room[..] == &RAMP[..24]);
-    Ok(())
+    let written = want.try_into_ctx(&mut room, Endian::Big);
+    assert!(rt; matches!(written, Ok(24)) && &room[..] == &RAMP[..24]);
 }
 
 #[test]
-fn windows_fields_of_each_width_are_read_and_written(rt: HostRuntime) -> Result<(), Fail> {
-    let of_32 = WindowsFields32 {
+fn windows_fields_for_32_bits_are_read_and_written(rt: HostRuntime) {
+    let want = WindowsFields32 {
         image_base: 0x0102_0304,
         section_alignment: 0x0506_0708,
         file_alignment: 0x090A_0B0C,
@@ -317,10 +347,16 @@ fn windows_fields_of_each_width_are_read_and_written(rt: HostRuntime) -> Result<
         number_of_rva_and_sizes: 0x4142_4344,
     };
     let size = WindowsFields32::size_with(&Endian::Big);
-    assert!(rt; WindowsFields32::try_from_ctx(&RAMP, Endian::Big)? == (of_32, size));
+    let read = WindowsFields32::try_from_ctx(&RAMP, Endian::Big);
+    assert!(rt; matches!(read, Ok((fields, taken)) if fields == want && taken == size));
     let mut room = [0; 68];
-    assert!(rt; of_32.try_into_ctx(&mut room, Endian::Big)? == 68 && &room[..] == &RAMP[..68]);
-    let of_64 = WindowsFields64 {
+    let written = want.try_into_ctx(&mut room, Endian::Big);
+    assert!(rt; matches!(written, Ok(68)) && &room[..] == &RAMP[..68]);
+}
+
+#[test]
+fn windows_fields_for_64_bits_are_read_and_written(rt: HostRuntime) {
+    let want = WindowsFields64 {
         image_base: 0x0102_0304_0506_0708,
         section_alignment: 0x090A_0B0C,
         file_alignment: 0x0D0E_0F10,
@@ -344,8 +380,9 @@ fn windows_fields_of_each_width_are_read_and_written(rt: HostRuntime) -> Result<
         number_of_rva_and_sizes: 0x5556_5758,
     };
     let size = WindowsFields64::size_with(&Endian::Big);
-    assert!(rt; WindowsFields64::try_from_ctx(&RAMP, Endian::Big)? == (of_64, size));
+    let read = WindowsFields64::try_from_ctx(&RAMP, Endian::Big);
+    assert!(rt; matches!(read, Ok((fields, taken)) if fields == want && taken == size));
     let mut room = [0; 88];
-    assert!(rt; of_64.try_into_ctx(&mut room, Endian::Big)? == 88 && room == RAMP);
-    Ok(())
+    let written = want.try_into_ctx(&mut room, Endian::Big);
+    assert!(rt; matches!(written, Ok(88)) && room == RAMP);
 }

@@ -2,7 +2,7 @@
 
 use fixture::sample::put;
 use goblin_base::{Cause, Endian, Error, ParseMode, ReadFault, Record, TryFromCtx, pwrite_u32};
-use goblin_pe_head::{DosStub, Header, RichHeader, RichMetadata};
+use goblin_pe_head::{DosStub, Header, RichHeader, RichMetadata, RichMetadataIterator};
 use goblin_pe_sect::ParseOptions;
 use std::test::Fail;
 
@@ -23,8 +23,20 @@ const ENTRIES: [(usize, u16, u16, u32); 10] = [
     (0xD8, 25547, 258, 1),
 ];
 
+/// The entry of the smaller header.
+const ENTRY: RichMetadata = RichMetadata {
+    build: 2,
+    product: 3,
+    use_count: 4,
+};
+
+/// Whether that entry is the only one.
+fn is_only_entry(mut entries: RichMetadataIterator<'_>) -> bool {
+    matches!(entries.next(), Some(Ok(read)) if read == ENTRY) && entries.next().is_none()
+}
+
 #[test]
-fn a_rich_header_of_one_entry_is_read(rt: HostRuntime) -> Result<(), Fail> {
+fn a_rich_header_of_one_entry_is_read(rt: HostRuntime) {
     let file = small();
     let want = RichHeader {
         key: 1,
@@ -33,72 +45,108 @@ fn a_rich_header_of_one_entry_is_read(rt: HostRuntime) -> Result<(), Fail> {
         start_offset: 0x40,
         end_offset: 0x58,
     };
-    let Some(rich) = RichHeader::parse(&file)? else {
-        assert!(rt; false, "there is no Rich header");
-        return Ok(());
-    };
-    assert!(rt; rich == want);
-    let mut entries = rich.metadatas();
-    let entry = RichMetadata {
-        build: 2,
-        product: 3,
-        use_count: 4,
-    };
-    assert!(rt; matches!(entries.next(), Some(Ok(read)) if read == entry));
-    assert!(rt; entries.next().is_none());
-    Ok(())
+    let read = RichHeader::parse(&file);
+    assert!(rt; matches!(read, Ok(Some(rich)) if rich == want && is_only_entry(rich.metadatas())));
 }
 
-#[test]
-fn a_rich_header_of_ten_entries_is_read(rt: HostRuntime) -> Result<(), Fail> {
-    let file = large()?;
-    let want = RichHeader {
+/// The larger header, which should be read from its file.
+fn large_header(file: &[u8; 0xFC]) -> RichHeader<'_> {
+    RichHeader {
         key: KEY,
         bytes: &file[0x84..0xE0],
         padding_size: 12,
         start_offset: 0x80,
         end_offset: 0xE0,
-    };
-    assert!(rt; RichHeader::parse(&file)? == Some(want));
-    let mut entries = want.metadatas();
-    for (offset, build, product, use_count) in ENTRIES {
-        let entry = RichMetadata {
-            build,
-            product,
-            use_count,
-        };
-        let is_right = matches!(entries.next(), Some(Ok(read)) if read == entry);
-        assert!(rt; is_right, "at {offset:#x}");
     }
-    assert!(rt; entries.next().is_none());
+}
+
+#[test]
+fn a_rich_header_of_ten_entries_is_read(rt: HostRuntime) -> Result<(), Fail> {
+    let file = large()?;
+    let read = RichHeader::parse(&file);
+    assert!(rt; matches!(read, Ok(Some(rich)) if rich == large_header(&file)));
+    Ok(())
+}
+
+/// Whether an entry was read, and is that of a row.
+fn is_entry(
+    read: Option<goblin_base::Result<RichMetadata>>,
+    (_, build, product, use_count): (usize, u16, u16, u32),
+) -> bool {
+    let want = RichMetadata {
+        build,
+        product,
+        use_count,
+    };
+    matches!(read, Some(Ok(entry)) if entry == want)
+}
+
+/// The entries of a file's Rich header.
+fn entries_of(file: &[u8]) -> Option<RichMetadataIterator<'_>> {
+    match RichHeader::parse(file) {
+        Ok(Some(rich)) => Some(rich.metadatas()),
+        _ => None,
+    }
+}
+
+/// Where the first entry stands that is not that of its row, or where the entries should have ended.
+fn first_unlike(mut entries: RichMetadataIterator<'_>) -> Option<usize> {
+    for row in ENTRIES {
+        if !is_entry(entries.next(), row) {
+            return Some(row.0);
+        }
+    }
+    entries.next().map(|_| 0xE0)
+}
+
+#[test]
+fn the_entries_of_a_rich_header_are_read_in_turn(rt: HostRuntime) -> Result<(), Fail> {
+    let file = large()?;
+    let unlike = entries_of(&file).map(first_unlike);
+    assert!(rt; unlike == Some(None), "{unlike:?}");
     Ok(())
 }
 
 #[test]
-fn entries_of_a_rich_header_have_a_count_and_places(rt: HostRuntime) -> Result<(), Fail> {
+fn entries_of_a_rich_header_have_a_count(rt: HostRuntime) -> Result<(), Fail> {
     let file = large()?;
-    let Some(rich) = RichHeader::parse(&file)? else {
-        assert!(rt; false, "there is no Rich header");
-        return Ok(());
-    };
-    assert_eq!(rt; rich.metadatas().count(), 10);
-    for (place, entry) in rich.metadatas().enumerate() {
-        let want = ENTRIES.get(place).map(|(_, _, _, use_count)| *use_count);
-        assert!(rt; want == Some(entry?.use_count), "{place}");
+    let read = RichHeader::parse(&file);
+    assert!(rt; matches!(read, Ok(Some(rich)) if rich.metadatas().count() == 10));
+    Ok(())
+}
+
+/// Whether an entry was read, and has the use count of the row at a place.
+fn is_at(place: usize, read: goblin_base::Result<RichMetadata>) -> bool {
+    let want = ENTRIES.get(place).map(|(_, _, _, use_count)| *use_count);
+    matches!(read, Ok(entry) if want == Some(entry.use_count))
+}
+
+#[test]
+fn entries_of_a_rich_header_have_places(rt: HostRuntime) -> Result<(), Fail> {
+    let file = large()?;
+    let entries = entries_of(&file).ok_or("there is no Rich header")?;
+    for (place, entry) in entries.enumerate() {
+        assert!(rt; is_at(place, entry), "{place}");
     }
     Ok(())
+}
+
+/// Whether a file's Rich header is refused since its first marker is missing.
+fn has_no_dans(file: &[u8]) -> bool {
+    matches!(
+        RichHeader::parse(file),
+        Err(Error::Malformed(Cause::NoDans))
+    )
 }
 
 #[test]
 fn a_rich_header_without_its_first_marker_is_refused(rt: HostRuntime) -> Result<(), Fail> {
     let mut file = small();
     put(&mut file, 0x40, b"\x44");
-    let read = RichHeader::parse(&file);
-    assert!(rt; matches!(read, Err(Error::Malformed(Cause::NoDans))));
+    assert!(rt; has_no_dans(&file));
     let mut file = large()?;
     put(&mut file, 0x80, b"\x12");
-    let read = RichHeader::parse(&file);
-    assert!(rt; matches!(read, Err(Error::Malformed(Cause::NoDans))));
+    assert!(rt; has_no_dans(&file));
     Ok(())
 }
 
@@ -121,34 +169,66 @@ fn data_that_are_no_whole_words_are_refused(rt: HostRuntime) {
     assert!(rt; matches!(read, Err(Error::Read(ReadFault::TooBig))));
 }
 
+/// Whether a file has no Rich header.
+fn has_none(file: &[u8]) -> bool {
+    matches!(RichHeader::parse(file), Ok(None))
+}
+
 #[test]
-fn a_stub_without_second_marker_has_no_rich_header(rt: HostRuntime) -> Result<(), Fail> {
+fn a_stub_without_second_marker_has_no_rich_header(rt: HostRuntime) {
     let mut file = [0; 0x47];
     put(&mut file, 0, b"MZ");
     put(&mut file, 0x3C, b"\x43");
     put(&mut file, 0x43, b"PE");
-    assert!(rt; RichHeader::parse(&file)?.is_none());
+    assert!(rt; has_none(&file));
     let mut file = small();
     put(&mut file, 0x58, b"r");
-    assert!(rt; RichHeader::parse(&file)?.is_none());
-    Ok(())
+    assert!(rt; has_none(&file));
+}
+
+/// Whether a file has a Rich header in a mode, and its header has the same.
+fn is_part_of_header(file: &[u8], mode: ParseMode) -> bool {
+    let opts = ParseOptions::default().with_parse_mode(mode);
+    let header = Header::parse_with_opts(file, &opts);
+    match RichHeader::parse_with_opts(file, &opts) {
+        Ok(Some(rich)) => matches!(header, Ok(header) if header.rich_header == Some(rich)),
+        _ => false,
+    }
+}
+
+/// The file of one entry, and what follows its signature.
+fn small_with_coff() -> [u8; 0x78] {
+    let mut file = [0; 0x78];
+    put(&mut file, 0, &small());
+    file
 }
 
 #[test]
-fn a_rich_header_is_part_of_the_header_in_both_modes(rt: HostRuntime) -> Result<(), Fail> {
+fn a_rich_header_is_part_of_the_header_in_both_modes(rt: HostRuntime) {
+    let file = small_with_coff();
+    for mode in [ParseMode::Strict, ParseMode::Permissive] {
+        assert!(rt; is_part_of_header(&file, mode), "{mode:?}");
+    }
+}
+
+#[test]
+fn a_refused_rich_header_refuses_the_header_in_both_modes(rt: HostRuntime) {
+    let mut file = small_with_coff();
+    put(&mut file, 0x40, b"\x44");
     for mode in [ParseMode::Strict, ParseMode::Permissive] {
         let opts = ParseOptions::default().with_parse_mode(mode);
-        let mut file = [0; 0x78];
-        put(&mut file, 0, &small());
-        let rich = RichHeader::parse_with_opts(&file, &opts)?;
-        let header = Header::parse_with_opts(&file, &opts)?;
-        assert!(rt; rich.is_some() && header.rich_header == rich, "{mode:?}");
-        put(&mut file, 0x40, b"\x44");
         let read = Header::parse_with_opts(&file, &opts);
         let is_refused = matches!(read, Err(Error::Malformed(Cause::NoDans)));
         assert!(rt; is_refused, "{mode:?}");
     }
-    Ok(())
+}
+
+/// Whether these are that entry and a rest, which is refused once.
+fn are_entry_and_rest(mut entries: RichMetadataIterator<'_>) -> bool {
+    matches!(entries.next(), Some(Ok(read)) if read == ENTRY)
+        && matches!(entries.next(), Some(Err(Error::Read(ReadFault::TooBig))))
+        && entries.next().is_none()
+        && entries.next().is_none()
 }
 
 #[test]
@@ -158,41 +238,37 @@ fn a_rest_that_is_no_whole_entry_is_refused_once(rt: HostRuntime) {
         bytes: &[0, 0, 0, 0, 2, 0, 3, 0, 4, 0, 0, 0, 9, 9, 9, 9],
         ..RichHeader::default()
     };
-    let mut entries = header.metadatas();
-    let entry = RichMetadata {
-        build: 2,
-        product: 3,
-        use_count: 4,
-    };
-    assert!(rt; matches!(entries.next(), Some(Ok(read)) if read == entry));
-    assert!(rt; matches!(entries.next(), Some(Err(Error::Read(ReadFault::TooBig)))));
-    assert!(rt; entries.next().is_none());
-    assert!(rt; entries.next().is_none());
+    assert!(rt; are_entry_and_rest(header.metadatas()));
+}
+
+/// The record of an entry, by whose bytes its order shows.
+const RECORD: [u8; 8] = [1, 2, 3, 4, 5, 6, 7, 8];
+
+/// Whether that record is read as this entry, and written for it, in an order.
+fn is_read_and_written(entry: RichMetadata, endian: Endian) -> bool {
+    let mut room = [0; 8];
+    let size = RichMetadata::size_with(&endian);
+    matches!(
+        RichMetadata::try_from_ctx(&RECORD, endian),
+        Ok((read, taken)) if read == entry && taken == size
+    ) && matches!(entry.try_into_ctx(&mut room, endian), Ok(8))
+        && room == RECORD
 }
 
 #[test]
-fn an_entry_is_read_and_written_in_both_orders(rt: HostRuntime) -> Result<(), Fail> {
-    let bytes = [1, 2, 3, 4, 5, 6, 7, 8];
+fn an_entry_is_read_and_written_in_both_orders(rt: HostRuntime) {
     let rows = [
         (Endian::Little, 0x0201, 0x0403, 0x0807_0605),
         (Endian::Big, 0x0102, 0x0304, 0x0506_0708),
     ];
     for (endian, build, product, use_count) in rows {
-        let want = RichMetadata {
+        let entry = RichMetadata {
             build,
             product,
             use_count,
         };
-        let (read, size) = RichMetadata::try_from_ctx(&bytes, endian)?;
-        assert!(rt;
-            read == want && size == RichMetadata::size_with(&endian),
-            "{endian:?}"
-        );
-        let mut room = [0; 8];
-        let size = want.try_into_ctx(&mut room, endian)?;
-        assert!(rt; size == 8 && room == bytes, "{endian:?}");
+        assert!(rt; is_read_and_written(entry, endian), "{endian:?}");
     }
-    Ok(())
 }
 
 /// A file with a Rich header of one entry, and nothing after its signature.

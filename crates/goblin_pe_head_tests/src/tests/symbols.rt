@@ -7,6 +7,7 @@ use goblin_pe_sect::symbol::{
     AuxBeginAndEndFunction, AuxFunctionDefinition, AuxSectionDefinition, AuxWeakExternal, Symbol,
     SymbolIterator, SymbolTable,
 };
+use std::alloc::Global;
 use std::test::Fail;
 
 /// The symbol table of a small object that a compiler made.
@@ -86,82 +87,139 @@ fn object_header() -> CoffHeader {
     }
 }
 
-#[test]
-fn the_symbols_of_an_object_are_those_that_another_tool_shows(rt: HostRuntime) -> Result<(), Fail> {
-    let file = object();
+/// Whether a symbol was found, and has the index and the name of a row.
+fn is_symbol(
+    found: Option<(usize, Option<&str>, Symbol)>,
+    strings: &Strtab<'_>,
+    (index, name): (usize, &[u8]),
+) -> bool {
+    match found {
+        Some((at, _, symbol)) => at == index
+            && matches!(symbol.name(strings), Ok(text) if text.as_bytes() == name),
+        None => false,
+    }
+}
+
+/// The two tables of that file.
+fn tables_of_object(alloc: Global, file: &[u8]) -> Option<(SymbolTable<'_>, Strtab<'_>)> {
     let header = object_header();
-    let (Some(symbols), Some(strings)) = (
-        header.symbols(&file)?,
-        header.strings(rt.alloc(), &file)?,
-    ) else {
-        assert!(rt; false, "a table is missing");
-        return Ok(());
-    };
+    match (header.symbols(file), header.strings(alloc, file)) {
+        (Ok(Some(symbols)), Ok(Some(strings))) => Some((symbols, strings)),
+        _ => None,
+    }
+}
+
+/// The index of the first symbol that is not as that tool shows it, or comes after those that it shows.
+fn first_unlike(symbols: &SymbolTable<'_>, strings: &Strtab<'_>) -> Option<usize> {
     let mut read = symbols.iter();
-    for (index, name) in SYMBOLS {
-        let is_right = match read.next() {
-            Some((at, _, symbol)) => at == index && symbol.name(&strings)?.as_bytes() == name,
-            None => false,
-        };
-        assert!(rt; is_right, "at {index}");
+    for row in SYMBOLS {
+        if !is_symbol(read.next(), strings, row) {
+            return Some(row.0);
+        }
     }
-    assert!(rt; read.next().is_none());
-    Ok(())
+    read.next().map(|(index, _, _)| index)
 }
 
 #[test]
-fn symbols_have_a_count_and_places(rt: HostRuntime) -> Result<(), Fail> {
+fn the_symbols_of_an_object_are_those_that_another_tool_shows(rt: HostRuntime) {
     let file = object();
-    let symbols = SymbolTable::parse(&file, 1, 27)?;
-    assert_eq!(rt; symbols.iter().count(), 19);
-    for (place, (index, _, _)) in symbols.iter().enumerate() {
-        let want = SYMBOLS.get(place).map(|(index, _)| *index);
-        assert!(rt; want == Some(index), "{place}");
-    }
-    Ok(())
-}
-
-#[test]
-fn records_after_symbols_are_read(rt: HostRuntime) -> Result<(), Fail> {
-    let file = object();
-    let Some(symbols) = object_header().symbols(&file)? else {
-        assert!(rt; false, "the table is missing");
-        return Ok(());
+    let unlike = match &tables_of_object(rt.alloc(), &file) {
+        Some((symbols, strings)) => Some(first_unlike(symbols, strings)),
+        None => None,
     };
-    let section = AuxSectionDefinition {
+    assert!(rt; unlike == Some(None), "{unlike:?}");
+}
+
+#[test]
+fn symbols_have_a_count(rt: HostRuntime) {
+    let file = object();
+    let read = SymbolTable::parse(&file, 1, 27);
+    assert!(rt; matches!(&read, Ok(symbols) if symbols.iter().count() == 19));
+}
+
+/// The symbols of that file.
+fn object_symbols(file: &[u8]) -> goblin_base::Result<SymbolIterator<'_>> {
+    Ok(SymbolTable::parse(file, 1, 27)?.iter())
+}
+
+/// The index of the symbol at a place among those.
+fn index_at(place: usize) -> Option<usize> {
+    SYMBOLS.get(place).map(|(index, _)| *index)
+}
+
+#[test]
+fn symbols_have_places(rt: HostRuntime) -> Result<(), Fail> {
+    let file = object();
+    for (place, (index, _, _)) in object_symbols(&file)?.enumerate() {
+        assert!(rt; index_at(place) == Some(index), "{place}");
+    }
+    Ok(())
+}
+
+#[test]
+fn a_section_definition_after_a_symbol_is_read(rt: HostRuntime) {
+    let file = object();
+    let want = AuxSectionDefinition {
         length: 90,
         number_of_relocations: 6,
         checksum: 0x2EC3_4278,
         number: 1,
         ..AuxSectionDefinition::default()
     };
-    assert!(rt; symbols.aux_section_definition(1) == Some(section));
-    assert!(rt; symbols.aux_file(26, 1) == Some("free.c") && symbols.aux_file(26, 0) == Some(""));
-    assert!(rt; symbols.aux_file(27, 0).is_none() && symbols.aux_section_definition(27).is_none());
-    let function = AuxFunctionDefinition {
+    let read = object_header().symbols(&file);
+    assert!(rt; matches!(&read, Ok(Some(table)) if table.aux_section_definition(1) == Some(want)));
+}
+
+#[test]
+fn a_function_definition_after_a_symbol_is_read(rt: HostRuntime) {
+    let file = object();
+    let want = AuxFunctionDefinition {
         tag_index: 90,
         total_size: 6,
         pointer_to_line_number: 0x2EC3_4278,
         pointer_to_next_function: 1,
         ..AuxFunctionDefinition::default()
     };
-    assert!(rt; symbols.aux_function_definition(1) == Some(function));
-    Ok(())
+    let read = object_header().symbols(&file);
+    assert!(rt; matches!(&read, Ok(Some(table)) if table.aux_function_definition(1) == Some(want)));
+}
+
+/// Whether the object's file name is read from the record after its symbol, and none from no record.
+fn has_file_name(table: &SymbolTable<'_>) -> bool {
+    table.aux_file(26, 1) == Some("free.c") && table.aux_file(26, 0) == Some("")
+}
+
+/// Whether nothing is read after the last record.
+fn ends_with_its_records(table: &SymbolTable<'_>) -> bool {
+    table.aux_file(27, 0).is_none() && table.aux_section_definition(27).is_none()
 }
 
 #[test]
-fn records_after_a_symbol_are_no_symbols(rt: HostRuntime) -> Result<(), Fail> {
+fn records_after_symbols_are_read_up_to_the_last(rt: HostRuntime) {
+    let file = object();
+    let read = object_header().symbols(&file);
+    assert!(rt;
+        matches!(&read, Ok(Some(table)) if has_file_name(table) && ends_with_its_records(table))
+    );
+}
+
+/// The indexes of the first three symbols of a table at the front of a file.
+fn first_indexes(file: &[u8], number: usize) -> Option<[Option<usize>; 3]> {
+    let mut symbols = SymbolTable::parse(file, 0, number).ok()?.iter();
+    let mut indexes = [None; 3];
+    for index in &mut indexes {
+        *index = symbols.next().map(|(at, _, _)| at);
+    }
+    Some(indexes)
+}
+
+#[test]
+fn records_after_a_symbol_are_no_symbols(rt: HostRuntime) {
     let mut file = [0; 54];
     put(&mut file, 17, b"\x01");
-    let mut symbols = SymbolTable::parse(&file, 0, 3)?.iter();
-    assert!(rt; matches!(symbols.next(), Some((0, _, _))));
-    assert!(rt; matches!(symbols.next(), Some((2, _, _))));
-    assert!(rt; symbols.next().is_none());
+    assert!(rt; first_indexes(&file, 3) == Some([Some(0), Some(2), None]));
     put(&mut file, 17, b"\xFF");
-    let mut symbols = SymbolTable::parse(&file, 0, 1)?.iter();
-    assert!(rt; matches!(symbols.next(), Some((0, _, _))));
-    assert!(rt; symbols.next().is_none());
-    Ok(())
+    assert!(rt; first_indexes(&file, 1) == Some([Some(0), None, None]));
 }
 
 #[test]
@@ -198,46 +256,77 @@ fn a_stored_number_says_an_offset_from_4_on(rt: HostRuntime) {
     }
 }
 
+/// Whether a symbol's name is refused, as this number leads to no text.
+fn is_refused(name: &[u8; 8], strings: &Strtab<'_>, number: u32) -> bool {
+    let symbol = named(name);
+    let read = symbol.name(strings);
+    matches!(read, Err(Error::Malformed(Cause::SymbolName(said))) if said == number)
+}
+
 #[test]
 fn a_name_without_a_text_is_refused(rt: HostRuntime) -> Result<(), Fail> {
     let strings = Strtab::parse(rt.alloc(), b"abc\0", 0, 4, 0)?;
     let rows: [(&[u8; 8], u32); 2] = [(b"\0\0\0\0\x03\0\0\0", 3), (b"\0\0\0\0\x08\0\0\0", 4)];
     for (name, number) in rows {
-        let symbol = named(name);
-        let read = symbol.name(&strings);
-        let is_refused =
-            matches!(read, Err(Error::Malformed(Cause::SymbolName(said))) if said == number);
-        assert!(rt; is_refused, "{name:?}");
+        assert!(rt; is_refused(name, &strings, number), "{name:?}");
     }
-    let mut symbol = named(b"a name!!");
-    assert!(rt; symbol.name(&strings)? == "a name!!");
-    symbol.set_name_offset(5);
-    assert!(rt; symbol.name(&strings)? == "bc");
     Ok(())
 }
 
+/// Whether a symbol has this name.
+fn is_named(symbol: &Symbol, strings: &Strtab<'_>, want: &str) -> bool {
+    matches!(symbol.name(strings), Ok(name) if name == want)
+}
+
 #[test]
-fn what_a_symbol_is_follows_from_its_class_and_type(rt: HostRuntime) {
-    let function = Symbol {
+fn a_name_is_the_eight_bytes_or_a_text(rt: HostRuntime) -> Result<(), Fail> {
+    let strings = Strtab::parse(rt.alloc(), b"abc\0", 0, 4, 0)?;
+    let mut symbol = named(b"a name!!");
+    assert!(rt; is_named(&symbol, &strings, "a name!!"));
+    symbol.set_name_offset(5);
+    assert!(rt; is_named(&symbol, &strings, "bc"));
+    Ok(())
+}
+
+/// A symbol of a function.
+fn function() -> Symbol {
+    Symbol {
         section_number: 1,
         typ: 0x24,
         storage_class: 2,
         ..Symbol::default()
-    };
+    }
+}
+
+#[test]
+fn what_a_symbol_is_follows_from_its_type(rt: HostRuntime) {
+    let function = function();
     assert!(rt; (function.base_type(), function.derived_type()) == (4, 2));
     assert!(rt; function.is_function_definition() && !function.is_section_definition());
+}
+
+#[test]
+fn a_function_without_section_is_not_defined(rt: HostRuntime) {
     let elsewhere = Symbol {
         section_number: -1,
-        ..function
+        ..function()
     };
     assert!(rt; !elsewhere.is_function_definition());
-    let class = |storage_class| Symbol {
+}
+
+/// A symbol of a storage class, with a record after it.
+fn of_class(storage_class: u8) -> Symbol {
+    Symbol {
         storage_class,
         number_of_aux_symbols: 1,
         ..Symbol::default()
-    };
-    assert!(rt; class(3).is_section_definition());
-    assert!(rt; class(103).is_file() && class(105).is_weak_external());
+    }
+}
+
+#[test]
+fn what_a_symbol_is_follows_from_its_class(rt: HostRuntime) {
+    assert!(rt; of_class(3).is_section_definition());
+    assert!(rt; of_class(103).is_file() && of_class(105).is_weak_external());
 }
 
 /// The name that stands in the first record of a file.
@@ -261,19 +350,19 @@ fn is_written_again<T: Record>(record: &[u8; 18], endian: Endian) -> bool {
     value.try_into_ctx(&mut written, endian).is_ok() && written == *record
 }
 
+/// Whether each kind of record is written as it was read.
+fn are_written_again(record: &[u8; 18], endian: Endian) -> bool {
+    is_written_again::<Symbol>(record, endian)
+        && is_written_again::<AuxFunctionDefinition>(record, endian)
+        && is_written_again::<AuxBeginAndEndFunction>(record, endian)
+        && is_written_again::<AuxWeakExternal>(record, endian)
+        && is_written_again::<AuxSectionDefinition>(record, endian)
+}
+
 #[test]
-fn records_are_written_in_either_order(rt: HostRuntime) -> Result<(), Fail> {
-    let mut record = [0; 18];
-    for (place, byte) in record.iter_mut().zip(b"ABCDEFGHIJKLMNOPQR") {
-        *place = *byte;
-    }
+fn records_are_written_in_either_order(rt: HostRuntime) {
     for endian in [Endian::Little, Endian::Big] {
-        let is_right = is_written_again::<Symbol>(&record, endian)
-            && is_written_again::<AuxFunctionDefinition>(&record, endian)
-            && is_written_again::<AuxBeginAndEndFunction>(&record, endian)
-            && is_written_again::<AuxWeakExternal>(&record, endian)
-            && is_written_again::<AuxSectionDefinition>(&record, endian);
+        let is_right = are_written_again(b"ABCDEFGHIJKLMNOPQR", endian);
         assert!(rt; is_right, "{endian:?}");
     }
-    Ok(())
 }

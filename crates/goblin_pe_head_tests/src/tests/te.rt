@@ -6,7 +6,6 @@ use goblin_base::{Cause, Endian, Error, Record};
 use goblin_pe_head::TeHeader;
 use goblin_pe_head::header::TE_MAGIC;
 use goblin_pe_sect::{DataDirectory, SectionTable};
-use std::alloc::{AllocError, Global};
 use std::test::Fail;
 
 /// A header of a file of which `stripped_size` bytes were stripped, with an entry point and one section.
@@ -21,46 +20,47 @@ fn header(stripped_size: u16) -> TeHeader {
 }
 
 /// A file of that header, and the record of a section after it.
-fn file(alloc: Global, stripped_size: u16) -> Result<Vec<u8>, Fail> {
-    let mut file = vec![in alloc; 0u8; 80]?;
-    header(stripped_size).try_into_ctx(&mut file, Endian::Little)?;
+fn file(stripped_size: u16) -> goblin_base::Result<[u8; 80]> {
     let mut record = [0; 40];
-    section(0x1000, 0, 0, 0x200).try_into_ctx(&mut record, Endian::Little)?;
+    section(0x1000, 0, 0, 0x200).into_ctx(&mut record, Endian::Little);
+    let mut file = [0; 80];
+    header(stripped_size).try_into_ctx(&mut file, Endian::Little)?;
     put(&mut file, 40, &record);
     Ok(file)
 }
 
+/// Whether a header's entry point and relocations are adjusted.
+fn is_adjusted(header: &TeHeader) -> bool {
+    let reloc_dir = DataDirectory {
+        virtual_address: 0xFFFF_FF00,
+        size: 0,
+    };
+    header.entry_point == 0xF10 && header.reloc_dir == reloc_dir
+}
+
 #[test]
 fn a_header_is_adjusted_by_what_was_stripped(rt: HostRuntime) -> Result<(), Fail> {
-    let file = file(rt.alloc(), 0x128)?;
+    let file = file(0x128)?;
     let mut offset = 0;
-    let read = TeHeader::parse(&file, &mut offset)?;
-    assert_eq!(rt; read.entry_point, 0xF10);
-    assert_eq!(rt;
-        read.reloc_dir,
-        DataDirectory {
-            virtual_address: 0xFFFF_FF00,
-            size: 0
-        }
-    );
-    assert_eq!(rt; offset, 40);
+    let read = TeHeader::parse(&file, &mut offset);
+    assert!(rt; matches!(&read, Ok(header) if is_adjusted(header)) && offset == 40);
     Ok(())
 }
 
 #[test]
 fn a_header_of_which_too_little_was_stripped_is_refused(rt: HostRuntime) -> Result<(), Fail> {
-    let file = file(rt.alloc(), 0x17)?;
+    let file = file(0x17)?;
     let mut offset = 0;
     let refused = TeHeader::parse(&file, &mut offset);
-    assert!(rt; matches!(refused, Err(Error::Malformed(Cause::StrippedSize(0x17)))));
-    assert_eq!(rt; offset, 0);
+    let is_refused = matches!(refused, Err(Error::Malformed(Cause::StrippedSize(0x17))));
+    assert!(rt; is_refused && offset == 0);
     Ok(())
 }
 
 #[test]
 fn sections_are_adjusted_at_each_growth(rt: HostRuntime) -> Result<(), Fail> {
     let alloc = rt.alloc();
-    let file = file(alloc, 0x128)?;
+    let file = file(0x128)?;
     let want = section(0xF00, 0, 0, 0x100);
     let is_right = is_refused_until_right(alloc, || {
         let mut offset = 40;
@@ -78,18 +78,19 @@ fn sections_are_adjusted_at_each_growth(rt: HostRuntime) -> Result<(), Fail> {
 }
 
 #[test]
-fn sections_of_a_header_of_which_too_little_was_stripped_are_refused(
-    rt: HostRuntime,
-) -> Result<(), Fail> {
-    let mut offset = 1;
+fn sections_of_a_header_of_which_too_little_was_stripped_are_refused(rt: HostRuntime) {
     let short = TeHeader {
         stripped_size: 0x27,
         ..TeHeader::default()
     };
+    let mut offset = 1;
     let refused = short.sections(rt.alloc(), &[], &mut offset);
-    assert!(rt; matches!(refused, Err(Error::Malformed(Cause::StrippedSize(0x27)))));
-    assert_eq!(rt; offset, 1);
-    let refused = header(0x27).sections(rt.alloc(), &[0; 39], &mut offset);
-    assert!(rt; matches!(refused, Err(Error::BufferTooShort(1, "sections"))));
-    Ok(())
+    let is_refused = matches!(&refused, Err(Error::Malformed(Cause::StrippedSize(0x27))));
+    assert!(rt; is_refused && offset == 1);
+}
+
+#[test]
+fn sections_past_the_file_are_refused_before_what_was_stripped(rt: HostRuntime) {
+    let refused = header(0x27).sections(rt.alloc(), &[0; 39], &mut 1);
+    assert!(rt; matches!(&refused, Err(Error::BufferTooShort(1, "sections"))));
 }

@@ -4,26 +4,27 @@ use super::sample::sample_coff;
 use fixture::sample::{SAMPLE_LEN, TABLE, put, sample};
 use goblin_base::{Cause, Endian, Error, Record, TryFromCtx};
 use goblin_pe_head::header::SIZEOF_COFF_HEADER;
-use goblin_pe_head::optional_header::{StandardFields, WindowsFields};
-use goblin_pe_head::{CoffHeader, DosStub, Header, OptionalHeader};
+use goblin_pe_head::optional_header::MAGIC_32;
+use goblin_pe_head::{CoffHeader, DosStub, Header};
 use std::test::Fail;
 
-/// The header with another optional header in the place of its own.
-fn with_optional(header: Header<'_>, optional_header: OptionalHeader) -> Header<'_> {
-    Header {
-        optional_header: Some(optional_header),
-        ..header
-    }
+/// Writes the header of a file, and answers how many bytes it has.
+fn rewrite(file: &[u8], room: &mut [u8]) -> goblin_base::Result<usize> {
+    Header::parse(file)?.try_into_ctx(room, Endian::Little)
+}
+
+/// Whether what was written is the file's up to a place, and this byte from there on.
+fn is_same_up_to(place: usize, written: &[u8], file: &[u8], rest: u8) -> bool {
+    written.get(..place) == file.get(..place)
+        && written.iter().skip(place).all(|byte| *byte == rest)
 }
 
 #[test]
 fn a_header_is_written_as_it_was_read(rt: HostRuntime) -> Result<(), Fail> {
     let file = sample(rt.alloc())?;
     let mut written = [0xAA; SAMPLE_LEN];
-    let size = Header::parse(&file)?.try_into_ctx(&mut written, Endian::Little)?;
-    assert_eq!(rt; size, TABLE);
-    assert!(rt; written.get(..TABLE) == file.get(..TABLE));
-    assert!(rt; written.iter().skip(TABLE).all(|byte| *byte == 0xAA));
+    let size = rewrite(&file, &mut written);
+    assert!(rt; matches!(size, Ok(TABLE)) && is_same_up_to(TABLE, &written, &file, 0xAA));
     Ok(())
 }
 
@@ -33,72 +34,74 @@ fn directories_past_their_count_are_written_as_zeros(rt: HostRuntime) -> Result<
     put(&mut file, 0xB4, &[2]);
     put(&mut file, 0xC8, &[0xFF]);
     let mut written = [0xAA; TABLE];
-    let size = Header::parse(&file)?.try_into_ctx(&mut written, Endian::Little)?;
-    assert_eq!(rt; size, TABLE);
-    assert!(rt; written.get(..0xC8) == file.get(..0xC8));
-    assert!(rt; written.iter().skip(0xC8).all(|byte| *byte == 0));
+    let size = rewrite(&file, &mut written);
+    assert!(rt; matches!(size, Ok(TABLE)) && is_same_up_to(0xC8, &written, &file, 0));
     Ok(())
+}
+
+/// Whether a header is refused where a byte of room is missing, and leaves the others.
+fn leaves_the_buffer(header: Header<'_>) -> bool {
+    let mut buffer = [0xAA; TABLE - 1];
+    let written = header.try_into_ctx(&mut buffer, Endian::Little);
+    matches!(written, Err(Error::Read(_))) && buffer == [0xAA; TABLE - 1]
 }
 
 #[test]
 fn a_header_without_room_leaves_the_buffer(rt: HostRuntime) -> Result<(), Fail> {
     let file = sample(rt.alloc())?;
-    let mut buffer = [0xAA; TABLE - 1];
-    let written = Header::parse(&file)?.try_into_ctx(&mut buffer, Endian::Little);
-    assert!(rt; matches!(written, Err(Error::Read(_))));
-    assert!(rt; buffer == [0xAA; TABLE - 1]);
+    let header = Header::parse(&file);
+    assert!(rt; matches!(header, Ok(header) if leaves_the_buffer(header)));
     Ok(())
+}
+
+/// What comes of writing a file's header where there is no room, if it has this magic, and an image
+/// base that 32 bits do not hold.
+fn write_wide(file: &[u8], magic: u16) -> goblin_base::Result<usize> {
+    let mut header = Header::parse(file)?;
+    if let Some(optional) = &mut header.optional_header {
+        optional.standard_fields.magic = magic;
+        optional.windows_fields.image_base = 1 << 32;
+    }
+    header.try_into_ctx(&mut [], Endian::Little)
 }
 
 #[test]
 fn magic_and_width_are_tested_before_room(rt: HostRuntime) -> Result<(), Fail> {
     let file = sample(rt.alloc())?;
-    let header = Header::parse(&file)?;
-    let optional = header.optional_header.ok_or("no optional header")?;
-    let wide = OptionalHeader {
-        windows_fields: WindowsFields {
-            image_base: 1 << 32,
-            ..optional.windows_fields
-        },
-        ..optional
-    };
-    let unknown = OptionalHeader {
-        standard_fields: StandardFields {
-            magic: 0x107,
-            ..optional.standard_fields
-        },
-        ..wide
-    };
-    let refused = with_optional(header, wide).try_into_ctx(&mut [], Endian::Little);
-    assert!(rt; matches!(refused, Err(Error::Malformed(Cause::FieldTooWide))));
-    let refused = with_optional(header, unknown).try_into_ctx(&mut [], Endian::Little);
-    assert!(rt; matches!(refused, Err(Error::BadMagic(0x107))));
+    let wide = write_wide(&file, MAGIC_32);
+    let unknown = write_wide(&file, 0x107);
+    assert!(rt; matches!(wide, Err(Error::Malformed(Cause::FieldTooWide))));
+    assert!(rt; matches!(unknown, Err(Error::BadMagic(0x107))));
     Ok(())
 }
 
 #[test]
-fn a_stub_without_bytes_wants_a_place_to_begin(rt: HostRuntime) -> Result<(), Fail> {
+fn a_stub_without_bytes_wants_a_place_to_begin(rt: HostRuntime) {
     let stub = DosStub { bytes: &[] };
     let refused = stub.try_into_ctx(&mut [], Endian::Little);
     assert!(rt; matches!(refused, Err(Error::Read(_))));
     let mut byte = [0xAA];
-    assert_eq!(rt; stub.try_into_ctx(&mut byte, Endian::Little)?, 0);
-    assert_eq!(rt; byte, [0xAA]);
-    Ok(())
+    let written = stub.try_into_ctx(&mut byte, Endian::Little);
+    assert!(rt; matches!(written, Ok(0)) && byte == [0xAA]);
+}
+
+/// Whether the sample file's COFF header is written in an order, with these bytes first, and read again.
+fn is_written_and_read(endian: Endian, front: &[u8; 4]) -> bool {
+    let mut record = [0; SIZEOF_COFF_HEADER];
+    let is_written = sample_coff().try_into_ctx(&mut record, endian).is_ok();
+    let read = CoffHeader::try_from_ctx(&record, endian);
+    is_written
+        && record.starts_with(front)
+        && matches!(read, Ok((header, 20)) if header == sample_coff())
 }
 
 #[test]
-fn a_coff_header_is_written_and_read_in_either_order(rt: HostRuntime) -> Result<(), Fail> {
+fn a_coff_header_is_written_and_read_in_either_order(rt: HostRuntime) {
     let want: [(Endian, &[u8; 4]); 2] = [
         (Endian::Little, b"\x4C\x01\x01\x00"),
         (Endian::Big, b"\x01\x4C\x00\x01"),
     ];
     for (endian, front) in want {
-        let mut record = [0; SIZEOF_COFF_HEADER];
-        sample_coff().try_into_ctx(&mut record, endian)?;
-        assert!(rt; record.starts_with(front), "{endian:?}");
-        let (read, size) = CoffHeader::try_from_ctx(&record, endian)?;
-        assert!(rt; read == sample_coff() && size == 20, "{endian:?}");
+        assert!(rt; is_written_and_read(endian, front), "{endian:?}");
     }
-    Ok(())
 }

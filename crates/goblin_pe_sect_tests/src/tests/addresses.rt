@@ -6,6 +6,7 @@ use goblin_pe_sect::utils::{
     find_offset, find_offset_or, get_data, get_data_with_opts, is_in_range, safe_try_name, try_name,
 };
 use goblin_pe_sect::{DataDirectory, ParseOptions};
+use std::alloc::{AllocError, Global};
 use std::test::Fail;
 
 #[test]
@@ -15,9 +16,16 @@ fn a_range_holds_its_begin_and_not_its_end(rt: HostRuntime) {
     }
 }
 
+/// The offset of an address in one section, which is given by its address, its size in memory, and its
+/// data's size and offset.
+fn offset_in(section_of: (u32, u32, u32, u32), alignment: u32, rva: usize) -> Option<usize> {
+    let (virtual_address, virtual_size, size, pointer) = section_of;
+    let sections = [section(virtual_address, virtual_size, size, pointer)];
+    find_offset(rva, &sections, alignment, &ParseOptions::default())
+}
+
 #[test]
 fn addresses_map_by_the_window_of_their_section(rt: HostRuntime) {
-    let opts = ParseOptions::default();
     let short = (0x1000, 0x600, 0x400, 0x200);
     let without_data = (0x1F_B000, 0x2_8590, 0, 0);
     let unaligned = (0x1000, 0x100, 0x100, 0x210);
@@ -32,10 +40,9 @@ fn addresses_map_by_the_window_of_their_section(rt: HostRuntime) {
         (unaligned, 0, 0x1000, None),
         (unaligned, 0x300, 0x1000, None),
     ];
-    for ((address, virtual_size, raw_size, pointer), alignment, rva, want) in rows {
-        let sections = [section(address, virtual_size, raw_size, pointer)];
-        let found = find_offset(rva, &sections, alignment, &opts);
-        assert_eq!(rt; found, want, "{rva:#x} at alignment {alignment:#x}");
+    for (section_of, alignment, rva, want) in rows {
+        let found = offset_in(section_of, alignment, rva);
+        assert!(rt; found == want, "{rva:#x} at alignment {alignment:#x}");
     }
 }
 
@@ -70,90 +77,130 @@ fn an_address_without_offset_is_refused_with_the_message(rt: HostRuntime) {
         Err(Error::Malformed(Cause::Message(text))) => text,
         _ => "",
     };
-    assert_eq!(rt; message, "no section");
+    assert!(rt; message == "no section");
+}
+
+/// Options of a mode.
+fn in_mode(mode: ParseMode) -> ParseOptions {
+    ParseOptions::default().with_parse_mode(mode)
+}
+
+/// Whether the text at an address of the sample file is this, as both functions find it.
+fn is_name(file: &[u8], mode: ParseMode, rva: usize, want: &str) -> bool {
+    let sections = [sample_section()];
+    let name = try_name(file, rva, &sections, 0x200, &in_mode(mode));
+    let safe = safe_try_name(file, rva, &sections, 0x200, &in_mode(mode));
+    matches!(name, Ok(name) if name == want) && matches!(safe, Ok(Some(name)) if name == want)
 }
 
 #[test]
 fn a_name_is_the_text_at_its_address(rt: HostRuntime) -> Result<(), Fail> {
     let file = sample(rt.alloc())?;
-    let sections = [sample_section()];
     for mode in [ParseMode::Strict, ParseMode::Permissive] {
-        let opts = ParseOptions::default().with_parse_mode(mode);
-        let name = try_name(&file, 0x1080, &sections, 0x200, &opts)?;
-        assert_eq!(rt; name, "a.dll");
-        let name = safe_try_name(&file, 0x1080, &sections, 0x200, &opts)?;
-        assert_eq!(rt; name.unwrap_or(""), "a.dll");
+        assert!(rt; is_name(&file, mode, 0x1080, "a.dll"), "{mode:?}");
     }
     Ok(())
+}
+
+/// The sample file with a byte in place of its import's name that begins no text.
+fn without_name(alloc: Global) -> Result<Vec<u8>, AllocError> {
+    let mut file = sample(alloc)?;
+    put(&mut file, 0x280, b"\xFF");
+    Ok(file)
+}
+
+/// Whether a name is refused where the address has no offset, and where there is no text.
+fn are_refused(file: &[u8], mode: ParseMode) -> bool {
+    let sections = [sample_section()];
+    let unmapped = try_name(file, 0x9000, &sections, 0x200, &in_mode(mode));
+    let unread = try_name(file, 0x1080, &sections, 0x200, &in_mode(mode));
+    matches!(unmapped, Err(Error::Malformed(Cause::Unmapped(0x9000))))
+        && matches!(unread, Err(Error::Read(ReadFault::BadInput)))
 }
 
 #[test]
 fn a_name_that_is_not_there_is_refused_in_both_modes(rt: HostRuntime) -> Result<(), Fail> {
-    let mut file = sample(rt.alloc())?;
-    put(&mut file, 0x280, b"\xFF");
-    let sections = [sample_section()];
+    let file = without_name(rt.alloc())?;
     for mode in [ParseMode::Strict, ParseMode::Permissive] {
-        let opts = ParseOptions::default().with_parse_mode(mode);
-        let read = try_name(&file, 0x9000, &sections, 0x200, &opts);
-        assert!(rt; matches!(read, Err(Error::Malformed(Cause::Unmapped(0x9000)))));
-        let read = try_name(&file, 0x1080, &sections, 0x200, &opts);
-        assert!(rt; matches!(read, Err(Error::Read(ReadFault::BadInput))));
+        assert!(rt; are_refused(&file, mode), "{mode:?}");
     }
     Ok(())
 }
 
+/// Whether a name is refused for this cause in strict mode, and none in permissive mode.
+fn is_none_if_permissive(file: &[u8], rva: usize, want: Cause) -> bool {
+    let sections = [sample_section()];
+    let strict = in_mode(ParseMode::Strict);
+    let permissive = in_mode(ParseMode::Permissive);
+    let refused = safe_try_name(file, rva, &sections, 0x200, &strict);
+    let passed = safe_try_name(file, rva, &sections, 0x200, &permissive);
+    matches!(refused, Err(Error::Malformed(cause)) if cause == want) && matches!(passed, Ok(None))
+}
+
 #[test]
 fn a_name_that_is_not_there_is_none_in_permissive_mode_alone(rt: HostRuntime) -> Result<(), Fail> {
-    let mut file = sample(rt.alloc())?;
-    put(&mut file, 0x280, b"\xFF");
-    let sections = [sample_section()];
+    let file = without_name(rt.alloc())?;
     let rows = [
         (0x9000, Cause::Unmapped(0x9000)),
         (0x1080, Cause::NameRead(0x280)),
     ];
     for (rva, want) in rows {
-        let opts = ParseOptions::default();
-        let strict = safe_try_name(&file, rva, &sections, 0x200, &opts);
-        assert!(rt;
-            matches!(strict, Err(Error::Malformed(cause)) if cause == want),
-            "{rva:#x}"
-        );
-        let opts = opts.with_parse_mode(ParseMode::Permissive);
-        let permissive = safe_try_name(&file, rva, &sections, 0x200, &opts);
-        assert!(rt; matches!(permissive, Ok(None)), "{rva:#x}");
+        assert!(rt; is_none_if_permissive(&file, rva, want), "{rva:#x}");
     }
     Ok(())
 }
 
+/// What stands at the import directory's address: its first two numbers.
+const FIRST_TWO: DataDirectory = DataDirectory {
+    virtual_address: 0x1040,
+    size: 0,
+};
+
 #[test]
 fn a_value_is_read_at_its_address(rt: HostRuntime) -> Result<(), Fail> {
     let file = sample(rt.alloc())?;
-    let sections = [sample_section()];
-    let want = DataDirectory {
-        virtual_address: 0x1040,
-        size: 0,
-    };
-    let mapped = get_data::<DataDirectory>(&file, &sections, at(0x1000), 0x200)?;
-    assert_eq!(rt; mapped, want);
-    let opts = ParseOptions::te();
-    let placed = get_data_with_opts::<DataDirectory>(&file, &sections, at(0x200), 0x200, &opts)?;
-    assert_eq!(rt; placed, want);
+    let read = get_data::<DataDirectory>(&file, &[sample_section()], at(0x1000), 0x200);
+    assert!(rt; matches!(read, Ok(value) if value == FIRST_TWO));
     Ok(())
+}
+
+#[test]
+fn a_value_is_read_at_its_offset_where_addresses_are_not_mapped(
+    rt: HostRuntime,
+) -> Result<(), Fail> {
+    let file = sample(rt.alloc())?;
+    let opts = ParseOptions::te();
+    let read = get_data_with_opts::<DataDirectory>(
+        &file,
+        &[sample_section()],
+        at(0x200),
+        0x200,
+        &opts,
+    );
+    assert!(rt; matches!(read, Ok(value) if value == FIRST_TWO));
+    Ok(())
+}
+
+#[test]
+fn a_value_without_offset_is_refused(rt: HostRuntime) -> Result<(), Fail> {
+    let file = sample(rt.alloc())?;
+    let read = get_data::<DataDirectory>(&file, &[sample_section()], at(0x9000), 0x200);
+    assert!(rt; matches!(read, Err(Error::Malformed(Cause::Unmapped(0x9000)))));
+    Ok(())
+}
+
+/// Whether the value is refused for this fault.
+fn is_refused(file: &[u8], want: ReadFault) -> bool {
+    let read = get_data::<DataDirectory>(file, &[sample_section()], at(0x1000), 0x200);
+    matches!(read, Err(Error::Read(fault)) if fault == want)
 }
 
 #[test]
 fn a_value_that_is_not_there_is_refused(rt: HostRuntime) -> Result<(), Fail> {
     let mut file = sample(rt.alloc())?;
-    let sections = [sample_section()];
-    let unmapped = get_data::<DataDirectory>(&file, &sections, at(0x9000), 0x200);
-    assert!(rt; matches!(unmapped, Err(Error::Malformed(Cause::Unmapped(0x9000)))));
     for (len, want) in [(0x207, ReadFault::TooBig), (0x200, ReadFault::BadOffset)] {
         file.truncate(len);
-        let read = get_data::<DataDirectory>(&file, &sections, at(0x1000), 0x200);
-        assert!(rt;
-            matches!(read, Err(Error::Read(fault)) if fault == want),
-            "{len:#x}"
-        );
+        assert!(rt; is_refused(&file, want), "{len:#x}");
     }
     Ok(())
 }

@@ -1,11 +1,11 @@
 //! Sections and their data, each growth refused in turn.
 
+use super::sections::section_elsewhere;
 use fixture::memory::{Outcome, is_refused_until_right};
-use fixture::sample::{
-    ELSEWHERE, TABLE, TABLE_END, import_name, sample_named, sample_section, section,
-};
+use fixture::sample::{ELSEWHERE, TABLE, TABLE_END, sample_named, sample_section, section};
 use goblin_base::Error;
 use goblin_pe_sect::SectionTable;
+use std::alloc::Global;
 use std::test::Fail;
 
 /// How a call ended that should answer this section.
@@ -23,12 +23,8 @@ fn a_section_with_its_name_elsewhere_is_refused_at_each_growth(
 ) -> Result<(), Fail> {
     let alloc = rt.alloc();
     let file = sample_named(alloc, ELSEWHERE)?;
-    let want = SectionTable {
-        name: *ELSEWHERE,
-        real_name: import_name(alloc)?,
-        ..sample_section()
-    };
-    let is_read = is_refused_until_right(alloc, || {
+    let want = section_elsewhere(alloc)?;
+    let is_right = is_refused_until_right(alloc, || {
         let mut offset = TABLE;
         let read = SectionTable::parse(alloc, &file, &mut offset, 0);
         match outcome_of(&read, &want) {
@@ -37,10 +33,23 @@ fn a_section_with_its_name_elsewhere_is_refused_at_each_growth(
             outcome => outcome,
         }
     })?;
-    assert!(rt; is_read, "read");
-    let is_cloned = is_refused_until_right(alloc, || outcome_of(&want.clone(alloc), &want))?;
-    assert!(rt; is_cloned, "cloned");
+    assert!(rt; is_right);
     Ok(())
+}
+
+#[test]
+fn a_clone_with_its_name_elsewhere_is_refused_at_each_growth(rt: HostRuntime) -> Result<(), Fail> {
+    let alloc = rt.alloc();
+    let want = section_elsewhere(alloc)?;
+    let is_right = is_refused_until_right(alloc, || outcome_of(&want.clone(alloc), &want))?;
+    assert!(rt; is_right);
+    Ok(())
+}
+
+/// How reading the file's section ended.
+fn outcome_of_parse(alloc: Global, file: &[u8], want: &SectionTable) -> Outcome {
+    let mut offset = TABLE;
+    outcome_of(&SectionTable::parse(alloc, file, &mut offset, 0), want)
 }
 
 #[test]
@@ -56,14 +65,13 @@ fn a_section_with_an_empty_name_elsewhere_takes_no_memory(rt: HostRuntime) -> Re
     };
     let mut answers = 0u32;
     let was_refused = is_refused_until_right(alloc, || {
-        let mut offset = TABLE;
-        let read = SectionTable::parse(alloc, &file, &mut offset, 0);
-        let outcome = outcome_of(&read, &want);
-        if !matches!(outcome, Outcome::Right) {
-            return outcome;
+        match outcome_of_parse(alloc, &file, &want) {
+            Outcome::Right => {
+                answers = answers.saturating_add(1);
+                outcome_of(&want.clone(alloc), &want)
+            }
+            outcome => outcome,
         }
-        answers = answers.saturating_add(1);
-        outcome_of(&want.clone(alloc), &want)
     })?;
     // One answer with ample memory, and one at once where none is left.
     assert!(rt; !was_refused && answers == 2);

@@ -3,6 +3,7 @@
 use fixture::sample::{TABLE, TABLE_END, import_name, sample_named, sample_section};
 use goblin_base::{Cause, Error, ParseMode, ReadFault};
 use goblin_pe_sect::{ParseOptions, SectionTable};
+use std::alloc::{AllocError, Global};
 use std::test::Fail;
 
 /// A section with this name.
@@ -11,6 +12,11 @@ fn named(name: &[u8; 8]) -> SectionTable {
         name: *name,
         ..SectionTable::default()
     }
+}
+
+/// Whether the section's name is this.
+pub fn is_named(section: &SectionTable, want: &str) -> bool {
+    matches!(section.name(), Ok(name) if name == want)
 }
 
 #[test]
@@ -67,29 +73,50 @@ fn a_name_that_is_no_text_is_direct_in_permissive_mode_alone(rt: HostRuntime) {
     }
 }
 
-#[test]
-fn a_section_is_read_with_such_a_name_in_permissive_mode_alone(
-    rt: HostRuntime,
-) -> Result<(), Fail> {
-    let name = b"/\xFF\0\0\0\0\0\0";
-    let file = sample_named(rt.alloc(), name)?;
-    let strict = ParseOptions::default();
+/// The eight bytes of a name that is no text.
+const NO_TEXT: &[u8; 8] = b"/\xFF\0\0\0\0\0\0";
+
+/// What is read of a section with that name in a mode, and the offset after it.
+fn read_no_text(
+    alloc: Global,
+    mode: ParseMode,
+) -> Result<(goblin_base::Result<SectionTable>, usize), AllocError> {
+    let file = sample_named(alloc, NO_TEXT)?;
+    let opts = ParseOptions::default().with_parse_mode(mode);
     let mut offset = TABLE;
-    let read = SectionTable::parse_with_opts(rt.alloc(), &file, &mut offset, 0, &strict);
-    let is_refused = matches!(read, Err(Error::Malformed(Cause::NameText)));
+    let read = SectionTable::parse_with_opts(alloc, &file, &mut offset, 0, &opts);
+    Ok((read, offset))
+}
+
+#[test]
+fn a_section_with_such_a_name_is_refused_in_strict_mode(rt: HostRuntime) -> Result<(), Fail> {
+    let (read, offset) = read_no_text(rt.alloc(), ParseMode::Strict)?;
+    let is_refused = matches!(&read, Err(Error::Malformed(Cause::NameText)));
     assert!(rt; is_refused && offset == TABLE);
-    let permissive = strict.with_parse_mode(ParseMode::Permissive);
-    let read = SectionTable::parse_with_opts(rt.alloc(), &file, &mut offset, 0, &permissive)?;
-    let want = SectionTable {
-        name: *name,
-        ..sample_section()
-    };
-    assert!(rt; read == want && offset == TABLE_END);
     Ok(())
 }
 
 #[test]
-fn a_name_is_made_to_say_an_offset(rt: HostRuntime) -> Result<(), Fail> {
+fn a_section_with_such_a_name_is_read_in_permissive_mode(rt: HostRuntime) -> Result<(), Fail> {
+    let (read, offset) = read_no_text(rt.alloc(), ParseMode::Permissive)?;
+    let want = SectionTable {
+        name: *NO_TEXT,
+        ..sample_section()
+    };
+    assert!(rt; matches!(&read, Ok(section) if *section == want) && offset == TABLE_END);
+    Ok(())
+}
+
+/// Whether a name that is made to say an offset has these bytes, and says it.
+fn is_made(offset: usize, want: &[u8; 8]) -> bool {
+    let mut section = sample_section();
+    section.set_name_offset(offset).is_ok()
+        && section.name == *want
+        && matches!(section.name_offset(), Ok(Some(said)) if said == offset)
+}
+
+#[test]
+fn a_name_is_made_to_say_an_offset(rt: HostRuntime) {
     let rows: [(usize, &[u8; 8]); 4] = [
         (0, b"/0\0\0\0\0\0\0"),
         (9_999_999, b"/9999999"),
@@ -97,12 +124,8 @@ fn a_name_is_made_to_say_an_offset(rt: HostRuntime) -> Result<(), Fail> {
         (68_719_476_735, b"////////"),
     ];
     for (offset, want) in rows {
-        let mut section = sample_section();
-        section.set_name_offset(offset)?;
-        assert_eq!(rt; section.name, *want);
-        assert_eq!(rt; section.name_offset()?, Some(offset));
+        assert!(rt; is_made(offset, want), "{offset}");
     }
-    Ok(())
 }
 
 #[test]
@@ -120,12 +143,18 @@ fn an_offset_that_no_name_can_say_leaves_the_name(rt: HostRuntime) {
 
 #[test]
 fn the_real_name_stands_before_the_eight_bytes(rt: HostRuntime) -> Result<(), Fail> {
-    let mut section = sample_section();
-    assert_eq!(rt; section.name()?, ".rdata");
-    section.real_name = import_name(rt.alloc())?;
-    section.set_name_offset(5)?;
-    assert_eq!(rt; section.name()?, "a.dll");
+    let mut section = SectionTable {
+        real_name: import_name(rt.alloc())?,
+        ..sample_section()
+    };
+    let is_made = section.set_name_offset(5).is_ok();
+    assert!(rt; is_made && is_named(&section, "a.dll"));
+    Ok(())
+}
+
+#[test]
+fn without_a_real_name_the_eight_bytes_are_the_name(rt: HostRuntime) {
+    assert!(rt; is_named(&sample_section(), ".rdata"));
     let unreadable = named(b"\xFF\0\0\0\0\0\0\0");
     assert!(rt; matches!(unreadable.name(), Err(Error::Read(ReadFault::BadInput))));
-    Ok(())
 }

@@ -43,12 +43,16 @@ fn options_say_what_they_were_made_for(rt: HostRuntime) {
     }
 }
 
+/// Whether options round raw pointers if asked to and not before, and say nothing else by it.
+fn round_if_asked(opts: ParseOptions) -> bool {
+    let rounded = opts.with_raw_pointer_rule(RawPointerRule::RoundedTo512);
+    opts.raw_pointer_rule == RawPointerRule::AsStored
+        && rounded.raw_pointer_rule == RawPointerRule::RoundedTo512
+        && fields(rounded) == fields(opts)
+}
+
 #[test]
 fn raw_pointers_are_as_stored_unless_asked_otherwise(rt: HostRuntime) {
-    for opts in [ParseOptions::default(), ParseOptions::te()] {
-        assert_eq!(rt; opts.raw_pointer_rule, RawPointerRule::AsStored);
-        let rounded = opts.with_raw_pointer_rule(RawPointerRule::RoundedTo512);
-        assert_eq!(rt; rounded.raw_pointer_rule, RawPointerRule::RoundedTo512);
-        assert_eq!(rt; fields(rounded), fields(opts));
-    }
+    assert!(rt; round_if_asked(ParseOptions::default()));
+    assert!(rt; round_if_asked(ParseOptions::te()));
 }

@@ -50,12 +50,22 @@ fn a_window_ends_with_the_least_of_its_sizes(rt: HostRuntime) {
     }
 }
 
+/// Whether an index, and the walk over its sections, find this for an address, the former in so many
+/// probes.
+fn is_found(
+    index: &WindowIndex,
+    sections: &[SectionTable],
+    (rva, want, probes): (usize, Option<usize>, usize),
+) -> bool {
+    index.find_counted(rva) == (want, probes)
+        && index.find(rva) == want
+        && find_offset(rva, sections, 0x200, &ParseOptions::default()) == want
+}
+
 #[test]
 fn an_address_of_two_windows_belongs_to_the_first(rt: HostRuntime) -> Result<(), Fail> {
-    let opts = ParseOptions::default();
     let sections = [narrow(), wide()];
-    let index = WindowIndex::prepare(rt.alloc(), &sections, 0x200, &opts)?;
-    assert_eq!(rt; index.pieces(), 5);
+    let index = WindowIndex::prepare(rt.alloc(), &sections, 0x200, &ParseOptions::default())?;
     // The pieces begin at 0, 0x1000, 0x1200, 0x1400 and 0x1800. The first probe is of 0x1200; below
     // it the second is of 0x1000, and below that a third of 0; from it on the second is of 0x1800,
     // and below that a third of 0x1400.
@@ -68,12 +78,10 @@ fn an_address_of_two_windows_belongs_to_the_first(rt: HostRuntime) -> Result<(),
         (0x1800, None, 2),
         (usize::MAX, None, 2),
     ];
-    for (rva, want, probes) in rows {
-        let is_right = index.find_counted(rva) == (want, probes)
-            && index.find(rva) == want
-            && find_offset(rva, &sections, 0x200, &opts) == want;
-        assert!(rt; is_right, "{rva:#x}");
+    for row in rows {
+        assert!(rt; is_found(&index, &sections, row), "{row:?}");
     }
+    assert!(rt; index.pieces() == 5);
     Ok(())
 }
 
@@ -90,32 +98,49 @@ fn found(
 }
 
 #[test]
-fn a_hidden_window_still_cuts_the_line(rt: HostRuntime) -> Result<(), Fail> {
-    let opts = ParseOptions::default();
-    let (pieces, (hidden, _)) = found(rt.alloc(), &[wide(), narrow()], 0x200, &opts, 0x1250)?;
-    assert_eq!(rt; (pieces, hidden), (5, Some(0xA50)));
-    let pair = [
-        section(0x1000, 0x200, 0x200, 0x400),
-        section(0x1000, 0x200, 0x200, 0x800),
-    ];
-    // Of 0, 0x1000 and 0x1200 the second is the middle, and then the third is left.
-    let twice = found(rt.alloc(), &pair, 0x200, &opts, 0x1010)?;
-    assert_eq!(rt; twice, (3, (Some(0x410), 2)));
-    Ok(())
+fn a_hidden_window_still_cuts_the_line(rt: HostRuntime) {
+    let sections = [wide(), narrow()];
+    let read = found(
+        rt.alloc(),
+        &sections,
+        0x200,
+        &ParseOptions::default(),
+        0x1250,
+    );
+    assert!(rt; matches!(read, Ok((5, (Some(0xA50), _)))));
 }
 
 #[test]
-fn an_index_of_no_windows_has_one_piece_or_none(rt: HostRuntime) -> Result<(), Fail> {
+fn a_window_that_stands_twice_is_one_piece(rt: HostRuntime) {
+    let sections = [
+        section(0x1000, 0x200, 0x200, 0x400),
+        section(0x1000, 0x200, 0x200, 0x800),
+    ];
     let opts = ParseOptions::default();
-    let none = found(rt.alloc(), &[], 0x200, &opts, 0)?;
-    assert_eq!(rt; none, (1, (None, 1)));
+    // Of 0, 0x1000 and 0x1200 the second is the middle, and then the third is left.
+    let read = found(rt.alloc(), &sections, 0x200, &opts, 0x1010);
+    assert!(rt; matches!(read, Ok((3, (Some(0x410), 2)))));
+}
+
+#[test]
+fn an_index_of_no_sections_has_one_piece(rt: HostRuntime) {
+    let read = found(rt.alloc(), &[], 0x200, &ParseOptions::default(), 0);
+    assert!(rt; matches!(read, Ok((1, (None, 1)))));
+}
+
+#[test]
+fn an_index_of_no_windows_has_no_piece(rt: HostRuntime) {
     for alignment in [0, 0x300] {
-        let unmapped = found(rt.alloc(), &[wide()], alignment, &opts, 0x1100)?;
-        assert_eq!(rt; unmapped, (0, (None, 0)));
+        let opts = ParseOptions::default();
+        let read = found(rt.alloc(), &[wide()], alignment, &opts, 0x1100);
+        assert!(rt; matches!(read, Ok((0, (None, 0)))), "{alignment:#x}");
     }
-    let direct = found(rt.alloc(), &[wide()], 0x200, &ParseOptions::te(), 0x1100)?;
-    assert_eq!(rt; direct, (0, (Some(0x1100), 0)));
-    Ok(())
+}
+
+#[test]
+fn an_index_of_addresses_that_are_not_mapped_has_no_piece(rt: HostRuntime) {
+    let read = found(rt.alloc(), &[wide()], 0x200, &ParseOptions::te(), 0x1100);
+    assert!(rt; matches!(read, Ok((0, (Some(0x1100), 0)))));
 }
 
 #[test]
@@ -143,24 +168,34 @@ fn an_index_is_refused_at_each_growth(rt: HostRuntime) -> Result<(), Fail> {
     Ok(())
 }
 
-#[test]
-fn walk_and_index_round_a_raw_pointer_by_the_rule(rt: HostRuntime) -> Result<(), Fail> {
+/// What the walk over a section that begins within its file's alignment, and its index, find for an
+/// address.
+fn rounded(
+    alloc: Global,
+    rule: RawPointerRule,
+    rva: usize,
+) -> goblin_base::Result<[Option<usize>; 2]> {
     let sections = [section(0x1000, 0x100, 0x100, 0x210)];
+    let opts = ParseOptions::default().with_raw_pointer_rule(rule);
+    let index = WindowIndex::prepare(alloc, &sections, 0x200, &opts)?;
+    Ok([find_offset(rva, &sections, 0x200, &opts), index.find(rva)])
+}
+
+#[test]
+fn walk_and_index_round_a_raw_pointer_by_the_rule(rt: HostRuntime) {
     let rows = [
-        (RawPointerRule::AsStored, 0x210, 0x40F),
-        (RawPointerRule::RoundedTo512, 0x200, 0x3FF),
+        (RawPointerRule::AsStored, 0x1000, Some(0x210)),
+        (RawPointerRule::AsStored, 0x11FF, Some(0x40F)),
+        (RawPointerRule::AsStored, 0x1200, None),
+        (RawPointerRule::RoundedTo512, 0x1000, Some(0x200)),
+        (RawPointerRule::RoundedTo512, 0x11FF, Some(0x3FF)),
+        (RawPointerRule::RoundedTo512, 0x1200, None),
     ];
-    for (rule, first, last) in rows {
-        let opts = ParseOptions::default().with_raw_pointer_rule(rule);
-        let index = WindowIndex::prepare(rt.alloc(), &sections, 0x200, &opts)?;
-        for (rva, want) in [(0x1000, Some(first)), (0x11FF, Some(last)), (0x1200, None)] {
-            let walked = find_offset(rva, &sections, 0x200, &opts);
-            assert_eq!(rt;
-                (walked, index.find(rva)),
-                (want, want),
-                "{rule:?} {rva:#x}"
-            );
-        }
+    for (rule, rva, want) in rows {
+        let found = rounded(rt.alloc(), rule, rva);
+        assert!(rt;
+            matches!(found, Ok(offsets) if offsets == [want; 2]),
+            "{rule:?} {rva:#x}"
+        );
     }
-    Ok(())
 }
