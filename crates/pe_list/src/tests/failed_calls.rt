@@ -250,22 +250,23 @@ fn is_written(
     is_answer(writer.write(bytes), taken) && writer.failed() == failed
 }
 
+/// What is written, how many bytes are taken, and whether a call has failed by then.
+const WRITES: &[(&[u8], Option<usize>, bool)] = &[
+    (b"abcd", Some(2), false),
+    (b"", Some(0), false),
+    (b"cd", Some(1), false),
+    (b"d", None, true),
+    (b"", Some(0), true),
+    (b"de", Some(2), true),
+];
+
 #[test]
 fn a_watched_writer_hands_on_each_call_and_its_answer(rt: HostRuntime) -> Result<(), Fail> {
     for takes_none in [false, true] {
         let mut sink = Sink::new(rt.alloc(), 2, 3, takes_none);
         let mut writer = Watched::new(&mut sink);
-        // What is written, how many bytes are taken, and whether a call has failed by then.
-        let rows: [(&[u8], Option<usize>, bool); 6] = [
-            (b"abcd", Some(2), false),
-            (b"", Some(0), false),
-            (b"cd", Some(1), false),
-            (b"d", None, true),
-            (b"", Some(0), true),
-            (b"de", Some(2), true),
-        ];
-        for (bytes, taken, failed) in rows {
-            let is_right = is_written(&mut writer, bytes, taken, failed, takes_none);
+        for (bytes, taken, failed) in WRITES {
+            let is_right = is_written(&mut writer, bytes, *taken, *failed, takes_none);
             assert!(rt; is_right, "{bytes:?}");
         }
         assert!(rt; sink.handed.as_slice() == b"abcd||cd|d||de|".as_slice());

@@ -30,6 +30,60 @@ fn lists_the_sample_file_in_both_modes(rt: HostRuntime) -> Result<(), Fail> {
     Ok(())
 }
 
+/// Changes of the sample file, and what is listed then.
+const CHANGED: &[(&[Change], &[&[u8]])] = &[
+    (
+        &[(TABLE, b"\\")],
+        &[
+            HEADER,
+            b"section va=0x1000 vsize=0x100 raw=0x100 ptr=0x200 name=\\x5crdata\n",
+            IMPORTS,
+            EXPORTS,
+            RELOCATIONS,
+        ],
+    ),
+    (
+        &[(0x46, b"\x02")],
+        &[
+            b"header machine=0x14c sections=2 magic=0x10b entry=0x0\n",
+            SECTION,
+            b"section va=0x0 vsize=0x0 raw=0x0 ptr=0x0 name=\n",
+            IMPORTS,
+            EXPORTS,
+            RELOCATIONS,
+        ],
+    ),
+    (
+        &[DIRECTORY, BLOCK],
+        &[
+            HEADER,
+            SECTION,
+            IMPORTS,
+            EXPORTS,
+            b"relocations 1\nblock rva=0x1000 size=0xc words=2\n",
+        ],
+    ),
+    (
+        &[LONGER_DIRECTORY, BLOCK],
+        &[
+            HEADER,
+            SECTION,
+            IMPORTS,
+            EXPORTS,
+            b"relocations 1\nblock rva=0x1000 size=0xc words=2\nblock refused\n",
+        ],
+    ),
+    (
+        &[(0x54, b"\x00")],
+        &[
+            b"header machine=0x14c sections=1\n",
+            b"section va=0x0 vsize=0x0 raw=0x0 ptr=0x0 name=\\x0b\\x01\n",
+            b"imports absent\nexports absent\n",
+            RELOCATIONS,
+        ],
+    ),
+];
+
 /// The sample file with these changes.
 fn changed(alloc: Global, changes: &[Change]) -> Result<Vec<u8>, AllocError> {
     let mut file = sample(alloc)?;
@@ -41,60 +95,8 @@ fn changed(alloc: Global, changes: &[Change]) -> Result<Vec<u8>, AllocError> {
 
 #[test]
 fn lists_what_a_change_of_the_sample_file_says(rt: HostRuntime) -> Result<(), Fail> {
-    let rows: [(&[Change], &[&[u8]]); 5] = [
-        (
-            &[(TABLE, b"\\")],
-            &[
-                HEADER,
-                b"section va=0x1000 vsize=0x100 raw=0x100 ptr=0x200 name=\\x5crdata\n",
-                IMPORTS,
-                EXPORTS,
-                RELOCATIONS,
-            ],
-        ),
-        (
-            &[(0x46, b"\x02")],
-            &[
-                b"header machine=0x14c sections=2 magic=0x10b entry=0x0\n",
-                SECTION,
-                b"section va=0x0 vsize=0x0 raw=0x0 ptr=0x0 name=\n",
-                IMPORTS,
-                EXPORTS,
-                RELOCATIONS,
-            ],
-        ),
-        (
-            &[DIRECTORY, BLOCK],
-            &[
-                HEADER,
-                SECTION,
-                IMPORTS,
-                EXPORTS,
-                b"relocations 1\nblock rva=0x1000 size=0xc words=2\n",
-            ],
-        ),
-        (
-            &[LONGER_DIRECTORY, BLOCK],
-            &[
-                HEADER,
-                SECTION,
-                IMPORTS,
-                EXPORTS,
-                b"relocations 1\nblock rva=0x1000 size=0xc words=2\nblock refused\n",
-            ],
-        ),
-        (
-            &[(0x54, b"\x00")],
-            &[
-                b"header machine=0x14c sections=1\n",
-                b"section va=0x0 vsize=0x0 raw=0x0 ptr=0x0 name=\\x0b\\x01\n",
-                b"imports absent\nexports absent\n",
-                RELOCATIONS,
-            ],
-        ),
-    ];
     let alloc = rt.alloc();
-    for (changes, want) in rows {
+    for (changes, want) in CHANGED {
         let file = changed(alloc, changes)?;
         let without = mode_without(alloc, &file, want);
         assert!(rt; without.is_none(), "{changes:?} in mode {without:?}");
@@ -140,27 +142,29 @@ fn is_shown(alloc: Global, file: &[u8], mode: ParseMode, shown: Option<&[u8]>) -
     }
 }
 
+/// Names of the section, and how a mode shows them, if it does.
+const NAMES: &[(&[u8; 8], ParseMode, Option<&[u8]>)] = &[
+    (ELSEWHERE, ParseMode::Strict, Some(b"a.dll\n")),
+    (ELSEWHERE, ParseMode::Permissive, Some(b"a.dll\n")),
+    (b"/768\0\0\0\0", ParseMode::Strict, Some(b"/768\n")),
+    (b"/768\0\0\0\0", ParseMode::Permissive, Some(b"/768\n")),
+    (b"/\xFF\0\0\0\0\0\0", ParseMode::Strict, None),
+    (
+        b"/\xFF\0\0\0\0\0\0",
+        ParseMode::Permissive,
+        Some(b"/\\xff\n"),
+    ),
+    (b"/\0\0\0\0\0\0\0", ParseMode::Strict, None),
+    (b"/\0\0\0\0\0\0\0", ParseMode::Permissive, None),
+];
+
 #[test]
 fn names_that_begin_with_a_slash_are_met_by_the_mode(rt: HostRuntime) -> Result<(), Fail> {
     let alloc = rt.alloc();
-    let rows: [(&[u8; 8], ParseMode, Option<&[u8]>); 8] = [
-        (ELSEWHERE, ParseMode::Strict, Some(b"a.dll\n")),
-        (ELSEWHERE, ParseMode::Permissive, Some(b"a.dll\n")),
-        (b"/768\0\0\0\0", ParseMode::Strict, Some(b"/768\n")),
-        (b"/768\0\0\0\0", ParseMode::Permissive, Some(b"/768\n")),
-        (b"/\xFF\0\0\0\0\0\0", ParseMode::Strict, None),
-        (
-            b"/\xFF\0\0\0\0\0\0",
-            ParseMode::Permissive,
-            Some(b"/\\xff\n"),
-        ),
-        (b"/\0\0\0\0\0\0\0", ParseMode::Strict, None),
-        (b"/\0\0\0\0\0\0\0", ParseMode::Permissive, None),
-    ];
-    for (name, mode, shown) in rows {
+    for (name, mode, shown) in NAMES {
         let file = sample_named(alloc, name)?;
         assert!(rt;
-            is_shown(alloc, &file, mode, shown),
+            is_shown(alloc, &file, *mode, *shown),
             "{name:?} in mode {mode:?}"
         );
     }
