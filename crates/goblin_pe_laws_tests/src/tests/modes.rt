@@ -3,15 +3,17 @@
 use super::table_footprints::is_sample;
 use fixture::memory::{Outcome, is_refused_until_right};
 use fixture::sample::{put, sample, sample_section, section};
-use fixture_tables::exports::{FORWARDED, PLAIN, are};
+use fixture_tables::exports::{FORWARDED, PLAIN, Row, are};
 use fixture_tables::imports::{ALIGNMENT, DIRECTORY, GO, RECORD, SEVEN, are_rows, front_file};
 use goblin_base::{Cause, Error};
 use goblin_pe::Whole;
-use goblin_pe::import::{Import, ImportData, ImportDirectoryEntry};
+use goblin_pe::header::Header;
+use goblin_pe::import::{Import, ImportData, ImportDirectoryEntry, ImportLookupTable};
 use goblin_pe::laws::{
-    Request, Tables, mode_header, mode_tables, mode_whole, reorder_whole_tables,
+    ExportRead, Request, Tables, mode_header, mode_tables, mode_whole, reorder_whole_tables,
 };
 use goblin_pe::options::ParseOptions;
+use goblin_pe_sect::relocation::RelocationData;
 use goblin_pe_sect::{DataDirectory, SectionTable};
 use std::alloc::Global;
 use std::test::Fail;
@@ -32,48 +34,21 @@ const REQUEST: Request = Request {
     name: 0x1080,
 };
 
-#[test]
-fn both_modes_read_the_same_file(rt: HostRuntime) -> Result<(), Fail> {
-    let alloc = rt.alloc();
-    let file = sample(alloc)?;
-    let opts = ParseOptions::default();
-    let (strict, permissive) = mode_header(&file, &opts);
-    let are_the_same =
-        matches!((&strict, &permissive), (Ok(strict), Ok(permissive)) if strict == permissive);
-    assert!(rt; are_the_same);
-    let (strict, permissive) = mode_whole(alloc, &file, &opts);
-    let are_right = matches!(&strict, Ok(whole) if is_sample(whole))
-        && matches!(&permissive, Ok(whole) if is_sample(whole));
-    assert!(rt; are_right);
-    Ok(())
-}
+/// The directory at the file's front.
+const FRONT_DIRECTORY: DataDirectory = DataDirectory {
+    virtual_address: 0x1000,
+    size: 0,
+};
 
-#[test]
-fn both_modes_read_the_same_tables(rt: HostRuntime) -> Result<(), Fail> {
-    let alloc = rt.alloc();
-    let file = sample(alloc)?;
-    let opts = ParseOptions::default();
-    let sections = [sample_section()];
-    let (strict, permissive): (Tables<ImportDirectoryEntry>, Tables<ImportDirectoryEntry>) =
-        mode_tables::<u32, _>(alloc, &file, &sections, &REQUEST, ALIGNMENT, &opts);
-    assert!(rt;
-        are_sample_tables(alloc, &file, &sections, &strict)
-            && are_sample_tables(alloc, &file, &sections, &permissive)
-    );
-    Ok(())
-}
-
-#[test]
-fn permissive_mode_reads_a_header_that_strict_mode_refuses(rt: HostRuntime) -> Result<(), Fail> {
-    let mut file = sample(rt.alloc())?;
-    // The PE signature stands within the DOS header, where there is no room for a stub.
-    put(&mut file, 0x3C, b"\x20");
-    put(&mut file, 0x20, b"PE\0\0");
-    let (strict, permissive) = mode_header(&file, &ParseOptions::default());
-    assert!(rt; matches!(strict, Err(Error::Malformed(Cause::StubBeforeStart(0x20)))));
-    assert!(rt; matches!(&permissive, Ok(header) if header.dos_header.pe_pointer == 0x20));
-    Ok(())
-}
+/// Where the tables at the file's front lie.
+const FRONT_REQUEST: Request = Request {
+    lookup: 0x28,
+    imports: FRONT_DIRECTORY,
+    exports: FRONT_DIRECTORY,
+    relocations: FRONT_DIRECTORY,
+    value: FRONT_DIRECTORY,
+    name: 0x1030,
+};
 
 /// The record that stands at the file's front.
 const FRONT: ImportDirectoryEntry = ImportDirectoryEntry {
@@ -84,16 +59,100 @@ const FRONT: ImportDirectoryEntry = ImportDirectoryEntry {
     import_address_table_rva: 0x1028,
 };
 
-/// Whether all but the import data is what the file's front says.
-fn is_front(tables: &Tables<ImportDirectoryEntry>) -> bool {
-    matches!(&tables.exports, Ok((data, exports)) if data.name == Some("x") && exports.is_empty())
-        && matches!(&tables.lookup, Ok(table) if table.as_slice().len() == 1)
-        && matches!(&tables.relocations, Ok(data) if data.blocks().next().is_none())
-        && matches!(&tables.name, Ok(Some(name)) if *name == "x")
-        && matches!(&tables.value, Ok(value) if *value == FRONT)
+/// Whether both modes read the same header.
+fn have_the_same_header(file: &[u8]) -> bool {
+    let headers = mode_header(file, &ParseOptions::default());
+    matches!(&headers, (Ok(strict), Ok(permissive)) if strict == permissive)
 }
 
-/// Whether these are the front's imports: one by the ordinal 1.
+/// How the reading of the sample file ended.
+fn outcome(whole: &goblin_base::Result<Whole>) -> Outcome {
+    match whole {
+        Ok(whole) if is_sample(whole) => Outcome::Right,
+        Err(Error::Memory(_)) => Outcome::Refused,
+        _ => Outcome::Wrong,
+    }
+}
+
+/// How two readings ended: right where each is, and wrong where one is.
+fn outcome_of_two(first: &Outcome, second: &Outcome) -> Outcome {
+    match (first, second) {
+        (Outcome::Right, Outcome::Right) => Outcome::Right,
+        (Outcome::Wrong, _) | (_, Outcome::Wrong) => Outcome::Wrong,
+        _ => Outcome::Refused,
+    }
+}
+
+/// How both readings ended.
+fn outcome_of_both(wholes: &(goblin_base::Result<Whole>, goblin_base::Result<Whole>)) -> Outcome {
+    let first = outcome(&wholes.0);
+    let second = outcome(&wholes.1);
+    outcome_of_two(&first, &second)
+}
+
+/// How the readings of the sample file ended in both modes.
+fn outcome_of_modes(alloc: Global, file: &[u8], opts: &ParseOptions) -> Outcome {
+    outcome_of_both(&mode_whole(alloc, file, opts))
+}
+
+#[test]
+fn both_modes_read_the_same_file(rt: HostRuntime) -> Result<(), Fail> {
+    let alloc = rt.alloc();
+    let file = sample(alloc)?;
+    assert!(rt; have_the_same_header(&file));
+    let outcome = outcome_of_modes(alloc, &file, &ParseOptions::default());
+    assert!(rt; matches!(outcome, Outcome::Right));
+    Ok(())
+}
+
+/// Whether exports of this name were read.
+fn has_exports(exports: &goblin_base::Result<ExportRead>, name: &str, want: &[Row]) -> bool {
+    matches!(exports, Ok((data, exports)) if data.name == Some(name) && are(exports, want))
+}
+
+/// Whether so many entries were read.
+fn has_entries(table: &goblin_base::Result<ImportLookupTable>, count: usize) -> bool {
+    matches!(table, Ok(table) if table.as_slice().len() == count)
+}
+
+/// Whether a directory without blocks was read.
+fn has_no_block(relocations: &goblin_base::Result<RelocationData>) -> bool {
+    matches!(relocations, Ok(data) if data.blocks().next().is_none())
+}
+
+/// Whether a directory was read whose bytes are no whole block.
+pub(super) fn has_no_whole_block(relocations: &goblin_base::Result<RelocationData>) -> bool {
+    matches!(relocations, Ok(data) if matches!(data.blocks().next(), Some(Err(_))))
+}
+
+/// Whether this name was read.
+fn has_name(name: &goblin_base::Result<Option<&str>>, want: &str) -> bool {
+    matches!(name, Ok(Some(name)) if *name == want)
+}
+
+/// Whether this record was read.
+pub(super) fn has_record(
+    value: &goblin_base::Result<ImportDirectoryEntry>,
+    want: &ImportDirectoryEntry,
+) -> bool {
+    matches!(value, Ok(value) if value == want)
+}
+
+/// Whether all but the import data is what the file's front says.
+fn is_front(tables: &Tables<ImportDirectoryEntry>) -> bool {
+    has_exports(&tables.exports, "x", &[])
+        && has_entries(&tables.lookup, 1)
+        && has_no_block(&tables.relocations)
+        && has_name(&tables.name, "x")
+        && has_record(&tables.value, &FRONT)
+}
+
+/// Whether this is one import by the ordinal 1.
+fn is_front_import(imports: &[Import]) -> bool {
+    matches!(imports, [import] if (&import.name[..], import.dll, import.offset) == ("ORDINAL 1", "x", 0x1028))
+}
+
+/// Whether these are the front's imports.
 fn are_front_imports<'a>(
     alloc: Global,
     file: &'a [u8],
@@ -103,46 +162,13 @@ fn are_front_imports<'a>(
     let Ok(data) = imports else {
         return false;
     };
-    match Import::parse::<u32>(alloc, file, data, sections) {
-        Ok(imports) =>
-            matches!(&imports[..], [import] if (&import.name[..], import.dll, import.offset) == ("ORDINAL 1", "x", 0x1028)),
-        Err(_) => false,
-    }
+    let read = Import::parse::<u32>(alloc, file, data, sections);
+    matches!(&read, Ok(imports) if is_front_import(imports))
 }
 
-#[test]
-fn permissive_mode_has_no_imports_from_the_front_of_the_file(rt: HostRuntime) -> Result<(), Fail> {
-    let alloc = rt.alloc();
-    let file = front_file(alloc)?;
-    let sections = [section(0x1000, 0x200, 0x200, 0)];
-    let directory = DataDirectory {
-        virtual_address: 0x1000,
-        size: 0,
-    };
-    let request = Request {
-        lookup: 0x28,
-        imports: directory,
-        exports: directory,
-        relocations: directory,
-        value: directory,
-        name: 0x1030,
-    };
-    let (strict, permissive): (Tables<ImportDirectoryEntry>, Tables<ImportDirectoryEntry>) =
-        mode_tables::<u32, _>(
-            alloc,
-            &file,
-            &sections,
-            &request,
-            0x200,
-            &ParseOptions::default(),
-        );
-    assert!(rt;
-        are_front_imports(alloc, &file, &sections, &strict.imports)
-            && is_front(&strict)
-            && matches!(&permissive.imports, Ok(data) if data.import_data.is_empty())
-            && is_front(&permissive)
-    );
-    Ok(())
+/// Whether there are no imports.
+fn have_no_imports(imports: &goblin_base::Result<ImportData>) -> bool {
+    matches!(imports, Ok(data) if data.import_data.is_empty())
 }
 
 /// Whether this is the sample file's import data.
@@ -161,11 +187,11 @@ fn are_sample_imports<'a>(
 
 /// Whether these are the other tables of the sample file. The five bytes of a name are no whole block.
 fn are_other_tables(tables: &Tables<ImportDirectoryEntry>) -> bool {
-    matches!(&tables.exports, Ok((data, exports)) if data.name == Some("a.dll") && are(exports, &[PLAIN, FORWARDED]))
-        && matches!(&tables.lookup, Ok(table) if table.as_slice().len() == 2)
-        && matches!(&tables.relocations, Ok(data) if matches!(data.blocks().next(), Some(Err(_))))
-        && matches!(&tables.name, Ok(Some(name)) if *name == "a.dll")
-        && matches!(&tables.value, Ok(value) if *value == RECORD)
+    has_exports(&tables.exports, "a.dll", &[PLAIN, FORWARDED])
+        && has_entries(&tables.lookup, 2)
+        && has_no_whole_block(&tables.relocations)
+        && has_name(&tables.name, "a.dll")
+        && has_record(&tables.value, &RECORD)
 }
 
 /// Whether these are the tables of the sample file.
@@ -178,27 +204,6 @@ fn are_sample_tables<'a>(
     are_sample_imports(alloc, file, sections, &tables.imports) && are_other_tables(tables)
 }
 
-#[test]
-fn sections_may_stand_in_any_order(rt: HostRuntime) -> Result<(), Fail> {
-    let alloc = rt.alloc();
-    let file = sample(alloc)?;
-    let first = [sample_section(), section(0x3000, 0x100, 0x100, 0x100)];
-    let second = [section(0x3000, 0x100, 0x100, 0x100), sample_section()];
-    let opts = ParseOptions::default();
-    let (one, other): (Tables<ImportDirectoryEntry>, Tables<ImportDirectoryEntry>) =
-        reorder_whole_tables::<u32, _>(alloc, &file, &first, &second, &REQUEST, ALIGNMENT, &opts);
-    assert!(rt;
-        are_sample_tables(alloc, &file, &first, &one)
-            && are_sample_tables(alloc, &file, &second, &other)
-    );
-    Ok(())
-}
-
-/// Whether the library's name was read.
-fn have_the_name(tables: &Tables<ImportDirectoryEntry>) -> bool {
-    matches!(&tables.name, Ok(Some(name)) if *name == "a.dll")
-}
-
 /// Whether no section maps the name's address, and neither table was read.
 fn are_unmapped(tables: &Tables<ImportDirectoryEntry>) -> bool {
     matches!(&tables.name, Err(Error::Malformed(Cause::Unmapped(0x1080))))
@@ -206,32 +211,161 @@ fn are_unmapped(tables: &Tables<ImportDirectoryEntry>) -> bool {
         && tables.exports.is_err()
 }
 
+/// What was read of a file's tables.
+#[derive(PartialEq, Drop)]
+enum Read {
+    /// The tables of the sample file.
+    Sample,
+    /// What the file's front says.
+    Front,
+    /// The same, but for its imports.
+    FrontWithoutImports,
+    /// Nothing, since no section maps the addresses.
+    Unmapped,
+    /// Anything else.
+    Other,
+}
+
+/// What was read where the front's name was.
+fn read_at_the_front<'a>(
+    alloc: Global,
+    file: &'a [u8],
+    sections: &[SectionTable],
+    tables: &Tables<'a, ImportDirectoryEntry>,
+) -> Read {
+    if !is_front(tables) {
+        Read::Other
+    } else if are_front_imports(alloc, file, sections, &tables.imports) {
+        Read::Front
+    } else if have_no_imports(&tables.imports) {
+        Read::FrontWithoutImports
+    } else {
+        Read::Other
+    }
+}
+
+/// What was read.
+fn what_is_read<'a>(
+    alloc: Global,
+    file: &'a [u8],
+    sections: &[SectionTable],
+    tables: &Tables<'a, ImportDirectoryEntry>,
+) -> Read {
+    if are_sample_tables(alloc, file, sections, tables) {
+        Read::Sample
+    } else if are_unmapped(tables) {
+        Read::Unmapped
+    } else {
+        read_at_the_front(alloc, file, sections, tables)
+    }
+}
+
+/// The tables of a file, as they were read twice.
+type TwoTables<'a> = (
+    Tables<'a, ImportDirectoryEntry>,
+    Tables<'a, ImportDirectoryEntry>,
+);
+
+/// What was read each time, by these tables of sections.
+fn what_both_are<'a>(
+    alloc: Global,
+    file: &'a [u8],
+    first: &[SectionTable],
+    second: &[SectionTable],
+    tables: &TwoTables<'a>,
+) -> (Read, Read) {
+    (
+        what_is_read(alloc, file, first, &tables.0),
+        what_is_read(alloc, file, second, &tables.1),
+    )
+}
+
+/// What strict and permissive mode read.
+fn read_in_modes(
+    alloc: Global,
+    file: &[u8],
+    sections: &[SectionTable],
+    request: &Request,
+    alignment: u32,
+) -> (Read, Read) {
+    let opts = ParseOptions::default();
+    let tables: TwoTables = mode_tables::<u32, _>(alloc, file, sections, request, alignment, &opts);
+    what_both_are(alloc, file, sections, sections, &tables)
+}
+
+/// What is read by either table of sections.
+fn read_by_sections(
+    alloc: Global,
+    file: &[u8],
+    first: &[SectionTable],
+    second: &[SectionTable],
+) -> (Read, Read) {
+    let opts = ParseOptions::default();
+    let tables: TwoTables = reorder_whole_tables::<u32, _>(
+        alloc, file, first, second, &REQUEST, ALIGNMENT, &opts,
+    );
+    what_both_are(alloc, file, first, second, &tables)
+}
+
+#[test]
+fn both_modes_read_the_same_tables(rt: HostRuntime) -> Result<(), Fail> {
+    let alloc = rt.alloc();
+    let file = sample(alloc)?;
+    let sections = [sample_section()];
+    let read = read_in_modes(alloc, &file, &sections, &REQUEST, ALIGNMENT);
+    assert!(rt; read == (Read::Sample, Read::Sample));
+    Ok(())
+}
+
+/// Whether a header was refused, since its signature stands at 0x20.
+fn is_refused_at_its_signature(header: &goblin_base::Result<Header>) -> bool {
+    matches!(header, Err(Error::Malformed(Cause::StubBeforeStart(0x20))))
+}
+
+/// Whether a header was read whose signature stands at 0x20.
+fn is_read_at_its_signature(header: &goblin_base::Result<Header>) -> bool {
+    matches!(header, Ok(header) if header.dos_header.pe_pointer == 0x20)
+}
+
+#[test]
+fn permissive_mode_reads_a_header_that_strict_mode_refuses(rt: HostRuntime) -> Result<(), Fail> {
+    let mut file = sample(rt.alloc())?;
+    // The PE signature stands within the DOS header, where there is no room for a stub.
+    put(&mut file, 0x3C, b"\x20");
+    put(&mut file, 0x20, b"PE\0\0");
+    let headers = mode_header(&file, &ParseOptions::default());
+    assert!(rt; is_refused_at_its_signature(&headers.0) && is_read_at_its_signature(&headers.1));
+    Ok(())
+}
+
+#[test]
+fn permissive_mode_has_no_imports_from_the_front_of_the_file(rt: HostRuntime) -> Result<(), Fail> {
+    let alloc = rt.alloc();
+    let file = front_file(alloc)?;
+    let sections = [section(0x1000, 0x200, 0x200, 0)];
+    let read = read_in_modes(alloc, &file, &sections, &FRONT_REQUEST, 0x200);
+    assert!(rt; read == (Read::Front, Read::FrontWithoutImports));
+    Ok(())
+}
+
+#[test]
+fn sections_may_stand_in_any_order(rt: HostRuntime) -> Result<(), Fail> {
+    let alloc = rt.alloc();
+    let file = sample(alloc)?;
+    let first = [sample_section(), section(0x3000, 0x100, 0x100, 0x100)];
+    let second = [section(0x3000, 0x100, 0x100, 0x100), sample_section()];
+    let read = read_by_sections(alloc, &file, &first, &second);
+    assert!(rt; read == (Read::Sample, Read::Sample));
+    Ok(())
+}
+
 #[test]
 fn each_table_of_sections_has_its_own_answers(rt: HostRuntime) -> Result<(), Fail> {
     let alloc = rt.alloc();
     let file = sample(alloc)?;
-    let opts = ParseOptions::default();
-    let (one, other): (Tables<ImportDirectoryEntry>, Tables<ImportDirectoryEntry>) =
-        reorder_whole_tables::<u32, _>(
-            alloc,
-            &file,
-            &[sample_section()],
-            &[],
-            &REQUEST,
-            ALIGNMENT,
-            &opts,
-        );
-    assert!(rt; have_the_name(&one) && are_unmapped(&other));
+    let read = read_by_sections(alloc, &file, &[sample_section()], &[]);
+    assert!(rt; read == (Read::Sample, Read::Unmapped));
     Ok(())
-}
-
-/// How the reading of the sample file ended.
-fn outcome(whole: goblin_base::Result<Whole>) -> Outcome {
-    match whole {
-        Ok(whole) if is_sample(&whole) => Outcome::Right,
-        Err(Error::Memory(_)) => Outcome::Refused,
-        _ => Outcome::Wrong,
-    }
 }
 
 #[test]
@@ -239,14 +373,6 @@ fn a_mode_refused_for_want_of_memory_stands_in_its_place(rt: HostRuntime) -> Res
     let alloc = rt.alloc();
     let file = sample(alloc)?;
     let opts = ParseOptions::default();
-    let is_right = is_refused_until_right(alloc, || {
-        let (strict, permissive) = mode_whole(alloc, &file, &opts);
-        match (outcome(strict), outcome(permissive)) {
-            (Outcome::Right, Outcome::Right) => Outcome::Right,
-            (Outcome::Wrong, _) | (_, Outcome::Wrong) => Outcome::Wrong,
-            _ => Outcome::Refused,
-        }
-    })?;
-    assert!(rt; is_right);
+    assert!(rt; is_refused_until_right(alloc, || outcome_of_modes(alloc, &file, &opts))?);
     Ok(())
 }

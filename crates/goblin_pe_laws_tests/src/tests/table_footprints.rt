@@ -9,13 +9,14 @@ use fixture_tables::imports::{
 use goblin_base::{Error, ParseMode, ResultOf};
 use goblin_pe::export::{Export, ExportAddressTableEntry, ExportData, ExportDirectoryTable};
 use goblin_pe::import::{
-    Import, ImportData, SyntheticImportDirectoryEntry, SyntheticImportLookupTableEntry,
+    Import, ImportData, ImportLookupTable, SyntheticImportDirectoryEntry,
+    SyntheticImportLookupTableEntry,
 };
 use goblin_pe::laws::{
     ExportRead, footprint_imports, twin_exports, twin_imports, twin_lookup, twin_whole,
 };
 use goblin_pe::{Part, Whole};
-use goblin_pe_sect::{DataDirectory, ParseOptions};
+use goblin_pe_sect::{DataDirectory, ParseOptions, SectionTable};
 use std::alloc::Global;
 use std::test::Fail;
 
@@ -85,33 +86,70 @@ fn flip_outside(file: &mut [u8], spans: &[Span]) {
     }
 }
 
-/// Whether what is read is the same in each file that differs from this one outside of these
-/// positions, at one place or at all of them, and another where a byte of each span is changed.
-fn depends_on<F: FnMut(&[u8]) -> bool>(file: &mut [u8], spans: &[Span], mut is_the_same: F) -> bool
-    requires { F.IsAlwaysCallable is_the_same }
+/// Whether what is read is the same where the byte at this place is changed.
+fn is_the_same_without<F: Fn(&[u8]) -> bool>(file: &mut [u8], place: usize, is_the_same: &F) -> bool
+    requires { F.IsAlwaysCallable is_the_same.now }
+{
+    flip(file, place);
+    let is_the_same = is_the_same(file);
+    flip(file, place);
+    is_the_same
+}
+
+/// Whether what is read is the same where any one byte outside of these positions is changed.
+fn ignores_each_outside<F: Fn(&[u8]) -> bool>(
+    file: &mut [u8],
+    spans: &[Span],
+    is_the_same: &F,
+) -> bool
+    requires { F.IsAlwaysCallable is_the_same.now }
 {
     for place in 0..file.len() {
-        if !is_in(spans, place) {
-            flip(file, place);
-            if !is_the_same(file) {
-                return false;
-            }
-            flip(file, place);
+        if !is_in(spans, place) && !is_the_same_without(file, place, is_the_same) {
+            return false;
         }
     }
+    true
+}
+
+/// Whether what is read is the same where all bytes outside of these positions are changed.
+fn ignores_all_outside<F: Fn(&[u8]) -> bool>(
+    file: &mut [u8],
+    spans: &[Span],
+    is_the_same: &F,
+) -> bool
+    requires { F.IsAlwaysCallable is_the_same.now }
+{
     flip_outside(file, spans);
-    if !is_the_same(file) {
+    let is_the_same = is_the_same(file);
+    flip_outside(file, spans);
+    is_the_same
+}
+
+/// Whether what is read is another where some byte of this span is changed.
+fn is_read<F: Fn(&[u8]) -> bool>(file: &mut [u8], span: &Span, is_the_same: &F) -> bool
+    requires { F.IsAlwaysCallable is_the_same.now }
+{
+    for place in span.0..span.1 {
+        if !is_the_same_without(file, place, is_the_same) {
+            return true;
+        }
+    }
+    false
+}
+
+/// Whether what is read is the same in each file that differs from this one outside of these
+/// positions, at one place or at all of them, and another where a byte of each span is changed.
+fn depends_on<F: Fn(&[u8]) -> bool>(file: &mut [u8], spans: &[Span], is_the_same: F) -> bool
+    requires { F.IsAlwaysCallable is_the_same }
+{
+    if !ignores_each_outside(file, spans, &is_the_same)
+        || !ignores_all_outside(file, spans, &is_the_same)
+    {
         return false;
     }
-    flip_outside(file, spans);
-    for (begin, end) in spans {
-        let mut is_read = false;
-        for place in *begin..*end {
-            flip(file, place);
-            is_read = is_read || !is_the_same(file);
-            flip(file, place);
-        }
-        if !is_read {
+    for span in spans {
+        if !is_read(file, span, &is_the_same) {
             return false;
         }
     }
@@ -147,8 +185,12 @@ fn are_sample_imports(data: &ImportData) -> bool {
 
 fn is_sample_library(library: &SyntheticImportDirectoryEntry) -> bool {
     (library.import_directory_entry, library.name) == (RECORD, "a.dll")
-        && matches!(&library.import_lookup_table, Some(table) if is_sample_table(table))
+        && are_sample_lookups(&library.import_lookup_table)
         && library.import_address_table.as_slice() == [0x1090, 0x8000_0007].as_slice()
+}
+
+fn are_sample_lookups(table: &Option<ImportLookupTable>) -> bool {
+    matches!(table, Some(table) if is_sample_table(table))
 }
 
 /// Whether this is the sample file's export record.
@@ -209,30 +251,46 @@ pub(super) fn is_sample(whole: &Whole) -> bool {
         && matches!(whole.relocations, Part::Absent)
 }
 
+/// Whether the sample file's lookup table was read.
+fn is_table_read(table: &goblin_base::Result<ImportLookupTable>) -> bool {
+    matches!(table, Ok(table) if is_sample_table(table))
+}
+
 /// Whether both files have the sample file's lookup table.
 fn have_lookups<'a>(alloc: Global, a: &'a [u8], b: &'a [u8]) -> bool {
     let sections = [sample_section()];
     let opts = ParseOptions::default();
-    let (first, second) = twin_lookup::<u32>(alloc, a, b, 0x240, &sections, ALIGNMENT, &opts);
-    matches!(&first, Ok(table) if is_sample_table(table))
-        && matches!(&second, Ok(table) if is_sample_table(table))
+    let tables = twin_lookup::<u32>(alloc, a, b, 0x240, &sections, ALIGNMENT, &opts);
+    is_table_read(&tables.0) && is_table_read(&tables.1)
+}
+
+/// Whether the sample file's import data was read.
+fn are_imports_read(data: &goblin_base::Result<ImportData>) -> bool {
+    matches!(data, Ok(data) if are_sample_imports(data))
 }
 
 /// Whether both files have the sample file's import data.
 fn have_imports<'a>(alloc: Global, a: &'a [u8], b: &'a [u8]) -> bool {
     let sections = [sample_section()];
     let opts = ParseOptions::default();
-    let (first, second) = twin_imports::<u32>(alloc, a, b, DIRECTORY, &sections, ALIGNMENT, &opts);
-    matches!(&first, Ok(data) if are_sample_imports(data))
-        && matches!(&second, Ok(data) if are_sample_imports(data))
+    let imports = twin_imports::<u32>(alloc, a, b, DIRECTORY, &sections, ALIGNMENT, &opts);
+    are_imports_read(&imports.0) && are_imports_read(&imports.1)
 }
 
 /// Whether both files have the sample file's export data and exports.
-fn have_exports<'a>(alloc: Global, a: &'a [u8], b: &'a [u8]) -> bool {
-    let sections = [sample_section()];
+fn have_exports<'a>(alloc: Global, a: &'a [u8], b: &'a [u8], sections: &[SectionTable]) -> bool {
     let opts = ParseOptions::default();
-    let (first, second) = twin_exports(alloc, a, b, EXPORT_DIRECTORY, &sections, ALIGNMENT, &opts);
-    are_sample_exports(&first) && are_sample_exports(&second)
+    are_both_exports(&twin_exports(alloc, a, b, EXPORT_DIRECTORY, sections, ALIGNMENT, &opts))
+}
+
+/// Whether both are the sample file's export data and exports.
+fn are_both_exports(
+    exports: &(
+        goblin_base::Result<ExportRead>,
+        goblin_base::Result<ExportRead>,
+    ),
+) -> bool {
+    are_sample_exports(&exports.0) && are_sample_exports(&exports.1)
 }
 
 fn are_sample_exports(read: &goblin_base::Result<ExportRead>) -> bool {
@@ -242,15 +300,19 @@ fn are_sample_exports(read: &goblin_base::Result<ExportRead>) -> bool {
     }
 }
 
+/// Whether these are the sample file, with one header.
+fn are_samples(first: &Whole, second: &Whole) -> bool {
+    first.header == second.header && is_sample(first) && is_sample(second)
+}
+
+/// Whether the sample file was read both times, with one header.
+fn are_samples_read(wholes: &(goblin_base::Result<Whole>, goblin_base::Result<Whole>)) -> bool {
+    matches!(wholes, (Ok(first), Ok(second)) if are_samples(first, second))
+}
+
 /// Whether both files have the sample file's header, sections and tables.
-fn are_wholes<'a>(alloc: Global, a: &'a [u8], b: &'a [u8]) -> bool {
-    let (first, second) = twin_whole(alloc, a, b, &ParseOptions::default());
-    match (&first, &second) {
-        (Ok(first), Ok(second)) => first.header == second.header
-            && is_sample(first)
-            && is_sample(second),
-        _ => false,
-    }
+fn are_wholes<'a>(alloc: Global, a: &'a [u8], b: &'a [u8], opts: &ParseOptions) -> bool {
+    are_samples_read(&twin_whole(alloc, a, b, opts))
 }
 
 #[test]
@@ -276,7 +338,14 @@ fn exports_depend_on_their_footprint_alone(rt: HostRuntime) -> Result<(), Fail> 
     let alloc = rt.alloc();
     let file = sample(alloc)?;
     let mut other = sample(alloc)?;
-    assert!(rt; depends_on(&mut other, EXPORTS, |b| have_exports(alloc, &file, b)));
+    let sections = [sample_section()];
+    assert!(rt;
+        depends_on(
+            &mut other,
+            EXPORTS,
+            |b| have_exports(alloc, &file, b, &sections)
+        )
+    );
     Ok(())
 }
 
@@ -285,28 +354,79 @@ fn a_whole_file_depends_on_its_footprint_alone(rt: HostRuntime) -> Result<(), Fa
     let alloc = rt.alloc();
     let file = sample(alloc)?;
     let mut other = sample(alloc)?;
-    assert!(rt; depends_on(&mut other, WHOLE, |b| are_wholes(alloc, &file, b)));
+    let opts = ParseOptions::default();
+    assert!(rt; depends_on(&mut other, WHOLE, |b| are_wholes(alloc, &file, b, &opts)));
     Ok(())
+}
+
+/// Whether these are the positions of the sample directory's imports.
+fn are_import_bytes(spans: &goblin_base::Result<Vec<Span>>) -> bool {
+    matches!(spans, Ok(spans) if are_the_same(spans, IMPORTS))
+}
+
+/// Whether the footprint of the sample directory's imports is listed.
+fn is_listed(alloc: Global, file: &[u8], mode: ParseMode) -> bool {
+    let sections = [sample_section()];
+    let opts = ParseOptions::default().with_parse_mode(mode);
+    are_import_bytes(&footprint_imports::<u32>(alloc, file, DIRECTORY, &sections, ALIGNMENT, &opts))
+}
+
+/// Whether the footprint is listed by what the header of the file says.
+fn is_listed_by_the_header(alloc: Global, file: &[u8], whole: &goblin_base::Result<Whole>) -> bool {
+    match whole {
+        Ok(whole) => are_import_bytes(&import_bytes(alloc, file, whole)),
+        Err(_) => false,
+    }
+}
+
+/// Whether a whole file has the footprint listed.
+fn is_listed_of_the_whole(alloc: Global, file: &[u8], opts: &ParseOptions) -> bool {
+    is_listed_by_the_header(alloc, file, &Whole::read(alloc, file, opts))
 }
 
 #[test]
 fn the_footprint_of_imports_is_listed(rt: HostRuntime) -> Result<(), Fail> {
     let alloc = rt.alloc();
     let mut file = sample(alloc)?;
-    let sections = [sample_section()];
-    // The file as it stands, and with every byte outside changed.
-    for _ in 0..2 {
-        for mode in [ParseMode::Strict, ParseMode::Permissive] {
-            let opts = ParseOptions::default().with_parse_mode(mode);
-            let spans = footprint_imports::<u32>(
-                alloc, &file, DIRECTORY, &sections, ALIGNMENT, &opts,
-            )?;
-            assert!(rt; are_the_same(&spans, IMPORTS), "{mode:?}");
-        }
-        flip_outside(&mut file, IMPORTS);
-    }
-    let whole = Whole::read(alloc, &file, &ParseOptions::default())?;
-    assert!(rt; are_the_same(&import_bytes(alloc, &file, &whole)?, IMPORTS));
+    assert!(rt; is_listed(alloc, &file, ParseMode::Strict));
+    assert!(rt; is_listed(alloc, &file, ParseMode::Permissive));
+    flip_outside(&mut file, IMPORTS);
+    assert!(rt; is_listed(alloc, &file, ParseMode::Strict));
+    assert!(rt; is_listed(alloc, &file, ParseMode::Permissive));
+    flip_outside(&mut file, IMPORTS);
+    assert!(rt; is_listed_of_the_whole(alloc, &file, &ParseOptions::default()));
+    Ok(())
+}
+
+/// Whether the imports of a directory have no footprint.
+fn is_not_read(
+    alloc: Global,
+    file: &[u8],
+    directory: DataDirectory,
+    sections: &[SectionTable],
+    opts: &ParseOptions,
+) -> bool {
+    let spans = footprint_imports::<u32>(alloc, file, directory, sections, ALIGNMENT, opts);
+    matches!(&spans, Ok(spans) if spans.is_empty())
+}
+
+/// Whether the imports of the directory at offset 0 depend on the first byte.
+fn is_read_at_the_front(alloc: Global, file: &[u8], opts: &ParseOptions) -> bool {
+    let front = DataDirectory::default();
+    let spans = footprint_imports::<u32>(alloc, file, front, &[], ALIGNMENT, opts);
+    matches!(&spans, Ok(spans) if is_in(spans, 0))
+}
+
+#[test]
+fn a_directory_that_is_not_mapped_has_no_footprint(rt: HostRuntime) -> Result<(), Fail> {
+    let alloc = rt.alloc();
+    let file = sample(alloc)?;
+    let nowhere = DataDirectory {
+        virtual_address: 0x9000,
+        size: 0x28,
+    };
+    let opts = ParseOptions::default();
+    assert!(rt; is_not_read(alloc, &file, nowhere, &[sample_section()], &opts));
     Ok(())
 }
 
@@ -314,36 +434,23 @@ fn the_footprint_of_imports_is_listed(rt: HostRuntime) -> Result<(), Fail> {
 fn a_directory_that_is_not_read_has_no_footprint(rt: HostRuntime) -> Result<(), Fail> {
     let alloc = rt.alloc();
     let file = sample(alloc)?;
-    let strict = ParseOptions::default();
-    let permissive = strict.with_parse_mode(ParseMode::Permissive);
-    let nowhere = DataDirectory {
-        virtual_address: 0x9000,
-        size: 0x28,
-    };
-    let unmapped = footprint_imports::<u32>(
-        alloc,
-        &file,
-        nowhere,
-        &[sample_section()],
-        ALIGNMENT,
-        &strict,
-    )?;
-    assert!(rt; unmapped.is_empty());
     // At offset 0 strict mode reads a directory, and permissive mode takes it for empty.
-    let front = DataDirectory::default();
-    let plain = ParseOptions {
+    let strict = ParseOptions {
         resolve_rva: false,
-        ..strict
+        ..ParseOptions::default()
     };
-    let read = footprint_imports::<u32>(alloc, &file, front, &[], ALIGNMENT, &plain)?;
-    assert!(rt; is_in(&read, 0));
-    let opts = ParseOptions {
-        resolve_rva: false,
-        ..permissive
-    };
-    let empty = footprint_imports::<u32>(alloc, &file, front, &[], ALIGNMENT, &opts)?;
-    assert!(rt; empty.is_empty());
+    assert!(rt; is_read_at_the_front(alloc, &file, &strict));
+    let permissive = strict.with_parse_mode(ParseMode::Permissive);
+    assert!(rt; is_not_read(alloc, &file, DataDirectory::default(), &[], &permissive));
     Ok(())
+}
+
+/// Whether the first file has a lookup table of one entry of eight bytes, and the second none.
+fn has_one_wide_entry(alloc: Global, file: &[u8], other: &[u8]) -> bool {
+    let sections = [sample_section()];
+    let opts = ParseOptions::default();
+    let tables = twin_lookup::<u64>(alloc, file, other, 0x240, &sections, ALIGNMENT, &opts);
+    matches!(&tables.0, Ok(table) if table.as_slice().len() == 1) && tables.1.is_err()
 }
 
 #[test]
@@ -352,40 +459,39 @@ fn lookup_tables_of_two_files_are_read_by_entries_of_eight_bytes(
 ) -> Result<(), Fail> {
     let alloc = rt.alloc();
     let file = sample(alloc)?;
+    assert!(rt; has_one_wide_entry(alloc, &file, &[]));
+    Ok(())
+}
+
+/// Whether the first file has no imports by entries of two bytes, and the second those of one library.
+fn has_one_library_by_short_entries(alloc: Global, file: &[u8], other: &[u8]) -> bool {
     let sections = [sample_section()];
     let opts = ParseOptions::default();
-    let (first, second) = twin_lookup::<u64>(alloc, &file, &[], 0x240, &sections, ALIGNMENT, &opts);
-    assert!(rt; matches!(&first, Ok(table) if table.as_slice().len() == 1) && second.is_err());
-    Ok(())
+    let imports = twin_imports::<Short>(alloc, file, other, DIRECTORY, &sections, ALIGNMENT, &opts);
+    imports.0.is_err() && matches!(&imports.1, Ok(data) if data.import_data.len() == 1)
 }
 
 #[test]
 fn imports_of_two_files_are_read_by_entries_of_two_bytes(rt: HostRuntime) -> Result<(), Fail> {
     let alloc = rt.alloc();
     let file = sample(alloc)?;
+    assert!(rt; has_one_library_by_short_entries(alloc, &[], &file));
+    Ok(())
+}
+
+/// Whether the footprint of imports by entries of two bytes ends with the lookup table's end.
+fn ends_after_short_entries(alloc: Global, file: &[u8]) -> bool {
     let sections = [sample_section()];
     let opts = ParseOptions::default();
-    let (first, second) = twin_imports::<Short>(
-        alloc,
-        &[],
-        &file,
-        DIRECTORY,
-        &sections,
-        ALIGNMENT,
-        &opts,
-    );
-    assert!(rt; first.is_err() && matches!(&second, Ok(data) if data.import_data.len() == 1));
-    Ok(())
+    let spans = footprint_imports::<Short>(alloc, file, DIRECTORY, &sections, ALIGNMENT, &opts);
+    matches!(&spans, Ok(spans) if is_in(spans, 0x243) && !is_in(spans, 0x244))
 }
 
 #[test]
 fn the_footprint_of_imports_goes_by_the_entry_type(rt: HostRuntime) -> Result<(), Fail> {
     let alloc = rt.alloc();
     let file = sample(alloc)?;
-    let sections = [sample_section()];
-    let opts = ParseOptions::default();
-    let spans = footprint_imports::<Short>(alloc, &file, DIRECTORY, &sections, ALIGNMENT, &opts)?;
-    assert!(rt; is_in(&spans, 0x243) && !is_in(&spans, 0x244));
+    assert!(rt; ends_after_short_entries(alloc, &file));
     Ok(())
 }
 
@@ -411,15 +517,29 @@ fn is_nameless(imports: &[Import]) -> bool {
     }
 }
 
+/// Whether the file has that import alone.
+fn has_a_nameless_import(alloc: Global, file: &[u8]) -> bool {
+    matches!(&imports_of(alloc, file), Ok(imports) if is_nameless(imports))
+}
+
 #[test]
 fn a_name_may_be_an_ordinals(rt: HostRuntime) -> Result<(), Fail> {
     let alloc = rt.alloc();
     // A lookup table at the directory's own place: its one entry leads to its own bytes.
     let mut file = sample(alloc)?;
     put(&mut file, 0x200, b"\x00\x10");
-    let imports = imports_of(alloc, &file)?;
-    assert!(rt; is_nameless(&imports));
+    assert!(rt; has_a_nameless_import(alloc, &file));
     Ok(())
+}
+
+/// Whether these are two imports, of which the first has a name of 366 letters A.
+fn begins_with_a_long_name(imports: &[Import]) -> bool {
+    matches!(imports, [import, _] if import.name.as_bytes() == [b'A'; 366].as_slice())
+}
+
+/// Whether the file has imports of which the first has that name.
+fn has_a_long_name(alloc: Global, file: &[u8]) -> bool {
+    matches!(&imports_of(alloc, file), Ok(imports) if begins_with_a_long_name(imports))
 }
 
 #[test]
@@ -428,13 +548,8 @@ fn a_name_may_reach_the_end(rt: HostRuntime) -> Result<(), Fail> {
     // A name that runs to the end of a longer file.
     let mut long = sample(alloc)?;
     long.resize(0x400, b'A')?;
-    for place in 0x292..0x300 {
-        put(&mut long, place, b"A");
-    }
-    let imports = imports_of(alloc, &long)?;
-    let is_long =
-        matches!(&imports[..], [import, _] if import.name.as_bytes() == [b'A'; 366].as_slice());
-    assert!(rt; is_long);
+    put(&mut long, 0x292, &[b'A'; 0x300 - 0x292]);
+    assert!(rt; has_a_long_name(alloc, &long));
     Ok(())
 }
 
@@ -443,25 +558,42 @@ fn are_sevens(entries: &[SyntheticImportLookupTableEntry], count: usize) -> bool
     entries.len() == count && entries.iter().all(|entry| is_seven(entry))
 }
 
+/// The lookup table of the sample file.
+fn lookup_table<'a>(
+    alloc: Global,
+    file: &'a [u8],
+    mode: ParseMode,
+) -> goblin_base::Result<ImportLookupTable<'a>> {
+    let sections = [sample_section()];
+    let opts = ParseOptions::default().with_parse_mode(mode);
+    SyntheticImportLookupTableEntry::parse_with_opts::<u32>(
+        alloc, file, 0x240, &sections, ALIGNMENT, &opts,
+    )
+}
+
+/// Whether strict mode refuses the lookup table of a file that ends within it.
+fn is_refused(alloc: Global, file: &[u8]) -> bool {
+    let table = lookup_table(alloc, file, ParseMode::Strict);
+    matches!(&table, Err(Error::Malformed(_) | Error::Read(_)))
+}
+
 #[test]
 fn a_lookup_table_that_meets_the_end_is_refused_in_strict_mode(
     rt: HostRuntime,
 ) -> Result<(), Fail> {
     let alloc = rt.alloc();
-    let sections = [sample_section()];
-    let strict = ParseOptions::default();
+    let mut file = sample(alloc)?;
     for len in [0x248, 0x247] {
-        let mut file = sample(alloc)?;
         file.truncate(len);
-        let refused = SyntheticImportLookupTableEntry::parse_with_opts::<u32>(
-            alloc, &file, 0x240, &sections, ALIGNMENT, &strict,
-        );
-        assert!(rt;
-            matches!(refused, Err(Error::Malformed(_) | Error::Read(_))),
-            "{len:#x}"
-        );
+        assert!(rt; is_refused(alloc, &file), "{len:#x}");
     }
     Ok(())
+}
+
+/// Whether permissive mode keeps so many entries of it, by the ordinal 7.
+fn keeps_sevens(alloc: Global, file: &[u8], count: usize) -> bool {
+    let table = lookup_table(alloc, file, ParseMode::Permissive);
+    matches!(&table, Ok(kept) if are_sevens(kept.as_slice(), count))
 }
 
 #[test]
@@ -469,39 +601,31 @@ fn a_lookup_table_that_meets_the_end_is_cut_in_permissive_mode(
     rt: HostRuntime,
 ) -> Result<(), Fail> {
     let alloc = rt.alloc();
-    let sections = [sample_section()];
-    let permissive = ParseOptions::default().with_parse_mode(ParseMode::Permissive);
+    let mut file = sample(alloc)?;
     // The length of the file, and how many entries are kept.
     for (len, count) in [(0x248, 1), (0x247, 0)] {
-        let mut file = sample(alloc)?;
         file.truncate(len);
-        let kept = SyntheticImportLookupTableEntry::parse_with_opts::<u32>(
-            alloc,
-            &file,
-            0x240,
-            &sections,
-            ALIGNMENT,
-            &permissive,
-        )?;
-        assert!(rt; are_sevens(kept.as_slice(), count), "{len:#x}");
+        assert!(rt; keeps_sevens(alloc, &file, count), "{len:#x}");
     }
     Ok(())
+}
+
+/// How the listing of the imports' footprint ended.
+fn outcome(alloc: Global, file: &[u8]) -> Outcome {
+    let sections = [sample_section()];
+    let opts = ParseOptions::default();
+    match &footprint_imports::<u32>(alloc, file, DIRECTORY, &sections, ALIGNMENT, &opts) {
+        Ok(spans) if is_in(spans, 0x294) => Outcome::Right,
+        Err(Error::Memory(_)) => Outcome::Refused,
+        _ => Outcome::Wrong,
+    }
 }
 
 #[test]
 fn a_footprint_is_refused_at_each_growth(rt: HostRuntime) -> Result<(), Fail> {
     let alloc = rt.alloc();
     let file = sample(alloc)?;
-    let sections = [sample_section()];
-    let opts = ParseOptions::default();
-    let is_listed = is_refused_until_right(alloc, || {
-        match footprint_imports::<u32>(alloc, &file, DIRECTORY, &sections, ALIGNMENT, &opts) {
-            Ok(spans) if is_in(&spans, 0x294) => Outcome::Right,
-            Err(Error::Memory(_)) => Outcome::Refused,
-            _ => Outcome::Wrong,
-        }
-    })?;
-    assert!(rt; is_listed);
+    assert!(rt; is_refused_until_right(alloc, || outcome(alloc, &file))?);
     Ok(())
 }
 
@@ -521,24 +645,18 @@ fn outcome_of_both(
     }
 }
 
+/// How the imports of both files were read.
+fn outcome_of_imports(alloc: Global, file: &[u8], other: &[u8]) -> Outcome {
+    let sections = [sample_section()];
+    let opts = ParseOptions::default();
+    let imports = twin_imports::<u32>(alloc, file, other, DIRECTORY, &sections, ALIGNMENT, &opts);
+    outcome_of_both(&imports.0, &imports.1)
+}
+
 #[test]
 fn each_growth_refused_stands_in_its_place(rt: HostRuntime) -> Result<(), Fail> {
     let alloc = rt.alloc();
     let file = sample(alloc)?;
-    let sections = [sample_section()];
-    let opts = ParseOptions::default();
-    let is_read = is_refused_until_right(alloc, || {
-        let (first, second) = twin_imports::<u32>(
-            alloc,
-            &file,
-            &[],
-            DIRECTORY,
-            &sections,
-            ALIGNMENT,
-            &opts,
-        );
-        outcome_of_both(&first, &second)
-    })?;
-    assert!(rt; is_read);
+    assert!(rt; is_refused_until_right(alloc, || outcome_of_imports(alloc, &file, &[]))?);
     Ok(())
 }

@@ -1,12 +1,15 @@
 //! Headers, and single tables, of two files.
 
+use super::modes::{has_no_whole_block, has_record};
 use fixture::sample::{TABLE, put, sample, sample_section};
 use fixture_tables::imports::{ALIGNMENT, DIRECTORY, RECORD};
-use goblin_base::{Cause, Error};
-use goblin_pe::header::{CoffHeader, Header};
+use goblin_base::{Cause, Error, Strtab};
+use goblin_pe::header::{CoffHeader, Header, TeHeader};
 use goblin_pe::import::ImportDirectoryEntry;
 use goblin_pe::laws::{Parts, twin_header, twin_parts};
+use goblin_pe::optional_header::OptionalHeader;
 use goblin_pe::options::ParseOptions;
+use goblin_pe_sect::symbol::SymbolTable;
 use goblin_pe_sect::{DataDirectory, SectionTable};
 use std::alloc::{AllocError, Global};
 use std::test::Fail;
@@ -35,54 +38,158 @@ fn flip(file: &mut [u8], place: usize) {
     }
 }
 
+/// Whether this is the sample file's optional header.
+fn is_sample_optional_header(optional: &OptionalHeader) -> bool {
+    optional.standard_fields.magic == 0x10B
+        && optional.windows_fields.file_alignment == 0x200
+        && optional.data_directories.get_import_table() == Some(&DIRECTORY)
+}
+
 /// Whether this is the sample file's header.
 fn is_sample_header(header: &Header) -> bool {
-    let optional_is_right = match &header.optional_header {
-        Some(optional) => optional.standard_fields.magic == 0x10B
-            && optional.windows_fields.file_alignment == 0x200
-            && optional.data_directories.get_import_table() == Some(&DIRECTORY),
-        None => false,
-    };
-    header.dos_header.pe_pointer == 0x40 && header.coff_header == COFF_HEADER && optional_is_right
+    header.dos_header.pe_pointer == 0x40
+        && header.coff_header == COFF_HEADER
+        && matches!(&header.optional_header, Some(optional) if is_sample_optional_header(optional))
+}
+
+/// The headers of two files.
+type Headers<'a> = (
+    goblin_base::Result<Header<'a>>,
+    goblin_base::Result<Header<'a>>,
+);
+
+/// Whether the first is the sample file's header, and the second the same where this is said.
+fn are_headers(headers: &Headers, are_the_same: bool) -> bool {
+    let is_the_same = matches!(headers, (Ok(first), Ok(second)) if first == second);
+    is_the_same == are_the_same && matches!(&headers.0, Ok(header) if is_sample_header(header))
+}
+
+/// Whether the first file has the sample file's header, and the second the same where this is said.
+fn have_headers(file: &[u8], other: &[u8], are_the_same: bool) -> bool {
+    are_headers(
+        &twin_header(file, other, &ParseOptions::default()),
+        are_the_same,
+    )
 }
 
 #[test]
 fn a_header_depends_on_the_bytes_before_the_sections(rt: HostRuntime) -> Result<(), Fail> {
-    let alloc = rt.alloc();
-    let file = sample(alloc)?;
-    let mut other = sample(alloc)?;
-    let opts = ParseOptions::default();
+    let file = sample(rt.alloc())?;
+    let mut other = sample(rt.alloc())?;
     for place in 0..file.len() {
         flip(&mut other, place);
-        let (first, second) = twin_header(&file, &other, &opts);
-        assert!(rt;
-            matches!(&first, Ok(header) if is_sample_header(header)),
-            "{place:#x}"
-        );
-        let is_the_same = matches!((&first, &second), (Ok(first), Ok(second)) if first == second);
-        assert!(rt; is_the_same == (TABLE <= place), "{place:#x}");
+        assert!(rt; have_headers(&file, &other, TABLE <= place), "{place:#x}");
         flip(&mut other, place);
     }
-    for place in TABLE..file.len() {
-        flip(&mut other, place);
-    }
-    let (first, second) = twin_header(&file, &other, &opts);
-    assert!(rt; matches!(&first, Ok(header) if is_sample_header(header)));
-    assert!(rt; matches!(&second, Ok(header) if is_sample_header(header)));
     Ok(())
 }
 
-/// Whether these are the sample file's: without a DOS header its first four bytes are the signature,
-/// and the section's name says that less was stripped than a Terse Executable's header.
-fn are_sample_parts(parts: &Parts<ImportDirectoryEntry>) -> bool {
-    // The five bytes of a name are no whole block.
-    matches!(&parts.relocations, Ok(data) if matches!(data.blocks().next(), Some(Err(_))))
-        && matches!(&parts.header, Ok(header) if header.signature == 0x5A4D)
-        && matches!(&parts.sections, Ok(sections) if sections[..] == [sample_section()])
-        && matches!(&parts.symbols, Ok(None))
-        && matches!(&parts.strings, Ok(None))
+/// Whether both are the sample file's header.
+fn are_sample_headers(headers: &Headers) -> bool {
+    matches!(headers, (Ok(first), Ok(second)) if is_sample_header(first) && is_sample_header(second))
+}
+
+#[test]
+fn a_header_is_the_same_where_all_bytes_from_the_sections_on_differ(
+    rt: HostRuntime,
+) -> Result<(), Fail> {
+    let file = sample(rt.alloc())?;
+    let mut other = sample(rt.alloc())?;
+    for place in TABLE..file.len() {
+        flip(&mut other, place);
+    }
+    assert!(rt; are_sample_headers(&twin_header(&file, &other, &ParseOptions::default())));
+    Ok(())
+}
+
+/// Whether the sample file's section was read.
+fn has_sample_section(sections: &goblin_base::Result<Vec<SectionTable>>) -> bool {
+    matches!(sections, Ok(sections) if sections[..] == [sample_section()])
+}
+
+/// Whether there is neither a symbol table nor a string table.
+fn have_no_symbols(parts: &Parts<ImportDirectoryEntry>) -> bool {
+    matches!((&parts.symbols, &parts.strings), (Ok(None), Ok(None)))
+}
+
+/// Whether these are the sample file's headers: without a DOS header its first four bytes are the
+/// signature, and the section's name says that less was stripped than a Terse Executable's header.
+fn have_sample_headers(parts: &Parts<ImportDirectoryEntry>) -> bool {
+    matches!(&parts.header, Ok(header) if header.signature == 0x5A4D)
         && matches!(&parts.te, Err(Error::Malformed(Cause::StrippedSize(0))))
-        && matches!(&parts.value, Ok(value) if *value == RECORD)
+}
+
+/// Whether these are the sample file's. The five bytes of a name are no whole block.
+fn are_sample_parts(parts: &Parts<ImportDirectoryEntry>) -> bool {
+    has_no_whole_block(&parts.relocations)
+        && have_sample_headers(parts)
+        && has_sample_section(&parts.sections)
+        && have_no_symbols(parts)
+        && has_record(&parts.value, &RECORD)
+}
+
+/// Whether this is one section with the name `.text`.
+fn is_text(sections: &[SectionTable]) -> bool {
+    matches!(sections, [section] if section.name == *b".text\0\0\0")
+}
+
+/// Whether these are a section `.text`, and a record with another address than the sample file's.
+fn are_changed_parts(parts: &Parts<ImportDirectoryEntry>) -> bool {
+    matches!(&parts.sections, Ok(sections) if is_text(sections))
+        && matches!(&parts.value, Ok(value) if value.import_address_table_rva == 0x1061)
+}
+
+/// What was read of a file's parts.
+#[derive(PartialEq, Drop)]
+enum Read {
+    /// Those of the sample file.
+    Sample,
+    /// Those of the sample file with another section's name and another address in its record.
+    Changed,
+    /// Anything else.
+    Other,
+}
+
+/// What was read.
+fn what_is_read(parts: &Parts<ImportDirectoryEntry>) -> Read {
+    if are_sample_parts(parts) {
+        Read::Sample
+    } else if are_changed_parts(parts) {
+        Read::Changed
+    } else {
+        Read::Other
+    }
+}
+
+/// The parts of two files.
+type TwoParts<'a, D> = (Parts<'a, D>, Parts<'a, D>);
+
+/// What was read of each file.
+fn what_both_are(parts: &TwoParts<ImportDirectoryEntry>) -> (Read, Read) {
+    (what_is_read(&parts.0), what_is_read(&parts.1))
+}
+
+/// What is read of each file, by the sample file's COFF header and directories.
+fn read_of_each(
+    alloc: Global,
+    file: &[u8],
+    other: &[u8],
+    sections: &[SectionTable],
+) -> (Read, Read) {
+    let opts = ParseOptions::default();
+    let parts: TwoParts<ImportDirectoryEntry> = twin_parts(
+        alloc,
+        file,
+        other,
+        COFF_HEADER,
+        TABLE,
+        NAME,
+        DIRECTORY,
+        sections,
+        ALIGNMENT,
+        &opts,
+    );
+    what_both_are(&parts)
 }
 
 #[test]
@@ -90,28 +197,9 @@ fn single_tables_of_one_file_are_what_their_readers_give(rt: HostRuntime) -> Res
     let alloc = rt.alloc();
     let file = sample(alloc)?;
     let again = sample(alloc)?;
-    let sections = [sample_section()];
-    let opts = ParseOptions::default();
-    let (first, second): (Parts<ImportDirectoryEntry>, Parts<ImportDirectoryEntry>) = twin_parts(
-        alloc,
-        &file,
-        &again,
-        COFF_HEADER,
-        TABLE,
-        NAME,
-        DIRECTORY,
-        &sections,
-        ALIGNMENT,
-        &opts,
-    );
-    assert!(rt; are_sample_parts(&first));
-    assert!(rt; are_sample_parts(&second));
+    let read = read_of_each(alloc, &file, &again, &[sample_section()]);
+    assert!(rt; read == (Read::Sample, Read::Sample));
     Ok(())
-}
-
-/// Whether this is one section with the name `.text`.
-fn is_text(sections: &[SectionTable]) -> bool {
-    matches!(sections, [section] if section.name == *b".text\0\0\0")
 }
 
 #[test]
@@ -121,24 +209,8 @@ fn single_tables_of_two_files_are_each_files_own(rt: HostRuntime) -> Result<(), 
     let mut other = sample(alloc)?;
     put(&mut other, TABLE, b".text\0");
     put(&mut other, 0x210, b"\x61");
-    let sections = [sample_section()];
-    let opts = ParseOptions::default();
-    let (first, second): (Parts<ImportDirectoryEntry>, Parts<ImportDirectoryEntry>) = twin_parts(
-        alloc,
-        &file,
-        &other,
-        COFF_HEADER,
-        TABLE,
-        NAME,
-        DIRECTORY,
-        &sections,
-        ALIGNMENT,
-        &opts,
-    );
-    assert!(rt; matches!(&first.sections, Ok(sections) if sections[..] == [sample_section()]));
-    assert!(rt; matches!(&second.sections, Ok(sections) if is_text(sections)));
-    assert!(rt; matches!(&first.value, Ok(value) if value.import_address_table_rva == 0x1060));
-    assert!(rt; matches!(&second.value, Ok(value) if value.import_address_table_rva == 0x1061));
+    let read = read_of_each(alloc, &file, &other, &[sample_section()]);
+    assert!(rt; read == (Read::Sample, Read::Changed));
     Ok(())
 }
 
@@ -159,18 +231,67 @@ fn terse_file(alloc: Global) -> Result<Vec<u8>, AllocError> {
     Ok(file)
 }
 
-/// Whether these are the parts of the Terse Executable, from whose addresses 8 is taken.
-fn are_terse_parts(parts: &Parts<DataDirectory>) -> bool {
-    matches!(&parts.te, Ok((header, sections)) if header.stripped_size == 0x30 && is_placed(sections))
-        && matches!(&parts.sections, Ok(sections) if sections.len() == 1)
-        && matches!(&parts.symbols, Ok(Some(symbols)) if symbols.iter().next().is_some())
-        && matches!(&parts.strings, Ok(Some(strings)) if strings.get_at(0) == Some("ab"))
-        && matches!(&parts.value, Ok(value) if value.virtual_address == 7)
-}
-
 /// Whether this is the one section of the Terse Executable.
 fn is_placed(sections: &[SectionTable]) -> bool {
     matches!(sections, [section] if section.virtual_address == 0x1010)
+}
+
+/// Whether these are the headers of the Terse Executable.
+fn are_terse_headers(read: &goblin_base::Result<(TeHeader, Vec<SectionTable>)>) -> bool {
+    matches!(read, Ok((header, sections)) if header.stripped_size == 0x30 && is_placed(sections))
+}
+
+/// Whether there is a symbol.
+fn has_a_symbol(symbols: &goblin_base::Result<Option<SymbolTable>>) -> bool {
+    matches!(symbols, Ok(Some(symbols)) if symbols.iter().next().is_some())
+}
+
+/// Whether the strings begin with the one of the Terse Executable.
+fn has_the_string(strings: &goblin_base::Result<Option<Strtab>>) -> bool {
+    matches!(strings, Ok(Some(strings)) if strings.get_at(0) == Some("ab"))
+}
+
+/// Whether these are the parts of the Terse Executable, from whose addresses 8 is taken.
+fn are_terse_parts(parts: &Parts<DataDirectory>) -> bool {
+    are_terse_headers(&parts.te)
+        && matches!(&parts.sections, Ok(sections) if sections.len() == 1)
+        && has_a_symbol(&parts.symbols)
+        && has_the_string(&parts.strings)
+        && matches!(&parts.value, Ok(value) if value.virtual_address == 7)
+}
+
+/// Whether both are the parts of the Terse Executable.
+fn are_both_terse_parts(parts: &TwoParts<DataDirectory>) -> bool {
+    are_terse_parts(&parts.0) && are_terse_parts(&parts.1)
+}
+
+/// The bytes of the Terse Executable's strings.
+const STRINGS: DataDirectory = DataDirectory {
+    virtual_address: 0x62,
+    size: 8,
+};
+
+/// Whether both files have the Terse Executable's parts.
+fn have_terse_parts(
+    alloc: Global,
+    file: &[u8],
+    other: &[u8],
+    coff_header: CoffHeader,
+    opts: &ParseOptions,
+) -> bool {
+    let parts: TwoParts<DataDirectory> = twin_parts(
+        alloc,
+        file,
+        other,
+        coff_header,
+        0,
+        STRINGS,
+        STRINGS,
+        &[],
+        ALIGNMENT,
+        opts,
+    );
+    are_both_terse_parts(&parts)
 }
 
 #[test]
@@ -184,24 +305,6 @@ fn a_terse_executable_is_read_with_its_sections(rt: HostRuntime) -> Result<(), F
         number_of_symbol_table: 1,
         ..CoffHeader::default()
     };
-    let strings = DataDirectory {
-        virtual_address: 0x62,
-        size: 8,
-    };
-    let opts = ParseOptions::te();
-    let (first, second): (Parts<DataDirectory>, Parts<DataDirectory>) = twin_parts(
-        alloc,
-        &file,
-        &again,
-        coff_header,
-        0,
-        strings,
-        strings,
-        &[],
-        ALIGNMENT,
-        &opts,
-    );
-    assert!(rt; are_terse_parts(&first));
-    assert!(rt; are_terse_parts(&second));
+    assert!(rt; have_terse_parts(alloc, &file, &again, coff_header, &ParseOptions::te()));
     Ok(())
 }

@@ -9,15 +9,25 @@ use goblin_base::ParseMode;
 use std::alloc::Global;
 use std::test::Fail;
 
-/// Runs over the file, and takes what it writes, for which there is room.
-fn run_into(alloc: Global, file: &[u8], taken: &mut Vec<u8>) -> Result<(), RunFault> {
-    let mut writer = Watched::new(taken);
-    run(
+/// How a run over the sample file ended that wrote this.
+fn outcome(ran: &Result<(), RunFault>, taken: &[u8]) -> Outcome {
+    match ran {
+        Ok(()) if taken == LISTING => Outcome::Right,
+        Err(fault) if fault.line() == "out of memory" && taken.is_empty() => Outcome::Refused,
+        _ => Outcome::Wrong,
+    }
+}
+
+/// How a run over the file ends that writes to `taken`, which has room.
+fn outcome_of_run(alloc: Global, file: &[u8], taken: &mut Vec<u8>) -> Outcome {
+    taken.truncate(0);
+    let ran = run(
         alloc,
         &mut Watched::new(file),
-        &mut writer,
+        &mut Watched::new(&mut *taken),
         ParseMode::Strict,
-    )
+    );
+    outcome(&ran, taken.as_slice())
 }
 
 #[test]
@@ -25,14 +35,6 @@ fn a_run_is_refused_at_each_growth(rt: HostRuntime) -> Result<(), Fail> {
     let alloc = rt.alloc();
     let file = sample(alloc)?;
     let mut taken = Vec::with_capacity(alloc, LISTING.len())?;
-    let is_right = is_refused_until_right(alloc, || {
-        taken.truncate(0);
-        match run_into(alloc, &file, &mut taken) {
-            Ok(()) if taken.as_slice() == LISTING => Outcome::Right,
-            Err(fault) if fault.line() == "out of memory" && taken.is_empty() => Outcome::Refused,
-            _ => Outcome::Wrong,
-        }
-    })?;
-    assert!(rt; is_right);
+    assert!(rt; is_refused_until_right(alloc, || outcome_of_run(alloc, &file, &mut taken))?);
     Ok(())
 }

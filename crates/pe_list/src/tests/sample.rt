@@ -39,7 +39,7 @@ relocations absent
 ";
 
 /// What a run over the file writes.
-pub fn listing(alloc: Global, file: &[u8], mode: ParseMode) -> Result<Vec<u8>, RunFault> {
+fn listing(alloc: Global, file: &[u8], mode: ParseMode) -> Result<Vec<u8>, RunFault> {
     let mut taken = Vec::new(alloc);
     run(
         alloc,
@@ -48,4 +48,62 @@ pub fn listing(alloc: Global, file: &[u8], mode: ParseMode) -> Result<Vec<u8>, R
         mode,
     )?;
     Ok(taken)
+}
+
+/// Whether these parts were written, one after the other.
+fn are_written(listed: &Result<Vec<u8>, RunFault>, parts: &[&[u8]]) -> bool {
+    matches!(listed, Ok(text) if is_joined(text, parts))
+}
+
+/// Whether a run over the file writes these parts, one after the other.
+pub fn is_listed(alloc: Global, file: &[u8], mode: ParseMode, parts: &[&[u8]]) -> bool {
+    are_written(&listing(alloc, file, mode), parts)
+}
+
+/// The first mode in which a run over the file does not write these parts.
+pub fn mode_without(alloc: Global, file: &[u8], parts: &[&[u8]]) -> Option<ParseMode> {
+    if !is_listed(alloc, file, ParseMode::Strict, parts) {
+        return Some(ParseMode::Strict);
+    }
+    if !is_listed(alloc, file, ParseMode::Permissive, parts) {
+        return Some(ParseMode::Permissive);
+    }
+    None
+}
+
+/// Whether the fault is that the file was refused.
+fn is_refusal(listed: &Result<Vec<u8>, RunFault>) -> bool {
+    matches!(listed, Err(fault) if fault.line() == "refused")
+}
+
+/// Whether a run over the file is refused.
+pub fn is_refused(alloc: Global, file: &[u8], mode: ParseMode) -> bool {
+    is_refusal(&listing(alloc, file, mode))
+}
+
+/// Whether the text is these parts, one after the other.
+fn is_joined(text: &[u8], parts: &[&[u8]]) -> bool {
+    let mut rest = text;
+    for part in parts {
+        match rest.strip_prefix(*part) {
+            Some(after) => rest = after,
+            None => return false,
+        }
+    }
+    rest.is_empty()
+}
+
+/// Whether a run ended with this line.
+pub fn ends_with(ran: &Result<(), RunFault>, line: &str) -> bool {
+    matches!(ran, Err(fault) if fault.line() == line)
+}
+
+/// Whether a run stopped at a read that failed.
+pub fn is_input_fault(ran: &Result<(), RunFault>) -> bool {
+    matches!(ran, Err(RunFault::Input))
+}
+
+/// Whether a run stopped at a write that failed.
+pub fn is_output_fault(ran: &Result<(), RunFault>) -> bool {
+    matches!(ran, Err(RunFault::Output))
 }
