@@ -1,4 +1,8 @@
 //! Worked values of imports, exports and whole files.
+//!
+//! A [`Whole`](goblin_pe::Whole) ends in `drop`: what is proved of its parts is then proved once, and
+//! not in each function that has one. What owns memory is looked at by a function that borrows it, or
+//! takes it.
 
 mod exports;
 mod import_bound;
@@ -6,4 +10,5 @@ mod imports;
 mod large_file;
 mod overlapping;
 mod raw_pointers;
+mod shared;
 mod whole;

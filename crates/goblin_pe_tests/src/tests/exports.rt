@@ -1,5 +1,6 @@
 //! The exports of the sample file, and the forwarders among them.
 
+use super::shared::{is_told, sample_with};
 use fixture::memory::{Outcome, is_refused_until_right};
 use fixture::sample::{put, sample, sample_section, section};
 use fixture_tables::exports::{FORWARDED, PLAIN, Row, are};
@@ -10,8 +11,8 @@ use goblin_pe::export::{
 };
 use goblin_pe::table::Table;
 use goblin_pe_sect::utils::get_data;
-use goblin_pe_sect::{DataDirectory, ParseOptions, RawPointerRule};
-use std::alloc::Global;
+use goblin_pe_sect::{DataDirectory, ParseOptions, RawPointerRule, SectionTable};
+use std::alloc::{AllocError, Global};
 use std::test::Fail;
 
 /// The sample file's export directory, and its file alignment.
@@ -22,16 +23,34 @@ const DIRECTORY: DataDirectory = DataDirectory {
 
 const ALIGNMENT: u32 = 0x200;
 
+/// What the sample's export directory leads to in a file with its section.
+fn data_of(alloc: Global, file: &[u8]) -> goblin_base::Result<ExportData<'_>> {
+    ExportData::parse(alloc, file, DIRECTORY, &[sample_section()], ALIGNMENT)
+}
+
+/// The exports of these tables in a file with the sample's section.
+fn listed<'a>(
+    alloc: Global,
+    file: &'a [u8],
+    tables: &ExportData<'a>,
+) -> goblin_base::Result<Vec<Export<'a>>> {
+    Export::parse(alloc, file, tables, &[sample_section()], ALIGNMENT)
+}
+
 /// The exports of a file with the sample's section and directory.
 fn exports_of(alloc: Global, file: &[u8]) -> goblin_base::Result<Vec<Export<'_>>> {
-    let sections = [sample_section()];
-    let tables = ExportData::parse(alloc, file, DIRECTORY, &sections, ALIGNMENT)?;
-    Export::parse(alloc, file, &tables, &sections, ALIGNMENT)
+    let tables = data_of(alloc, file)?;
+    listed(alloc, file, &tables)
 }
 
 #[test]
 fn a_default_export_has_nothing(rt: HostRuntime) {
     assert!(rt; are(&[Export::default()], &[(None, None, 0, None)]));
+}
+
+/// Whether these exports were listed.
+fn are_listed(read: goblin_base::Result<Vec<Export>>, want: &[Row]) -> bool {
+    matches!(&read, Ok(exports) if are(exports, want))
 }
 
 #[test]
@@ -45,84 +64,122 @@ fn exports_are_dropped_for_a_missing_part_and_not_for_a_name(rt: HostRuntime) ->
         (0x2E1, b"-", &[PLAIN]),
     ];
     for (offset, bytes, want) in cases {
-        let mut file = sample(rt.alloc())?;
-        put(&mut file, offset, bytes);
-        let exports = exports_of(rt.alloc(), &file)?;
-        assert!(rt; are(&exports, want), "at {offset:#x}");
+        let file = sample_with(rt.alloc(), offset, bytes)?;
+        assert!(rt;
+            are_listed(exports_of(rt.alloc(), &file), want),
+            "at {offset:#x}"
+        );
     }
     Ok(())
 }
 
-#[test]
-fn tables_are_cut_at_the_end_of_the_file(rt: HostRuntime) -> Result<(), Fail> {
-    let alloc = rt.alloc();
-    let mut file = sample(alloc)?;
-    put(&mut file, 0x2B8, b"\x00\x03");
-    let tables = ExportData::parse(alloc, &file, DIRECTORY, &[sample_section()], ALIGNMENT)?;
-    let lengths = (
+/// How many name pointers and ordinals a file has.
+fn table_lengths(alloc: Global, file: &[u8]) -> goblin_base::Result<(usize, usize)> {
+    let tables = data_of(alloc, file)?;
+    Ok((
         tables.export_name_pointer_table.as_slice().len(),
         tables.export_ordinal_table.as_slice().len(),
-        exports_of(alloc, &file)?.len(),
-    );
-    assert!(rt; lengths == (12, 20, 9));
+    ))
+}
+
+/// How many exports a file has.
+fn export_count(alloc: Global, file: &[u8]) -> goblin_base::Result<usize> {
+    Ok(exports_of(alloc, file)?.len())
+}
+
+#[test]
+fn tables_are_cut_at_the_end_of_the_file(rt: HostRuntime) -> Result<(), Fail> {
+    let file = sample_with(rt.alloc(), 0x2B8, b"\x00\x03")?;
+    assert!(rt; table_lengths(rt.alloc(), &file)? == (12, 20));
+    assert!(rt; export_count(rt.alloc(), &file)? == 9);
     Ok(())
+}
+
+/// Whether the exports of a file are refused, since it is too short for 769 of what the text names.
+fn is_too_short(alloc: Global, file: &[u8], want: &str) -> bool {
+    let refused = exports_of(alloc, file).err();
+    matches!(refused, Some(Error::BufferTooShort(769, what)) if what == want)
 }
 
 #[test]
 fn counts_above_the_length_of_the_file_are_refused(rt: HostRuntime) -> Result<(), Fail> {
     for (offset, want) in [(0x2B8, "name pointers"), (0x2B4, "address table entries")] {
-        let mut file = sample(rt.alloc())?;
-        put(&mut file, 0x2B4, b"\x01\x03");
+        let mut file = sample_with(rt.alloc(), 0x2B4, b"\x01\x03")?;
         put(&mut file, offset, b"\x01\x03");
-        let read = exports_of(rt.alloc(), &file);
-        let is_refused = matches!(read, Err(Error::BufferTooShort(769, what)) if what == want);
-        assert!(rt; is_refused, "{want}");
+        assert!(rt; is_too_short(rt.alloc(), &file, want), "{want}");
     }
     Ok(())
 }
 
+/// Whether the tables of a file lead to no exports in one without bytes.
+fn are_none_without_bytes(alloc: Global, file: &[u8]) -> goblin_base::Result<bool> {
+    let tables = data_of(alloc, file)?;
+    Ok(are_listed(listed(alloc, &[], &tables), &[]))
+}
+
 #[test]
 fn an_empty_file_has_no_exports(rt: HostRuntime) -> Result<(), Fail> {
-    let alloc = rt.alloc();
-    let file = sample(alloc)?;
-    let sections = [sample_section()];
-    let tables = ExportData::parse(alloc, &file, DIRECTORY, &sections, ALIGNMENT)?;
-    assert!(rt; Export::parse(alloc, &[], &tables, &sections, ALIGNMENT)?.is_empty());
+    let file = sample(rt.alloc())?;
+    assert!(rt; are_none_without_bytes(rt.alloc(), &file)?);
     Ok(())
+}
+
+/// Whether these tables have the name and the first ordinal of the sample's.
+fn are_sample_tables(tables: &ExportData) -> bool {
+    tables.name == Some("a.dll") && tables.export_directory_table.ordinal_base == 1
+}
+
+/// Whether a file's tables and exports are the sample's, by these sections and options.
+fn is_read(
+    alloc: Global,
+    file: &[u8],
+    sections: &[SectionTable],
+    opts: &ParseOptions,
+) -> goblin_base::Result<bool> {
+    let tables = ExportData::parse_with_opts(alloc, file, DIRECTORY, sections, ALIGNMENT, opts)?;
+    let exports = Export::parse_with_opts(alloc, file, &tables, sections, ALIGNMENT, opts);
+    let are_right = are_listed(exports, &[PLAIN, FORWARDED]);
+    Ok(are_right && are_sample_tables(&tables))
 }
 
 #[test]
 fn exports_are_read_from_where_the_options_say(rt: HostRuntime) -> Result<(), Fail> {
-    let alloc = rt.alloc();
-    let file = sample(alloc)?;
+    let file = sample(rt.alloc())?;
     // The raw pointer lies within the 512 bytes at which the sample's section begins.
     let sections = [section(0x1000, 0x100, 0x100, 0x210)];
     let opts = ParseOptions::default().with_raw_pointer_rule(RawPointerRule::RoundedTo512);
-    let tables = ExportData::parse_with_opts(alloc, &file, DIRECTORY, &sections, ALIGNMENT, &opts)?;
-    let exports = Export::parse_with_opts(alloc, &file, &tables, &sections, ALIGNMENT, &opts)?;
-    let is_right = tables.name == Some("a.dll")
-        && tables.export_directory_table.ordinal_base == 1
-        && are(&exports, &[PLAIN, FORWARDED]);
-    assert!(rt; is_right);
+    assert!(rt; is_read(rt.alloc(), &file, &sections, &opts)?);
     Ok(())
 }
 
+/// Whether a text that ends at its NUL is this forwarder.
+fn is_forwarder(bytes: &[u8], want: Reexport) -> bool {
+    matches!(Reexport::parse(bytes, 0), Ok(read) if read == want)
+}
+
 #[test]
-fn forwarders_name_a_library_and_an_export(rt: HostRuntime) -> Result<(), Fail> {
+fn forwarders_name_a_library_and_an_export(rt: HostRuntime) {
     let cases: [(&[u8], &str, &str); 3] = [
         (b"KERNEL32.HeapAlloc\0", "HeapAlloc", "KERNEL32"),
         (b".x\0", "x", ""),
         (b"a.b.#1\0", "b.#1", "a"),
     ];
     for (bytes, export, lib) in cases {
-        let want = Reexport::DLLName { export, lib };
-        assert!(rt; Reexport::parse(bytes, 0)? == want, "{export}");
+        assert!(rt;
+            is_forwarder(bytes, Reexport::DLLName { export, lib }),
+            "{export}"
+        );
     }
+}
+
+#[test]
+fn forwarders_name_a_library_and_an_ordinal(rt: HostRuntime) {
     for (bytes, ordinal) in [(b"a.#12\0", 12), (b"a.#+7\0", 7)] {
-        let want = Reexport::DLLOrdinal { ordinal, lib: "a" };
-        assert!(rt; Reexport::parse(bytes, 0)? == want, "{ordinal}");
+        assert!(rt;
+            is_forwarder(bytes, Reexport::DLLOrdinal { ordinal, lib: "a" }),
+            "{ordinal}"
+        );
     }
-    Ok(())
 }
 
 #[test]
@@ -135,17 +192,21 @@ fn texts_that_are_no_forwarders_are_refused(rt: HostRuntime) {
         (b"a.#\0", Cause::ForwarderOrdinal),
     ];
     for (bytes, want) in cases {
-        let read = Reexport::parse(bytes, 0);
-        let is_refused = matches!(read, Err(Error::Malformed(cause)) if cause == want);
-        assert!(rt; is_refused, "{bytes:?}");
+        assert!(rt; is_told(Reexport::parse(bytes, 0), want), "{bytes:?}");
     }
 }
 
+/// Whether a record is written as these bytes.
+fn is_written_as(record: &ExportDirectoryTable, bytes: Option<&[u8]>) -> goblin_base::Result<bool> {
+    let mut written = [0; SIZEOF_EXPORT_DIRECTORY_TABLE];
+    let len = record.try_into_ctx(&mut written, Endian::Little)?;
+    Ok(len == ExportDirectoryTable::size_with(&Endian::Little) && bytes == Some(written.as_slice()))
+}
+
 #[test]
-fn a_record_and_a_forwarder_are_read_at_an_address(rt: HostRuntime) -> Result<(), Fail> {
+fn a_record_is_read_at_an_address_and_written_again(rt: HostRuntime) -> Result<(), Fail> {
     let file = sample(rt.alloc())?;
-    let sections = [sample_section()];
-    let record = get_data::<ExportDirectoryTable>(&file, &sections, DIRECTORY, ALIGNMENT)?;
+    let record = get_data(&file, &[sample_section()], DIRECTORY, ALIGNMENT)?;
     let want = ExportDirectoryTable {
         name_rva: 0x1080,
         ordinal_base: 1,
@@ -157,96 +218,119 @@ fn a_record_and_a_forwarder_are_read_at_an_address(rt: HostRuntime) -> Result<()
         ..ExportDirectoryTable::default()
     };
     assert!(rt; record == want);
-    let mut written = [0; SIZEOF_EXPORT_DIRECTORY_TABLE];
-    assert!(rt;
-        record.try_into_ctx(&mut written, Endian::Little)?
-            == ExportDirectoryTable::size_with(&Endian::Little)
-    );
-    assert!(rt; file.get(0x2A0..0x2C8) == Some(written.as_slice()));
+    assert!(rt; is_written_as(&record, file.get(0x2A0..0x2C8))?);
+    Ok(())
+}
+
+#[test]
+fn a_forwarder_is_read_at_an_address(rt: HostRuntime) -> Result<(), Fail> {
+    let file = sample(rt.alloc())?;
     let at_text = DataDirectory {
         virtual_address: 0x10E0,
         size: 0,
     };
-    let forwarder = get_data::<Reexport>(&file, &sections, at_text, ALIGNMENT)?;
+    let forwarder = get_data::<Reexport>(&file, &[sample_section()], at_text, ALIGNMENT)?;
     assert!(rt; Some(forwarder) == FORWARDED.3);
     Ok(())
+}
+
+/// The forwarder at an offset, and the offset after it.
+fn forwarder_at(bytes: &[u8], mut offset: usize) -> goblin_base::Result<(Reexport<'_>, usize)> {
+    let read = gread_with(bytes, &mut offset, Endian::Little)?;
+    Ok((read, offset))
 }
 
 #[test]
 fn forwarders_are_read_one_after_the_other(rt: HostRuntime) -> Result<(), Fail> {
     let bytes = b"?a.#12\0b.f";
-    let mut offset = 1;
-    let read: Reexport = gread_with(bytes, &mut offset, Endian::Little)?;
-    let want = Reexport::DLLOrdinal {
+    let first = Reexport::DLLOrdinal {
         ordinal: 12,
         lib: "a",
     };
-    assert!(rt; read == want && offset == 7);
-    let read: Reexport = gread_with(bytes, &mut offset, Endian::Little)?;
-    let want = Reexport::DLLName {
+    assert!(rt; forwarder_at(bytes, 1)? == (first, 7));
+    let second = Reexport::DLLName {
         export: "f",
         lib: "b",
     };
-    assert!(rt; read == want && offset == 10);
+    assert!(rt; forwarder_at(bytes, 7)? == (second, 10));
     Ok(())
 }
 
-#[test]
-fn tables_made_by_hand_are_given_back(rt: HostRuntime) -> Result<(), Fail> {
-    let alloc = rt.alloc();
+/// Tables made by hand, which lead to the sample file's first export.
+fn made_tables<'a>(alloc: Global) -> Result<ExportData<'a>, AllocError> {
     let addresses = vec![in alloc; ExportAddressTableEntry::ExportRVA(0x1010)]?;
-    let tables = ExportData {
+    Ok(ExportData {
         name: None,
         export_directory_table: ExportDirectoryTable::default(),
         export_name_pointer_table: Table::from(vec![in alloc; 0x10F0u32]?),
         export_ordinal_table: Table::from(vec![in alloc; 0u16]?),
         export_address_table: Table::from(addresses),
-    };
-    let file = sample(alloc)?;
-    let exports = Export::parse(alloc, &file, &tables, &[sample_section()], ALIGNMENT)?;
-    assert!(rt; are(&exports, &[PLAIN]));
-    let addresses = tables.export_address_table.into_vec();
+    })
+}
+
+/// Whether these are the exports of a file by tables made by hand.
+fn are_made(alloc: Global, file: &[u8], want: &[Row]) -> Result<bool, AllocError> {
+    let tables = made_tables(alloc)?;
+    Ok(are_listed(listed(alloc, file, &tables), want))
+}
+
+#[test]
+fn tables_made_by_hand_lead_to_exports(rt: HostRuntime) -> Result<(), Fail> {
+    let file = sample(rt.alloc())?;
+    assert!(rt; are_made(rt.alloc(), &file, &[PLAIN])?);
+    Ok(())
+}
+
+#[test]
+fn tables_made_by_hand_are_given_back(rt: HostRuntime) -> Result<(), Fail> {
+    let addresses = made_tables(rt.alloc())?.export_address_table.into_vec();
     assert!(rt; addresses.as_slice() == [ExportAddressTableEntry::ExportRVA(0x1010)].as_slice());
     Ok(())
+}
+
+/// How the reading of the sample file's tables ended.
+fn tables_outcome(read: &goblin_base::Result<ExportData>) -> Outcome {
+    match read {
+        Ok(tables) if tables.export_address_table.as_slice().len() == 2 => Outcome::Right,
+        Err(Error::Memory(_)) => Outcome::Refused,
+        _ => Outcome::Wrong,
+    }
 }
 
 #[test]
 fn export_data_are_refused_at_each_growth(rt: HostRuntime) -> Result<(), Fail> {
     let alloc = rt.alloc();
     let file = sample(alloc)?;
-    let sections = [sample_section()];
-    let is_read = is_refused_until_right(alloc, || {
-        match ExportData::parse(alloc, &file, DIRECTORY, &sections, ALIGNMENT) {
-            Ok(tables) if tables.export_address_table.as_slice().len() == 2 => Outcome::Right,
-            Err(Error::Memory(_)) => Outcome::Refused,
-            _ => Outcome::Wrong,
-        }
-    })?;
+    let is_read = is_refused_until_right(alloc, || tables_outcome(&data_of(alloc, &file)))?;
     assert!(rt; is_read);
     Ok(())
 }
 
+/// How the listing of the sample file's exports ended.
+fn exports_outcome(read: &goblin_base::Result<Vec<Export>>) -> Outcome {
+    match read {
+        Ok(exports) if are(exports, &[PLAIN, FORWARDED]) => Outcome::Right,
+        Err(Error::Memory(_)) => Outcome::Refused,
+        _ => Outcome::Wrong,
+    }
+}
+
+/// Whether the exports of a file are refused until there is enough memory for them.
+fn are_refused_until_listed(alloc: Global, file: &[u8]) -> goblin_base::Result<bool> {
+    let tables = data_of(alloc, file)?;
+    Ok(is_refused_until_right(alloc, || exports_outcome(&listed(alloc, file, &tables)))?)
+}
+
 #[test]
 fn exports_are_refused_at_each_growth(rt: HostRuntime) -> Result<(), Fail> {
-    let alloc = rt.alloc();
-    let file = sample(alloc)?;
-    let sections = [sample_section()];
-    let tables = ExportData::parse(alloc, &file, DIRECTORY, &sections, ALIGNMENT)?;
-    let is_listed = is_refused_until_right(alloc, || {
-        match Export::parse(alloc, &file, &tables, &sections, ALIGNMENT) {
-            Ok(exports) if are(&exports, &[PLAIN, FORWARDED]) => Outcome::Right,
-            Err(Error::Memory(_)) => Outcome::Refused,
-            _ => Outcome::Wrong,
-        }
-    })?;
-    assert!(rt; is_listed);
+    let file = sample(rt.alloc())?;
+    assert!(rt; are_refused_until_listed(rt.alloc(), &file)?);
     Ok(())
 }
 
 #[test]
 fn each_refusal_of_exports_tells_its_cause(rt: HostRuntime) -> Result<(), Fail> {
-    let alloc = rt.alloc();
-    let file = sample(alloc)?;
+    let file = sample(rt.alloc())?;
     // A directory whose record would pass the file, and one that no section maps.
     for (virtual_address, cause) in [
         (0x10F0, Cause::ExportTable(0x2F0)),
@@ -256,8 +340,8 @@ fn each_refusal_of_exports_tells_its_cause(rt: HostRuntime) -> Result<(), Fail> 
             virtual_address,
             size: 0x28,
         };
-        let read = ExportData::parse(alloc, &file, directory, &[sample_section()], ALIGNMENT);
-        assert!(rt; matches!(read, Err(Error::Malformed(told)) if told == cause));
+        let read = ExportData::parse(rt.alloc(), &file, directory, &[sample_section()], ALIGNMENT);
+        assert!(rt; is_told(read, cause), "{virtual_address:#x}");
     }
     Ok(())
 }

@@ -64,36 +64,71 @@ const NUMBERS: &[(usize, u32)] = &[
     (0x2C4, (ORDINALS + DISTANCE) as u32),
 ];
 
+/// Puts the numbers that lead to the tables.
+fn put_numbers(file: &mut [u8]) -> goblin_base::Result<()> {
+    for (offset, number) in NUMBERS {
+        pwrite_u32(file, *offset, *number, Endian::Little)?;
+    }
+    Ok(())
+}
+
+/// Puts the long name.
+fn put_name(file: &mut [u8]) -> goblin_base::Result<()> {
+    for i in 0..NAME_LEN {
+        pwrite_slice(file, NAME + i, b"A")?;
+    }
+    Ok(())
+}
+
+/// Puts the entries of the lookup table: the first by the long name, the others by ordinals.
+fn put_imports(file: &mut [u8]) -> goblin_base::Result<()> {
+    pwrite_u32(file, LOOKUP, (HINT + DISTANCE) as u32, Endian::Little)?;
+    for i in 1..ENTRIES {
+        let by_ordinal = 0x8000_0000 + (i % 0x1_0000) as u32;
+        pwrite_u32(file, LOOKUP + 4 * i, by_ordinal, Endian::Little)?;
+    }
+    Ok(())
+}
+
+/// Puts the entries of the three tables of exports.
+fn put_exports(file: &mut [u8]) -> goblin_base::Result<()> {
+    let name = (NAME + DISTANCE) as u32;
+    for i in 0..ENTRIES {
+        pwrite_u32(file, ADDRESSES + 4 * i, 0x1010, Endian::Little)?;
+        pwrite_u32(file, POINTERS + 4 * i, name, Endian::Little)?;
+        pwrite_u16(
+            file,
+            ORDINALS + 2 * i,
+            (i % 0x1_0000) as u16,
+            Endian::Little,
+        )?;
+    }
+    Ok(())
+}
+
+/// Puts the sizes of the blocks of base relocations.
+fn put_blocks(file: &mut [u8]) -> goblin_base::Result<()> {
+    for i in 0..BLOCKS {
+        pwrite_u32(file, RELOCATIONS + 12 * i + 4, 12, Endian::Little)?;
+    }
+    Ok(())
+}
+
+/// Puts all that a large file has and the sample file has not.
+fn put_tables(file: &mut [u8]) -> goblin_base::Result<()> {
+    put_numbers(file)?;
+    put_name(file)?;
+    put_imports(file)?;
+    put_exports(file)?;
+    put_blocks(file)
+}
+
 /// The sample file, with large tables after it.
 fn large_file(alloc: Global) -> goblin_base::Result<Vec<u8>> {
     // The name's offset in decimal.
     let mut file = sample_named(alloc, b"/770\0\0\0\0")?;
     file.resize(END, 0)?;
-    for (offset, number) in NUMBERS {
-        pwrite_u32(&mut file, *offset, *number, Endian::Little)?;
-    }
-    for i in 0..NAME_LEN {
-        pwrite_slice(&mut file, NAME + i, b"A")?;
-    }
-    pwrite_u32(&mut file, LOOKUP, (HINT + DISTANCE) as u32, Endian::Little)?;
-    for i in 0..ENTRIES {
-        let index = (i % 0x1_0000) as u16;
-        if i > 0 {
-            let by_ordinal = 0x8000_0000 + u32::from(index);
-            pwrite_u32(&mut file, LOOKUP + 4 * i, by_ordinal, Endian::Little)?;
-        }
-        pwrite_u32(&mut file, ADDRESSES + 4 * i, 0x1010, Endian::Little)?;
-        pwrite_u32(
-            &mut file,
-            POINTERS + 4 * i,
-            (NAME + DISTANCE) as u32,
-            Endian::Little,
-        )?;
-        pwrite_u16(&mut file, ORDINALS + 2 * i, index, Endian::Little)?;
-    }
-    for i in 0..BLOCKS {
-        pwrite_u32(&mut file, RELOCATIONS + 12 * i + 4, 12, Endian::Little)?;
-    }
+    put_tables(&mut file)?;
     Ok(file)
 }
 
@@ -135,15 +170,30 @@ fn are_all_blocks(relocations: &RelocationData) -> bool {
     blocks == BLOCKS
 }
 
+/// Whether all imports were read.
+fn has_all_imports(imports: &Part<Vec<Import>>) -> bool {
+    matches!(imports, Part::Read(imports) if are_all_imports(imports))
+}
+
+/// Whether all exports were read.
+fn has_all_exports(exports: &Part<Vec<Export>>) -> bool {
+    matches!(exports, Part::Read(exports) if are_all_exports(exports))
+}
+
+/// Whether all base relocations were read.
+fn has_all_blocks(relocations: &Part<RelocationData>) -> bool {
+    matches!(relocations, Part::Read(relocations) if are_all_blocks(relocations))
+}
+
 /// Whether each table of the file is read whole, in a mode.
 fn is_read(alloc: Global, file: &[u8], mode: ParseMode) -> goblin_base::Result<bool> {
     let opts = ParseOptions::default().with_parse_mode(mode);
     let whole = Whole::read(alloc, file, &opts)?;
-    Ok(
-        matches!(&whole.imports, Part::Read(imports) if are_all_imports(imports))
-            && matches!(&whole.exports, Part::Read(exports) if are_all_exports(exports))
-            && matches!(&whole.relocations, Part::Read(relocations) if are_all_blocks(relocations)),
-    )
+    let is_right = has_all_imports(&whole.imports)
+        && has_all_exports(&whole.exports)
+        && has_all_blocks(&whole.relocations);
+    drop(whole);
+    Ok(is_right)
 }
 
 #[test]
@@ -152,43 +202,84 @@ fn a_large_file_is_read_in_both_modes(rt: HostRuntime) -> Result<(), Fail> {
     for mode in [ParseMode::Strict, ParseMode::Permissive] {
         assert!(rt; is_read(rt.alloc(), &file, mode)?, "{mode:?}");
     }
-    let mut offset = TABLE;
-    let section = SectionTable::parse(rt.alloc(), &file, &mut offset, 0)?;
-    assert!(rt; is_long(section.clone(rt.alloc())?.name()?));
     Ok(())
+}
+
+/// Whether a section has the long name.
+fn has_long_name(section: &SectionTable) -> bool {
+    matches!(section.name(), Ok(name) if is_long(name))
+}
+
+/// Whether a copy of a file's section has the long name.
+fn is_section_long(alloc: Global, file: &[u8]) -> goblin_base::Result<bool> {
+    let mut offset = TABLE;
+    let section = SectionTable::parse(alloc, file, &mut offset, 0)?;
+    Ok(has_long_name(&section.clone(alloc)?))
+}
+
+#[test]
+fn a_section_has_a_long_name(rt: HostRuntime) -> Result<(), Fail> {
+    let file = large_file(rt.alloc())?;
+    assert!(rt; is_section_long(rt.alloc(), &file)?);
+    Ok(())
+}
+
+/// As many sections as two bytes count.
+const SECTIONS: usize = u16::MAX as usize;
+
+/// Puts each section's virtual size, address, and size of its raw data.
+fn put_sections(file: &mut [u8]) -> goblin_base::Result<()> {
+    for i in 0..SECTIONS {
+        pwrite_u32(file, 40 * i + 8, 0x1000, Endian::Little)?;
+        pwrite_u32(file, 40 * i + 12, 0x1000 * i as u32, Endian::Little)?;
+        pwrite_u32(file, 40 * i + 16, 0x1000, Endian::Little)?;
+    }
+    Ok(())
+}
+
+/// The records of all sections, one after the other in memory.
+fn section_records(alloc: Global) -> goblin_base::Result<Vec<u8>> {
+    let mut file = vec![in alloc; 0u8; 40 * SECTIONS]?;
+    put_sections(&mut file)?;
+    Ok(file)
+}
+
+/// Where the last byte of these sections' memory lies in the file.
+fn last_offset(alloc: Global, sections: &[SectionTable]) -> goblin_base::Result<Option<usize>> {
+    let index = WindowIndex::prepare(alloc, sections, 0x1000, &ParseOptions::default())?;
+    Ok(index.find(0x1000 * SECTIONS - 1))
 }
 
 #[test]
 fn as_many_sections_as_two_bytes_count_are_read(rt: HostRuntime) -> Result<(), Fail> {
+    let file = section_records(rt.alloc())?;
     let header = CoffHeader {
         number_of_sections: u16::MAX,
         ..CoffHeader::default()
     };
-    let count = usize::from(u16::MAX);
-    let mut file = vec![in rt.alloc(); 0u8; 40 * count]?;
-    for i in 0..count {
-        // Each section's virtual size, address, and size of its raw data.
-        pwrite_u32(&mut file, 40 * i + 8, 0x1000, Endian::Little)?;
-        pwrite_u32(&mut file, 40 * i + 12, 0x1000 * i as u32, Endian::Little)?;
-        pwrite_u32(&mut file, 40 * i + 16, 0x1000, Endian::Little)?;
-    }
     let mut offset = 0;
     let sections = header.sections(rt.alloc(), &file, &mut offset)?;
-    assert!(rt; sections.len() == count && offset == file.len());
-    let opts = ParseOptions::default();
-    let index = WindowIndex::prepare(rt.alloc(), &sections, 0x1000, &opts)?;
-    assert_eq!(rt; index.find(0x1000 * count - 1), Some(0xFFF));
+    assert!(rt; sections.len() == SECTIONS && offset == file.len());
+    assert!(rt; last_offset(rt.alloc(), &sections)? == Some(0xFFF));
     Ok(())
+}
+
+/// How many bytes there are, and how many of them are 0.
+fn lengths(bytes: &[u8]) -> (usize, usize) {
+    (bytes.len(), bytes.iter().filter(|byte| **byte == 0).count())
+}
+
+/// The lengths of the data of a section that is large in memory and has four bytes in the file.
+fn padded_lengths(alloc: Global) -> goblin_base::Result<Option<(usize, usize)>> {
+    let data = section(0, 1 << 24, 4, 4).data(alloc, &[7; 16])?;
+    Ok(match &data {
+        Some(data) => Some(lengths(data)),
+        None => None,
+    })
 }
 
 #[test]
 fn data_of_a_large_size_in_memory_are_read(rt: HostRuntime) -> Result<(), Fail> {
-    let padded = section(0, 1 << 24, 4, 4);
-    let Some(data) = padded.data(rt.alloc(), &[7; 16])? else {
-        assert!(rt; false, "no data");
-        return Ok(());
-    };
-    let zeros = data.iter().filter(|byte| **byte == 0).count();
-    assert_eq!(rt; (data.len(), zeros), (1 << 24, (1 << 24) - 4));
+    assert!(rt; padded_lengths(rt.alloc())? == Some((1 << 24, (1 << 24) - 4)));
     Ok(())
 }

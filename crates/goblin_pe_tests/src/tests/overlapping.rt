@@ -10,7 +10,7 @@ use goblin_pe::import::{
 };
 use goblin_pe_sect::utils::find_offset;
 use goblin_pe_sect::{DataDirectory, ParseOptions, SectionTable};
-use std::alloc::Global;
+use std::alloc::{AllocError, Global};
 use std::test::Fail;
 
 /// The file alignment.
@@ -62,10 +62,14 @@ fn is_library(
     library: &SyntheticImportDirectoryEntry,
     file: &[u8],
     sections: &[SectionTable],
-) -> goblin_base::Result<bool> {
-    let name = pread_str(file, at(0x1240, sections))?;
-    let number = pread_u32(file, at(0x1220, sections), Endian::Little)?;
-    Ok(library.name == name && begins_with(library.import_address_table.as_slice(), number))
+) -> bool {
+    let name = pread_str(file, at(0x1240, sections));
+    let number = pread_u32(file, at(0x1220, sections), Endian::Little);
+    match (name, number) {
+        (Ok(name), Ok(number)) => library.name == name
+            && begins_with(library.import_address_table.as_slice(), number),
+        _ => false,
+    }
 }
 
 /// Whether an entry of a lookup table has this name.
@@ -77,17 +81,28 @@ fn is_named(entry: &SyntheticImportLookupTableEntry, want: &HintNameTableEntry) 
     }
 }
 
+/// Whether a lookup table begins with the name that stands where `find_offset` says.
+fn begins_with_name(
+    entries: &[SyntheticImportLookupTableEntry],
+    file: &[u8],
+    sections: &[SectionTable],
+) -> bool {
+    match (
+        entries,
+        HintNameTableEntry::parse(file, at(0x1250, sections)),
+    ) {
+        ([first, ..], Ok(want)) => is_named(first, &want),
+        _ => false,
+    }
+}
+
 /// Whether a lookup table takes the name that stands where `find_offset` says.
 fn names_agree(alloc: Global, file: &[u8], sections: &[SectionTable]) -> goblin_base::Result<bool> {
-    let want = HintNameTableEntry::parse(file, at(0x1250, sections))?;
     let offset = at(0x1210, sections);
     let table = SyntheticImportLookupTableEntry::parse::<u32>(
         alloc, file, offset, sections, ALIGNMENT,
     )?;
-    Ok(match table.as_slice().first() {
-        Some(first) => is_named(first, &want),
-        None => false,
-    })
+    Ok(begins_with_name(table.as_slice(), file, sections))
 }
 
 /// Whether a library has what stands where `find_offset` says.
@@ -100,7 +115,7 @@ fn libraries_agree(
     let library = SyntheticImportDirectoryEntry::parse::<u32>(
         alloc, file, record, sections, ALIGNMENT,
     )?;
-    is_library(&library, file, sections)
+    Ok(is_library(&library, file, sections))
 }
 
 /// Whether import data begin with the library that stands where `find_offset` says.
@@ -110,10 +125,10 @@ fn imports_agree(
     sections: &[SectionTable],
 ) -> goblin_base::Result<bool> {
     let imports = ImportData::parse::<u32>(alloc, file, IMPORTS, sections, ALIGNMENT)?;
-    match imports.import_data.first() {
-        Some(first) => is_library(first, file, sections),
-        None => Ok(false),
-    }
+    Ok(match imports.import_data.as_slice() {
+        [first, ..] => is_library(first, file, sections),
+        [] => false,
+    })
 }
 
 /// Whether exports begin with one of this name, address and offset.
@@ -124,18 +139,39 @@ fn begins_with_export(exports: &[Export], name: &str, rva: usize, offset: Option
     }
 }
 
+/// Whether exports were read that begin with what stands where `find_offset` says.
+fn are_exports(
+    read: goblin_base::Result<Vec<Export>>,
+    file: &[u8],
+    sections: &[SectionTable],
+) -> bool {
+    let name = pread_str(file, at(0x1240, sections));
+    let rva = pread_u32(file, at(0x1280, sections), Endian::Little);
+    match (&read, name, rva) {
+        (Ok(exports), Ok(name), Ok(rva)) => {
+            let rva = rva as usize;
+            let offset = find_offset(rva, sections, ALIGNMENT, &ParseOptions::default());
+            begins_with_export(exports, name, rva, offset)
+        }
+        _ => false,
+    }
+}
+
+/// Whether export data have the name that stands where `find_offset` says.
+fn is_library_name(tables: &ExportData, file: &[u8], sections: &[SectionTable]) -> bool {
+    matches!(pread_str(file, at(0x1240, sections)), Ok(name) if tables.name == Some(name))
+}
+
 /// Whether the readers of exports take what stands where `find_offset` says.
 fn exports_agree(
     alloc: Global,
     file: &[u8],
     sections: &[SectionTable],
 ) -> goblin_base::Result<bool> {
-    let name = pread_str(file, at(0x1240, sections))?;
-    let rva = pread_u32(file, at(0x1280, sections), Endian::Little)? as usize;
-    let offset = find_offset(rva, sections, ALIGNMENT, &ParseOptions::default());
     let tables = ExportData::parse(alloc, file, EXPORTS, sections, ALIGNMENT)?;
-    let exports = Export::parse(alloc, file, &tables, sections, ALIGNMENT)?;
-    Ok(tables.name == Some(name) && begins_with_export(&exports, name, rva, offset))
+    let exports = Export::parse(alloc, file, &tables, sections, ALIGNMENT);
+    let are_right = are_exports(exports, file, sections);
+    Ok(are_right && is_library_name(&tables, file, sections))
 }
 
 /// Whether the name stands at this offset, and all readers take what stands where `find_offset` says.
@@ -154,22 +190,29 @@ fn readers_agree(
     )
 }
 
-#[test]
-fn each_reader_takes_the_first_of_two_overlapping_sections(rt: HostRuntime) -> Result<(), Fail> {
-    let alloc = rt.alloc();
+/// A file in which these bytes stand.
+fn overlapping_file(alloc: Global) -> Result<Vec<u8>, AllocError> {
     let mut file = vec![in alloc; 0u8; 0x1000]?;
     for (offset, bytes) in BYTES {
         put(&mut file, *offset, bytes);
     }
-    let narrow_first = [
-        section(0x1200, 0x200, 0x200, 0x400),
-        section(0x1000, 0x800, 0x800, 0x800),
-    ];
-    let wide_first = [
-        section(0x1000, 0x800, 0x800, 0x800),
-        section(0x1200, 0x200, 0x200, 0x400),
-    ];
-    assert!(rt; readers_agree(alloc, &file, &narrow_first, 0x440)?);
-    assert!(rt; readers_agree(alloc, &file, &wide_first, 0xA40)?);
+    Ok(file)
+}
+
+/// The section that lies within the other.
+fn narrow() -> SectionTable {
+    section(0x1200, 0x200, 0x200, 0x400)
+}
+
+/// The section around it.
+fn wide() -> SectionTable {
+    section(0x1000, 0x800, 0x800, 0x800)
+}
+
+#[test]
+fn each_reader_takes_the_first_of_two_overlapping_sections(rt: HostRuntime) -> Result<(), Fail> {
+    let file = overlapping_file(rt.alloc())?;
+    assert!(rt; readers_agree(rt.alloc(), &file, &[narrow(), wide()], 0x440)?);
+    assert!(rt; readers_agree(rt.alloc(), &file, &[wide(), narrow()], 0xA40)?);
     Ok(())
 }
