@@ -286,6 +286,16 @@ fn small() -> [u8; 0x64] {
     file
 }
 
+/// Writes the ten entries into their file.
+fn put_entries(file: &mut [u8]) -> goblin_base::Result<()> {
+    for (offset, build, product, use_count) in ENTRIES {
+        let tool = u32::from(product) << 16 | u32::from(build);
+        pwrite_u32(file, offset, tool ^ KEY, Endian::Little)?;
+        pwrite_u32(file, offset + 4, use_count ^ KEY, Endian::Little)?;
+    }
+    Ok(())
+}
+
 /// A file with a Rich header of ten entries after the default stub.
 fn large() -> goblin_base::Result<[u8; 0xFC]> {
     let mut file = [0; 0xFC];
@@ -296,11 +306,7 @@ fn large() -> goblin_base::Result<[u8; 0xFC]> {
     for offset in [0x84, 0x88, 0x8C, 0xE4] {
         pwrite_u32(&mut file, offset, KEY, Endian::Little)?;
     }
-    for (offset, build, product, use_count) in ENTRIES {
-        let tool = u32::from(product) << 16 | u32::from(build);
-        pwrite_u32(&mut file, offset, tool ^ KEY, Endian::Little)?;
-        pwrite_u32(&mut file, offset + 4, use_count ^ KEY, Endian::Little)?;
-    }
+    put_entries(&mut file)?;
     put(&mut file, 0xE0, b"Rich");
     put(&mut file, 0xF8, b"PE");
     Ok(file)
