@@ -153,7 +153,7 @@ fn a_number_without_room_is_refused_and_leaves_the_bytes(rt: HostRuntime) {
 /// Two texts, of which the second has no NUL after it.
 const TEXTS: &[u8; 4] = b"ab\0c";
 
-/// Whether the text at an offset is this, and ends at that one.
+/// Whether the text at an offset is this, and the offset moves to `end`.
 fn is_text(begin: usize, want: &str, end: usize) -> bool {
     let mut offset = begin;
     matches!(pread_str(TEXTS, begin), Ok(text) if text == want)
@@ -173,7 +173,7 @@ fn what_stands_before_a_nul_is_found(rt: HostRuntime) {
     assert!(rt; before_nul(TEXTS) == b"ab".as_slice());
 }
 
-/// Whether the first text within a bound is this, and ends at an offset.
+/// Whether the first text within a bound is this, and the offset moves to `end`.
 fn is_bounded_text(len: usize, want: &str, end: usize) -> bool {
     let mut offset = 0;
     matches!(pread_str_until(TEXTS, 0, len), Ok(text) if text == want)

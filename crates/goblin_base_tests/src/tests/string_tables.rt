@@ -47,7 +47,7 @@ fn a_text_begins_where_a_character_begins(rt: HostRuntime) -> Result<(), Fail> {
     Ok(())
 }
 
-/// Whether a table of so many bytes at an offset has as many, and none if it should be empty.
+/// Whether a table of so many bytes at an offset has as many, and is empty only where it should be.
 fn has_bytes(alloc: Global, offset: usize, len: usize, is_empty: bool) -> bool {
     let table = Strtab::parse(alloc, b"\x08\0\0\0ab\0c", offset, len, 0);
     matches!(&table, Ok(table) if table.len() == len && table.is_empty() == is_empty)

@@ -15,8 +15,12 @@ fn is_refused(len: usize, (front, pointer, signature): (&[u8], &[u8], &[u8]), wa
     put(&mut file, 0, front);
     put(&mut file, 0x3C, pointer);
     put(&mut file, 0x40, signature);
-    let read = DosHeader::parse(file.get(..len).unwrap_or(&[]));
-    matches!(read, Err(Error::Malformed(cause)) if cause == want)
+    match file.get(..len) {
+        Some(file) => {
+            matches!(DosHeader::parse(file), Err(Error::Malformed(cause)) if cause == want)
+        }
+        None => false,
+    }
 }
 
 #[test]
@@ -65,8 +69,9 @@ fn sections_are_read_up_to_the_end_and_refused_past_it(rt: HostRuntime) -> Resul
             ..ParseOptions::default()
         };
         let is_whole = has_section(rt.alloc(), TABLE_END, &opts)?;
-        let is_cut = !has_section(rt.alloc(), TABLE_END - 1, &opts)?;
-        assert!(rt; is_whole && is_cut, "{parse_mode:?}");
+        assert!(rt; is_whole, "{parse_mode:?}");
+        let is_cut_read = has_section(rt.alloc(), TABLE_END - 1, &opts)?;
+        assert!(rt; !is_cut_read, "{parse_mode:?}");
     }
     Ok(())
 }

@@ -29,7 +29,7 @@ const RAMP: [u8; 88] = [
     75, 76, 77, 78, 79, 80, 81, 82, 83, 84, 85, 86, 87, 88,
 ];
 
-/// A header for 64 bits with those directories, and a byte after it.
+/// A header for 64 bits with the directories of [`ENTRIES`], and a byte after it.
 fn header_of_directories() -> goblin_base::Result<[u8; 241]> {
     let mut bytes = [0; 241];
     put(&mut bytes, 0, b"\x0B\x02");
@@ -61,7 +61,7 @@ fn directories_for_64_bits_end_where_the_header_counts(rt: HostRuntime) -> Resul
     Ok(())
 }
 
-/// Whether the sample file's optional header is read from the bytes.
+/// Whether a header is read with the sample file's magic, file alignment and size.
 fn is_sample(bytes: &[u8], endian: Endian) -> bool {
     match OptionalHeader::try_from_ctx(bytes, endian) {
         Ok((header, size)) => header.standard_fields.magic == MAGIC_32

@@ -23,7 +23,7 @@ const ENTRIES: [(usize, u16, u16, u32); 10] = [
     (0xD8, 25547, 258, 1),
 ];
 
-/// The entry of the smaller header.
+/// The entry of the smaller header, and of the one with a rest.
 const ENTRY: RichMetadata = RichMetadata {
     build: 2,
     product: 3,
@@ -125,9 +125,12 @@ fn is_at(place: usize, read: goblin_base::Result<RichMetadata>) -> bool {
 fn entries_of_a_rich_header_have_places(rt: HostRuntime) -> Result<(), Fail> {
     let file = large()?;
     let entries = entries_of(&file).ok_or("there is no Rich header")?;
+    let mut last = None;
     for (place, entry) in entries.enumerate() {
         assert!(rt; is_at(place, entry), "{place}");
+        last = Some(place);
     }
+    assert!(rt; last == Some(9));
     Ok(())
 }
 

@@ -150,9 +150,12 @@ fn index_at(place: usize) -> Option<usize> {
 #[test]
 fn symbols_have_places(rt: HostRuntime) -> Result<(), Fail> {
     let file = object();
+    let mut last = None;
     for (place, (index, _, _)) in object_symbols(&file)?.enumerate() {
         assert!(rt; index_at(place) == Some(index), "{place}");
+        last = Some(place);
     }
+    assert!(rt; last == Some(18));
     Ok(())
 }
 
@@ -184,7 +187,8 @@ fn a_function_definition_after_a_symbol_is_read(rt: HostRuntime) {
     assert!(rt; matches!(&read, Ok(Some(table)) if table.aux_function_definition(1) == Some(want)));
 }
 
-/// Whether the object's file name is read from the record after its symbol, and none from no record.
+/// Whether the object's file name is read from the record after its symbol, and an empty one from no
+/// record.
 fn has_file_name(table: &SymbolTable<'_>) -> bool {
     table.aux_file(26, 1) == Some("free.c") && table.aux_file(26, 0) == Some("")
 }

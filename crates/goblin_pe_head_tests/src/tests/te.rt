@@ -90,7 +90,7 @@ fn sections_of_a_header_of_which_too_little_was_stripped_are_refused(rt: HostRun
 }
 
 #[test]
-fn sections_past_the_file_are_refused_before_what_was_stripped(rt: HostRuntime) {
+fn more_sections_than_the_file_holds_are_refused_before_the_stripped_size(rt: HostRuntime) {
     let refused = header(0x27).sections(rt.alloc(), &[0; 39], &mut 1);
     assert!(rt; matches!(&refused, Err(Error::BufferTooShort(1, "sections"))));
 }

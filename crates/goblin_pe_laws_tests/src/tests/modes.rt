@@ -105,7 +105,7 @@ fn both_modes_read_the_same_file(rt: HostRuntime) -> Result<(), Fail> {
     Ok(())
 }
 
-/// Whether exports of this name were read.
+/// Whether export data of this name and these exports were read.
 fn has_exports(exports: &goblin_base::Result<ExportRead>, name: &str, want: &[Row]) -> bool {
     matches!(exports, Ok((data, exports)) if data.name == Some(name) && are(exports, want))
 }
@@ -204,7 +204,7 @@ fn are_sample_tables<'a>(
     are_sample_imports(alloc, file, sections, &tables.imports) && are_other_tables(tables)
 }
 
-/// Whether no section maps the name's address, and neither table was read.
+/// Whether no section maps the name's address, and neither imports nor exports were read.
 fn are_unmapped(tables: &Tables<ImportDirectoryEntry>) -> bool {
     matches!(&tables.name, Err(Error::Malformed(Cause::Unmapped(0x1080))))
         && tables.imports.is_err()
@@ -218,15 +218,15 @@ enum Read {
     Sample,
     /// What the file's front says.
     Front,
-    /// The same, but for its imports.
+    /// The same, without imports.
     FrontWithoutImports,
-    /// Nothing, since no section maps the addresses.
+    /// Neither name, imports nor exports, since no section maps the name's address.
     Unmapped,
     /// Anything else.
     Other,
 }
 
-/// What was read where the front's name was.
+/// What was read at the file's front: all, all but the imports, or anything else.
 fn read_at_the_front<'a>(
     alloc: Global,
     file: &'a [u8],

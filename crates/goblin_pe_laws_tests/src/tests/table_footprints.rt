@@ -87,7 +87,7 @@ fn flip_outside(file: &mut [u8], spans: &[Span]) {
 }
 
 /// Whether what is read is the same where the byte at this place is changed.
-fn is_the_same_without<F: Fn(&[u8]) -> bool>(file: &mut [u8], place: usize, is_the_same: &F) -> bool
+fn is_the_same_but_at<F: Fn(&[u8]) -> bool>(file: &mut [u8], place: usize, is_the_same: &F) -> bool
     requires { F.IsAlwaysCallable is_the_same.now }
 {
     flip(file, place);
@@ -105,7 +105,7 @@ fn ignores_each_outside<F: Fn(&[u8]) -> bool>(
     requires { F.IsAlwaysCallable is_the_same.now }
 {
     for place in 0..file.len() {
-        if !is_in(spans, place) && !is_the_same_without(file, place, is_the_same) {
+        if !is_in(spans, place) && !is_the_same_but_at(file, place, is_the_same) {
             return false;
         }
     }
@@ -131,7 +131,7 @@ fn is_read<F: Fn(&[u8]) -> bool>(file: &mut [u8], span: &Span, is_the_same: &F) 
     requires { F.IsAlwaysCallable is_the_same.now }
 {
     for place in span.0..span.1 {
-        if !is_the_same_without(file, place, is_the_same) {
+        if !is_the_same_but_at(file, place, is_the_same) {
             return true;
         }
     }
@@ -300,7 +300,7 @@ fn are_sample_exports(read: &goblin_base::Result<ExportRead>) -> bool {
     }
 }
 
-/// Whether these are the sample file, with one header.
+/// Whether both are the sample file, with the same header.
 fn are_samples(first: &Whole, second: &Whole) -> bool {
     first.header == second.header && is_sample(first) && is_sample(second)
 }
@@ -379,7 +379,7 @@ fn is_listed_by_the_header(alloc: Global, file: &[u8], whole: &goblin_base::Resu
     }
 }
 
-/// Whether a whole file has the footprint listed.
+/// Whether the footprint is listed by what a read of the whole file says.
 fn is_listed_of_the_whole(alloc: Global, file: &[u8], opts: &ParseOptions) -> bool {
     is_listed_by_the_header(alloc, file, &Whole::read(alloc, file, opts))
 }
@@ -387,6 +387,7 @@ fn is_listed_of_the_whole(alloc: Global, file: &[u8], opts: &ParseOptions) -> bo
 #[test]
 fn the_footprint_of_imports_is_listed(rt: HostRuntime) -> Result<(), Fail> {
     let alloc = rt.alloc();
+    // The file as it stands, and with every byte outside changed.
     let mut file = sample(alloc)?;
     assert!(rt; is_listed(alloc, &file, ParseMode::Strict));
     assert!(rt; is_listed(alloc, &file, ParseMode::Permissive));
@@ -445,7 +446,8 @@ fn a_directory_that_is_not_read_has_no_footprint(rt: HostRuntime) -> Result<(), 
     Ok(())
 }
 
-/// Whether the first file has a lookup table of one entry of eight bytes, and the second none.
+/// Whether the first file has a lookup table of one entry of eight bytes, and that of the second is
+/// refused.
 fn has_one_wide_entry(alloc: Global, file: &[u8], other: &[u8]) -> bool {
     let sections = [sample_section()];
     let opts = ParseOptions::default();
@@ -463,11 +465,14 @@ fn lookup_tables_of_two_files_are_read_by_entries_of_eight_bytes(
     Ok(())
 }
 
-/// Whether the first file has no imports by entries of two bytes, and the second those of one library.
-fn has_one_library_by_short_entries(alloc: Global, file: &[u8], other: &[u8]) -> bool {
+/// Whether the first file's imports are refused by entries of two bytes, and the second has those of one
+/// library.
+fn has_one_library_by_short_entries(alloc: Global, first: &[u8], second: &[u8]) -> bool {
     let sections = [sample_section()];
     let opts = ParseOptions::default();
-    let imports = twin_imports::<Short>(alloc, file, other, DIRECTORY, &sections, ALIGNMENT, &opts);
+    let imports = twin_imports::<Short>(
+        alloc, first, second, DIRECTORY, &sections, ALIGNMENT, &opts,
+    );
     imports.0.is_err() && matches!(&imports.1, Ok(data) if data.import_data.len() == 1)
 }
 
@@ -479,8 +484,9 @@ fn imports_of_two_files_are_read_by_entries_of_two_bytes(rt: HostRuntime) -> Res
     Ok(())
 }
 
-/// Whether the footprint of imports by entries of two bytes ends with the lookup table's end.
-fn ends_after_short_entries(alloc: Global, file: &[u8]) -> bool {
+/// Whether the footprint of imports by entries of two bytes has the lookup table's four bytes, and not the
+/// one after them.
+fn has_short_lookup_alone(alloc: Global, file: &[u8]) -> bool {
     let sections = [sample_section()];
     let opts = ParseOptions::default();
     let spans = footprint_imports::<Short>(alloc, file, DIRECTORY, &sections, ALIGNMENT, &opts);
@@ -491,7 +497,7 @@ fn ends_after_short_entries(alloc: Global, file: &[u8]) -> bool {
 fn the_footprint_of_imports_goes_by_the_entry_type(rt: HostRuntime) -> Result<(), Fail> {
     let alloc = rt.alloc();
     let file = sample(alloc)?;
-    assert!(rt; ends_after_short_entries(alloc, &file));
+    assert!(rt; has_short_lookup_alone(alloc, &file));
     Ok(())
 }
 
@@ -583,6 +589,7 @@ fn a_lookup_table_that_meets_the_end_is_refused_in_strict_mode(
 ) -> Result<(), Fail> {
     let alloc = rt.alloc();
     let mut file = sample(alloc)?;
+    // Each is shorter than the one before.
     for len in [0x248, 0x247] {
         file.truncate(len);
         assert!(rt; is_refused(alloc, &file), "{len:#x}");
@@ -602,7 +609,7 @@ fn a_lookup_table_that_meets_the_end_is_cut_in_permissive_mode(
 ) -> Result<(), Fail> {
     let alloc = rt.alloc();
     let mut file = sample(alloc)?;
-    // The length of the file, and how many entries are kept.
+    // The length of the file, each shorter than the one before, and how many entries are kept.
     for (len, count) in [(0x248, 1), (0x247, 0)] {
         file.truncate(len);
         assert!(rt; keeps_sevens(alloc, &file, count), "{len:#x}");

@@ -58,13 +58,14 @@ type Headers<'a> = (
     goblin_base::Result<Header<'a>>,
 );
 
-/// Whether the first is the sample file's header, and the second the same where this is said.
+/// Whether the first is the sample file's header, and the second is the same exactly where this is said.
 fn are_headers(headers: &Headers, are_the_same: bool) -> bool {
     let is_the_same = matches!(headers, (Ok(first), Ok(second)) if first == second);
     is_the_same == are_the_same && matches!(&headers.0, Ok(header) if is_sample_header(header))
 }
 
-/// Whether the first file has the sample file's header, and the second the same where this is said.
+/// Whether the first file has the sample file's header, and the second the same exactly where this is
+/// said.
 fn have_headers(file: &[u8], other: &[u8], are_the_same: bool) -> bool {
     are_headers(
         &twin_header(file, other, &ParseOptions::default()),
@@ -86,7 +87,7 @@ fn a_header_depends_on_the_bytes_before_the_sections(rt: HostRuntime) -> Result<
 
 /// Whether both are the sample file's header.
 fn are_sample_headers(headers: &Headers) -> bool {
-    matches!(headers, (Ok(first), Ok(second)) if is_sample_header(first) && is_sample_header(second))
+    matches!(headers, (Ok(first), Ok(second)) if first == second && is_sample_header(first))
 }
 
 #[test]
@@ -144,7 +145,7 @@ fn are_changed_parts(parts: &Parts<ImportDirectoryEntry>) -> bool {
 enum Read {
     /// Those of the sample file.
     Sample,
-    /// Those of the sample file with another section's name and another address in its record.
+    /// A section `.text`, and a record with another address than the sample file's.
     Changed,
     /// Anything else.
     Other,

@@ -18,8 +18,8 @@ fn a_range_holds_its_begin_and_not_its_end(rt: HostRuntime) {
 
 /// The offset of an address in one section, which is given by its address, its size in memory, and its
 /// data's size and offset.
-fn offset_in(section_of: (u32, u32, u32, u32), alignment: u32, rva: usize) -> Option<usize> {
-    let (virtual_address, virtual_size, size, pointer) = section_of;
+fn offset_in(numbers: (u32, u32, u32, u32), alignment: u32, rva: usize) -> Option<usize> {
+    let (virtual_address, virtual_size, size, pointer) = numbers;
     let sections = [section(virtual_address, virtual_size, size, pointer)];
     find_offset(rva, &sections, alignment, &ParseOptions::default())
 }
@@ -102,7 +102,7 @@ fn a_name_is_the_text_at_its_address(rt: HostRuntime) -> Result<(), Fail> {
     Ok(())
 }
 
-/// The sample file with a byte in place of its import's name that begins no text.
+/// The sample file with a byte that begins no text as the first of its import's name.
 fn without_name(alloc: Global) -> Result<Vec<u8>, AllocError> {
     let mut file = sample(alloc)?;
     put(&mut file, 0x280, b"\xFF");

@@ -109,12 +109,15 @@ fn directories_that_are_there_have_a_count(rt: HostRuntime) -> Result<(), Fail> 
 
 #[test]
 fn directories_that_are_there_have_places(rt: HostRuntime) -> Result<(), Fail> {
+    let mut last = None;
     for (place, (_, directory)) in directories()?.dirs().enumerate() {
         let want = ENTRIES
             .get(place)
             .map(|(_, virtual_address, _)| *virtual_address);
         assert!(rt; want == Some(directory.virtual_address), "{place}");
+        last = Some(place);
     }
+    assert!(rt; last == Some(6));
     Ok(())
 }
 

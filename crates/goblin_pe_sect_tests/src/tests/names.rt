@@ -89,7 +89,7 @@ fn read_no_text(
 }
 
 #[test]
-fn a_section_with_such_a_name_is_refused_in_strict_mode(rt: HostRuntime) -> Result<(), Fail> {
+fn a_section_whose_name_is_no_text_is_refused_in_strict_mode(rt: HostRuntime) -> Result<(), Fail> {
     let (read, offset) = read_no_text(rt.alloc(), ParseMode::Strict)?;
     let is_refused = matches!(&read, Err(Error::Malformed(Cause::NameText)));
     assert!(rt; is_refused && offset == TABLE);
@@ -97,7 +97,7 @@ fn a_section_with_such_a_name_is_refused_in_strict_mode(rt: HostRuntime) -> Resu
 }
 
 #[test]
-fn a_section_with_such_a_name_is_read_in_permissive_mode(rt: HostRuntime) -> Result<(), Fail> {
+fn a_section_whose_name_is_no_text_is_read_in_permissive_mode(rt: HostRuntime) -> Result<(), Fail> {
     let (read, offset) = read_no_text(rt.alloc(), ParseMode::Permissive)?;
     let want = SectionTable {
         name: *NO_TEXT,

@@ -43,7 +43,7 @@ fn options_say_what_they_were_made_for(rt: HostRuntime) {
     }
 }
 
-/// Whether options round raw pointers if asked to and not before, and say nothing else by it.
+/// Whether options round raw pointers if asked to and not before, and are otherwise the same.
 fn round_if_asked(opts: ParseOptions) -> bool {
     let rounded = opts.with_raw_pointer_rule(RawPointerRule::RoundedTo512);
     opts.raw_pointer_rule == RawPointerRule::AsStored

@@ -92,10 +92,13 @@ fn relocations_have_a_count(rt: HostRuntime) -> Result<(), Fail> {
 
 #[test]
 fn relocations_have_places(rt: HostRuntime) -> Result<(), Fail> {
+    let mut last = None;
     for (place, relocation) in Relocations::parse(OBJECT, 0, 6)?.enumerate() {
         let want = RELOCATIONS.get(place).map(|(address, _)| *address);
         assert!(rt; want == Some(relocation.virtual_address), "{place}");
+        last = Some(place);
     }
+    assert!(rt; last == Some(5));
     Ok(())
 }
 
@@ -173,7 +176,7 @@ fn a_block_without_words_needs_a_byte_after_it(rt: HostRuntime) -> Result<(), Fa
 }
 
 /// Whether a block was read, and has this address, this size, and these words.
-fn is_row(
+fn is_whole_block(
     read: Option<goblin_base::Result<RelocationBlock<'_>>>,
     (rva, size, bytes): (u32, u32, &[u8]),
 ) -> bool {
@@ -187,7 +190,7 @@ fn a_block_without_words_stands_before_another(rt: HostRuntime) -> Result<(), Fa
     let mut blocks = directory(file, 20)?.blocks();
     let rows: [(u32, u32, &[u8]); 2] = [(0x1000, 8, b""), (0x2000, 12, b"\x03\x30\0\0")];
     for row in rows {
-        assert!(rt; is_row(blocks.next(), row), "{:#x}", row.0);
+        assert!(rt; is_whole_block(blocks.next(), row), "{:#x}", row.0);
     }
     assert!(rt; blocks.next().is_none());
     Ok(())
@@ -245,7 +248,7 @@ fn blocks_have_a_count(rt: HostRuntime) -> Result<(), Fail> {
 }
 
 /// Whether a block has an address and a count of words, of which the last fills it up to four bytes,
-/// with type 0.
+/// with type 0, and no other has that type.
 fn is_block(block: &RelocationBlock, want: Option<&(u32, usize)>) -> bool {
     let Some((rva, count)) = want else {
         return false;
@@ -260,16 +263,19 @@ fn is_block(block: &RelocationBlock, want: Option<&(u32, usize)>) -> bool {
 }
 
 #[test]
-fn blocks_and_words_have_counts_and_places(rt: HostRuntime) -> Result<(), Fail> {
+fn blocks_have_places_and_counts_of_words(rt: HostRuntime) -> Result<(), Fail> {
     // A block's address, and its size without its head, in words of two bytes.
     let rows: [(u32, usize); 2] = [(0x1000, 6), (0x3000, 4)];
+    let mut last = None;
     for (place, block) in directory(LIBRARY, 36)?.blocks().enumerate() {
         let want = rows.get(place);
         assert!(rt;
             matches!(block, Ok(block) if is_block(&block, want)),
             "{place}"
         );
+        last = Some(place);
     }
+    assert!(rt; last == Some(1));
     Ok(())
 }
 

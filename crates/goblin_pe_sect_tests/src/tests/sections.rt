@@ -20,7 +20,7 @@ pub fn section_elsewhere(alloc: Global) -> Result<SectionTable, AllocError> {
     })
 }
 
-/// What is read where the sample file says that section, and the offset after it.
+/// What is read of the sample file that has that section, and the offset after it.
 fn read_elsewhere(alloc: Global) -> goblin_base::Result<(SectionTable, usize)> {
     let file = sample_named(alloc, ELSEWHERE)?;
     let mut offset = TABLE;
@@ -138,7 +138,7 @@ fn section_of((virtual_size, size, pointer): (u32, u32, u32)) -> SectionTable {
     section(0, virtual_size, size, pointer)
 }
 
-/// Whether a section's data is borrowed of sixteen zeros, and is this.
+/// Whether a section's data is borrowed from sixteen zeros, and is this.
 fn is_borrowed(alloc: Global, section: &SectionTable, want: &[u8]) -> bool {
     let data = section.data(alloc, &[0; 16]);
     matches!(&data, Ok(Some(CowSlice::Borrowed(data))) if *data == want)
@@ -156,7 +156,8 @@ fn data_is_borrowed_where_no_zeros_follow(rt: HostRuntime) {
     }
 }
 
-/// Whether a section's data is owned where the file has this byte, and is this.
+/// Whether the data of a section of six bytes, with four in the file of which the last is this byte, is
+/// owned, and is this.
 fn is_owned(alloc: Global, byte: u8, want: &[u8]) -> bool {
     let mut file = [0; 16];
     file[7] = byte;

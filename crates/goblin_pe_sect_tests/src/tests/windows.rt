@@ -168,8 +168,8 @@ fn an_index_is_refused_at_each_growth(rt: HostRuntime) -> Result<(), Fail> {
     Ok(())
 }
 
-/// What the walk over a section that begins within its file's alignment, and its index, find for an
-/// address.
+/// What the walk over a section whose data begins at no multiple of the alignment, and its index, find
+/// for an address.
 fn rounded(
     alloc: Global,
     rule: RawPointerRule,

@@ -37,6 +37,7 @@ fn counts(alloc: Global, file: &[u8]) -> goblin_base::Result<(usize, usize)> {
 fn records_and_entries_may_be_the_same_bytes(rt: HostRuntime) -> Result<(), Fail> {
     let file = file_of_words(rt.alloc())?;
     // Three records. A file of 68 bytes has no more imports than 3 times 17.
-    assert!(rt; counts(rt.alloc(), &file)? == (3, 48));
+    let found = counts(rt.alloc(), &file)?;
+    assert!(rt; found == (3, 48), "{found:?}");
     Ok(())
 }

@@ -133,7 +133,8 @@ fn imports_are_listed_by_entries_of_two_bytes(rt: HostRuntime) -> Result<(), Fai
     Ok(())
 }
 
-/// How many entries the sample file's lookup table has without options, by entries of type `T`.
+/// How many entries the sample file's lookup table has by the reader without options, and by entries of
+/// type `T`.
 fn lookup_length<'a, 'e, T: Bitfield<'a>>(alloc: Global, file: &'a [u8]) -> ResultOf<'e, usize> {
     let sections = [sample_section()];
     let table = SyntheticImportLookupTableEntry::parse::<T>(
@@ -178,11 +179,13 @@ fn lookup_lengths_by_type(alloc: Global, file: &[u8]) -> goblin_base::Result<[[u
 #[test]
 fn lookup_tables_are_read_by_each_entry_type(rt: HostRuntime) -> Result<(), Fail> {
     let file = sample(rt.alloc())?;
-    assert!(rt; lookup_lengths_by_type(rt.alloc(), &file)? == [[2; 2], [1; 2], [1; 2]]);
+    let lengths = lookup_lengths_by_type(rt.alloc(), &file)?;
+    assert!(rt; lengths == [[2; 2], [1; 2], [1; 2]], "{lengths:?}");
     Ok(())
 }
 
-/// How many entries the sample file's address table has without options, by entries of type `T`.
+/// How many entries the sample file's address table has by the reader without options, and by entries
+/// of type `T`.
 fn address_length<'a, 'e, T: Bitfield<'a>>(alloc: Global, file: &'a [u8]) -> ResultOf<'e, usize> {
     let sections = [sample_section()];
     let library = SyntheticImportDirectoryEntry::parse::<T>(
@@ -228,7 +231,8 @@ fn address_lengths_by_type(alloc: Global, file: &[u8]) -> goblin_base::Result<[[
 #[test]
 fn address_tables_are_read_by_each_entry_type(rt: HostRuntime) -> Result<(), Fail> {
     let file = sample(rt.alloc())?;
-    assert!(rt; address_lengths_by_type(rt.alloc(), &file)? == [[2; 2], [1; 2], [1; 2]]);
+    let lengths = address_lengths_by_type(rt.alloc(), &file)?;
+    assert!(rt; lengths == [[2; 2], [1; 2], [1; 2]], "{lengths:?}");
     Ok(())
 }
 
@@ -361,7 +365,7 @@ fn a_record_whose_address_table_is_not_mapped_is_left_out(rt: HostRuntime) -> Re
     Ok(())
 }
 
-/// Bytes of a record, each another.
+/// Bytes of a record, each different.
 const RISING: [u8; SIZEOF_IMPORT_DIRECTORY_ENTRY] = [
     1, 2, 3, 4, 5, 6, 7, 8, 9, 10, 11, 12, 13, 14, 15, 16, 17, 18, 19, 20,
 ];
@@ -611,7 +615,7 @@ fn each_refusal_of_import_data_tells_its_cause(rt: HostRuntime) -> Result<(), Fa
     Ok(())
 }
 
-/// Whether a lookup table has no entries and no slots.
+/// Whether the lookup table at 0x248 has no entries and no slots.
 fn is_empty(alloc: Global, file: &[u8], mode: ParseMode) -> goblin_base::Result<bool> {
     let both = lookup_at(alloc, file, 0x248, mode)?;
     Ok(both.0.as_slice().is_empty() && both.1.as_slice().is_empty())

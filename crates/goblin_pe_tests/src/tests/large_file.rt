@@ -211,7 +211,7 @@ fn has_long_name(section: &SectionTable) -> bool {
 }
 
 /// Whether a copy of a file's section has the long name.
-fn is_section_long(alloc: Global, file: &[u8]) -> goblin_base::Result<bool> {
+fn has_copy_long_name(alloc: Global, file: &[u8]) -> goblin_base::Result<bool> {
     let mut offset = TABLE;
     let section = SectionTable::parse(alloc, file, &mut offset, 0)?;
     Ok(has_long_name(&section.clone(alloc)?))
@@ -220,7 +220,7 @@ fn is_section_long(alloc: Global, file: &[u8]) -> goblin_base::Result<bool> {
 #[test]
 fn a_section_has_a_long_name(rt: HostRuntime) -> Result<(), Fail> {
     let file = large_file(rt.alloc())?;
-    assert!(rt; is_section_long(rt.alloc(), &file)?);
+    assert!(rt; has_copy_long_name(rt.alloc(), &file)?);
     Ok(())
 }
 
@@ -237,7 +237,7 @@ fn put_sections(file: &mut [u8]) -> goblin_base::Result<()> {
     Ok(())
 }
 
-/// The records of all sections, one after the other in memory.
+/// The records of sections that lie one after the other in memory.
 fn section_records(alloc: Global) -> goblin_base::Result<Vec<u8>> {
     let mut file = vec![in alloc; 0u8; 40 * SECTIONS]?;
     put_sections(&mut file)?;

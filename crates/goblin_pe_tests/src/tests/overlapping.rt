@@ -190,7 +190,7 @@ fn readers_agree(
     )
 }
 
-/// A file in which these bytes stand.
+/// The file in which [`BYTES`] stand.
 fn overlapping_file(alloc: Global) -> Result<Vec<u8>, AllocError> {
     let mut file = vec![in alloc; 0u8; 0x1000]?;
     for (offset, bytes) in BYTES {

@@ -13,7 +13,7 @@ use std::alloc::{AllocError, Global};
 use std::test::Fail;
 
 /// The sample file with a raw pointer that is no multiple of 512.
-fn sample_off(alloc: Global) -> Result<Vec<u8>, AllocError> {
+fn sample_off_512(alloc: Global) -> Result<Vec<u8>, AllocError> {
     sample_with(alloc, 0x14C, b"\x10")
 }
 
@@ -45,7 +45,7 @@ fn is_read(alloc: Global, file: &[u8], opts: &ParseOptions) -> goblin_base::Resu
 fn a_file_is_read_from_the_rounded_pointer_where_that_is_asked_for(
     rt: HostRuntime,
 ) -> Result<(), Fail> {
-    let file = sample_off(rt.alloc())?;
+    let file = sample_off_512(rt.alloc())?;
     for mode in [ParseMode::Strict, ParseMode::Permissive] {
         assert!(rt; is_read(rt.alloc(), &file, &rounded(mode))?, "{mode:?}");
     }
@@ -64,7 +64,7 @@ fn is_damaged(whole: Whole) -> bool {
 fn a_file_whose_tables_lie_before_the_stored_pointer_is_damaged(
     rt: HostRuntime,
 ) -> Result<(), Fail> {
-    let file = sample_off(rt.alloc())?;
+    let file = sample_off_512(rt.alloc())?;
     let opts = ParseOptions::default().with_parse_mode(ParseMode::Permissive);
     assert!(rt; is_damaged(Whole::read(rt.alloc(), &file, &opts)?));
     Ok(())
@@ -74,7 +74,7 @@ fn a_file_whose_tables_lie_before_the_stored_pointer_is_damaged(
 fn strict_mode_refuses_a_file_whose_tables_lie_before_the_stored_pointer(
     rt: HostRuntime,
 ) -> Result<(), Fail> {
-    let file = sample_off(rt.alloc())?;
+    let file = sample_off_512(rt.alloc())?;
     let refused = Whole::read(rt.alloc(), &file, &ParseOptions::default()).err();
     assert!(rt; matches!(refused, Some(Error::BufferTooShort(_, _))));
     Ok(())

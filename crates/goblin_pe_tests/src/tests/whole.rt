@@ -17,7 +17,7 @@ fn count<T>(part: &Part<Vec<T>>) -> Option<usize> {
     }
 }
 
-/// Whether a file has exports, two of them, and no imports.
+/// Whether a file has two exports, and its imports are absent.
 fn has_exports_alone(whole: Whole) -> bool {
     let is_right = matches!(whole.import_data, Part::Absent)
         && matches!(whole.imports, Part::Absent)

@@ -231,7 +231,7 @@ fn a_watched_reader_hands_on_each_call_and_its_answer(rt: HostRuntime) -> Result
         let mut buf = *b"----";
         let read = reader.read(&mut buf[..room]);
         let is_right = is_read(read, given, &reader, told) && buf == *want;
-        assert!(rt; is_right, "{want:?}");
+        assert!(rt; is_right, "room {room} {want:?}");
     }
     assert!(rt; source.rooms.as_slice() == [4, 2, 0, 4, 1, 4].as_slice());
     Ok(())

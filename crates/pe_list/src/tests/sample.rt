@@ -1,4 +1,4 @@
-//! What a run over the sample file writes.
+//! What a run over a file writes, and how it ended.
 
 use crate::program::{RunFault, run};
 use crate::watched::Watched;
@@ -93,7 +93,7 @@ fn is_joined(text: &[u8], parts: &[&[u8]]) -> bool {
     rest.is_empty()
 }
 
-/// Whether a run ended with this line.
+/// Whether a run ended with a fault of this line.
 pub fn ends_with(ran: &Result<(), RunFault>, line: &str) -> bool {
     matches!(ran, Err(fault) if fault.line() == line)
 }
