@@ -20,14 +20,17 @@ const ENTRIES: usize = 70_000;
 /// How many blocks of base relocations there are, of 12 bytes each.
 const BLOCKS: usize = 100_000;
 
-/// How long the one name is that everything has.
+/// How long the one name is that the section, the library, the first import and the first export have.
+/// The other exports have its last letter.
 const NAME_LEN: usize = 5_000;
 
-/// Where the tables stand in the file: the hint, the name after it, the lookup table, which is also the
-/// address table, the three tables of the exports, and the base relocations.
+/// Where the tables stand in the file: the hint, the name after it and its last letter, the lookup table,
+/// which is also the address table, the three tables of the exports, and the base relocations.
 const HINT: usize = 0x300;
 
 const NAME: usize = HINT + 2;
+
+const LETTER: usize = NAME + NAME_LEN - 1;
 
 const LOOKUP: usize = 0x1700;
 
@@ -90,12 +93,13 @@ fn put_imports(file: &mut [u8]) -> goblin_base::Result<()> {
     Ok(())
 }
 
-/// Puts the entries of the three tables of exports.
+/// Puts the entries of the three tables of exports: the first by the long name, the others by its last
+/// letter.
 fn put_exports(file: &mut [u8]) -> goblin_base::Result<()> {
-    let name = (NAME + DISTANCE) as u32;
+    let letter = (LETTER + DISTANCE) as u32;
     for i in 0..ENTRIES {
         pwrite_u32(file, ADDRESSES + 4 * i, 0x1010, Endian::Little)?;
-        pwrite_u32(file, POINTERS + 4 * i, name, Endian::Little)?;
+        pwrite_u32(file, POINTERS + 4 * i, letter, Endian::Little)?;
         pwrite_u16(
             file,
             ORDINALS + 2 * i,
@@ -103,6 +107,7 @@ fn put_exports(file: &mut [u8]) -> goblin_base::Result<()> {
             Endian::Little,
         )?;
     }
+    pwrite_u32(file, POINTERS, (NAME + DISTANCE) as u32, Endian::Little)?;
     Ok(())
 }
 
@@ -148,15 +153,14 @@ fn are_all_imports(imports: &[Import]) -> bool {
         && &last.name[..] == "ORDINAL 4463"
 }
 
-/// Whether these are all exports.
+/// Whether these are all exports: the first by the long name, the others by the letter.
 fn are_all_exports(exports: &[Export]) -> bool {
-    let mut named = 0usize;
-    for export in exports {
-        if export.name.is_some_and(|name| is_long(name)) {
-            named = named.saturating_add(1);
-        }
-    }
-    named == ENTRIES && exports.len() == ENTRIES
+    let [first, others @ ..] = exports else {
+        return false;
+    };
+    exports.len() == ENTRIES
+        && first.name.is_some_and(|name| is_long(name))
+        && others.iter().all(|export| export.name == Some("A"))
 }
 
 /// Whether these are all base relocations.
