@@ -2,7 +2,6 @@
 
 mod addresses;
 mod directories;
-mod memory;
 mod names;
 mod options;
 mod relocations;

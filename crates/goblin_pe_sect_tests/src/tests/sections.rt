@@ -11,7 +11,7 @@ use std::borrow::CowSlice;
 use std::test::Fail;
 
 /// The sample file's section with its name elsewhere.
-pub fn section_elsewhere(alloc: Global) -> Result<SectionTable, AllocError> {
+fn section_elsewhere(alloc: Global) -> Result<SectionTable, AllocError> {
     let real_name = import_name(alloc)?;
     Ok(SectionTable {
         name: *ELSEWHERE,
@@ -33,6 +33,28 @@ fn a_section_is_read_with_its_name_elsewhere(rt: HostRuntime) -> Result<(), Fail
     let want = section_elsewhere(rt.alloc())?;
     let (read, offset) = read_elsewhere(rt.alloc())?;
     assert!(rt; read == want && offset == TABLE_END && is_named(&read, "a.dll"));
+    Ok(())
+}
+
+/// A name that says that the section's name stands elsewhere in the file: where a NUL does.
+const EMPTY_ELSEWHERE: &[u8; 8] = b"/50\0\0\0\0\0";
+
+/// The sample file's section with that name.
+fn section_with_an_empty_name(alloc: Global) -> SectionTable {
+    SectionTable {
+        name: *EMPTY_ELSEWHERE,
+        real_name: Some(String::new(alloc)),
+        ..sample_section()
+    }
+}
+
+#[test]
+fn a_section_is_read_with_an_empty_name_elsewhere(rt: HostRuntime) -> Result<(), Fail> {
+    let file = sample_named(rt.alloc(), EMPTY_ELSEWHERE)?;
+    let want = section_with_an_empty_name(rt.alloc());
+    let mut offset = TABLE;
+    let read = SectionTable::parse(rt.alloc(), &file, &mut offset, 0);
+    assert!(rt; matches!(&read, Ok(section) if *section == want) && offset == TABLE_END);
     Ok(())
 }
 
@@ -62,6 +84,13 @@ fn a_clone_has_a_name_of_its_own(rt: HostRuntime) -> Result<(), Fail> {
     let copy = original.clone(rt.alloc())?;
     assert!(rt; is_own(original, &copy));
     Ok(())
+}
+
+#[test]
+fn a_clone_has_the_empty_name_too(rt: HostRuntime) {
+    let original = section_with_an_empty_name(rt.alloc());
+    let copy = original.clone(rt.alloc());
+    assert!(rt; matches!(&copy, Ok(copy) if *copy == original));
 }
 
 /// Whether a section is written as these bytes, by the call that may refuse and by the one that does

@@ -1,8 +1,6 @@
 //! The windows of sections, and the index that maps addresses by halving.
 
-use fixture::memory::{Outcome, is_refused_until_right};
 use fixture::sample::section;
-use goblin_base::Error;
 use goblin_pe_sect::utils::{find_offset, window};
 use goblin_pe_sect::windows::Bounds;
 use goblin_pe_sect::{ParseOptions, RawPointerRule, SectionTable, WindowIndex};
@@ -149,22 +147,6 @@ fn a_probe_is_counted(rt: HostRuntime) -> Result<(), Fail> {
     let mut probes = 5;
     assert!(rt; bounds.len() == 2 && bounds.reaches(1, 0x1000, &mut probes));
     assert!(rt; !bounds.reaches(1, 0xFFF, &mut probes) && probes == 7);
-    Ok(())
-}
-
-#[test]
-fn an_index_is_refused_at_each_growth(rt: HostRuntime) -> Result<(), Fail> {
-    let alloc = rt.alloc();
-    let sections = [narrow(), wide()];
-    let opts = ParseOptions::default();
-    let is_right = is_refused_until_right(alloc, || {
-        match WindowIndex::prepare(alloc, &sections, 0x200, &opts) {
-            Ok(index) if index.pieces() == 5 && index.find(0x1250) == Some(0x450) => Outcome::Right,
-            Err(Error::Memory(_)) => Outcome::Refused,
-            _ => Outcome::Wrong,
-        }
-    })?;
-    assert!(rt; is_right);
     Ok(())
 }
 
