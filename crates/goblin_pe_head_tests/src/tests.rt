@@ -3,7 +3,6 @@
 mod first_faults;
 mod header;
 mod headers;
-mod memory;
 mod optional_header;
 mod rich;
 mod sample;

@@ -1,10 +1,11 @@
-//! The headers, the section table after them, and the texts of refusals.
+//! The headers, and the section table after them.
 
 use super::sample::sample_coff;
-use fixture::sample::{TABLE, TABLE_END, put, sample, sample_section};
+use fixture::sample::{ELSEWHERE, TABLE, TABLE_END, put, sample, sample_named, sample_section};
 use goblin_base::{Cause, Error};
 use goblin_pe_head::header::DOS_MAGIC;
 use goblin_pe_head::{CoffHeader, DosHeader};
+use goblin_pe_sect::SectionTable;
 use std::alloc::Global;
 use std::test::Fail;
 
@@ -50,22 +51,20 @@ fn reads_the_sections(rt: HostRuntime) -> Result<(), Fail> {
     Ok(())
 }
 
-#[test]
-fn causes_print_their_fixed_texts(rt: HostRuntime) {
-    let rows = [
-        (
-            Cause::StrippedSize(0x17),
-            "Stripped size (0x17) is smaller than TE header size (0x28)",
-        ),
-        (
-            Cause::CoffLength,
-            "COFF length field size (0x4) is larger than the parsed length value",
-        ),
-    ];
-    for (cause, want) in rows {
-        assert!(rt;
-            prints(rt.alloc(), &Error::Malformed(cause), want),
-            "{want}"
-        );
+/// Whether this is one section with the name `a.dll`.
+fn is_named(sections: &[SectionTable]) -> bool {
+    match sections {
+        [section] => matches!(section.name(), Ok(name) if name == "a.dll"),
+        _ => false,
     }
+}
+
+#[test]
+fn reads_a_section_with_its_name_elsewhere(rt: HostRuntime) -> Result<(), Fail> {
+    let file = sample_named(rt.alloc(), ELSEWHERE)?;
+    let mut offset = TABLE;
+    let read = sample_coff().sections(rt.alloc(), &file, &mut offset);
+    let is_read = matches!(&read, Ok(sections) if is_named(sections.as_slice()));
+    assert!(rt; is_read && offset == TABLE_END);
+    Ok(())
 }

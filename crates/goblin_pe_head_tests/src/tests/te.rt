@@ -1,11 +1,11 @@
 //! The header of a Terse Executable and its sections.
 
-use fixture::memory::{Outcome, is_refused_until_right};
+use super::headers::prints;
 use fixture::sample::{put, section};
 use goblin_base::{Cause, Endian, Error, Record};
 use goblin_pe_head::TeHeader;
 use goblin_pe_head::header::TE_MAGIC;
-use goblin_pe_sect::{DataDirectory, SectionTable};
+use goblin_pe_sect::DataDirectory;
 use std::test::Fail;
 
 /// A header of a file of which `stripped_size` bytes were stripped, with an entry point and one section.
@@ -52,28 +52,21 @@ fn a_header_of_which_too_little_was_stripped_is_refused(rt: HostRuntime) -> Resu
     let file = file(0x17)?;
     let mut offset = 0;
     let refused = TeHeader::parse(&file, &mut offset);
-    let is_refused = matches!(refused, Err(Error::Malformed(Cause::StrippedSize(0x17))));
+    let is_refused = matches!(&refused, Err(Error::Malformed(Cause::StrippedSize(0x17))));
     assert!(rt; is_refused && offset == 0);
+    let want = "Stripped size (0x17) is smaller than TE header size (0x28)";
+    assert!(rt; matches!(&refused, Err(error) if prints(rt.alloc(), error, want)));
     Ok(())
 }
 
 #[test]
-fn sections_are_adjusted_at_each_growth(rt: HostRuntime) -> Result<(), Fail> {
-    let alloc = rt.alloc();
+fn sections_are_adjusted_by_what_was_stripped(rt: HostRuntime) -> Result<(), Fail> {
     let file = file(0x128)?;
-    let want = section(0xF00, 0, 0, 0x100);
-    let is_right = is_refused_until_right(alloc, || {
-        let mut offset = 40;
-        match header(0x128).sections(alloc, &file, &mut offset) {
-            Ok(sections) if offset == 80 => match sections.as_slice() {
-                [read] if *read == want => Outcome::Right,
-                _ => Outcome::Wrong,
-            },
-            Err(Error::Memory(_)) if offset == 40 => Outcome::Refused,
-            _ => Outcome::Wrong,
-        }
-    })?;
-    assert!(rt; is_right);
+    let want = [section(0xF00, 0, 0, 0x100)];
+    let mut offset = 40;
+    let read = header(0x128).sections(rt.alloc(), &file, &mut offset);
+    let is_read = matches!(&read, Ok(sections) if sections.as_slice() == want.as_slice());
+    assert!(rt; is_read && offset == 80);
     Ok(())
 }
 
