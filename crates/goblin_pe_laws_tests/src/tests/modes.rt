@@ -1,7 +1,6 @@
 //! Readers in both modes, and under two tables of sections.
 
 use super::table_footprints::is_sample;
-use fixture::memory::{Outcome, is_refused_until_right};
 use fixture::sample::{put, sample, sample_section, section};
 use fixture_tables::exports::{FORWARDED, PLAIN, Row, are};
 use fixture_tables::imports::{ALIGNMENT, DIRECTORY, GO, RECORD, SEVEN, are_rows, front_file};
@@ -65,43 +64,26 @@ fn have_the_same_header(file: &[u8]) -> bool {
     matches!(&headers, (Ok(strict), Ok(permissive)) if strict == permissive)
 }
 
-/// How the reading of the sample file ended.
-fn outcome(whole: &goblin_base::Result<Whole>) -> Outcome {
-    match whole {
-        Ok(whole) if is_sample(whole) => Outcome::Right,
-        Err(Error::Memory(_)) => Outcome::Refused,
-        _ => Outcome::Wrong,
-    }
+/// Whether the sample file was read.
+fn is_sample_read(whole: &goblin_base::Result<Whole>) -> bool {
+    matches!(whole, Ok(whole) if is_sample(whole))
 }
 
-/// How two readings ended: right where each is, and wrong where one is.
-fn outcome_of_two(first: &Outcome, second: &Outcome) -> Outcome {
-    match (first, second) {
-        (Outcome::Right, Outcome::Right) => Outcome::Right,
-        (Outcome::Wrong, _) | (_, Outcome::Wrong) => Outcome::Wrong,
-        _ => Outcome::Refused,
-    }
+/// Whether the sample file was read both times.
+fn are_samples_read(wholes: &(goblin_base::Result<Whole>, goblin_base::Result<Whole>)) -> bool {
+    is_sample_read(&wholes.0) && is_sample_read(&wholes.1)
 }
 
-/// How both readings ended.
-fn outcome_of_both(wholes: &(goblin_base::Result<Whole>, goblin_base::Result<Whole>)) -> Outcome {
-    let first = outcome(&wholes.0);
-    let second = outcome(&wholes.1);
-    outcome_of_two(&first, &second)
-}
-
-/// How the readings of the sample file ended in both modes.
-fn outcome_of_modes(alloc: Global, file: &[u8], opts: &ParseOptions) -> Outcome {
-    outcome_of_both(&mode_whole(alloc, file, opts))
+/// Whether both modes read the sample file.
+fn is_read_in_modes(alloc: Global, file: &[u8], opts: &ParseOptions) -> bool {
+    are_samples_read(&mode_whole(alloc, file, opts))
 }
 
 #[test]
 fn both_modes_read_the_same_file(rt: HostRuntime) -> Result<(), Fail> {
-    let alloc = rt.alloc();
-    let file = sample(alloc)?;
+    let file = sample(rt.alloc())?;
     assert!(rt; have_the_same_header(&file));
-    let outcome = outcome_of_modes(alloc, &file, &ParseOptions::default());
-    assert!(rt; matches!(outcome, Outcome::Right));
+    assert!(rt; is_read_in_modes(rt.alloc(), &file, &ParseOptions::default()));
     Ok(())
 }
 
@@ -365,14 +347,5 @@ fn each_table_of_sections_has_its_own_answers(rt: HostRuntime) -> Result<(), Fai
     let file = sample(alloc)?;
     let read = read_by_sections(alloc, &file, &[sample_section()], &[]);
     assert!(rt; read == (Read::Sample, Read::Unmapped));
-    Ok(())
-}
-
-#[test]
-fn a_mode_refused_for_want_of_memory_stands_in_its_place(rt: HostRuntime) -> Result<(), Fail> {
-    let alloc = rt.alloc();
-    let file = sample(alloc)?;
-    let opts = ParseOptions::default();
-    assert!(rt; is_refused_until_right(alloc, || outcome_of_modes(alloc, &file, &opts))?);
     Ok(())
 }

@@ -1,6 +1,5 @@
 //! Which bytes of a file its imports and exports depend on.
 
-use fixture::memory::{Outcome, is_refused_until_right};
 use fixture::sample::{SAMPLE_LEN, put, sample, sample_section};
 use fixture_tables::exports::{FORWARDED, PLAIN, are};
 use fixture_tables::imports::{
@@ -484,6 +483,21 @@ fn imports_of_two_files_are_read_by_entries_of_two_bytes(rt: HostRuntime) -> Res
     Ok(())
 }
 
+/// Whether the first file has the sample file's import data, and the second is refused for what it lacks.
+fn has_the_first_imports_alone(alloc: Global, first: &[u8], second: &[u8]) -> bool {
+    let sections = [sample_section()];
+    let opts = ParseOptions::default();
+    let imports = twin_imports::<u32>(alloc, first, second, DIRECTORY, &sections, ALIGNMENT, &opts);
+    are_imports_read(&imports.0) && matches!(&imports.1, Err(Error::Malformed(_)))
+}
+
+#[test]
+fn the_imports_of_a_file_are_read_where_a_second_has_none(rt: HostRuntime) -> Result<(), Fail> {
+    let file = sample(rt.alloc())?;
+    assert!(rt; has_the_first_imports_alone(rt.alloc(), &file, &[]));
+    Ok(())
+}
+
 /// Whether the footprint of imports by entries of two bytes has the lookup table's four bytes, and not the
 /// one after them.
 fn has_short_lookup_alone(alloc: Global, file: &[u8]) -> bool {
@@ -614,56 +628,5 @@ fn a_lookup_table_that_meets_the_end_is_cut_in_permissive_mode(
         file.truncate(len);
         assert!(rt; keeps_sevens(alloc, &file, count), "{len:#x}");
     }
-    Ok(())
-}
-
-/// How the listing of the imports' footprint ended.
-fn outcome(alloc: Global, file: &[u8]) -> Outcome {
-    let sections = [sample_section()];
-    let opts = ParseOptions::default();
-    match &footprint_imports::<u32>(alloc, file, DIRECTORY, &sections, ALIGNMENT, &opts) {
-        Ok(spans) if is_in(spans, 0x294) => Outcome::Right,
-        Err(Error::Memory(_)) => Outcome::Refused,
-        _ => Outcome::Wrong,
-    }
-}
-
-#[test]
-fn a_footprint_is_refused_at_each_growth(rt: HostRuntime) -> Result<(), Fail> {
-    let alloc = rt.alloc();
-    let file = sample(alloc)?;
-    assert!(rt; is_refused_until_right(alloc, || outcome(alloc, &file))?);
-    Ok(())
-}
-
-/// How the imports of two files were read, of which the second has no directory; that is told where its
-/// own index has memory.
-fn outcome_of_both(
-    first: &goblin_base::Result<ImportData>,
-    second: &goblin_base::Result<ImportData>,
-) -> Outcome {
-    let is_told = matches!(second, Err(Error::Malformed(_)));
-    let is_refused = matches!(second, Err(Error::Memory(_)));
-    match first {
-        Ok(data) if is_told && are_sample_imports(data) => Outcome::Right,
-        Ok(_) if is_refused => Outcome::Refused,
-        Err(Error::Memory(_)) if is_told || is_refused => Outcome::Refused,
-        _ => Outcome::Wrong,
-    }
-}
-
-/// How the imports of both files were read.
-fn outcome_of_imports(alloc: Global, file: &[u8], other: &[u8]) -> Outcome {
-    let sections = [sample_section()];
-    let opts = ParseOptions::default();
-    let imports = twin_imports::<u32>(alloc, file, other, DIRECTORY, &sections, ALIGNMENT, &opts);
-    outcome_of_both(&imports.0, &imports.1)
-}
-
-#[test]
-fn each_growth_refused_stands_in_its_place(rt: HostRuntime) -> Result<(), Fail> {
-    let alloc = rt.alloc();
-    let file = sample(alloc)?;
-    assert!(rt; is_refused_until_right(alloc, || outcome_of_imports(alloc, &file, &[]))?);
     Ok(())
 }

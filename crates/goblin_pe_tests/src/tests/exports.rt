@@ -1,7 +1,6 @@
 //! The exports of the sample file, and the forwarders among them.
 
 use super::shared::{is_told, sample_with};
-use fixture::memory::{Outcome, is_refused_until_right};
 use fixture::sample::{put, sample, sample_section, section};
 use fixture_tables::exports::{FORWARDED, PLAIN, Row, are};
 use goblin_base::{Cause, Endian, Error, Record, gread_with};
@@ -124,9 +123,11 @@ fn an_empty_file_has_no_exports(rt: HostRuntime) -> Result<(), Fail> {
     Ok(())
 }
 
-/// Whether these tables have the name and the first ordinal of the sample's.
+/// Whether these tables have the name, the first ordinal and the number of entries of the sample's.
 fn are_sample_tables(tables: &ExportData) -> bool {
-    tables.name == Some("a.dll") && tables.export_directory_table.ordinal_base == 1
+    tables.name == Some("a.dll")
+        && tables.export_directory_table.ordinal_base == 1
+        && tables.export_address_table.as_slice().len() == 2
 }
 
 /// Whether a file's tables and exports are the sample's, by these sections and options.
@@ -285,46 +286,6 @@ fn tables_made_by_hand_lead_to_exports(rt: HostRuntime) -> Result<(), Fail> {
 fn tables_made_by_hand_are_given_back(rt: HostRuntime) -> Result<(), Fail> {
     let addresses = made_tables(rt.alloc())?.export_address_table.into_vec();
     assert!(rt; addresses.as_slice() == [ExportAddressTableEntry::ExportRVA(0x1010)].as_slice());
-    Ok(())
-}
-
-/// How the reading of the sample file's tables ended.
-fn tables_outcome(read: &goblin_base::Result<ExportData>) -> Outcome {
-    match read {
-        Ok(tables) if tables.export_address_table.as_slice().len() == 2 => Outcome::Right,
-        Err(Error::Memory(_)) => Outcome::Refused,
-        _ => Outcome::Wrong,
-    }
-}
-
-#[test]
-fn export_data_are_refused_at_each_growth(rt: HostRuntime) -> Result<(), Fail> {
-    let alloc = rt.alloc();
-    let file = sample(alloc)?;
-    let is_read = is_refused_until_right(alloc, || tables_outcome(&data_of(alloc, &file)))?;
-    assert!(rt; is_read);
-    Ok(())
-}
-
-/// How the listing of the sample file's exports ended.
-fn exports_outcome(read: &goblin_base::Result<Vec<Export>>) -> Outcome {
-    match read {
-        Ok(exports) if are(exports, &[PLAIN, FORWARDED]) => Outcome::Right,
-        Err(Error::Memory(_)) => Outcome::Refused,
-        _ => Outcome::Wrong,
-    }
-}
-
-/// Whether the exports of a file are refused until there is enough memory for them.
-fn are_refused_until_listed(alloc: Global, file: &[u8]) -> goblin_base::Result<bool> {
-    let tables = data_of(alloc, file)?;
-    Ok(is_refused_until_right(alloc, || exports_outcome(&listed(alloc, file, &tables)))?)
-}
-
-#[test]
-fn exports_are_refused_at_each_growth(rt: HostRuntime) -> Result<(), Fail> {
-    let file = sample(rt.alloc())?;
-    assert!(rt; are_refused_until_listed(rt.alloc(), &file)?);
     Ok(())
 }
 

