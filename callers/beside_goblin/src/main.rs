@@ -1,4 +1,4 @@
-//! Reads files that lie in memory by this library or by goblin, for `./benchmark`:
+//! Reads files that lie in memory by this library or by goblin, for `tools/benchmark`:
 //! beside_goblin ours|goblin ROUNDS FILE..
 use goblin::pe::PE;
 use std::error::Error;

@@ -1,4 +1,4 @@
-//! Reads files that lie in memory, as often as it is told, for `./benchmark`: times ROUNDS FILE..
+//! Reads files that lie in memory, as often as it is told, for `tools/benchmark`: times ROUNDS FILE..
 //!
 //! Prints how many files were read, and how many sections, imports and exports they have.
 use goblin_pe::{Options, Pe};
