@@ -1,5 +1,5 @@
 //! Shows what readers of the library make of a file on standard input, for the script that compares it
-//! with what stands beside the samples; or what a call answers that takes memory.
+//! with what stands beside the samples; or what a call answers, for the script that refuses it memory.
 #![tactic(auto)]
 
 mod calls;
@@ -8,12 +8,12 @@ ghost use Rattle.std.specs.Prelude.{◌≡◌, ◌≤◌, IfOk, OnOk, length, Is
 ghost use Rattle.goblin_pe_head.specs.PeHeader.{header_bytes, pe_header};
 
 use calls::show_call;
-use goblin_base::{Endian, Error, Strtab};
+use goblin_base::{Endian, Error, ErrorOf, Strtab};
 use goblin_pe_head::{CoffHeader, Header, TeHeader};
 use goblin_pe_sect::symbol::Symbol;
 use goblin_pe_sect::utils::find_offset;
 use goblin_pe_sect::{ParseOptions, SectionTable, WindowIndex};
-use std::alloc::AllocError;
+use std::alloc::{AllocError, Global};
 use std::io::{ErrorKind, Read, Write};
 use std::process::ExitCode;
 use std::{env, io};
@@ -37,9 +37,9 @@ pub enum Refused {
 }
 
 impl Refused {
-    fn of(error: &Error) -> Refused {
+    fn of<'e>(error: &ErrorOf<'e>) -> Refused {
         match error {
-            Error::Memory(_) => Refused::Memory,
+            ErrorOf::Memory(_) => Refused::Memory,
             _ => Refused::Other,
         }
     }
@@ -73,37 +73,50 @@ impl From<io::Error> for Refused {
     }
 }
 
-// Shows what the word asks for of the file on standard input, or makes the call that the next word names.
+// Shows what the words ask for.
 fn replay(rt: &HostRuntime) -> Result<(), Refused> {
     let mut words = env::args(rt)?;
     let _program = words.next();
-    let (word, operand) = (words.next(), words.next());
-    match (&word, &operand) {
-        (Some(word), Some(call)) if word.as_str() == "call" => show_call(rt, call.as_str()),
-        (Some(word), _) => show_file(rt, word.as_str(), &operand),
-        _ => Err(Refused::Other),
+    let (word, operand, form) = (words.next(), words.next(), words.next());
+    show(rt, text(&word), text(&operand), text(&form))
+}
+
+fn text(word: &Option<String>) -> &str {
+    match word {
+        Some(word) => word.as_str(),
+        None => "",
     }
 }
 
-// Shows what the word asks for of the file on standard input.
-fn show_file(rt: &HostRuntime, word: &str, count: &Option<String>) -> Result<(), Refused> {
+// Shows what the word asks for of the file on standard input, or makes the call that the operand names.
+fn show(rt: &HostRuntime, word: &str, operand: &str, form: &str) -> Result<(), Refused> {
+    match word {
+        "call" => show_call(rt, operand, form),
+        "walk" => show_file(rt, word, number(operand)?),
+        "index" => show_file(rt, word, number(operand)?),
+        _ => show_file(rt, word, 0),
+    }
+}
+
+fn number(word: &str) -> Result<u32, Refused> {
+    word.parse::<u32>().map_err(|_| Refused::Other)
+}
+
+fn show_file(rt: &HostRuntime, word: &str, count: u32) -> Result<(), Refused> {
     let mut file = Vec::new(rt.alloc());
     rt.stdin().read_to_end(&mut file)?;
-    match word {
-        "header" => show_header(rt, &file),
-        "te" => show_te(rt, &file),
-        "symbols" => show_symbols(rt, &file),
-        "walk" => show_offsets(rt, &file, number(count)?, false),
-        "index" => show_offsets(rt, &file, number(count)?, true),
-        _ => Err(Refused::Other),
-    }
+    show_bytes(rt, &file, word, count)
 }
 
-// The number that a word says.
-fn number(word: &Option<String>) -> Result<u32, Refused> {
+// Shows what the word asks for of a file.
+fn show_bytes(rt: &HostRuntime, file: &[u8], word: &str, count: u32) -> Result<(), Refused> {
     match word {
-        Some(word) => word.parse::<u32>().map_err(|_| Refused::Other),
-        None => Err(Refused::Other),
+        "header" => show_header(rt, file),
+        "te" => show_te(rt, file),
+        "symbols" => show_symbols(rt, file),
+        "walk" => show_sum(rt, walked(rt.alloc(), file, count)),
+        "index" => show_sum(rt, indexed(rt.alloc(), file, count)),
+        _ => Err(Refused::Other),
     }
 }
 
@@ -132,36 +145,46 @@ fn show_te(rt: &HostRuntime, file: &[u8]) -> Result<(), Refused> {
     let mut offset = 0;
     let header = TeHeader::parse(file, &mut offset)?;
     show_te_header(rt, &header)?;
-    for section in &header.sections(rt.alloc(), file, &mut offset)? {
+    show_sections(rt, &header.sections(rt.alloc(), file, &mut offset)?)
+}
+
+fn show_te_header(rt: &HostRuntime, header: &TeHeader) -> Result<(), Refused> {
+    let numbers = [
+        ("signature", header.signature as u64),
+        ("machine", header.machine as u64),
+        ("number_of_sections", header.number_of_sections as u64),
+        ("subsystem", header.subsystem as u64),
+        ("stripped_size", header.stripped_size as u64),
+        ("entry_point", header.entry_point as u64),
+        ("base_of_code", header.base_of_code as u64),
+        ("image_base", header.image_base),
+    ];
+    for (name, number) in &numbers {
+        println!(rt; "{name} {number:#x}")?;
+    }
+    for (name, directory) in [
+        ("reloc_dir", header.reloc_dir),
+        ("debug_dir", header.debug_dir),
+    ] {
+        println!(rt;
+            "{name} {:#x} {}",
+            directory.virtual_address, directory.size
+        )?;
+    }
+    Ok(())
+}
+
+fn show_sections(rt: &HostRuntime, sections: &[SectionTable]) -> Result<(), Refused> {
+    for section in sections {
         show_section(rt, section)?;
     }
     Ok(())
 }
 
-fn show_te_header(rt: &HostRuntime, header: &TeHeader) -> Result<(), Refused> {
-    println!(rt; "signature {:#x}", header.signature)?;
-    println!(rt; "machine {:#x}", header.machine)?;
-    println!(rt; "number_of_sections {:#x}", header.number_of_sections)?;
-    println!(rt; "subsystem {:#x}", header.subsystem)?;
-    println!(rt; "stripped_size {:#x}", header.stripped_size)?;
-    println!(rt; "entry_point {:#x}", header.entry_point)?;
-    println!(rt; "base_of_code {:#x}", header.base_of_code)?;
-    println!(rt; "image_base {:#x}", header.image_base)?;
-    println!(rt;
-        "reloc_dir {:#x} {}",
-        header.reloc_dir.virtual_address, header.reloc_dir.size
-    )?;
-    println!(rt;
-        "debug_dir {:#x} {}",
-        header.debug_dir.virtual_address, header.debug_dir.size
-    )?;
-    Ok(())
-}
-
 fn show_section(rt: &HostRuntime, section: &SectionTable) -> Result<(), Refused> {
+    let name = section.name()?;
     println!(rt;
-        "section {} va={:#x} vsize={:#x} raw={:#x} ptr={:#x} characteristics={:#x}",
-        section.name()?,
+        "section {name} va={:#x} vsize={:#x} raw={:#x} ptr={:#x} characteristics={:#x}",
         section.virtual_address,
         section.virtual_size,
         section.size_of_raw_data,
@@ -175,15 +198,19 @@ fn show_section(rt: &HostRuntime, section: &SectionTable) -> Result<(), Refused>
 fn show_symbols(rt: &HostRuntime, file: &[u8]) -> Result<(), Refused> {
     let mut offset = 0;
     let header = CoffHeader::parse(file, &mut offset)?;
-    let (Some(symbols), Some(strings)) = (header.symbols(file)?, header.strings(rt.alloc(), file)?)
-    else {
+    show_symbol_table(rt, file, &header)?;
+    show_all_relocations(rt, &header.sections(rt.alloc(), file, &mut offset)?, file)
+}
+
+fn show_symbol_table(rt: &HostRuntime, file: &[u8], header: &CoffHeader) -> Result<(), Refused> {
+    let Some(symbols) = header.symbols(file)? else {
+        return Err(Refused::Other);
+    };
+    let Some(strings) = header.strings(rt.alloc(), file)? else {
         return Err(Refused::Other);
     };
     for (index, _, symbol) in symbols.iter() {
         show_symbol(rt, index, &symbol, &strings)?;
-    }
-    for section in &header.sections(rt.alloc(), file, &mut offset)? {
-        show_relocations(rt, section, file)?;
     }
     Ok(())
 }
@@ -205,45 +232,80 @@ fn show_symbol(
     Ok(())
 }
 
-// The number of a section's relocations, where it has some.
-fn show_relocations(rt: &HostRuntime, section: &SectionTable, file: &[u8]) -> Result<(), Refused> {
-    let (count, _) = section.relocations(file)?.size_hint();
-    if count > 0 {
-        println!(rt; "relocations {} {count}", section.name()?)?;
+fn show_all_relocations(
+    rt: &HostRuntime,
+    sections: &[SectionTable],
+    file: &[u8],
+) -> Result<(), Refused> {
+    for section in sections {
+        show_relocations(rt, section, file)?;
     }
     Ok(())
 }
 
-// How far the addresses lie apart that are looked up, all below `SPAN`.
+// The number of a section's relocations, where it has some.
+fn show_relocations(rt: &HostRuntime, section: &SectionTable, file: &[u8]) -> Result<(), Refused> {
+    let name = section.name()?;
+    match relocations_of(section, file)? {
+        0 => Ok(()),
+        count => show_count(rt, name, count),
+    }
+}
+
+fn relocations_of(section: &SectionTable, file: &[u8]) -> Result<usize, Refused> {
+    let (count, _) = section.relocations(file)?.size_hint();
+    Ok(count)
+}
+
+fn show_count(rt: &HostRuntime, name: &str, count: usize) -> Result<(), Refused> {
+    println!(rt; "relocations {name} {count}")?;
+    Ok(())
+}
+
+// The file alignment by which addresses of an object are looked up, and how far they lie apart, all below
+// `SPAN`.
+const ALIGNMENT: u32 = 0x200;
+
 const STEP: usize = 0x9E37_79B1;
 
 const SPAN: usize = 1 << 28;
 
-// The file offsets of `count` addresses of an object, added up: by a walk over
-// its sections for each, or by an index of them.
-fn show_offsets(
-    rt: &HostRuntime,
-    file: &[u8],
-    count: u32,
-    is_by_index: bool,
-) -> Result<(), Refused> {
-    let mut offset = 0;
-    let header = CoffHeader::parse(file, &mut offset)?;
-    let sections = header.sections(rt.alloc(), file, &mut offset)?;
-    let opts = ParseOptions::default();
-    let mut sum = 0usize;
-    if is_by_index {
-        let index = WindowIndex::prepare(rt.alloc(), &sections, 0x200, &opts)?;
-        for i in 0..count as usize {
-            let found = index.find(i.wrapping_mul(STEP) % SPAN);
-            sum = sum.wrapping_add(found.unwrap_or(0));
-        }
-    } else {
-        for i in 0..count as usize {
-            let found = find_offset(i.wrapping_mul(STEP) % SPAN, &sections, 0x200, &opts);
-            sum = sum.wrapping_add(found.unwrap_or(0));
-        }
-    }
+fn show_sum(rt: &HostRuntime, sum: Result<usize, Refused>) -> Result<(), Refused> {
+    let sum = sum?;
     println!(rt; "{sum:#x}")?;
     Ok(())
+}
+
+fn sections_of(alloc: Global, file: &[u8]) -> goblin_base::Result<Vec<SectionTable>> {
+    let mut offset = 0;
+    let header = CoffHeader::parse(file, &mut offset)?;
+    header.sections(alloc, file, &mut offset)
+}
+
+// The file offsets of `count` addresses of an object, added up: by a walk over its sections for each.
+fn walked(alloc: Global, file: &[u8], count: u32) -> Result<usize, Refused> {
+    let sections = sections_of(alloc, file)?;
+    let opts = ParseOptions::default();
+    let mut sum = 0usize;
+    for i in 0..count as usize {
+        let found = find_offset(i.wrapping_mul(STEP) % SPAN, &sections, ALIGNMENT, &opts);
+        sum = sum.wrapping_add(found.unwrap_or(0));
+    }
+    Ok(sum)
+}
+
+// The same by an index of its sections.
+fn indexed(alloc: Global, file: &[u8], count: u32) -> Result<usize, Refused> {
+    let sections = sections_of(alloc, file)?;
+    indexed_in(alloc, &sections, count)
+}
+
+fn indexed_in(alloc: Global, sections: &[SectionTable], count: u32) -> Result<usize, Refused> {
+    let index = WindowIndex::prepare(alloc, sections, ALIGNMENT, &ParseOptions::default())?;
+    let mut sum = 0usize;
+    for i in 0..count as usize {
+        let found = index.find(i.wrapping_mul(STEP) % SPAN);
+        sum = sum.wrapping_add(found.unwrap_or(0));
+    }
+    Ok(sum)
 }
