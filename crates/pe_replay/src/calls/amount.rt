@@ -44,7 +44,7 @@ impl<T: Amount> Amount for Option<T> {
     }
 }
 
-/// That of the second, which was read by the first or beside it.
+/// That of the second, which was read by the first, or beside it.
 impl<A, B: Amount> Amount for (A, B) {
     fn amount(&self) -> usize {
         self.1.amount()

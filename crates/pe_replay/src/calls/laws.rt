@@ -66,8 +66,13 @@ fn of_two_files(alloc: Global, a: &[u8], word: &str, opts: &ParseOptions) -> Opt
     }
 }
 
+// The checker does not cover `seen` and `both` at this type, nor at that of tables.
+fn parts_seen(parts: Parts<DataDirectory>) -> Seen {
+    parts_sum(&parts)
+}
+
 // How long the names of the sections are, by a COFF header and as a Terse Executable's, and the strings.
-fn parts_seen(parts: &Parts<DataDirectory>) -> Seen {
+fn parts_sum(parts: &Parts<DataDirectory>) -> Seen {
     let sections = parts.sections.seen()?;
     let of_te = parts.te.seen()?;
     let strings = parts.strings.seen()?;
@@ -103,23 +108,24 @@ fn parts(alloc: Global, opts: &ParseOptions) -> BothSeen {
         ALIGNMENT,
         &opts,
     );
-    (parts_seen(&first), parts_seen(&second))
+    (parts_seen(first), parts_seen(second))
 }
 
-/// How many entries and libraries there are, and how long the names of the exports are.
-impl Answer for Tables<'_, ImportDirectoryEntry> {
-    fn seen(&self) -> Seen {
-        let entries = self.lookup.seen()?;
-        let libraries = self.imports.seen()?;
-        let exports = self.exports.seen()?;
-        Ok(entries.saturating_add(libraries).saturating_add(exports))
-    }
+// How many entries and libraries there are, and how long the names of the exports are.
+fn tables_sum(tables: &Tables<ImportDirectoryEntry>) -> Seen {
+    let entries = tables.lookup.seen()?;
+    let libraries = tables.imports.seen()?;
+    let exports = tables.exports.seen()?;
+    Ok(entries.saturating_add(libraries).saturating_add(exports))
 }
 
-// The checker does not cover `both` at this type, nor at that of parts.
+fn tables_seen(tables: Tables<ImportDirectoryEntry>) -> Seen {
+    tables_sum(&tables)
+}
+
 fn both_tables(tables: (Tables<ImportDirectoryEntry>, Tables<ImportDirectoryEntry>)) -> BothSeen {
     let (first, second) = tables;
-    (first.seen(), second.seen())
+    (tables_seen(first), tables_seen(second))
 }
 
 fn tables_by_mode(alloc: Global, file: &[u8], opts: &ParseOptions) -> BothSeen {
