@@ -1,6 +1,6 @@
 //! The exports of the sample file.
 
-use goblin_pe::export::{Export, Reexport};
+use goblin_pe_tables::export::{Export, Reexport};
 
 /// An export's name, file offset, address, and what it stands for.
 pub type Row<'a> = (Option<&'a str>, Option<usize>, usize, Option<Reexport<'a>>);

@@ -7,10 +7,10 @@ ghost use Rattle.fixture_tables.specs.ShortEntry.{short_value};
 
 use fixture::sample::put;
 use goblin_base::{Endian, field_u16};
-use goblin_pe::import::{
+use goblin_pe_sect::DataDirectory;
+use goblin_pe_tables::import::{
     Bitfield, Import, ImportDirectoryEntry, ImportLookupTable, SyntheticImportLookupTableEntry,
 };
-use goblin_pe_sect::DataDirectory;
 use std::alloc::{AllocError, Global};
 
 /// An entry of two bytes, by ordinal from 2^15 on.

@@ -1,17 +1,5 @@
-pub mod ExportDirectoryRoundTrip
-pub mod ExportFootprints
-mod ExportRows
-mod Grammar
-pub mod Growths
-pub mod ImportBound
-pub mod ImportDirectoryRoundTrip
-pub mod ImportFootprints
-pub mod Imports
-pub mod LookupSlots
-pub mod Modes
 pub mod Parts
 pub mod PermissiveReads
-pub mod RangesInFile
 pub mod TableRuns
 pub mod TwinParts
 pub mod WholeFootprints

@@ -20,15 +20,15 @@ use Rattle.goblin_pe_sect.proofs.PermissiveReads.{name_or_none-kept}
 use Rattle.goblin_pe_head.specs.CoffHeader.{symbols_end}
 use Rattle.goblin_pe_head.specs.PeHeader.{PeHeader, pe_header}
 use Rattle.goblin_pe_head.proofs.PermissiveReads.{header-kept, sections_at-kept}
-use Rattle.goblin_pe.specs.declared.import.directory_entry.ImportDirectoryEntry.{ImportDirectoryEntry}
+use Rattle.goblin_pe_tables.specs.declared.import.directory_entry.ImportDirectoryEntry.{ImportDirectoryEntry}
 use Rattle.goblin_pe.specs.declared.whole.Part.{Part}
 use Rattle.goblin_pe.specs.declared.whole.Part.TheVariants.{Absent, Refused}
 use Rattle.goblin_pe.specs.declared.whole.Part.TheVariants as part
-use Rattle.goblin_pe.specs.ImportDirectory.{ImportedLibrary, import_data, import_slots, libraries_at, libraries_if, library_of, lookup_offset, lookup_slots_if, lookup_table_if}
-use Rattle.goblin_pe.specs.ImportLookup.{EntryValue, LookupEntry, entry_slots, hint_name, kept_entry, kept_name, lookup_table, or_empty}
-use Rattle.goblin_pe.specs.ImportLookup.LookupEntry.{ByName}
-use Rattle.goblin_pe.specs.Imports.{ImportValue, imports_of}
-use Rattle.goblin_pe.specs.Exports.{export_data}
+use Rattle.goblin_pe_tables.specs.ImportDirectory.{ImportedLibrary, import_data, import_slots, libraries_at, libraries_if, library_of, lookup_offset, lookup_slots_if, lookup_table_if}
+use Rattle.goblin_pe_tables.specs.ImportLookup.{EntryValue, LookupEntry, entry_slots, hint_name, kept_entry, kept_name, lookup_table, or_empty}
+use Rattle.goblin_pe_tables.specs.ImportLookup.LookupEntry.{ByName}
+use Rattle.goblin_pe_tables.specs.Imports.{ImportValue, imports_of}
+use Rattle.goblin_pe_tables.specs.Exports.{export_data}
 use Rattle.goblin_pe.specs.Modes.{Repeats, RepeatsOrMemory, in_mode, in_permissive_mode, is_front, unless_front}
 use Rattle.goblin_pe.specs.Whole.{FileTables, TablePlaces, WholeFile, entry_format, export_data_part, exports_part, file_sections, import_data_part, imports_part, part_at, part_map, part_of, part_then, places_in, relocations_part, section_table_offset, tables_of, whole_file}
 

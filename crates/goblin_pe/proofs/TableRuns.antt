@@ -10,9 +10,9 @@ use Rattle.goblin_pe_sect.specs.Mapping.{data_at, name_at, name_or_none}
 use Rattle.goblin_pe_sect.proofs.PermissiveReads.{name_or_none-kept}
 use Rattle.goblin_pe.specs.declared.laws.order.Request.{Request}
 use Rattle.goblin_pe.specs.declared.laws.order.TablesOf.{TablesOf}
-use Rattle.goblin_pe.specs.ExportFootprints.{export_read, export_read_view}
-use Rattle.goblin_pe.specs.ImportDirectory.{import_data}
-use Rattle.goblin_pe.specs.ImportLookup.{EntryValue, entry_view, lookup_table}
+use Rattle.goblin_pe_tables.specs.ExportFootprints.{export_read, export_read_view}
+use Rattle.goblin_pe_tables.specs.ImportDirectory.{import_data}
+use Rattle.goblin_pe_tables.specs.ImportLookup.{EntryValue, entry_view, lookup_table}
 use Rattle.goblin_pe.specs.Modes.{unless_front}
 use Rattle.goblin_pe.specs.TableRuns.{AreAlike, AreRepeated, AreTables}
 use Rattle.goblin_pe.proofs.PermissiveReads.{import_data-kept, lookup_table-kept, repeats, repeats_or_memory}

@@ -17,14 +17,14 @@ use Rattle.goblin_pe_head.proofs.Footprints.{same-header, same-sections_at}
 use Rattle.goblin_pe.specs.declared.whole.Part.{Part}
 use Rattle.goblin_pe.specs.declared.whole.Part.TheVariants.{Absent, Refused}
 use Rattle.goblin_pe.specs.declared.whole.Part.TheVariants as part
-use Rattle.goblin_pe.specs.ExportFootprints.{export_data_footprint, export_footprint, exports_footprint}
-use Rattle.goblin_pe.specs.Exports.{ExportTables, export_data, exports}
-use Rattle.goblin_pe.specs.ImportDirectory.{import_data}
-use Rattle.goblin_pe.specs.ImportFootprints.{import_footprint}
+use Rattle.goblin_pe_tables.specs.ExportFootprints.{export_data_footprint, export_footprint, exports_footprint}
+use Rattle.goblin_pe_tables.specs.Exports.{ExportTables, export_data, exports}
+use Rattle.goblin_pe_tables.specs.ImportDirectory.{import_data}
+use Rattle.goblin_pe_tables.specs.ImportFootprints.{import_footprint}
 use Rattle.goblin_pe.specs.Whole.{TablePlaces, entry_format, export_data_part, exports_part, file_sections, import_data_part, imports_part, offset_by, part_at, part_map, part_of, places_in, relocations_part, section_table_offset, tables_of, whole_file}
 use Rattle.goblin_pe.specs.WholeFootprints.{file_sections_footprint, file_tables_footprint, import_part_footprint, whole_footprint}
-use Rattle.goblin_pe.proofs.ExportFootprints.{same-export_data, same-exports}
-use Rattle.goblin_pe.proofs.ImportFootprints.{same-import_data}
+use Rattle.goblin_pe_tables.proofs.ExportFootprints.{same-export_data, same-exports}
+use Rattle.goblin_pe_tables.proofs.ImportFootprints.{same-import_data}
 
 -- the table of a directory
 same_part_at : {A : Type 0} → (strict : Bool) (table again : DataDirectory → Option A) (directory : Option DataDirectory) (leads_to : DataDirectory → List Range) (a b : List ℕ) → ((d : DataDirectory) → Agree (leads_to d) a b → table d ≡ again d) → Agree (led_to directory leads_to) a b

@@ -1,13 +1,3 @@
-pub mod Addresses
-pub mod ExportFootprints
-pub mod Exports
-pub mod ForwarderLaws
-pub mod Forwarders
-pub mod ImportBound
-pub mod ImportDirectory
-pub mod ImportFootprints
-pub mod ImportLookup
-pub mod Imports
 pub mod Modes
 pub mod TableRuns
 pub mod TwinParts
@@ -48,3 +38,13 @@ pub use Rattle.goblin_pe_head.specs.PeHeader
 pub use Rattle.goblin_pe_head.specs.RichHeader
 pub use Rattle.goblin_pe_head.specs.RichMetadata
 pub use Rattle.goblin_pe_head.specs.TeHeader
+pub use Rattle.goblin_pe_tables.specs.Addresses
+pub use Rattle.goblin_pe_tables.specs.ExportFootprints
+pub use Rattle.goblin_pe_tables.specs.Exports
+pub use Rattle.goblin_pe_tables.specs.ForwarderLaws
+pub use Rattle.goblin_pe_tables.specs.Forwarders
+pub use Rattle.goblin_pe_tables.specs.ImportBound
+pub use Rattle.goblin_pe_tables.specs.ImportDirectory
+pub use Rattle.goblin_pe_tables.specs.ImportFootprints
+pub use Rattle.goblin_pe_tables.specs.ImportLookup
+pub use Rattle.goblin_pe_tables.specs.Imports

@@ -9,10 +9,10 @@ use Rattle.goblin_pe_sect.specs.BaseRelocations.{IsRelocationDataFault, relocati
 use Rattle.goblin_pe_sect.specs.Mapping.{IsDataFault, IsSafeNameFault, data_at, name_at, name_or_none}
 use Rattle.goblin_pe.specs.declared.laws.order.Request.{Request}
 use Rattle.goblin_pe.specs.declared.laws.order.TablesOf.{TablesOf}
-use Rattle.goblin_pe.specs.ExportFootprints.{export_read, export_read_view}
-use Rattle.goblin_pe.specs.Exports.{IsExportDataFault}
-use Rattle.goblin_pe.specs.ImportDirectory.{IsImportDataFault, import_data}
-use Rattle.goblin_pe.specs.ImportLookup.{EntryValue, IsLookupTableFault, entry_view, lookup_table}
+use Rattle.goblin_pe_tables.specs.ExportFootprints.{export_read, export_read_view}
+use Rattle.goblin_pe_tables.specs.Exports.{IsExportDataFault}
+use Rattle.goblin_pe_tables.specs.ImportDirectory.{IsImportDataFault, import_data}
+use Rattle.goblin_pe_tables.specs.ImportLookup.{EntryValue, IsLookupTableFault, entry_view, lookup_table}
 use Rattle.goblin_pe.specs.Modes.{Repeats, RepeatsOrMemory, unless_front}
 
 -- Each answer is its reader's own value, over a map of addresses to file offsets.

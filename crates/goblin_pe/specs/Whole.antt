@@ -18,11 +18,11 @@ use Rattle.goblin_pe.specs.declared.whole.Part.{Part}
 use Rattle.goblin_pe.specs.declared.whole.Part.TheVariants.{Absent, Refused}
 use Rattle.goblin_pe.specs.declared.whole.Part.TheVariants as part
 use Rattle.goblin_pe.specs.declared.whole.Tables.{Tables}
-use Rattle.goblin_pe.specs.Addresses.{MapOfAddresses, offset_of}
-use Rattle.goblin_pe.specs.Exports.{ExportRow, ExportTables, IsExportDataFault, export_data, exports}
-use Rattle.goblin_pe.specs.ImportDirectory.{ImportedLibrary, IsImportDataFault, import_data}
-use Rattle.goblin_pe.specs.ImportLookup.{EntryValue, entries_32, entries_64}
-use Rattle.goblin_pe.specs.Imports.{ImportValue, IsImportsFault, imports_of}
+use Rattle.goblin_pe_tables.specs.Addresses.{MapOfAddresses, offset_of}
+use Rattle.goblin_pe_tables.specs.Exports.{ExportRow, ExportTables, IsExportDataFault, export_data, exports}
+use Rattle.goblin_pe_tables.specs.ImportDirectory.{ImportedLibrary, IsImportDataFault, import_data}
+use Rattle.goblin_pe_tables.specs.ImportLookup.{EntryValue, entries_32, entries_64}
+use Rattle.goblin_pe_tables.specs.Imports.{ImportValue, IsImportsFault, imports_of}
 
 -- ---- parts
 

@@ -8,8 +8,8 @@ use Rattle.goblin_pe_sect.specs.SectionTable.{Section}
 use Rattle.goblin_pe_head.specs.CoffHeader.{symbols_end}
 use Rattle.goblin_pe_head.specs.Footprints.{header_footprint, sections_footprint}
 use Rattle.goblin_pe_head.specs.PeHeader.{PeHeader, pe_header}
-use Rattle.goblin_pe.specs.ExportFootprints.{export_footprint}
-use Rattle.goblin_pe.specs.ImportFootprints.{import_footprint}
+use Rattle.goblin_pe_tables.specs.ExportFootprints.{export_footprint}
+use Rattle.goblin_pe_tables.specs.ImportFootprints.{import_footprint}
 use Rattle.goblin_pe.specs.Whole.{TablePlaces, entry_format, file_sections, offset_by, places_in, section_table_offset}
 
 -- the import data, where imports are asked for and there is a directory; the list of imports is made from it

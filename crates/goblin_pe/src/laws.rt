@@ -15,19 +15,16 @@
 //! [`reorder_whole_tables`] reads it under two tables of sections: permissive mode repeats what strict
 //! mode reads, and the order of sections changes nothing where their windows are disjoint.
 
-mod exports;
-mod footprint;
 mod header;
-mod imports;
 mod modes;
 mod order;
 mod parts;
 mod whole;
 
-pub use exports::{ExportRead, twin_exports};
-pub use footprint::footprint_imports;
+pub use goblin_pe_tables::laws::{
+    ExportRead, footprint_imports, twin_exports, twin_imports, twin_lookup,
+};
 pub use header::twin_header;
-pub use imports::{twin_imports, twin_lookup};
 pub use modes::{mode_header, mode_tables, mode_whole};
 pub use order::{Request, Tables, TablesOf, reorder_whole_tables};
 pub use parts::{Parts, PartsOf, twin_parts};

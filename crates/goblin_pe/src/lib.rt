@@ -2,11 +2,7 @@
 //! of the crates below stands here too, so that a user names one crate.
 #![tactic(auto)]
 
-mod address_map;
-pub mod export;
-pub mod import;
 pub mod laws;
-pub mod table;
 pub mod whole;
 
 pub use goblin_base::{
@@ -17,4 +13,5 @@ pub use goblin_pe_head::{header, optional_header};
 pub use goblin_pe_sect::{
     data_directories, options, relocation, section_table, symbol, utils, windows,
 };
+pub use goblin_pe_tables::{export, import, table};
 pub use whole::{Part, Whole};

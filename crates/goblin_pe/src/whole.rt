@@ -7,12 +7,11 @@ ghost use Rattle.goblin_pe_sect.specs.Mapping.{IsNameAtFault, name_at};
 ghost use Rattle.goblin_pe_sect.specs.Options.{is_strict};
 ghost use Rattle.goblin_pe_head.specs.PeHeader.{header_value, pe_header};
 ghost use Rattle.goblin_pe_head.specs.CoffHeader.{IsTooManySections};
-ghost use Rattle.goblin_pe.specs.ImportDirectory.{IsImportDataFault, import_data};
-ghost use Rattle.goblin_pe.specs.Imports.{IsImportsFault, imports_of};
-ghost use Rattle.goblin_pe.specs.Addresses.{offset_of, reads_strictly};
+ghost use Rattle.goblin_pe_tables.specs.ImportDirectory.{IsImportDataFault, import_data};
+ghost use Rattle.goblin_pe_tables.specs.Imports.{IsImportsFault, imports_of};
+ghost use Rattle.goblin_pe_tables.specs.Addresses.{offset_of, reads_strictly};
 ghost use Rattle.goblin_pe.specs.Whole.{BecomesPart, IsExportPartFault, IsFileSectionsFault, IsImportPartFault, IsPartThenFault, IsRelocationsPartFault, IsTablesFault, IsWholeFault, entry_format, export_data_part, exports_part, file_sections, import_data_part, imports_part, items_part, offset_by, part_map, places_by, relocations_part, table_places, tables_of, places_in, whole_file};
 
-use crate::address_map::AddressMap;
 use crate::export::{Export, ExportData};
 use crate::import::{Import, ImportData};
 use crate::utils::{find_offset, try_name};
@@ -21,6 +20,7 @@ use goblin_pe_head::header::{Header, SIZEOF_COFF_HEADER, SIZEOF_PE_MAGIC};
 use goblin_pe_head::optional_header::{MAGIC_32, OptionalHeader};
 use goblin_pe_sect::relocation::RelocationData;
 use goblin_pe_sect::{DataDirectory, ParseOptions, SectionTable};
+use goblin_pe_tables::address_map::AddressMap;
 use std::alloc::Global;
 use std::marker::Model;
 

@@ -1,4 +1,4 @@
-//! The tests of goblin_pe: worked values of imports, exports and whole files.
+//! The tests of goblin_pe: worked values of whole files.
 #![tactic(auto)]
 
 #[cfg(test)]

@@ -1,14 +1,9 @@
-//! Worked values of imports, exports and whole files.
+//! Worked values of whole files.
 //!
 //! A [`Whole`](goblin_pe::Whole) ends in `drop`: what is proved of its parts is then proved once, and
 //! not in each function that has one. What owns memory is looked at by a function that borrows it, or
 //! takes it.
 
-mod exports;
-mod import_bound;
-mod imports;
 mod large_file;
-mod overlapping;
 mod raw_pointers;
-mod shared;
 mod whole;

@@ -7,12 +7,12 @@ ghost use Rattle.goblin_pe.specs.TableRuns.{AreAlike, AreTables};
 
 use crate::data_directories::DataDirectory;
 use crate::import::{Bitfield, ImportData, ImportLookupTable, SyntheticImportLookupTableEntry};
-use crate::laws::exports::{ExportRead, read_exports};
 use crate::options::ParseOptions;
 use crate::relocation::RelocationData;
 use crate::section_table::SectionTable;
 use crate::utils::{get_data_with_opts, safe_try_name};
 use goblin_base::{ResultOf, TryFromCtx};
+use goblin_pe_tables::laws::{ExportRead, read_exports};
 use std::alloc::Global;
 
 /// What the readers of [`Tables`] are asked for.

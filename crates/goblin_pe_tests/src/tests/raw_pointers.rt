@@ -1,7 +1,6 @@
 //! Files with a raw pointer that is no multiple of 512, by both rules.
 
-use super::shared::sample_with;
-use fixture::sample::section;
+use fixture::sample::{sample_with, section};
 use fixture_tables::exports::{FORWARDED, PLAIN, are};
 use fixture_tables::imports::{GO, SEVEN, are_rows, front_file};
 use goblin_pe::export::Export;

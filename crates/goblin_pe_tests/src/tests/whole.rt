@@ -1,7 +1,6 @@
 //! Whole files: which parts are there, absent or refused.
 
-use super::shared::sample_with;
-use fixture::sample::{sample, sample_section};
+use fixture::sample::{sample, sample_section, sample_with};
 use goblin_pe::options::{ParseMode, ParseOptions};
 use goblin_pe::{Error, Part, Whole};
 use goblin_pe_sect::SectionTable;

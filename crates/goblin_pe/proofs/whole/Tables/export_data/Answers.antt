@@ -1,8 +1,8 @@
 use Rattle.std.proofs.Common.{subst}
 use Rattle.goblin_pe_sect.specs.declared.options.ParseOptions.{ParseOptions}
 use Rattle.goblin_pe_sect.specs.Options.{is_strict}
-use Rattle.goblin_pe.specs.Addresses.{offset_of, reads_strictly}
-use Rattle.goblin_pe.specs.Exports.{IsExportDataFault, export_data}
+use Rattle.goblin_pe_tables.specs.Addresses.{offset_of, reads_strictly}
+use Rattle.goblin_pe_tables.specs.Exports.{IsExportDataFault, export_data}
 use Rattle.goblin_pe.specs.Whole.{BecomesPart, export_data_part, part_at}
 use Rattle.goblin_pe.proofs.Parts.{becomes_same}
 use Rattle.goblin_pe.proofs.whole.Tables.export_data.Goals as goal

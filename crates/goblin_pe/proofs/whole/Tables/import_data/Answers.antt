@@ -4,9 +4,9 @@ use Rattle.goblin_pe_sect.specs.declared.options.ParseOptions.{ParseOptions}
 use Rattle.goblin_pe_sect.specs.Options.{is_strict}
 use Rattle.goblin_pe.specs.declared.whole.Part.{Part}
 use Rattle.goblin_pe.specs.declared.whole.Part.TheVariants.{Absent}
-use Rattle.goblin_pe.specs.ImportDirectory.{IsImportDataFault, ImportedLibrary, import_data}
+use Rattle.goblin_pe_tables.specs.ImportDirectory.{IsImportDataFault, ImportedLibrary, import_data}
 use Rattle.std.specs.Prelude.{List}
-use Rattle.goblin_pe.specs.Addresses.{offset_of, reads_strictly}
+use Rattle.goblin_pe_tables.specs.Addresses.{offset_of, reads_strictly}
 use Rattle.goblin_pe.specs.Whole.{BecomesPart, IsImportPartFault, entry_format, import_data_part, part_at, places_by}
 use Rattle.goblin_pe.proofs.Parts.{becomes_same}
 use Rattle.goblin_pe.proofs.whole.Tables.import_data.Goals as goal

@@ -1,0 +1,12 @@
+pub mod ExportDirectoryRoundTrip
+pub mod ExportFootprints
+mod ExportRows
+mod Grammar
+pub mod Growths
+pub mod ImportBound
+pub mod ImportDirectoryRoundTrip
+pub mod ImportFootprints
+pub mod Imports
+pub mod LookupSlots
+pub mod Modes
+pub mod RangesInFile

@@ -1,0 +1,23 @@
+use Rattle.std.proofs.Common.{◌≡◌, ℕ, ◌+◌, List, [], ◌++◌, length, append-nil, append_assoc, sym, ap, ◌∙◌}
+use Rattle.goblin_base.specs.Footprints.{Range, positions, stretch_footprint}
+use Rattle.goblin_pe_tables.specs.ImportFootprints.{hint_footprint}
+use Rattle.goblin_pe_tables.proofs.ImportFootprints.{hint-none, hint-some}
+use Rattle.goblin_pe_tables.proofs.laws.footprint.add_hint.Goals as goal
+
+pub returns-in_default-clause-added : goal.returns-in_default-clause-added
+returns-in_default-clause-added c =
+    let none : hint_footprint c.args.bytes.now c.args.offset ≡ [] = hint-none c.args.bytes.now c.args.offset c.in_default.ensures.value.0 in
+    rw none (sym (append-nil c.args.ranges.now.items))
+
+pub returns-clause-added : goal.returns-clause-added
+returns-clause-added c =
+    let old = c.args.ranges.now.items in
+    let bytes = c.args.bytes.now in
+    let p = c.args.offset in
+    let hint = c.in-Ok.hint.now in
+    let both : c.add_positions.new.ranges.items ++ stretch_footprint bytes (p + length hint) ≡ old ++ hint_footprint bytes p =
+    ap (λ (x : List Range). x ++ stretch_footprint bytes (p + length hint)) c.in_ok-add_positions.ensures.added
+    ∙ append_assoc old (positions p (p + length hint)) (stretch_footprint bytes (p + length hint))
+    ∙ ap (λ (n : ℕ). old ++ (positions p (p + n) ++ stretch_footprint bytes (p + n))) c.in-Ok.ensures.len
+    ∙ ap (λ (x : List Range). old ++ x) (sym (hint-some bytes p hint c.in-Ok.ensures.value)) in
+    rw (← both) c.add_stretch.ensures.added

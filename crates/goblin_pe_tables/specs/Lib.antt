@@ -1,0 +1,10 @@
+pub mod Addresses
+pub mod ExportFootprints
+pub mod Exports
+pub mod ForwarderLaws
+pub mod Forwarders
+pub mod ImportBound
+pub mod ImportDirectory
+pub mod ImportFootprints
+pub mod ImportLookup
+pub mod Imports

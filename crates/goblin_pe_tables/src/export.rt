@@ -1,0 +1,345 @@
+//! The exports of an image: what its export directory leads to, and the forwarders among them.
+//!
+//! Source: PE Format, "The .edata Section (Image Only)". The export directory's record leads to
+//! three tables. A name pointer and the ordinal with its index are a named export; the ordinal is
+//! the index of its address. An address inside the directory is that of a forwarder's text.
+
+ghost use Rattle.std.specs.Prelude.{◌≡◌, ◌++◌, ◌⊎◌, IfErr, IsOk, IsSome, IsSomeAnd, OnErr, OnOk, length, option_and_then, option_map, option_to_list};
+ghost use Rattle.goblin_base.specs.Answers.{AnswersOrMemory, GivesOrMemory, IsMemory};
+ghost use Rattle.goblin_base.specs.Bytes.{text_at};
+ghost use Rattle.goblin_pe_sect.specs.Mapping.{file_offset};
+ghost use Rattle.goblin_pe_sect.specs.Options.{default_options};
+ghost use Rattle.goblin_pe_tables.specs.Addresses.{offset_of};
+ghost use Rattle.goblin_pe_tables.specs.Exports.{HasEntries, HasExports, IsExportDataFault, export_data, export_row, exports, reexport_of, rva_of};
+ghost use Rattle.goblin_pe_tables.specs.Forwarders.{forwarder_at, forwarder_value};
+ghost use Rattle.goblin_pe_sect.specs.WindowIndex.{HasPieces};
+
+use crate::address_map::AddressMap;
+use goblin_base::{Cause, Error, Result, pread_str};
+use goblin_pe_sect::{DataDirectory, ParseOptions, SectionTable};
+use std::alloc::Global;
+use std::marker::Model;
+
+mod forwarder;
+mod tables;
+
+pub use forwarder::Reexport;
+pub use tables::{
+    ExportAddressTable, ExportAddressTableEntry, ExportDirectoryTable, ExportNamePointerTable,
+    ExportOrdinalTable, SIZEOF_EXPORT_ADDRESS_TABLE_ENTRY, SIZEOF_EXPORT_DIRECTORY_TABLE,
+};
+use tables::{addresses, name_pointers, ordinals, test_counts};
+
+// The text at an offset, where there are both.
+fn text_at(bytes: &[u8], offset: Option<usize>) -> Option<&str>
+    ensures { option_map (λ s. s.now) result ≡ option_and_then (text_at bytes.now) offset }
+{
+    pread_str(bytes, offset?).ok()
+}
+
+// The forwarder at an offset, where there are both.
+fn forwarder_at(bytes: &[u8], offset: Option<usize>) -> Option<Reexport<'_>>
+    ensures { option_map forwarder_value result ≡ option_and_then (forwarder_at bytes.now) offset }
+{
+    Reexport::parse(bytes, offset?).ok()
+}
+
+// The address that an entry of the address table holds.
+fn rva_of(address: &ExportAddressTableEntry) -> u32
+    ensures { result ≡ rva_of address.now }
+{
+    match *address {
+        ExportAddressTableEntry::ExportRVA(rva) | ExportAddressTableEntry::ForwarderRVA(rva) => rva,
+    }
+}
+
+// What an entry of the address table stands for in another library, if it is a forwarder; nothing
+// where that can't be read.
+#[tactic(auto, unfolding(crate::specs::Exports::reexport_of))]
+fn reexport_of<'a>(
+    bytes: &'a [u8],
+    address: &ExportAddressTableEntry,
+    address_map: &AddressMap,
+) -> Option<Option<Reexport<'a>>>
+    ensures { option_map (option_map forwarder_value) result ≡ reexport_of (offset_of address_map.now) bytes.now address.now }
+{
+    match *address {
+        ExportAddressTableEntry::ExportRVA(_) => Some(None),
+        ExportAddressTableEntry::ForwarderRVA(rva) => {
+            let forwarder = forwarder_at(bytes, address_map.offset_of(rva))?;
+            Some(Some(forwarder))
+        }
+    }
+}
+
+/// What an export directory leads to: the library's name and the three tables.
+///
+/// Source: PE Format, "The .edata Section (Image Only)".
+#[derive(Debug, Drop)]
+pub struct ExportData<'a> {
+    /// The library's own name, as it was linked; `None` where no text stands at its address.
+    pub name: Option<&'a str>,
+    /// The record itself, as it stands in the file.
+    pub export_directory_table: ExportDirectoryTable,
+    /// The addresses of the exports' names. The format asks for them in the order of the names, by
+    /// which the loader searches; no reader here relies on that.
+    pub export_name_pointer_table: ExportNamePointerTable,
+    /// For each name pointer the index of its address in the address table, without the ordinal
+    /// base.
+    pub export_ordinal_table: ExportOrdinalTable,
+    /// The exports' addresses, by index: the ordinal of an export is its index plus the ordinal
+    /// base. Here are also those without a name.
+    pub export_address_table: ExportAddressTable,
+}
+
+impl<'a> Model for ExportData<'a> {
+    ghost use Rattle.std.specs.Prelude.{option_map};
+    ghost use Rattle.goblin_pe_tables.specs.Exports.{ExportTables};
+
+    ghost Value = { ExportTables };
+
+    ghost view = { λ x. record {
+      name = option_map (λ s. s.now) x.name;
+      export_directory_table = x.export_directory_table;
+      export_name_pointer_table = x.export_name_pointer_table;
+      export_ordinal_table = x.export_ordinal_table;
+      export_address_table = x.export_address_table;
+    } };
+}
+
+impl<'a> ExportData<'a> {
+    /// Reads the export data of an export directory, as [`ExportData::parse_with_opts`] reads it by
+    /// the default options.
+    ///
+    /// # Errors
+    /// As [`ExportData::parse_with_opts`].
+    pub fn parse(
+        alloc: Global,
+        bytes: &'a [u8],
+        directory: DataDirectory,
+        sections: &[SectionTable],
+        file_alignment: u32,
+    ) -> Result<ExportData<'a>>
+        ensures value { let m = file_offset default_options sections.now file_alignment in
+            AnswersOrMemory (λ x. x) result (export_data m directory bytes.now) (IsExportDataFault m directory bytes.now) }
+        ensures grown { let m = file_offset default_options sections.now file_alignment in
+            IfErr result (λ e. IsMemory e → IsSomeAnd (export_data m directory bytes.now) HasEntries ⊎ HasPieces default_options file_alignment) }
+    {
+        let opts = ParseOptions::default();
+        ExportData::parse_with_opts(alloc, bytes, directory, sections, file_alignment, &opts)
+    }
+
+    /// Reads the export data of an export directory: the record at its address, and what the record
+    /// leads to. A table is empty where its address has no file offset, and is cut at the first
+    /// entry that is not whole. An address is a forwarder's where it lies in the directory, by the
+    /// directory's address and size. The library's name is `None` where it can't be read. Both
+    /// modes give the same answer.
+    ///
+    /// # Errors
+    /// [`Error::Malformed`]: [`Cause::Unmapped`] where the directory's address has no file offset,
+    /// [`Cause::ExportTable`] where the record there passes the end of the file;
+    /// [`Error::BufferTooShort`] where the record counts more name pointers, or else more
+    /// addresses, than the file has bytes; [`Error::Memory`] where memory is refused.
+    pub fn parse_with_opts(
+        alloc: Global,
+        bytes: &'a [u8],
+        directory: DataDirectory,
+        sections: &[SectionTable],
+        file_alignment: u32,
+        opts: &ParseOptions,
+    ) -> Result<ExportData<'a>>
+        ensures value { let m = file_offset opts.now sections.now file_alignment in
+            AnswersOrMemory (λ x. x) result (export_data m directory bytes.now) (IsExportDataFault m directory bytes.now) }
+        ensures grown { let m = file_offset opts.now sections.now file_alignment in
+            IfErr result (λ e. IsMemory e → IsSomeAnd (export_data m directory bytes.now) HasEntries ⊎ HasPieces opts.now file_alignment) }
+    {
+        let address_map = AddressMap::prepare(alloc, sections, file_alignment, opts)?;
+        ExportData::parse_by(alloc, bytes, directory, &address_map)
+    }
+
+    /// The export data as [`ExportData::parse_with_opts`] reads it, by addresses that are mapped already.
+    ///
+    /// # Errors
+    /// As [`ExportData::parse_with_opts`].
+    #[tactic(auto, unfolding(crate::specs::Exports::tables_if, crate::specs::Exports::export_tables))]
+    pub fn parse_by(
+        alloc: Global,
+        bytes: &'a [u8],
+        directory: DataDirectory,
+        address_map: &AddressMap,
+    ) -> Result<ExportData<'a>>
+        ensures value { let m = offset_of address_map.now in
+            AnswersOrMemory (λ x. x) result (export_data m directory bytes.now) (IsExportDataFault m directory bytes.now) }
+        ensures grown { IfErr result (λ e. IsMemory e → IsSomeAnd (export_data (offset_of address_map.now) directory bytes.now) HasEntries) }
+    {
+        let mapped = |rva: u32| address_map.offset_of(rva);
+        let Some(offset) = mapped(directory.virtual_address) else {
+            let rva = directory.virtual_address as usize;
+            return Err(Error::Malformed(Cause::Unmapped(rva)));
+        };
+        let table = ExportDirectoryTable::parse(bytes, offset)?;
+        test_counts(bytes, &table)?;
+        let names = table.number_of_name_pointers;
+        let pointer_table = name_pointers(alloc, bytes, mapped(table.name_pointer_rva), names)?;
+        let ordinal_table = ordinals(alloc, bytes, mapped(table.ordinal_table_rva), names)?;
+        let place = mapped(table.export_address_table_rva);
+        let address_table = addresses(alloc, bytes, place, table.address_table_entries, directory)?;
+        Ok(ExportData {
+            name: text_at(bytes, mapped(table.name_rva)),
+            export_directory_table: table,
+            export_name_pointer_table: pointer_table,
+            export_ordinal_table: ordinal_table,
+            export_address_table: address_table,
+        })
+    }
+}
+
+/// An export that has a name pointer. Those without one, which are imported by ordinal alone, stand
+/// in the address table of [`ExportData`].
+///
+/// Source: PE Format, "The .edata Section (Image Only)".
+#[derive(Debug, Default, Drop)]
+pub struct Export<'a> {
+    /// The export's name; `None` where no text stands at its address.
+    pub name: Option<&'a str>,
+    /// The file offset of `rva`, as [`find_offset`](goblin_pe_sect::utils::find_offset) gives it: `None`
+    /// where no section maps it or the file alignment is no power of two; where the options say
+    /// that addresses are offsets, `rva` itself.
+    pub offset: Option<usize>,
+    /// The export's address, relative to the image's base; of a forwarder that of its text.
+    pub rva: usize,
+    /// How many bytes it has: the tables don't say it, so 0.
+    pub size: usize,
+    /// What it stands for in another library, which the loader then loads; `None` where it is no
+    /// forwarder.
+    pub reexport: Option<Reexport<'a>>,
+}
+
+impl<'a> Model for Export<'a> {
+    ghost use Rattle.std.specs.Prelude.{option_map};
+    ghost use Rattle.goblin_pe_tables.specs.Exports.{ExportRow};
+    ghost use Rattle.goblin_pe_tables.specs.Forwarders.{forwarder_value};
+
+    ghost Value = { ExportRow };
+
+    ghost view = { λ x. record {
+      name = option_map (λ s. s.now) x.name;
+      offset = x.offset;
+      rva = x.rva;
+      size = x.size;
+      reexport = option_map forwarder_value x.reexport;
+    } };
+}
+
+// Adds a row that is there.
+fn add_row<'a>(exports: &mut Vec<Export<'a>>, row: Option<Export<'a>>) -> Result<()>
+    ensures added { OnOk result (exports.new.items ≡ exports.old.items ++ option_to_list row.entry) }
+    ensures refused { IfErr result IsMemory }
+    ensures grown { OnErr result (IsSome row.entry) }
+{
+    if let Some(export) = row {
+        exports.push(export)?;
+    }
+    Ok(())
+}
+
+impl<'a> Export<'a> {
+    // The export of the name pointer at an index, where its ordinal, its address and, of a forwarder,
+    // the text are there.
+    #[tactic(auto, unfolding(crate::specs::Exports::export_row))]
+    fn of_pointer(
+        bytes: &'a [u8],
+        tables: &ExportData,
+        index: usize,
+        address_map: &AddressMap,
+    ) -> Option<Export<'a>>
+        ensures { result ≡ export_row (offset_of address_map.now) bytes.now tables.now index }
+    {
+        let pointer = *tables.export_name_pointer_table.as_slice().get(index)?;
+        let ordinal = *tables.export_ordinal_table.as_slice().get(index)?;
+        let addresses = tables.export_address_table.as_slice();
+        let address = addresses.get(usize::from(ordinal))?;
+        let reexport = reexport_of(bytes, address, address_map)?;
+        let rva = rva_of(address);
+        Some(Export {
+            name: text_at(bytes, address_map.offset_of(pointer)),
+            offset: address_map.offset_of(rva),
+            rva: rva as usize,
+            size: 0,
+            reexport,
+        })
+    }
+
+    /// The exports that export data lists, as [`Export::parse_with_opts`] reads them by the default
+    /// options.
+    ///
+    /// # Errors
+    /// [`Error::Memory`] alone.
+    pub fn parse(
+        alloc: Global,
+        bytes: &'a [u8],
+        export_data: &ExportData,
+        sections: &[SectionTable],
+        file_alignment: u32,
+    ) -> Result<Vec<Export<'a>>>
+        ensures value { GivesOrMemory (λ v. v.items) result (exports (file_offset default_options sections.now file_alignment) bytes.now export_data.now) }
+        ensures empty { length bytes.now ≡ 0 → IsOk result }
+        ensures grown { OnErr result (HasExports (file_offset default_options sections.now file_alignment) bytes.now export_data.now ⊎ HasPieces default_options file_alignment) }
+    {
+        let opts = ParseOptions::default();
+        Export::parse_with_opts(alloc, bytes, export_data, sections, file_alignment, &opts)
+    }
+
+    /// The exports that export data lists, one for each name pointer, in their order. There is none
+    /// for a name pointer whose ordinal is missing, or whose ordinal numbers no address, or whose
+    /// address is a forwarder's that can't be read. An export whose name can't be read stays, without
+    /// it. An empty file has no exports. Both modes give the same answer.
+    ///
+    /// # Errors
+    /// [`Error::Memory`] alone, and never on an empty file, for which no memory is taken. Else it comes
+    /// where there is an export, or where addresses are mapped.
+    #[tactic(auto, unfolding(crate::specs::Exports::exports))]
+    pub fn parse_with_opts(
+        alloc: Global,
+        bytes: &'a [u8],
+        export_data: &ExportData,
+        sections: &[SectionTable],
+        file_alignment: u32,
+        opts: &ParseOptions,
+    ) -> Result<Vec<Export<'a>>>
+        ensures value { GivesOrMemory (λ v. v.items) result (exports (file_offset opts.now sections.now file_alignment) bytes.now export_data.now) }
+        ensures empty { length bytes.now ≡ 0 → IsOk result }
+        ensures grown { OnErr result (HasExports (file_offset opts.now sections.now file_alignment) bytes.now export_data.now ⊎ HasPieces opts.now file_alignment) }
+    {
+        if bytes.is_empty() {
+            return Ok(Vec::new(alloc));
+        }
+        let address_map = AddressMap::prepare(alloc, sections, file_alignment, opts)?;
+        Export::parse_by(alloc, bytes, export_data, &address_map)
+    }
+
+    /// The exports as [`Export::parse_with_opts`] reads them, by addresses that are mapped already.
+    ///
+    /// # Errors
+    /// As [`Export::parse_with_opts`].
+    #[tactic(auto, unfolding(crate::specs::Exports::exports))]
+    pub fn parse_by(
+        alloc: Global,
+        bytes: &'a [u8],
+        export_data: &ExportData,
+        address_map: &AddressMap,
+    ) -> Result<Vec<Export<'a>>>
+        ensures value { GivesOrMemory (λ v. v.items) result (exports (offset_of address_map.now) bytes.now export_data.now) }
+        ensures grown { OnErr result (HasExports (offset_of address_map.now) bytes.now export_data.now) }
+    {
+        let mut exports = Vec::new(alloc);
+        if bytes.is_empty() {
+            return Ok(exports);
+        }
+        'rows: for index in 0..export_data.export_name_pointer_table.as_slice().len() {
+            let row = Export::of_pointer(bytes, export_data, index, address_map);
+            add_row(&mut exports, row)?;
+        }
+        Ok(exports)
+    }
+}

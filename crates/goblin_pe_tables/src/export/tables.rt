@@ -1,0 +1,268 @@
+//! The export directory's record, and the three tables that it leads to.
+
+ghost use Rattle.std.specs.Prelude.{◌≡◌, ◌<◌, true, false, List, ℕ, IfErr, IsSome, OnErr, OnOk, length};
+ghost use Rattle.goblin_base.specs.Answers.{Answers, GivesOrMemory};
+ghost use Rattle.goblin_base.specs.Tables.{counted_table_if};
+ghost use Rattle.goblin_pe_tables.specs.declared.export.tables.ExportDirectoryTable.{ExportDirectoryTable};
+ghost use Rattle.goblin_pe_tables.specs.Exports.{IsCountFault, IsNoExportTable, address_entry, addresses, counts_fit, export_directory_at, export_directory_fields, export_directory_record, name_pointers, ordinals};
+
+use crate::table::Table;
+use goblin_base::{
+    Cause, Endian, Error, Field, Record, Result, field_u16, field_u32, pread_slice, put_fields,
+};
+use goblin_pe_sect::DataDirectory;
+use goblin_pe_sect::utils::is_in_range;
+use std::alloc::Global;
+
+/// The size of an export directory's record, in bytes.
+pub const SIZEOF_EXPORT_DIRECTORY_TABLE: usize = 40;
+
+const _: () = prove!(SIZEOF_EXPORT_DIRECTORY_TABLE == 40);
+
+/// The size of an entry of the export address table, in bytes.
+pub const SIZEOF_EXPORT_ADDRESS_TABLE_ENTRY: usize = 4;
+
+const _: () = prove!(SIZEOF_EXPORT_ADDRESS_TABLE_ENTRY == 4);
+
+// The sizes of a name pointer and of an ordinal, in bytes.
+const SIZEOF_NAME_POINTER: usize = 4;
+
+const SIZEOF_ORDINAL: usize = 2;
+
+/// The record with which an image's exports begin.
+///
+/// Source: PE Format, "Export Directory Table". Numbers are as stored; the record has 40 bytes, and
+/// `at` says where in it a field stands. Addresses are relative to the image's base.
+#[derive(Debug, PartialEq, Copy, Clone, Default)]
+pub struct ExportDirectoryTable {
+    /// Reserved, 0, at 0.
+    pub export_flags: u32,
+    /// When the exports were made, in seconds since the start of 1970, at 4.
+    pub time_date_stamp: u32,
+    /// The major version, at 8. It is the maker's own.
+    pub major_version: u16,
+    /// The minor version, at 10.
+    pub minor_version: u16,
+    /// The address of the library's name, at 12.
+    pub name_rva: u32,
+    /// The ordinal of the first entry of the address table, at 16; mostly 1. It is added to an
+    /// index to make an ordinal, and counts in no table.
+    pub ordinal_base: u32,
+    /// How many entries the address table has, at 20.
+    pub address_table_entries: u32,
+    /// How many entries the name pointer table has, and as many has the ordinal table, at 24.
+    pub number_of_name_pointers: u32,
+    /// The address of the address table, at 28.
+    pub export_address_table_rva: u32,
+    /// The address of the name pointer table, at 32.
+    pub name_pointer_rva: u32,
+    /// The address of the ordinal table, at 36.
+    pub ordinal_table_rva: u32,
+}
+
+impl Record for ExportDirectoryTable {
+    ghost width = { 40 };
+
+    ghost value = { export_directory_record };
+
+    ghost fields = { export_directory_fields };
+
+    fn size() -> usize {
+        SIZEOF_EXPORT_DIRECTORY_TABLE
+    }
+
+    #[tactic(auto, unfolding(crate::specs::Exports::export_directory_record))]
+    fn in_record(bytes: &[u8], endian: Endian) -> ExportDirectoryTable {
+        ExportDirectoryTable {
+            export_flags: field_u32(bytes, 0, endian),
+            time_date_stamp: field_u32(bytes, 4, endian),
+            major_version: field_u16(bytes, 8, endian),
+            minor_version: field_u16(bytes, 10, endian),
+            name_rva: field_u32(bytes, 12, endian),
+            ordinal_base: field_u32(bytes, 16, endian),
+            address_table_entries: field_u32(bytes, 20, endian),
+            number_of_name_pointers: field_u32(bytes, 24, endian),
+            export_address_table_rva: field_u32(bytes, 28, endian),
+            name_pointer_rva: field_u32(bytes, 32, endian),
+            ordinal_table_rva: field_u32(bytes, 36, endian),
+        }
+    }
+
+    #[tactic(auto, unfolding(crate::specs::Exports::export_directory_fields), using(crate::proofs::ExportDirectoryRoundTrip::export_directory_back, crate::proofs::ExportDirectoryRoundTrip::export_directory_again))]
+    fn put(self, bytes: &mut [u8], endian: Endian) {
+        let fields = [
+            Field::U32(self.export_flags),
+            Field::U32(self.time_date_stamp),
+            Field::U16(self.major_version),
+            Field::U16(self.minor_version),
+            Field::U32(self.name_rva),
+            Field::U32(self.ordinal_base),
+            Field::U32(self.address_table_entries),
+            Field::U32(self.number_of_name_pointers),
+            Field::U32(self.export_address_table_rva),
+            Field::U32(self.name_pointer_rva),
+            Field::U32(self.ordinal_table_rva),
+        ];
+        put_fields(bytes, SIZEOF_EXPORT_DIRECTORY_TABLE, &fields, endian);
+    }
+}
+
+impl ExportDirectoryTable {
+    /// Reads the record at the file offset `offset`.
+    ///
+    /// # Errors
+    /// [`Error::Malformed`] with [`Cause::ExportTable`] where the 40 bytes pass the end of the
+    /// file.
+    pub fn parse(bytes: &[u8], offset: usize) -> Result<ExportDirectoryTable>
+        ensures { Answers (λ t. t) result (export_directory_at bytes.now offset) (IsNoExportTable offset) }
+    {
+        match ExportDirectoryTable::read_at(bytes, offset, Endian::Little) {
+            Ok(table) => Ok(table),
+            Err(_) => Err(Error::Malformed(Cause::ExportTable(offset))),
+        }
+    }
+}
+
+/// An entry of the export address table.
+///
+/// Source: PE Format, "Export Address Table".
+#[derive(Debug, PartialEq, Copy, Clone)]
+pub enum ExportAddressTableEntry {
+    /// The address of an export in this image, relative to its base. 0 stands for an ordinal that
+    /// is not used.
+    ExportRVA(u32),
+    /// The address of a forwarder's text, which lies in the export directory.
+    ForwarderRVA(u32),
+}
+
+/// The exports' addresses, which ordinals number.
+///
+/// Source: PE Format, "Export Address Table".
+pub type ExportAddressTable = Table<ExportAddressTableEntry>;
+
+/// The addresses of the exports' names.
+///
+/// Source: PE Format, "Export Name Pointer Table".
+pub type ExportNamePointerTable = Table<u32>;
+
+/// For each name pointer the index of its address in the address table.
+///
+/// Source: PE Format, "Export Ordinal Table".
+pub type ExportOrdinalTable = Table<u16>;
+
+impl ExportAddressTableEntry {
+    // What an address stands for under an export directory.
+    #[tactic(auto, unfolding(crate::specs::Exports::address_entry))]
+    fn of_rva(directory: DataDirectory, rva: u32) -> ExportAddressTableEntry
+        ensures { result ≡ address_entry directory rva }
+    {
+        let begin = directory.virtual_address as usize;
+        let end = begin + directory.size as usize;
+        if is_in_range(rva as usize, begin, end) {
+            ExportAddressTableEntry::ForwarderRVA(rva)
+        } else {
+            ExportAddressTableEntry::ExportRVA(rva)
+        }
+    }
+}
+
+// The table of `count` entries of `width` bytes, cut at the first that is not whole; without an offset
+// it has none.
+fn counted_table<V: Drop, F: Fn(&[u8]) -> V>(
+    alloc: Global,
+    bytes: &[u8],
+    offset: Option<usize>,
+    width: usize,
+    count: u32,
+    value_of: F,
+) -> Result<Table<V>>
+    requires { (entry : _) → length entry.now ≡ width → F.pre value_of entry }
+    ensures value { (value : List ℕ → V) → ((entry : _) (v : V) → length entry.now ≡ width → F.post value_of entry v → v ≡ value entry.now)
+        → GivesOrMemory (λ t. t) result (counted_table_if (record { width = width; value_of = value }) count bytes.now offset) }
+    ensures grown { OnErr result (IsSome offset × (0 < count)) }
+{
+    let mut entries = Vec::new(alloc);
+    let Some(begin) = offset else {
+        return Ok(Table::from(entries));
+    };
+    let mut place = begin;
+    'entries: for _ in 0..count {
+        let Ok(entry) = pread_slice(bytes, place, width) else {
+            return Ok(Table::from(entries));
+        };
+        entries.push(value_of(entry))?;
+        place += width;
+    }
+    Ok(Table::from(entries))
+}
+
+// The name pointers at an offset.
+pub(super) fn name_pointers(
+    alloc: Global,
+    bytes: &[u8],
+    offset: Option<usize>,
+    count: u32,
+) -> Result<ExportNamePointerTable>
+    ensures value { GivesOrMemory (λ t. t) result (counted_table_if name_pointers count bytes.now offset) }
+    ensures grown { OnErr result (0 < count) }
+{
+    counted_table(alloc, bytes, offset, SIZEOF_NAME_POINTER, count, |entry| {
+        field_u32(entry, 0, Endian::Little)
+    })
+}
+
+// The ordinals at an offset.
+pub(super) fn ordinals(
+    alloc: Global,
+    bytes: &[u8],
+    offset: Option<usize>,
+    count: u32,
+) -> Result<ExportOrdinalTable>
+    ensures value { GivesOrMemory (λ t. t) result (counted_table_if ordinals count bytes.now offset) }
+    ensures grown { OnErr result (0 < count) }
+{
+    counted_table(alloc, bytes, offset, SIZEOF_ORDINAL, count, |entry| {
+        field_u16(entry, 0, Endian::Little)
+    })
+}
+
+// The addresses at an offset, under an export directory.
+pub(super) fn addresses(
+    alloc: Global,
+    bytes: &[u8],
+    offset: Option<usize>,
+    count: u32,
+    directory: DataDirectory,
+) -> Result<ExportAddressTable>
+    ensures value { GivesOrMemory (λ t. t) result (counted_table_if (addresses directory) count bytes.now offset) }
+    ensures grown { OnErr result (0 < count) }
+{
+    counted_table(
+        alloc,
+        bytes,
+        offset,
+        SIZEOF_EXPORT_ADDRESS_TABLE_ENTRY,
+        count,
+        |entry| {
+            let rva = field_u32(entry, 0, Endian::Little);
+            ExportAddressTableEntry::of_rva(directory, rva)
+        },
+    )
+}
+
+// Refuses a record that counts more entries than the file has bytes.
+pub(super) fn test_counts(bytes: &[u8], table: &ExportDirectoryTable) -> Result<()>
+    ensures fits { OnOk result (counts_fit bytes.now table.now ≡ true) }
+    ensures too_many { OnErr result (counts_fit bytes.now table.now ≡ false) }
+    ensures cause { IfErr result (IsCountFault bytes.now table.now) }
+{
+    let name_pointers = table.number_of_name_pointers as usize;
+    if name_pointers > bytes.len() {
+        return Err(Error::BufferTooShort(name_pointers, "name pointers"));
+    }
+    let addresses = table.address_table_entries as usize;
+    if addresses > bytes.len() {
+        return Err(Error::BufferTooShort(addresses, "address table entries"));
+    }
+    Ok(())
+}

@@ -1,0 +1,198 @@
+//! The imports of an image: what it takes from which libraries.
+//!
+//! Source: PE Format, "The .idata Section". An import directory is a list of records, one for each
+//! library. Each leads to a lookup table and an address table, whose entries with one index are one
+//! import: the lookup table says which, and the loader puts its address into the other.
+
+ghost use Rattle.std.specs.Prelude.{◌≡◌, ◌⊎◌, IfErr, IsSomeAnd, false, option_to_list, true};
+ghost use Rattle.goblin_base.specs.Answers.{AnswersOrMemory, IsMemory};
+ghost use Rattle.goblin_base.specs.Tables.{or_left_out};
+ghost use Rattle.goblin_pe_sect.specs.Mapping.{file_offset};
+ghost use Rattle.goblin_pe_sect.specs.Options.{default_options, is_strict};
+ghost use Rattle.goblin_pe_sect.specs.WindowIndex.{HasPieces};
+ghost use Rattle.goblin_pe_tables.specs.Addresses.{offset_of, reads_strictly};
+ghost use Rattle.goblin_pe_tables.specs.ImportDirectory.{HasRecords, IsImportDataFault, IsLibrariesFault, IsLibraryFault, import_data, libraries_at, library_of};
+
+use crate::address_map::AddressMap;
+use goblin_base::{Cause, Endian, Error, Record, ResultOf, is_passed_over};
+use goblin_pe_sect::data_directories::DataDirectory;
+use goblin_pe_sect::options::ParseOptions;
+use goblin_pe_sect::section_table::SectionTable;
+use std::alloc::Global;
+use std::marker::Model;
+
+mod address_table;
+mod bitfield;
+mod directory_entry;
+mod library;
+mod listed;
+mod lookup_table;
+
+pub use address_table::ImportAddressTable;
+pub(crate) use bitfield::read_entry;
+pub use bitfield::{
+    Bitfield, IMPORT_BY_ORDINAL_32, IMPORT_BY_ORDINAL_64, IMPORT_RVA_MASK_32, IMPORT_RVA_MASK_64,
+};
+pub use directory_entry::{ImportDirectoryEntry, SIZEOF_IMPORT_DIRECTORY_ENTRY};
+pub use library::SyntheticImportDirectoryEntry;
+pub(crate) use library::{address_table_rva, lookup_offset};
+pub use listed::Import;
+pub use lookup_table::{
+    HintNameTableEntry, ImportLookupSlots, ImportLookupTable, SyntheticImportLookupTableEntry,
+};
+
+/// The imports of an image, library by library.
+///
+/// Source: PE Format, "The .idata Section" and "Import Directory Table".
+#[derive(Debug, Drop)]
+pub struct ImportData<'a> {
+    /// The libraries, in the order of their records. One library may have several.
+    pub import_data: Vec<SyntheticImportDirectoryEntry<'a>>,
+}
+
+impl<'a> Model for ImportData<'a> {
+    ghost use Rattle.std.specs.Prelude.{List};
+    ghost use Rattle.goblin_pe_tables.specs.ImportDirectory.{ImportedLibrary};
+
+    ghost Value = { List ImportedLibrary };
+
+    ghost view = { λ imports. imports.import_data.items };
+}
+
+// The library of a record; in permissive mode `None` where there is none.
+fn kept_library<'a, 'e, T: Bitfield<'a>>(
+    alloc: Global,
+    bytes: &'a [u8],
+    entry: ImportDirectoryEntry,
+    address_map: &AddressMap,
+) -> ResultOf<'e, Option<SyntheticImportDirectoryEntry<'a>>>
+    ensures { let m = offset_of address_map.now in
+        let strict = reads_strictly address_map.now in
+        AnswersOrMemory option_to_list result (or_left_out strict (library_of strict T.format m bytes.now entry)) (IsLibraryFault strict T.format m bytes.now entry) }
+{
+    match SyntheticImportDirectoryEntry::parse_by::<T>(alloc, bytes, entry, address_map) {
+        Ok(library) => Ok(Some(library)),
+        Err(error) if is_passed_over(&error, address_map.is_permissive()) => Ok(None),
+        Err(error) => Err(error),
+    }
+}
+
+// The libraries of the directory at an offset.
+fn libraries<'a, 'e, T: Bitfield<'a>>(
+    alloc: Global,
+    bytes: &'a [u8],
+    offset: usize,
+    address_map: &AddressMap,
+) -> ResultOf<'e, ImportData<'a>>
+    ensures value { let m = offset_of address_map.now in
+        let strict = reads_strictly address_map.now in
+        AnswersOrMemory (λ x. x) result (libraries_at strict T.format m bytes.now offset) (IsLibrariesFault strict T.format m bytes.now offset) }
+    ensures grown { IfErr result (λ e. IsMemory e → HasRecords bytes.now offset) }
+{
+    let mut import_data = Vec::new(alloc);
+    let mut place = offset;
+    'records: loop {
+        let Ok(record) = ImportDirectoryEntry::read_at(bytes, place, Endian::Little) else {
+            if address_map.is_permissive() {
+                break 'records;
+            }
+            return Err(Error::Malformed(Cause::ImportRecordEnd(place)));
+        };
+        if !record.is_possibly_valid() {
+            break 'records;
+        }
+        let kept = kept_library::<T>(alloc, bytes, record, address_map)?;
+        if let Some(library) = kept {
+            import_data.push(library)?;
+        }
+        place += SIZEOF_IMPORT_DIRECTORY_ENTRY;
+    }
+    Ok(ImportData { import_data })
+}
+
+impl<'a> ImportData<'a> {
+    /// The imports of the directory at the address of `directory`, as
+    /// [`ImportData::parse_with_opts`] with the default options.
+    ///
+    /// # Errors
+    /// As [`ImportData::parse_with_opts`] in strict mode.
+    pub fn parse<'e, T: Bitfield<'a>>(
+        alloc: Global,
+        bytes: &'a [u8],
+        directory: DataDirectory,
+        sections: &[SectionTable],
+        file_alignment: u32,
+    ) -> ResultOf<'e, ImportData<'a>>
+        ensures value { let m = file_offset default_options sections.now file_alignment in
+            let rva = directory.virtual_address in
+            AnswersOrMemory (λ x. x) result (import_data true T.format m bytes.now rva) (IsImportDataFault true T.format m bytes.now rva) }
+        ensures grown { let place = file_offset default_options sections.now file_alignment directory.virtual_address in
+            IfErr result (λ e. IsMemory e → IsSomeAnd place (HasRecords bytes.now) ⊎ HasPieces default_options file_alignment) }
+    {
+        let opts = ParseOptions::default();
+        ImportData::parse_with_opts::<T>(alloc, bytes, directory, sections, file_alignment, &opts)
+    }
+
+    /// The imports of the directory at the address of `directory`, whose tables have entries of
+    /// type `T`: the libraries of its records, up to the first record that has no name or no
+    /// address table. The directory's size is not looked at, nor does the loader look at it.
+    ///
+    /// In permissive mode a record is left out where its library is refused for another cause than
+    /// memory, the directory ends where it meets the end of the file, and it is empty where its
+    /// address has no file offset, or the offset 0.
+    ///
+    /// # Errors
+    /// In strict mode [`Error::Malformed`] with [`Cause::Unmapped`] where the directory's address
+    /// has no file offset, and with [`Cause::ImportRecordEnd`] where it meets the end of the file;
+    /// and as [`SyntheticImportDirectoryEntry::parse_with_opts`] of a record. In both modes
+    /// [`Error::Memory`] where memory is refused, which is asked for where addresses are mapped, and
+    /// where the directory has a record.
+    pub fn parse_with_opts<'e, T: Bitfield<'a>>(
+        alloc: Global,
+        bytes: &'a [u8],
+        directory: DataDirectory,
+        sections: &[SectionTable],
+        file_alignment: u32,
+        opts: &ParseOptions,
+    ) -> ResultOf<'e, ImportData<'a>>
+        ensures value { let m = file_offset opts.now sections.now file_alignment in
+            let strict = is_strict opts.now.parse_mode in
+            let rva = directory.virtual_address in
+            AnswersOrMemory (λ x. x) result (import_data strict T.format m bytes.now rva) (IsImportDataFault strict T.format m bytes.now rva) }
+        ensures permissive { is_strict opts.now.parse_mode ≡ false → IfErr result IsMemory }
+        ensures grown { let place = file_offset opts.now sections.now file_alignment directory.virtual_address in
+            IfErr result (λ e. IsMemory e → IsSomeAnd place (HasRecords bytes.now) ⊎ HasPieces opts.now file_alignment) }
+    {
+        let address_map = AddressMap::prepare(alloc, sections, file_alignment, opts)?;
+        ImportData::parse_by::<T>(alloc, bytes, directory, &address_map)
+    }
+
+    /// The imports as [`ImportData::parse_with_opts`] reads them, by addresses that are mapped already.
+    ///
+    /// # Errors
+    /// As [`ImportData::parse_with_opts`].
+    pub fn parse_by<'e, T: Bitfield<'a>>(
+        alloc: Global,
+        bytes: &'a [u8],
+        directory: DataDirectory,
+        address_map: &AddressMap,
+    ) -> ResultOf<'e, ImportData<'a>>
+        ensures value { let m = offset_of address_map.now in
+            let strict = reads_strictly address_map.now in
+            let rva = directory.virtual_address in
+            AnswersOrMemory (λ x. x) result (import_data strict T.format m bytes.now rva) (IsImportDataFault strict T.format m bytes.now rva) }
+        ensures permissive { reads_strictly address_map.now ≡ false → IfErr result IsMemory }
+        ensures grown { IfErr result (λ e. IsMemory e → IsSomeAnd (offset_of address_map.now directory.virtual_address) (HasRecords bytes.now)) }
+    {
+        let rva = directory.virtual_address;
+        let is_permissive = address_map.is_permissive();
+        match address_map.offset_of(rva) {
+            Some(0) | None if is_permissive => {
+                let import_data = Vec::new(alloc);
+                Ok(ImportData { import_data })
+            }
+            Some(offset) => libraries::<T>(alloc, bytes, offset, address_map),
+            None => Err(Error::Malformed(Cause::Unmapped(rva as usize))),
+        }
+    }
+}

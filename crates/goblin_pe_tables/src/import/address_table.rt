@@ -1,0 +1,38 @@
+//! Import address tables: the numbers where addresses stand once an image is bound.
+
+ghost use Rattle.std.specs.Prelude.{IfErr};
+ghost use Rattle.goblin_base.specs.Answers.{AnswersOrMemory, IsMemory};
+ghost use Rattle.goblin_pe_tables.specs.ImportLookup.{HasAddresses, IsAddressTableFault, address_table};
+
+use crate::import::bitfield::{Bitfield, read_entry};
+use crate::table::Table;
+use goblin_base::ResultOf;
+use std::alloc::Global;
+
+/// The numbers of an address table, in order, without the 0 that ends it. As a file is linked they
+/// repeat the lookup table; in one that is bound they are the addresses of what is imported.
+///
+/// Source: PE Format, "Import Address Table".
+pub type ImportAddressTable = Table<u64>;
+
+// The numbers of the address table at an offset, up to its zero.
+pub(super) fn address_table<'a, 'e, T: Bitfield<'a>>(
+    alloc: Global,
+    bytes: &'a [u8],
+    offset: usize,
+) -> ResultOf<'e, ImportAddressTable>
+    ensures value { AnswersOrMemory (λ t. t) result (address_table T.format bytes.now offset) (IsAddressTableFault T.format bytes.now offset) }
+    ensures grown { IfErr result (λ e. IsMemory e → HasAddresses T.format bytes.now offset) }
+{
+    let size = T::size_of();
+    let mut addresses = Vec::new(alloc);
+    let mut place = offset;
+    'slots: loop {
+        let entry = read_entry::<T>(bytes, place)?;
+        if entry.is_zero() {
+            return Ok(Table::from(addresses));
+        }
+        addresses.push(entry.number())?;
+        place += size;
+    }
+}

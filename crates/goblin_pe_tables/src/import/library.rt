@@ -1,0 +1,215 @@
+//! The libraries from which an image imports.
+
+ghost use Rattle.std.specs.Prelude.{◌≡◌, ◌⊎◌, IfErr, IfOk, IsSomeAnd, map, option_map, true};
+ghost use Rattle.goblin_base.specs.Answers.{AnswersOrMemory, IsMemory};
+ghost use Rattle.goblin_pe_sect.specs.Mapping.{file_offset};
+ghost use Rattle.goblin_pe_sect.specs.Options.{default_options, is_strict};
+ghost use Rattle.goblin_pe_sect.specs.WindowIndex.{HasPieces};
+ghost use Rattle.goblin_pe_tables.specs.Addresses.{offset_of, reads_strictly};
+ghost use Rattle.goblin_pe_tables.specs.ImportDirectory.{HasImports, IsLibraryFault, IsLookupIfFault, address_table_rva, library_of, lookup_offset, lookup_slots_if, lookup_table_if};
+ghost use Rattle.goblin_pe_tables.specs.ImportLookup.{KeepsEntries, entry_view};
+
+use crate::address_map::AddressMap;
+use crate::import::address_table::{ImportAddressTable, address_table};
+use crate::import::bitfield::Bitfield;
+use crate::import::directory_entry::ImportDirectoryEntry;
+use crate::import::lookup_table::{
+    ImportLookupSlots, ImportLookupTable, SyntheticImportLookupTableEntry,
+};
+use crate::table::Table;
+use goblin_base::{Cause, Error, ResultOf};
+use goblin_pe_sect::options::ParseOptions;
+use goblin_pe_sect::section_table::SectionTable;
+use std::alloc::Global;
+use std::marker::Model;
+
+/// What a record of an import directory leads to.
+///
+/// Source: PE Format, "Import Directory Table", "Import Lookup Table" and "Import Address Table".
+#[derive(Debug, Drop)]
+pub struct SyntheticImportDirectoryEntry<'a> {
+    /// The record, as it stands in the file.
+    pub import_directory_entry: ImportDirectoryEntry,
+    /// The name of the library, as it stands in the file. In permissive mode it is empty where none
+    /// can be read.
+    pub name: &'a str,
+    /// What the lookup table keeps. `None` is for entries that are made by hand: a reader finds a
+    /// table for each record that it keeps.
+    pub import_lookup_table: Option<ImportLookupTable<'a>>,
+    /// The slot of each entry of the lookup table, in order, counted from 0; none where there is no
+    /// table. The slot of an entry that is left out is missing.
+    pub import_lookup_slots: ImportLookupSlots,
+    /// The numbers of the address table up to the first 0, as they stand in the file: copies of the
+    /// lookup table's entries, or addresses where the imports are bound.
+    pub import_address_table: ImportAddressTable,
+}
+
+impl<'a> Model for SyntheticImportDirectoryEntry<'a> {
+    ghost use Rattle.std.specs.Prelude.{map, option_map};
+    ghost use Rattle.goblin_pe_tables.specs.ImportDirectory.{ImportedLibrary};
+    ghost use Rattle.goblin_pe_tables.specs.ImportLookup.{entry_view};
+
+    ghost Value = { ImportedLibrary };
+
+    ghost view = { λ entry. record {
+      import_directory_entry = entry.import_directory_entry;
+      name = entry.name.now;
+      import_lookup_table = option_map (map entry_view) entry.import_lookup_table;
+      import_lookup_slots = entry.import_lookup_slots;
+      import_address_table = entry.import_address_table;
+    } };
+}
+
+// The lookup table at an offset with the slots of its entries, and nothing where there is no offset.
+fn lookup_table_if<'a, 'e, T: Bitfield<'a>>(
+    alloc: Global,
+    bytes: &'a [u8],
+    offset: Option<usize>,
+    address_map: &AddressMap,
+) -> ResultOf<'e, (Option<ImportLookupTable<'a>>, ImportLookupSlots)>
+    ensures value { let m = offset_of address_map.now in
+        let strict = reads_strictly address_map.now in
+        let view = option_map (map entry_view) in
+        AnswersOrMemory (λ both. view both.0) result (lookup_table_if strict T.format m bytes.now offset) (IsLookupIfFault strict T.format m bytes.now offset) }
+    ensures grown { IfErr result (λ e. IsMemory e → IsSomeAnd offset (KeepsEntries (reads_strictly address_map.now) T.format (offset_of address_map.now) bytes.now)) }
+    ensures slots { IfOk result (λ both. both.1 ≡ lookup_slots_if (reads_strictly address_map.now) T.format (offset_of address_map.now) bytes.now offset) }
+{
+    let Some(offset) = offset else {
+        return Ok((None, Table::from(Vec::new(alloc))));
+    };
+    let (table, slots) = SyntheticImportLookupTableEntry::parse_by::<T>(
+        alloc,
+        bytes,
+        offset,
+        address_map,
+    )?;
+    Ok((Some(table), slots))
+}
+
+// Where a record's lookup table stands: at its own address, or at that of the address table.
+pub(crate) fn lookup_offset(entry: &ImportDirectoryEntry, address_map: &AddressMap) -> Option<usize>
+    ensures { result ≡ lookup_offset (offset_of address_map.now) entry.now }
+{
+    let lookup_rva = entry.import_lookup_table_rva;
+    let address_rva = entry.import_address_table_rva;
+    match address_map.offset_of(lookup_rva) {
+        Some(offset) => Some(offset),
+        None => address_map.offset_of(address_rva),
+    }
+}
+
+// The address of a record's address table.
+pub(crate) fn address_table_rva(entry: &ImportDirectoryEntry) -> u32
+    ensures { result ≡ address_table_rva entry.now }
+{
+    match entry.import_address_table_rva {
+        0 => entry.import_lookup_table_rva,
+        rva => rva,
+    }
+}
+
+impl<'a> SyntheticImportDirectoryEntry<'a> {
+    /// What a record leads to, as [`SyntheticImportDirectoryEntry::parse_with_opts`] with the default
+    /// options.
+    ///
+    /// # Errors
+    /// As [`SyntheticImportDirectoryEntry::parse_with_opts`] in strict mode.
+    pub fn parse<'e, T: Bitfield<'a>>(
+        alloc: Global,
+        bytes: &'a [u8],
+        import_directory_entry: ImportDirectoryEntry,
+        sections: &[SectionTable],
+        file_alignment: u32,
+    ) -> ResultOf<'e, SyntheticImportDirectoryEntry<'a>>
+        ensures value { let m = file_offset default_options sections.now file_alignment in
+            AnswersOrMemory (λ x. x) result (library_of true T.format m bytes.now import_directory_entry) (IsLibraryFault true T.format m bytes.now import_directory_entry) }
+        ensures grown { let m = file_offset default_options sections.now file_alignment in
+            IfErr result (λ e. IsMemory e → HasImports true T.format m bytes.now import_directory_entry ⊎ HasPieces default_options file_alignment) }
+    {
+        let opts = ParseOptions::default();
+        SyntheticImportDirectoryEntry::parse_with_opts::<T>(
+            alloc,
+            bytes,
+            import_directory_entry,
+            sections,
+            file_alignment,
+            &opts,
+        )
+    }
+
+    /// What a record leads to: the library's name, its lookup table and its address table, of
+    /// entries of type `T`.
+    ///
+    /// The lookup table is read at its address, and where that has no file offset, at the address of
+    /// the address table; where that has none either, there is no lookup table. The address table is
+    /// read at its address, and where that is 0, at the address of the lookup table; it keeps the
+    /// numbers up to one that is 0. The slots are those of
+    /// [`SyntheticImportLookupTableEntry::parse_with_slots`].
+    ///
+    /// # Errors
+    /// In strict mode as [`safe_try_name`](goblin_pe_sect::utils::safe_try_name) where no name can be read;
+    /// in permissive mode the name is then empty. As
+    /// [`SyntheticImportLookupTableEntry::parse_with_opts`] where the lookup table is refused. In
+    /// both modes [`Error::Malformed`] with [`Cause::Unmapped`] where the address of the address
+    /// table has no file offset, and [`Error::Read`] where that table meets the end of the file.
+    /// [`Error::Memory`] where memory is refused, which is asked for where addresses are mapped, and
+    /// where either table keeps an entry.
+    pub fn parse_with_opts<'e, T: Bitfield<'a>>(
+        alloc: Global,
+        bytes: &'a [u8],
+        import_directory_entry: ImportDirectoryEntry,
+        sections: &[SectionTable],
+        file_alignment: u32,
+        opts: &ParseOptions,
+    ) -> ResultOf<'e, SyntheticImportDirectoryEntry<'a>>
+        ensures value { let m = file_offset opts.now sections.now file_alignment in
+            let strict = is_strict opts.now.parse_mode in
+            AnswersOrMemory (λ x. x) result (library_of strict T.format m bytes.now import_directory_entry) (IsLibraryFault strict T.format m bytes.now import_directory_entry) }
+        ensures grown { let m = file_offset opts.now sections.now file_alignment in
+            IfErr result (λ e. IsMemory e → HasImports (is_strict opts.now.parse_mode) T.format m bytes.now import_directory_entry ⊎ HasPieces opts.now file_alignment) }
+    {
+        let address_map = AddressMap::prepare(alloc, sections, file_alignment, opts)?;
+        SyntheticImportDirectoryEntry::parse_by::<T>(
+            alloc,
+            bytes,
+            import_directory_entry,
+            &address_map,
+        )
+    }
+
+    // What a record leads to.
+    #[tactic(auto, unfolding(crate::specs::ImportDirectory::library_of))]
+    pub(super) fn parse_by<'e, T: Bitfield<'a>>(
+        alloc: Global,
+        bytes: &'a [u8],
+        import_directory_entry: ImportDirectoryEntry,
+        address_map: &AddressMap,
+    ) -> ResultOf<'e, SyntheticImportDirectoryEntry<'a>>
+        ensures value { let m = offset_of address_map.now in
+            let strict = reads_strictly address_map.now in
+            AnswersOrMemory (λ x. x) result (library_of strict T.format m bytes.now import_directory_entry) (IsLibraryFault strict T.format m bytes.now import_directory_entry) }
+        ensures grown { IfErr result (λ e. IsMemory e → HasImports (reads_strictly address_map.now) T.format (offset_of address_map.now) bytes.now import_directory_entry) }
+    {
+        let record = &import_directory_entry;
+        let name = address_map.name_at(bytes, record.name_rva)?.unwrap_or("");
+        let lookup_offset = lookup_offset(record, address_map);
+        let (import_lookup_table, import_lookup_slots) = lookup_table_if::<T>(
+            alloc,
+            bytes,
+            lookup_offset,
+            address_map,
+        )?;
+        let address_rva = address_table_rva(record);
+        let Some(offset) = address_map.offset_of(address_rva) else {
+            return Err(Error::Malformed(Cause::Unmapped(address_rva as usize)));
+        };
+        let import_address_table = address_table::<T>(alloc, bytes, offset)?;
+        Ok(SyntheticImportDirectoryEntry {
+            import_directory_entry,
+            name,
+            import_lookup_table,
+            import_lookup_slots,
+            import_address_table,
+        })
+    }
+}

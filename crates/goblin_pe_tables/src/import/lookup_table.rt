@@ -1,0 +1,273 @@
+//! Import lookup tables: what is imported from a library, by name or by ordinal.
+
+ghost use Rattle.std.specs.Prelude.{◌≡◌, ◌<◌, ◌++◌, ◌∷◌, [], ◌⊎◌, IfErr, IfOk, OnErr, OnOk, Some, if◌then◌else◌, length, map, option_to_list, true};
+ghost use Rattle.std.specs.List.{All};
+ghost use Rattle.std.specs.List.Sorted.{IsStrictlyIncreasing};
+ghost use Rattle.goblin_base.specs.Answers.{Answers, AnswersOrMemory, IsMemory};
+ghost use Rattle.goblin_base.specs.Tables.{is_kept, stop};
+ghost use Rattle.goblin_pe_sect.specs.Mapping.{file_offset};
+ghost use Rattle.goblin_pe_sect.specs.Options.{default_options, is_strict};
+ghost use Rattle.goblin_pe_sect.specs.WindowIndex.{HasPieces};
+ghost use Rattle.goblin_pe_tables.specs.Addresses.{offset_of, reads_strictly};
+ghost use Rattle.goblin_pe_tables.specs.ImportLookup.{IsHintNameFault, IsKeptEntryFault, IsLookupTableFault, KeepsEntries, entry_slots, hint_name, kept_entry, lookup_slots, lookup_table, entry_view, hint_name_view, kept_view};
+
+use crate::address_map::AddressMap;
+use crate::import::bitfield::{Bitfield, read_entry};
+use crate::table::Table;
+use goblin_base::{Cause, Endian, Error, Result, ResultOf, pread_str, pread_u16};
+use goblin_pe_sect::options::ParseOptions;
+use goblin_pe_sect::section_table::SectionTable;
+use std::alloc::Global;
+
+/// A hint, and the name after it, by which a library exports what is imported.
+///
+/// Source: PE Format, "Hint/Name Table".
+#[derive(Debug, Clone, Drop)]
+pub struct HintNameTableEntry<'a> {
+    /// The index in the library's export name pointer table at which the loader looks for the name
+    /// first, at 0 in the entry. Where it is wrong, the name is searched for.
+    pub hint: u16,
+    /// The name, at 2 in the entry, up to a NUL; empty where permissive mode found no text.
+    pub name: &'a str,
+}
+
+impl<'a> HintNameTableEntry<'a> {
+    /// The hint and the name at the file offset `offset`, as [`HintNameTableEntry::parse_with_opts`]
+    /// with the default options.
+    ///
+    /// # Errors
+    /// As [`HintNameTableEntry::parse_with_opts`] in strict mode.
+    pub fn parse(bytes: &'a [u8], offset: usize) -> Result<HintNameTableEntry<'a>>
+        ensures { Answers hint_name_view result (hint_name true bytes.now offset) (IsHintNameFault bytes.now offset) }
+    {
+        HintNameTableEntry::parse_with_opts(bytes, offset, &ParseOptions::default())
+    }
+
+    /// The hint and the name at the file offset `offset`. The name begins 2 bytes on, and ends
+    /// before its first NUL or at the end of the file.
+    ///
+    /// # Errors
+    /// [`Error::Malformed`] with [`Cause::HintEntry`] where the hint passes the end of the file.
+    /// [`Error::Read`] where no text follows it, in strict mode; in permissive mode the name is
+    /// then empty.
+    #[tactic(auto, unfolding(crate::specs::ImportLookup::hint_name))]
+    pub fn parse_with_opts(
+        bytes: &'a [u8],
+        offset: usize,
+        opts: &ParseOptions,
+    ) -> Result<HintNameTableEntry<'a>>
+        ensures { Answers hint_name_view result (hint_name (is_strict opts.now.parse_mode) bytes.now offset) (IsHintNameFault bytes.now offset) }
+    {
+        let Ok(hint) = pread_u16(bytes, offset, Endian::Little) else {
+            return Err(Error::Malformed(Cause::HintEntry(offset)));
+        };
+        let name = match pread_str(bytes, offset + 2) {
+            Ok(name) => name,
+            Err(_) if opts.parse_mode.is_permissive() => "",
+            Err(error) => return Err(error),
+        };
+        Ok(HintNameTableEntry { hint, name })
+    }
+}
+
+/// An entry that a lookup table keeps.
+///
+/// Source: PE Format, "Import Lookup Table".
+#[derive(Debug, Clone, Drop)]
+pub enum SyntheticImportLookupTableEntry<'a> {
+    /// The ordinal by which it imports.
+    OrdinalNumber(u16),
+    /// The pair (address of the hint and the name by which it imports, these themselves).
+    HintNameTableRVA((u32, HintNameTableEntry<'a>)),
+}
+
+impl<'a> SyntheticImportLookupTableEntry<'a> {
+    // What a table keeps of an entry: `None` where it leads nowhere, or in permissive mode to no hint.
+    #[tactic(auto, unfolding(crate::specs::ImportLookup::kept_entry))]
+    fn kept<'e, T: Bitfield<'a>>(
+        entry: &T,
+        bytes: &'a [u8],
+        address_map: &AddressMap,
+    ) -> ResultOf<'e, Option<SyntheticImportLookupTableEntry<'a>>>
+        ensures { let m = offset_of address_map.now in
+            Answers kept_view result (kept_entry (reads_strictly address_map.now) m bytes.now (T.value entry.now)) (IsKeptEntryFault m bytes.now (T.value entry.now)) }
+    {
+        if entry.is_ordinal() {
+            let ordinal = entry.to_ordinal();
+            return Ok(Some(SyntheticImportLookupTableEntry::OrdinalNumber(ordinal)));
+        }
+        let rva = entry.to_rva();
+        let Some(offset) = address_map.offset_of(rva) else {
+            return Ok(None);
+        };
+        match HintNameTableEntry::parse_with_opts(bytes, offset, address_map.opts()) {
+            Ok(named) => Ok(Some(SyntheticImportLookupTableEntry::HintNameTableRVA((rva, named)))),
+            Err(_) if address_map.is_permissive() => Ok(None),
+            Err(error) => Err(error),
+        }
+    }
+}
+
+/// What a lookup table keeps, in order: of some entries nothing, so an index here is no slot.
+///
+/// Source: PE Format, "Import Lookup Table".
+pub type ImportLookupTable<'a> = Table<SyntheticImportLookupTableEntry<'a>>;
+
+/// The slots of the entries that a lookup table keeps, in order: how many entries stand before each
+/// in the file. The entry of the address table that belongs to an import has the same index.
+///
+/// Source: PE Format, "Import Address Table".
+pub type ImportLookupSlots = Table<usize>;
+
+impl<'a> SyntheticImportLookupTableEntry<'a> {
+    /// The lookup table at the file offset `offset`, as
+    /// [`SyntheticImportLookupTableEntry::parse_with_opts`] with the default options.
+    ///
+    /// # Errors
+    /// As [`SyntheticImportLookupTableEntry::parse_with_opts`] in strict mode.
+    pub fn parse<'e, T: Bitfield<'a>>(
+        alloc: Global,
+        bytes: &'a [u8],
+        offset: usize,
+        sections: &[SectionTable],
+        file_alignment: u32,
+    ) -> ResultOf<'e, ImportLookupTable<'a>>
+        ensures value { let m = file_offset default_options sections.now file_alignment in
+            AnswersOrMemory (map entry_view) result (lookup_table true T.format m bytes.now offset) (IsLookupTableFault true T.format m bytes.now offset) }
+        ensures grown { let m = file_offset default_options sections.now file_alignment in
+            IfErr result (λ e. IsMemory e → KeepsEntries true T.format m bytes.now offset ⊎ HasPieces default_options file_alignment) }
+    {
+        let opts = ParseOptions::default();
+        SyntheticImportLookupTableEntry::parse_with_opts::<T>(
+            alloc,
+            bytes,
+            offset,
+            sections,
+            file_alignment,
+            &opts,
+        )
+    }
+
+    /// The lookup table at the file offset `offset`: what is kept of the entries of type `T` there, up
+    /// to one whose number is 0.
+    ///
+    /// An entry by ordinal is kept. One whose address has no file offset is left out, in both modes;
+    /// and in permissive mode also one whose hint is not whole.
+    ///
+    /// # Errors
+    /// In strict mode [`Error::Malformed`] with [`Cause::LookupEnd`] where the table meets the end of
+    /// the file, and as [`HintNameTableEntry::parse_with_opts`] where an entry leads to no hint and
+    /// name; in permissive mode the table ends there. [`Error::Memory`] where memory is refused, which
+    /// is asked for where addresses are mapped, and where an entry is kept.
+    pub fn parse_with_opts<'e, T: Bitfield<'a>>(
+        alloc: Global,
+        bytes: &'a [u8],
+        offset: usize,
+        sections: &[SectionTable],
+        file_alignment: u32,
+        opts: &ParseOptions,
+    ) -> ResultOf<'e, ImportLookupTable<'a>>
+        ensures value { let m = file_offset opts.now sections.now file_alignment in
+            let strict = is_strict opts.now.parse_mode in
+            AnswersOrMemory (map entry_view) result (lookup_table strict T.format m bytes.now offset) (IsLookupTableFault strict T.format m bytes.now offset) }
+        ensures grown { let m = file_offset opts.now sections.now file_alignment in
+            IfErr result (λ e. IsMemory e → KeepsEntries (is_strict opts.now.parse_mode) T.format m bytes.now offset ⊎ HasPieces opts.now file_alignment) }
+    {
+        let (table, _) = SyntheticImportLookupTableEntry::parse_with_slots::<T>(
+            alloc,
+            bytes,
+            offset,
+            sections,
+            file_alignment,
+            opts,
+        )?;
+        Ok(table)
+    }
+
+    /// The pair (lookup table at the file offset `offset`, as
+    /// [`SyntheticImportLookupTableEntry::parse_with_opts`] reads it; the slot of each entry that it
+    /// keeps). The slots rise, and lie below the slot where the table ends.
+    ///
+    /// # Errors
+    /// As [`SyntheticImportLookupTableEntry::parse_with_opts`].
+    #[tactic(auto, using(crate::proofs::LookupSlots::rising, crate::proofs::LookupSlots::below))]
+    pub fn parse_with_slots<'e, T: Bitfield<'a>>(
+        alloc: Global,
+        bytes: &'a [u8],
+        offset: usize,
+        sections: &[SectionTable],
+        file_alignment: u32,
+        opts: &ParseOptions,
+    ) -> ResultOf<'e, (ImportLookupTable<'a>, ImportLookupSlots)>
+        ensures value { let m = file_offset opts.now sections.now file_alignment in
+            let strict = is_strict opts.now.parse_mode in
+            AnswersOrMemory (λ both. map entry_view both.0) result (lookup_table strict T.format m bytes.now offset) (IsLookupTableFault strict T.format m bytes.now offset) }
+        ensures grown { let m = file_offset opts.now sections.now file_alignment in
+            IfErr result (λ e. IsMemory e → KeepsEntries (is_strict opts.now.parse_mode) T.format m bytes.now offset ⊎ HasPieces opts.now file_alignment) }
+        ensures slots { let m = file_offset opts.now sections.now file_alignment in
+            IfOk result (λ both. both.1 ≡ lookup_slots (is_strict opts.now.parse_mode) T.format m bytes.now offset) }
+        ensures counted { IfOk result (λ both. length both.0 ≡ length both.1) }
+        ensures rising { IfOk result (λ both. IsStrictlyIncreasing both.1) }
+        ensures below { IfOk result (λ both. All (λ slot. slot < stop (entry_slots T.format) bytes.now offset) both.1) }
+    {
+        let address_map = AddressMap::prepare(alloc, sections, file_alignment, opts)?;
+        SyntheticImportLookupTableEntry::parse_by::<T>(alloc, bytes, offset, &address_map)
+    }
+
+    // The lookup table at an offset, and the indexes of the slots whose entries it keeps.
+    pub(super) fn parse_by<'e, T: Bitfield<'a>>(
+        alloc: Global,
+        bytes: &'a [u8],
+        offset: usize,
+        address_map: &AddressMap,
+    ) -> ResultOf<'e, (ImportLookupTable<'a>, ImportLookupSlots)>
+        ensures value { let m = offset_of address_map.now in
+            let strict = reads_strictly address_map.now in
+            AnswersOrMemory (λ both. map entry_view both.0) result (lookup_table strict T.format m bytes.now offset) (IsLookupTableFault strict T.format m bytes.now offset) }
+        ensures grown { IfErr result (λ e. IsMemory e → KeepsEntries (reads_strictly address_map.now) T.format (offset_of address_map.now) bytes.now offset) }
+        ensures slots { IfOk result (λ both. both.1 ≡ lookup_slots (reads_strictly address_map.now) T.format (offset_of address_map.now) bytes.now offset) }
+        ensures counted { IfOk result (λ both. length both.0 ≡ length both.1) }
+    {
+        let size = T::size_of();
+        let mut entries = Vec::new(alloc);
+        let mut slots = Vec::new(alloc);
+        let mut place = offset;
+        let mut slot = 0;
+        'slots: loop {
+            let Ok(entry) = read_entry::<T>(bytes, place) else {
+                if address_map.is_permissive() {
+                    break 'slots;
+                }
+                return Err(Error::Malformed(Cause::LookupEnd(place)));
+            };
+            if entry.is_zero() {
+                break 'slots;
+            }
+            let kept = SyntheticImportLookupTableEntry::kept(&entry, bytes, address_map)?;
+            push_kept(&mut entries, &mut slots, kept, slot)?;
+            place += size;
+            slot += 1;
+        }
+        Ok((Table::from(entries), Table::from(slots)))
+    }
+}
+
+// Appends an entry that is kept, and the index of its slot.
+fn push_kept<'a>(
+    entries: &mut Vec<SyntheticImportLookupTableEntry<'a>>,
+    slots: &mut Vec<usize>,
+    kept: Option<SyntheticImportLookupTableEntry<'a>>,
+    slot: usize,
+) -> Result<()>
+    ensures entries { OnOk result (entries.new.items ≡ entries.old.items ++ option_to_list kept.entry) }
+    ensures slots { OnOk result (slots.new.items ≡ slots.old.items ++ (if is_kept (Some (kept_view kept.entry)) then slot ∷ [] else [])) }
+    ensures counted { OnOk result (length entries.old.items ≡ length slots.old.items → length entries.new.items ≡ length slots.new.items) }
+    ensures memory { IfErr result IsMemory }
+    ensures grown { OnErr result (is_kept (Some (kept_view kept.entry)) ≡ true) }
+{
+    if let Some(entry) = kept {
+        entries.push(entry)?;
+        slots.push(slot)?;
+    }
+    Ok(())
+}

@@ -1,0 +1,220 @@
+//! Which bytes of a file its imports depend on.
+
+ghost use Rattle.std.specs.Prelude.{◌≡◌, ◌<◌, ◌≤◌, ◌↔◌, ◌++◌, ℕ, IfErr, IfOk, OnOk, length};
+ghost use Rattle.std.specs.List.{All};
+ghost use Rattle.goblin_base.specs.Answers.{IsMemory};
+ghost use Rattle.goblin_base.specs.Footprints.{Covers, positions, stretch_footprint};
+ghost use Rattle.goblin_pe_sect.specs.Mapping.{file_offset};
+ghost use Rattle.goblin_pe_sect.specs.Options.{is_strict};
+ghost use Rattle.goblin_pe_tables.specs.Addresses.{offset_of};
+ghost use Rattle.goblin_pe_tables.specs.ImportFootprints.{addresses_footprint, entry_footprint, hint_footprint, import_footprint, libraries_footprint, library_footprint, lookup_footprint};
+
+use crate::address_map::AddressMap;
+use crate::import::{
+    Bitfield, ImportDirectoryEntry, SIZEOF_IMPORT_DIRECTORY_ENTRY, address_table_rva,
+    lookup_offset, read_entry,
+};
+use goblin_base::{Endian, Record, ResultOf, before_nul, pread_slice};
+use goblin_pe_sect::data_directories::DataDirectory;
+use goblin_pe_sect::options::ParseOptions;
+use goblin_pe_sect::section_table::SectionTable;
+use std::alloc::Global;
+
+// Adds the positions from `begin` on and before `end`, if there are any.
+#[tactic(auto, unfolding(goblin_base::specs::Footprints::positions))]
+fn add_positions<'e>(ranges: &mut Vec<(usize, usize)>, begin: usize, end: usize) -> ResultOf<'e, ()>
+    ensures added { OnOk result (ranges.new.items ≡ ranges.old.items ++ positions begin end) }
+    ensures refused { IfErr result IsMemory }
+{
+    if begin < end {
+        ranges.push((begin, end))?;
+    }
+    Ok(())
+}
+
+// Adds the text at an offset, through its NUL or to the end of the file.
+fn add_stretch<'e>(
+    ranges: &mut Vec<(usize, usize)>,
+    bytes: &[u8],
+    offset: usize,
+) -> ResultOf<'e, ()>
+    ensures added { OnOk result (ranges.new.items ≡ ranges.old.items ++ stretch_footprint bytes.now offset) }
+    ensures refused { IfErr result IsMemory }
+{
+    if bytes.len() <= offset {
+        return Ok(());
+    }
+    let end = offset + before_nul(&bytes[offset..]).len();
+    add_positions(ranges, offset, bytes.len().min(end + 1))
+}
+
+// Adds the hint at an offset, and the text after it.
+fn add_hint<'e>(ranges: &mut Vec<(usize, usize)>, bytes: &[u8], offset: usize) -> ResultOf<'e, ()>
+    ensures added { OnOk result (ranges.new.items ≡ ranges.old.items ++ hint_footprint bytes.now offset) }
+    ensures refused { IfErr result IsMemory }
+{
+    let Ok(hint) = pread_slice(bytes, offset, 2) else {
+        return Ok(());
+    };
+    let end = offset + hint.len();
+    add_positions(ranges, offset, end)?;
+    add_stretch(ranges, bytes, end)
+}
+
+// Adds what an entry of a lookup table leads to.
+#[tactic(auto, unfolding(crate::specs::ImportFootprints::entry_footprint, goblin_base::specs::Footprints::led_to))]
+fn add_entry<'a, 'e, T: Bitfield<'a>>(
+    ranges: &mut Vec<(usize, usize)>,
+    entry: &T,
+    bytes: &'a [u8],
+    address_map: &AddressMap,
+) -> ResultOf<'e, ()>
+    ensures added { OnOk result (ranges.new.items ≡ ranges.old.items ++ entry_footprint (offset_of address_map.now) bytes.now (T.value entry.now)) }
+    ensures refused { IfErr result IsMemory }
+{
+    if entry.is_ordinal() {
+        return Ok(());
+    }
+    match address_map.offset_of(entry.to_rva()) {
+        Some(offset) => add_hint(ranges, bytes, offset),
+        None => Ok(()),
+    }
+}
+
+// Adds the footprint of the lookup table at an offset.
+fn add_lookup_table<'a, 'e, T: Bitfield<'a>>(
+    ranges: &mut Vec<(usize, usize)>,
+    bytes: &'a [u8],
+    offset: usize,
+    address_map: &AddressMap,
+) -> ResultOf<'e, ()>
+    ensures added { OnOk result (ranges.new.items ≡ ranges.old.items ++ lookup_footprint T.format (offset_of address_map.now) bytes.now offset) }
+    ensures refused { IfErr result IsMemory }
+{
+    let size = T::size_of();
+    let mut place = offset;
+    'slots: loop {
+        let Ok(entry) = read_entry::<T>(bytes, place) else {
+            return add_positions(ranges, offset, place);
+        };
+        if entry.is_zero() {
+            return add_positions(ranges, offset, place + size);
+        }
+        add_entry(ranges, &entry, bytes, address_map)?;
+        place += size;
+    }
+}
+
+// Adds the footprint of the address table at an offset.
+fn add_address_table<'a, 'e, T: Bitfield<'a>>(
+    ranges: &mut Vec<(usize, usize)>,
+    bytes: &'a [u8],
+    offset: usize,
+) -> ResultOf<'e, ()>
+    ensures added { OnOk result (ranges.new.items ≡ ranges.old.items ++ addresses_footprint T.format bytes.now offset) }
+    ensures refused { IfErr result IsMemory }
+{
+    let size = T::size_of();
+    let mut place = offset;
+    'slots: loop {
+        let Ok(entry) = read_entry::<T>(bytes, place) else {
+            return add_positions(ranges, offset, place);
+        };
+        place += size;
+        if entry.is_zero() {
+            return add_positions(ranges, offset, place);
+        }
+    }
+}
+
+// Adds what a record of an import directory leads to.
+#[tactic(auto, unfolding(crate::specs::ImportFootprints::library_footprint, goblin_base::specs::Footprints::led_to))]
+fn add_library<'a, 'e, T: Bitfield<'a>>(
+    ranges: &mut Vec<(usize, usize)>,
+    bytes: &'a [u8],
+    entry: &ImportDirectoryEntry,
+    address_map: &AddressMap,
+) -> ResultOf<'e, ()>
+    ensures added { OnOk result (ranges.new.items ≡ ranges.old.items ++ library_footprint T.format (offset_of address_map.now) bytes.now entry.now) }
+    ensures refused { IfErr result IsMemory }
+{
+    if let Some(offset) = address_map.offset_of(entry.name_rva) {
+        add_stretch(ranges, bytes, offset)?;
+    }
+    if let Some(offset) = lookup_offset(entry, address_map) {
+        add_lookup_table::<T>(ranges, bytes, offset, address_map)?;
+    }
+    if let Some(offset) = address_map.offset_of(address_table_rva(entry)) {
+        add_address_table::<T>(ranges, bytes, offset)?;
+    }
+    Ok(())
+}
+
+// Adds the footprint of the import directory at an offset.
+fn add_libraries<'a, 'e, T: Bitfield<'a>>(
+    ranges: &mut Vec<(usize, usize)>,
+    bytes: &'a [u8],
+    offset: usize,
+    address_map: &AddressMap,
+) -> ResultOf<'e, ()>
+    ensures added { OnOk result (ranges.new.items ≡ ranges.old.items ++ libraries_footprint T.format (offset_of address_map.now) bytes.now offset) }
+    ensures refused { IfErr result IsMemory }
+{
+    let mut place = offset;
+    'records: loop {
+        let Ok(record) = ImportDirectoryEntry::read_at(bytes, place, Endian::Little) else {
+            return add_positions(ranges, offset, place);
+        };
+        if !record.is_possibly_valid() {
+            return add_positions(ranges, offset, place + SIZEOF_IMPORT_DIRECTORY_ENTRY);
+        }
+        add_library::<T>(ranges, bytes, &record, address_map)?;
+        place += SIZEOF_IMPORT_DIRECTORY_ENTRY;
+    }
+}
+
+// The footprint of the import directory at an address.
+#[tactic(auto, unfolding(crate::specs::ImportFootprints::libraries_if_footprint, goblin_base::specs::Footprints::led_to))]
+fn import_ranges<'a, 'e, T: Bitfield<'a>>(
+    alloc: Global,
+    bytes: &'a [u8],
+    rva: u32,
+    address_map: &AddressMap,
+) -> ResultOf<'e, Vec<(usize, usize)>>
+    ensures ranges { IfOk result (λ v. v.items ≡ import_footprint (is_strict address_map.now.opts.parse_mode) T.format (offset_of address_map.now) bytes.now rva) }
+    ensures refused { IfErr result IsMemory }
+{
+    let mut ranges = Vec::new(alloc);
+    match address_map.offset_of(rva) {
+        Some(0) if address_map.is_permissive() => {}
+        Some(offset) => add_libraries::<T>(&mut ranges, bytes, offset, address_map)?,
+        None => {}
+    }
+    Ok(ranges)
+}
+
+/// The footprint of the imports of a file: the ranges (begin, end) of the positions on which the import
+/// data of a directory depends, as [`twin_imports`](crate::laws::twin_imports) says. A position is in
+/// the footprint exactly where it lies in one of the ranges, which come in no order and may overlap.
+/// None is empty, and none passes the file.
+///
+/// # Errors
+/// [`Error::Memory`](goblin_base::Error::Memory) alone.
+pub fn footprint_imports<'a, 'e, T: Bitfield<'a>>(
+    alloc: Global,
+    bytes: &'a [u8],
+    directory: DataDirectory,
+    sections: &[SectionTable],
+    file_alignment: u32,
+    opts: &ParseOptions,
+) -> ResultOf<'e, Vec<(usize, usize)>>
+    ensures ranges { IfOk result (λ v. v.items ≡ import_footprint (is_strict opts.now.parse_mode) T.format (file_offset opts.now sections.now file_alignment) bytes.now directory.virtual_address) }
+    ensures covers { let footprint = import_footprint (is_strict opts.now.parse_mode) T.format (file_offset opts.now sections.now file_alignment) bytes.now directory.virtual_address in
+        IfOk result (λ v. (p : ℕ) → Covers v.items p ↔ Covers footprint p) }
+    ensures within { IfOk result (λ v. All (λ range. (range.0 < range.1) × (range.1 ≤ length bytes.now)) v.items) }
+    ensures refused { IfErr result IsMemory }
+{
+    let address_map = AddressMap::prepare(alloc, sections, file_alignment, opts)?;
+    let ranges = import_ranges::<T>(alloc, bytes, directory.virtual_address, &address_map)?;
+    Ok(ranges)
+}

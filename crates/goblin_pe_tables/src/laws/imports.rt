@@ -1,0 +1,120 @@
+//! The imports of two files.
+
+ghost use Rattle.std.specs.Prelude.{◌≡◌, map};
+ghost use Rattle.goblin_base.specs.Answers.{AnswersOrMemory};
+ghost use Rattle.goblin_base.specs.Footprints.{Agree, AlikeOrMemory};
+ghost use Rattle.goblin_pe_sect.specs.Mapping.{file_offset};
+ghost use Rattle.goblin_pe_sect.specs.Options.{is_strict};
+ghost use Rattle.goblin_pe_tables.specs.ImportDirectory.{IsImportDataFault, import_data};
+ghost use Rattle.goblin_pe_tables.specs.ImportFootprints.{import_footprint, lookup_footprint};
+ghost use Rattle.goblin_pe_tables.specs.ImportLookup.{IsLookupTableFault, entry_view, lookup_table};
+
+use crate::import::{Bitfield, ImportData, ImportLookupTable, SyntheticImportLookupTableEntry};
+use goblin_base::ResultOf;
+use goblin_pe_sect::data_directories::DataDirectory;
+use goblin_pe_sect::options::ParseOptions;
+use goblin_pe_sect::section_table::SectionTable;
+use std::alloc::Global;
+
+/// The lookup tables of entries of type `T` at one offset of two files.
+///
+/// The footprint of the read: the entries up to and with the one whose number is 0, as far as they lie
+/// in the file; and for each entry before that one that imports by name, the hint at its address and
+/// the text after it.
+///
+/// # Errors
+/// For each file as [`SyntheticImportLookupTableEntry::parse_with_opts`].
+pub fn twin_lookup<'a, 'e, T: Bitfield<'a>>(
+    alloc: Global,
+    a: &'a [u8],
+    b: &'a [u8],
+    offset: usize,
+    sections: &[SectionTable],
+    file_alignment: u32,
+    opts: &ParseOptions,
+) -> (
+    ResultOf<'e, ImportLookupTable<'a>>,
+    ResultOf<'e, ImportLookupTable<'a>>,
+)
+    ensures first { let m = file_offset opts.now sections.now file_alignment in
+        let strict = is_strict opts.now.parse_mode in
+        AnswersOrMemory (map entry_view) result.0 (lookup_table strict T.format m a.now offset) (IsLookupTableFault strict T.format m a.now offset) }
+    ensures second { let m = file_offset opts.now sections.now file_alignment in
+        let strict = is_strict opts.now.parse_mode in
+        AnswersOrMemory (map entry_view) result.1 (lookup_table strict T.format m b.now offset) (IsLookupTableFault strict T.format m b.now offset) }
+    ensures same_value { let m = file_offset opts.now sections.now file_alignment in
+        let strict = is_strict opts.now.parse_mode in
+        Agree (lookup_footprint T.format m a.now offset) a.now b.now → lookup_table strict T.format m a.now offset ≡ lookup_table strict T.format m b.now offset }
+    ensures alike { let m = file_offset opts.now sections.now file_alignment in
+        Agree (lookup_footprint T.format m a.now offset) a.now b.now → AlikeOrMemory (map entry_view) result.0 result.1 }
+{
+    let first = SyntheticImportLookupTableEntry::parse_with_opts::<T>(
+        alloc,
+        a,
+        offset,
+        sections,
+        file_alignment,
+        opts,
+    );
+    let second = SyntheticImportLookupTableEntry::parse_with_opts::<T>(
+        alloc,
+        b,
+        offset,
+        sections,
+        file_alignment,
+        opts,
+    );
+    (first, second)
+}
+
+/// The import data of one directory, whose tables have entries of type `T`, in two files.
+///
+/// The footprint of the read: the records up to and with the one that ends the directory, as far as
+/// they lie in the file; and for each record before that one the text of the library's name, the
+/// footprint of its lookup table, and the entries of its address table up to and with the one whose
+/// number is 0. [`footprint_imports`](crate::laws::footprint_imports) lists it. It is empty where the
+/// directory's address has no file offset, and in permissive mode where that offset is 0.
+///
+/// # Errors
+/// For each file as [`ImportData::parse_with_opts`].
+pub fn twin_imports<'a, 'e, T: Bitfield<'a>>(
+    alloc: Global,
+    a: &'a [u8],
+    b: &'a [u8],
+    directory: DataDirectory,
+    sections: &[SectionTable],
+    file_alignment: u32,
+    opts: &ParseOptions,
+) -> (ResultOf<'e, ImportData<'a>>, ResultOf<'e, ImportData<'a>>)
+    ensures first { let m = file_offset opts.now sections.now file_alignment in
+        let strict = is_strict opts.now.parse_mode in
+        AnswersOrMemory (λ x. x) result.0 (import_data strict T.format m a.now directory.virtual_address) (IsImportDataFault strict T.format m a.now directory.virtual_address) }
+    ensures second { let m = file_offset opts.now sections.now file_alignment in
+        let strict = is_strict opts.now.parse_mode in
+        AnswersOrMemory (λ x. x) result.1 (import_data strict T.format m b.now directory.virtual_address) (IsImportDataFault strict T.format m b.now directory.virtual_address) }
+    ensures same_value { let m = file_offset opts.now sections.now file_alignment in
+        let strict = is_strict opts.now.parse_mode in
+        Agree (import_footprint strict T.format m a.now directory.virtual_address) a.now b.now →
+        import_data strict T.format m a.now directory.virtual_address ≡ import_data strict T.format m b.now directory.virtual_address }
+    ensures alike { let m = file_offset opts.now sections.now file_alignment in
+        let strict = is_strict opts.now.parse_mode in
+        Agree (import_footprint strict T.format m a.now directory.virtual_address) a.now b.now → AlikeOrMemory (λ x. x) result.0 result.1 }
+{
+    let first = ImportData::parse_with_opts::<T>(
+        alloc,
+        a,
+        directory,
+        sections,
+        file_alignment,
+        opts,
+    );
+    let second = ImportData::parse_with_opts::<T>(
+        alloc,
+        b,
+        directory,
+        sections,
+        file_alignment,
+        opts,
+    );
+    (first, second)
+}

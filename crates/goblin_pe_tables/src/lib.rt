@@ -1,0 +1,9 @@
+//! Reads the tables to which the directories of a PE file lead: imports, exports and forwarders. It stands
+//! beside `goblin_pe_head`, and `goblin_pe` passes its modules on.
+#![tactic(auto)]
+
+pub mod address_map;
+pub mod export;
+pub mod import;
+pub mod laws;
+pub mod table;

@@ -1,0 +1,7 @@
+//! Worked values of imports and exports.
+
+mod exports;
+mod import_bound;
+mod imports;
+mod overlapping;
+mod shared;
