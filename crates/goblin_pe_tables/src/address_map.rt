@@ -39,10 +39,11 @@ impl<'s> Model for AddressMap<'s> {
 }
 
 impl<'s> AddressMap<'s> {
-    /// Prepares the index of the sections' windows.
+    /// Prepares the index of the sections' windows. No memory is taken where `opts` says that addresses
+    /// are offsets or `file_alignment` is no power of two.
     ///
     /// # Errors
-    /// [`Error::Memory`](goblin_base::Error::Memory) where memory is refused and some section has a window.
+    /// [`Error::Memory`](goblin_base::Error::Memory) alone.
     pub fn prepare(
         alloc: Global,
         sections: &'s [SectionTable],
@@ -61,7 +62,7 @@ impl<'s> AddressMap<'s> {
         })
     }
 
-    /// The options.
+    /// The options by which addresses are mapped and what stands there is read.
     pub fn opts(&self) -> &ParseOptions
         ensures { result.now ≡ self.now.opts }
     {
