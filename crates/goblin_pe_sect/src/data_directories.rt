@@ -5,7 +5,7 @@ ghost use Rattle.std.specs.Iterator.{UpTo, YieldsFirst, at_most};
 ghost use Rattle.std.specs.Iterator.SizeHint.{IsWithinCount};
 ghost use Rattle.goblin_base.specs.Answers.{Answers, Writes, IsSliceFault};
 ghost use Rattle.goblin_base.specs.Bytes.{overwritten};
-ghost use Rattle.goblin_base.specs.Record.{encoding, record_at};
+ghost use Rattle.goblin_base.specs.Record.{encoding, record_at, ReadsBack, WritesBack, record_over};
 ghost use Rattle.goblin_pe_sect.specs.declared.data_directories.DataDirectory.{DataDirectory};
 ghost use Rattle.goblin_pe_sect.specs.DataDirectories.{EntriesWriteBack, IsDirectoriesFault, IsNoKind, dirs_left, directories_at, directory_fields, directory_in, directory_or_zeros, directory_record, entries_fields, entry_ending, kinds, present_from};
 
@@ -94,6 +94,29 @@ impl DataDirectory {
     {
         let record = gread_slice(bytes, offset, SIZEOF_DATA_DIRECTORY)?;
         Ok(DataDirectory::in_record(record, Endian::Little))
+    }
+
+    /// Writes the record to the front of `bytes`, and answers its size, 8. One that was read is
+    /// written as it stood, and any is read again from what was written, by the same order of bytes.
+    ///
+    /// # Errors
+    /// [`Error::Read`] where there is no room for 8 bytes; `bytes` are then as they were.
+    pub fn try_into_ctx(self, bytes: &mut [u8], endian: Endian) -> Result<usize>
+        ensures size { IfOk result (λ n. n ≡ 8) }
+        ensures written { let after = record_over 8 (encoding endian (directory_fields self)) bytes.old in
+            Writes result after bytes.old bytes.new (IsSliceFault bytes.old 0 8) }
+        ensures long { IfOk result (λ n. length (encoding endian (directory_fields self)) ≡ 8) }
+        ensures back { IfOk result (λ n. WritesBack 8 directory_record directory_fields) }
+        ensures again { IfOk result (λ n. ReadsBack 8 directory_record directory_fields self) }
+    {
+        Record::try_into_ctx(self, bytes, endian)
+    }
+
+    /// The size of the record in bytes, the same in either order: 8.
+    pub fn size_with(endian: &Endian) -> usize
+        ensures { result ≡ 8 }
+    {
+        <DataDirectory as Record>::size_with(endian)
     }
 }
 

@@ -1,10 +1,11 @@
 //! The relocations of a PE file: those of an object's sections, for linkers, and the base relocations
 //! of an image, for loaders.
 
-ghost use Rattle.std.specs.Prelude.{◌≡◌, ◌/◌, Some, length, IfSome};
+ghost use Rattle.std.specs.Prelude.{◌≡◌, ◌/◌, Some, length, IfSome, IfOk};
 ghost use Rattle.std.specs.Iterator.{UpTo, YieldsFirst, at_most};
 ghost use Rattle.std.specs.Iterator.SizeHint.{IsWithinCount};
-ghost use Rattle.goblin_base.specs.Answers.{Answers};
+ghost use Rattle.goblin_base.specs.Answers.{Answers, IsSliceFault, Writes};
+ghost use Rattle.goblin_base.specs.Record.{ReadsBack, WritesBack, encoding, record_over};
 ghost use Rattle.goblin_pe_sect.specs.declared.relocation.Relocation.{Relocation};
 ghost use Rattle.goblin_pe_sect.specs.Relocations.{IsRelocationsFault, relocation_fields, relocation_record, relocations_at, relocations_left};
 
@@ -179,6 +180,31 @@ impl Record for Relocation {
             Field::U16(self.typ),
         ];
         put_fields(bytes, COFF_RELOCATION_SIZE, &fields, endian);
+    }
+}
+
+impl Relocation {
+    /// Writes the record to the front of `bytes`, and answers its size, 10. One that was read is
+    /// written as it stood, and any is read again from what was written, by the same order of bytes.
+    ///
+    /// # Errors
+    /// [`Error::Read`] where there is no room for 10 bytes; `bytes` are then as they were.
+    pub fn try_into_ctx(self, bytes: &mut [u8], endian: Endian) -> Result<usize>
+        ensures size { IfOk result (λ n. n ≡ 10) }
+        ensures written { let after = record_over 10 (encoding endian (relocation_fields self)) bytes.old in
+            Writes result after bytes.old bytes.new (IsSliceFault bytes.old 0 10) }
+        ensures long { IfOk result (λ n. length (encoding endian (relocation_fields self)) ≡ 10) }
+        ensures back { IfOk result (λ n. WritesBack 10 relocation_record relocation_fields) }
+        ensures again { IfOk result (λ n. ReadsBack 10 relocation_record relocation_fields self) }
+    {
+        Record::try_into_ctx(self, bytes, endian)
+    }
+
+    /// The size of the record in bytes, the same in either order: 10.
+    pub fn size_with(endian: &Endian) -> usize
+        ensures { result ≡ 10 }
+    {
+        <Relocation as Record>::size_with(endian)
     }
 }
 

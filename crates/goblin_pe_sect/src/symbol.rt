@@ -5,7 +5,7 @@ ghost use Rattle.std.specs.Iterator.{UpTo, YieldsFirstBy, at_most};
 ghost use Rattle.std.specs.Iterator.SizeHint.{IsWithinCount};
 ghost use Rattle.goblin_base.specs.Answers.{Answers, Writes, IsSliceFault};
 ghost use Rattle.goblin_base.specs.Bytes.{overwritten, slice_at};
-ghost use Rattle.goblin_base.specs.Record.{record_at};
+ghost use Rattle.goblin_base.specs.Record.{record_at, ReadsBack, WritesBack, encoding, record_over};
 ghost use Rattle.goblin_pe_sect.specs.declared.symbol.Symbol.{Symbol};
 ghost use Rattle.goblin_pe_sect.specs.AuxiliarySymbols.{begin_and_end_function_record, function_definition_record, section_definition_record, weak_external_record};
 ghost use Rattle.goblin_pe_sect.specs.Symbols.{AreSymbolsOf, IsNoSymbolName, IsSymbolsFault, file_name_at, inline_name, name_offset_of, named_symbol, named_value, offset_name, stored_number, stored_offset, symbol_fields, symbol_item, symbol_name, symbol_record, symbols_in, symbols_left, table_bytes};
@@ -240,6 +240,29 @@ impl Symbol {
         ensures { IsTrue result ↔ ((self.now.storage_class ≡ 3) × (0 < self.now.number_of_aux_symbols)) }
     {
         self.storage_class == IMAGE_SYM_CLASS_STATIC && self.number_of_aux_symbols > 0
+    }
+
+    /// Writes the record to the front of `bytes`, and answers its size, 18. One that was read is
+    /// written as it stood, and any is read again from what was written, by the same order of bytes.
+    ///
+    /// # Errors
+    /// [`Error::Read`] where there is no room for 18 bytes; `bytes` are then as they were.
+    pub fn try_into_ctx(self, bytes: &mut [u8], endian: Endian) -> Result<usize>
+        ensures size { IfOk result (λ n. n ≡ 18) }
+        ensures written { let after = record_over 18 (encoding endian (symbol_fields self)) bytes.old in
+            Writes result after bytes.old bytes.new (IsSliceFault bytes.old 0 18) }
+        ensures long { IfOk result (λ n. length (encoding endian (symbol_fields self)) ≡ 18) }
+        ensures back { IfOk result (λ n. WritesBack 18 symbol_record symbol_fields) }
+        ensures again { IfOk result (λ n. ReadsBack 18 symbol_record symbol_fields self) }
+    {
+        Record::try_into_ctx(self, bytes, endian)
+    }
+
+    /// The size of the record in bytes, the same in either order: 18.
+    pub fn size_with(endian: &Endian) -> usize
+        ensures { result ≡ 18 }
+    {
+        <Symbol as Record>::size_with(endian)
     }
 }
 

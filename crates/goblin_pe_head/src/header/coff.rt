@@ -1,9 +1,9 @@
 //! The COFF header, and the tables that it leads to: the section table, the symbol table and the
 //! string table.
 
-ghost use Rattle.std.specs.Prelude.{◌≡◌, ◌+◌, ◌*◌, ◌/◌, ◌<◌, length, option_map, true, IfErr, OnOk, OnErr, IsErrAnd};
-ghost use Rattle.goblin_base.specs.Answers.{Answers, AnswersOrMemory, IsMemory, IsSliceFault};
-ghost use Rattle.goblin_base.specs.Record.{record_at};
+ghost use Rattle.std.specs.Prelude.{◌≡◌, ◌+◌, ◌*◌, ◌/◌, ◌<◌, length, option_map, true, IfErr, OnOk, OnErr, IsErrAnd, IfOk};
+ghost use Rattle.goblin_base.specs.Answers.{Answers, AnswersOrMemory, IsMemory, IsSliceFault, Writes};
+ghost use Rattle.goblin_base.specs.Record.{record_at, ReadsBack, WritesBack, encoding, record_over};
 ghost use Rattle.goblin_pe_sect.specs.Options.{is_strict};
 ghost use Rattle.goblin_pe_sect.specs.Symbols.{table_bytes};
 ghost use Rattle.goblin_pe_head.specs.declared.header.coff.CoffHeader.{CoffHeader};
@@ -230,5 +230,28 @@ impl CoffHeader {
     {
         let symbols = self.number_of_symbol_table as usize;
         self.pointer_to_symbol_table as usize + COFF_SYMBOL_SIZE * symbols
+    }
+
+    /// Writes the record to the front of `bytes`, and answers its size, 20. One that was read is
+    /// written as it stood, and any is read again from what was written, by the same order of bytes.
+    ///
+    /// # Errors
+    /// [`Error::Read`] where there is no room for 20 bytes; `bytes` are then as they were.
+    pub fn try_into_ctx(self, bytes: &mut [u8], endian: Endian) -> Result<usize>
+        ensures size { IfOk result (λ n. n ≡ 20) }
+        ensures written { let after = record_over 20 (encoding endian (coff_fields self)) bytes.old in
+            Writes result after bytes.old bytes.new (IsSliceFault bytes.old 0 20) }
+        ensures long { IfOk result (λ n. length (encoding endian (coff_fields self)) ≡ 20) }
+        ensures back { IfOk result (λ n. WritesBack 20 coff_header coff_fields) }
+        ensures again { IfOk result (λ n. ReadsBack 20 coff_header coff_fields self) }
+    {
+        Record::try_into_ctx(self, bytes, endian)
+    }
+
+    /// The size of the record in bytes, the same in either order: 20.
+    pub fn size_with(endian: &Endian) -> usize
+        ensures { result ≡ 20 }
+    {
+        <CoffHeader as Record>::size_with(endian)
     }
 }

@@ -3,8 +3,9 @@
 ghost use Rattle.std.specs.Prelude.{◌≡◌, ◌≤◌, ◌<◌, ◌+◌, ◌*◌, ◌/◌, ◌^◌, List, ℕ, Some, length, drop, option_map, IfOk, IfSome};
 ghost use Rattle.std.specs.Iterator.{UpTo, YieldsFirst, at_most};
 ghost use Rattle.std.specs.Iterator.SizeHint.{IsWithinCount};
-ghost use Rattle.goblin_base.specs.Answers.{Answers};
+ghost use Rattle.goblin_base.specs.Answers.{Answers, IsSliceFault, Writes};
 ghost use Rattle.goblin_base.specs.Bytes.{IsBytes};
+ghost use Rattle.goblin_base.specs.Record.{ReadsBack, WritesBack, encoding, record_over};
 ghost use Rattle.goblin_pe_head.specs.declared.header.rich.RichMetadata.{RichMetadata};
 ghost use Rattle.goblin_pe_head.specs.RichHeader.{PaddingFits, RichIsMarked, RichIsUnmarked, marker_place, dans_place, other_place, leading_words, rich_in, rich_at, rich_header, IsRichAtFault, rich_value, IsStretchFault, IsRichFault};
 ghost use Rattle.goblin_pe_head.specs.RichMetadata.{AreEntriesOf, metadata_at, metadata_fields, metadata_items, metadata_left, metadata_record};
@@ -188,6 +189,30 @@ impl RichMetadata {
             product: (tool >> 16) as u16,
             use_count,
         }
+    }
+
+    /// Writes the entry to the front of `bytes`, under no key, and answers its size, 8. One that was
+    /// read so is written as it stood, and any is read again from what was written, by the same
+    /// order of bytes.
+    ///
+    /// # Errors
+    /// [`Error::Read`] where there is no room for 8 bytes; `bytes` are then as they were.
+    pub fn try_into_ctx(self, bytes: &mut [u8], endian: Endian) -> Result<usize>
+        ensures size { IfOk result (λ n. n ≡ 8) }
+        ensures written { let after = record_over 8 (encoding endian (metadata_fields self)) bytes.old in
+            Writes result after bytes.old bytes.new (IsSliceFault bytes.old 0 8) }
+        ensures long { IfOk result (λ n. length (encoding endian (metadata_fields self)) ≡ 8) }
+        ensures back { IfOk result (λ n. WritesBack 8 metadata_record metadata_fields) }
+        ensures again { IfOk result (λ n. ReadsBack 8 metadata_record metadata_fields self) }
+    {
+        Record::try_into_ctx(self, bytes, endian)
+    }
+
+    /// The size of the record in bytes, the same in either order: 8.
+    pub fn size_with(endian: &Endian) -> usize
+        ensures { result ≡ 8 }
+    {
+        <RichMetadata as Record>::size_with(endian)
     }
 }
 

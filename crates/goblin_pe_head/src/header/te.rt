@@ -1,8 +1,9 @@
 //! The header of a Terse Executable, an image of firmware whose PE headers are stripped, and its
 //! sections.
 
-ghost use Rattle.std.specs.Prelude.{◌≡◌, ◌+◌, ◌*◌, ◌/◌, ◌<◌, ◌≤◌, length, IfErr, IsErrAnd, OnOk, OnErr};
-ghost use Rattle.goblin_base.specs.Answers.{Answers, AnswersOrMemory, IsMemory};
+ghost use Rattle.std.specs.Prelude.{◌≡◌, ◌+◌, ◌*◌, ◌/◌, ◌<◌, ◌≤◌, length, IfErr, IsErrAnd, OnOk, OnErr, IfOk};
+ghost use Rattle.goblin_base.specs.Answers.{Answers, AnswersOrMemory, IsMemory, IsSliceFault, Writes};
+ghost use Rattle.goblin_base.specs.Record.{ReadsBack, WritesBack, encoding, record_over};
 ghost use Rattle.goblin_pe_head.specs.declared.header.te.TeHeader.{TeHeader};
 ghost use Rattle.goblin_pe_head.specs.CoffHeader.{IsTooManySections};
 ghost use Rattle.goblin_pe_head.specs.TeHeader.{displacement, moved, pointer_moved, section_moved, te_adjusted, te_fields, te_header, te_record, te_sections_at, IsStrippedFault, IsTeFault, IsTeSectionsFault};
@@ -183,6 +184,30 @@ impl TeHeader {
         let displacement = self.displacement()?;
         let opts = ParseOptions::default();
         read_sections(alloc, bytes, offset, count, 0, &opts, Some(displacement))
+    }
+
+    /// Writes the record to the front of `bytes`, its numbers as they are, and answers its size,
+    /// 40. One that was read as it is stored is written as it stood, and any is so read again from
+    /// what was written, by the same order of bytes.
+    ///
+    /// # Errors
+    /// [`Error::Read`] where there is no room for 40 bytes; `bytes` are then as they were.
+    pub fn try_into_ctx(self, bytes: &mut [u8], endian: Endian) -> Result<usize>
+        ensures size { IfOk result (λ n. n ≡ 40) }
+        ensures written { let after = record_over 40 (encoding endian (te_fields self)) bytes.old in
+            Writes result after bytes.old bytes.new (IsSliceFault bytes.old 0 40) }
+        ensures long { IfOk result (λ n. length (encoding endian (te_fields self)) ≡ 40) }
+        ensures back { IfOk result (λ n. WritesBack 40 te_record te_fields) }
+        ensures again { IfOk result (λ n. ReadsBack 40 te_record te_fields self) }
+    {
+        Record::try_into_ctx(self, bytes, endian)
+    }
+
+    /// The size of the record in bytes, the same in either order: 40.
+    pub fn size_with(endian: &Endian) -> usize
+        ensures { result ≡ 40 }
+    {
+        <TeHeader as Record>::size_with(endian)
     }
 }
 

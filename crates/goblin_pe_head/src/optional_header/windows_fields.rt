@@ -1,7 +1,8 @@
 //! The Windows fields of an optional header, for either width.
 
-ghost use Rattle.std.specs.Prelude.{◌≡◌};
-ghost use Rattle.goblin_base.specs.Answers.{Answers};
+ghost use Rattle.std.specs.Prelude.{◌≡◌, IfOk, length};
+ghost use Rattle.goblin_base.specs.Answers.{Answers, IsSliceFault, Writes};
+ghost use Rattle.goblin_base.specs.Record.{ReadsBack, WritesBack, encoding, record_over};
 ghost use Rattle.goblin_pe_head.specs.declared.optional_header.windows_fields.WindowsFields32.{WindowsFields32};
 ghost use Rattle.goblin_pe_head.specs.declared.optional_header.windows_fields.WindowsFields64.{WindowsFields64};
 ghost use Rattle.goblin_pe_head.specs.OptionalHeader.{windows_32_record, windows_32_fields, windows_64_record, windows_64_fields, windows_from_32, narrowed, IsTooWide, NarrowsWindows};
@@ -153,6 +154,31 @@ impl Record for WindowsFields32 {
     }
 }
 
+impl WindowsFields32 {
+    /// Writes the record to the front of `bytes`, and answers its size, 68. One that was read is
+    /// written as it stood, and any is read again from what was written, by the same order of bytes.
+    ///
+    /// # Errors
+    /// [`Error::Read`] where there is no room for 68 bytes; `bytes` are then as they were.
+    pub fn try_into_ctx(self, bytes: &mut [u8], endian: Endian) -> Result<usize>
+        ensures size { IfOk result (λ n. n ≡ 68) }
+        ensures written { let after = record_over 68 (encoding endian (windows_32_fields self)) bytes.old in
+            Writes result after bytes.old bytes.new (IsSliceFault bytes.old 0 68) }
+        ensures long { IfOk result (λ n. length (encoding endian (windows_32_fields self)) ≡ 68) }
+        ensures back { IfOk result (λ n. WritesBack 68 windows_32_record windows_32_fields) }
+        ensures again { IfOk result (λ n. ReadsBack 68 windows_32_record windows_32_fields self) }
+    {
+        Record::try_into_ctx(self, bytes, endian)
+    }
+
+    /// The size of the record in bytes, the same in either order: 68.
+    pub fn size_with(endian: &Endian) -> usize
+        ensures { result ≡ 68 }
+    {
+        <WindowsFields32 as Record>::size_with(endian)
+    }
+}
+
 /// The Windows fields of an optional header for 64 bits.
 ///
 /// Source: PE Format, "Optional Header Windows-Specific Fields (Image Only)". Numbers are as
@@ -277,6 +303,31 @@ impl Record for WindowsFields64 {
             Field::U32(self.number_of_rva_and_sizes),
         ];
         put_fields(bytes, SIZEOF_WINDOWS_FIELDS_64, &fields, endian);
+    }
+}
+
+impl WindowsFields64 {
+    /// Writes the record to the front of `bytes`, and answers its size, 88. One that was read is
+    /// written as it stood, and any is read again from what was written, by the same order of bytes.
+    ///
+    /// # Errors
+    /// [`Error::Read`] where there is no room for 88 bytes; `bytes` are then as they were.
+    pub fn try_into_ctx(self, bytes: &mut [u8], endian: Endian) -> Result<usize>
+        ensures size { IfOk result (λ n. n ≡ 88) }
+        ensures written { let after = record_over 88 (encoding endian (windows_64_fields self)) bytes.old in
+            Writes result after bytes.old bytes.new (IsSliceFault bytes.old 0 88) }
+        ensures long { IfOk result (λ n. length (encoding endian (windows_64_fields self)) ≡ 88) }
+        ensures back { IfOk result (λ n. WritesBack 88 windows_64_record windows_64_fields) }
+        ensures again { IfOk result (λ n. ReadsBack 88 windows_64_record windows_64_fields self) }
+    {
+        Record::try_into_ctx(self, bytes, endian)
+    }
+
+    /// The size of the record in bytes, the same in either order: 88.
+    pub fn size_with(endian: &Endian) -> usize
+        ensures { result ≡ 88 }
+    {
+        <WindowsFields64 as Record>::size_with(endian)
     }
 }
 

@@ -1,7 +1,7 @@
 //! The optional header of either width.
 
 use fixture::sample::{put, sample};
-use goblin_base::{Cause, Container, Endian, Error, Record, TryFromCtx, pwrite_u32};
+use goblin_base::{Cause, Container, Endian, Error, TryFromCtx, pwrite_u32};
 use goblin_pe_head::OptionalHeader;
 use goblin_pe_head::optional_header::{
     MAGIC_32, MAGIC_64, StandardFields, StandardFields32, StandardFields64, WindowsFields,

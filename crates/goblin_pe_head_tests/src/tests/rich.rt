@@ -1,7 +1,7 @@
 //! The Rich header and its entries.
 
 use fixture::sample::put;
-use goblin_base::{Cause, Endian, Error, ParseMode, ReadFault, Record, TryFromCtx, pwrite_u32};
+use goblin_base::{Cause, Endian, Error, ParseMode, ReadFault, TryFromCtx, pwrite_u32};
 use goblin_pe_head::{DosStub, Header, RichHeader, RichMetadata, RichMetadataIterator};
 use goblin_pe_sect::ParseOptions;
 use std::test::Fail;

@@ -2,7 +2,7 @@
 
 use super::headers::prints;
 use fixture::sample::{put, section};
-use goblin_base::{Cause, Endian, Error, Record};
+use goblin_base::{Cause, Endian, Error};
 use goblin_pe_head::TeHeader;
 use goblin_pe_head::header::TE_MAGIC;
 use goblin_pe_sect::DataDirectory;

@@ -2,7 +2,7 @@
 
 use super::sample::sample_coff;
 use fixture::sample::{SAMPLE_LEN, TABLE, put, sample};
-use goblin_base::{Cause, Endian, Error, Record, TryFromCtx};
+use goblin_base::{Cause, Endian, Error, TryFromCtx};
 use goblin_pe_head::header::SIZEOF_COFF_HEADER;
 use goblin_pe_head::optional_header::MAGIC_32;
 use goblin_pe_head::{CoffHeader, DosStub, Header};

@@ -3,7 +3,8 @@
 ghost use Rattle.std.specs.Prelude.{◌≡◌, ◌+◌, ◌-◌, ◌/◌, ◌%◌, ◌<◌, ◌≤◌, Some, length, IfOk, IfSome};
 ghost use Rattle.std.specs.Iterator.{UpTo, YieldsFirst, YieldsFirstBy, at_most};
 ghost use Rattle.std.specs.Iterator.SizeHint.{IsWithinCount};
-ghost use Rattle.goblin_base.specs.Answers.{Answers};
+ghost use Rattle.goblin_base.specs.Answers.{Answers, IsSliceFault, Writes};
+ghost use Rattle.goblin_base.specs.Record.{ReadsBack, WritesBack, encoding, record_over};
 ghost use Rattle.goblin_pe_sect.specs.declared.relocation.base.RelocationWord.{RelocationWord};
 ghost use Rattle.goblin_pe_sect.specs.BaseRelocations.{AreBlocksOf, IsRelocationDataFault, block_at, block_item, block_items, blocks_left, relocation_data, relocation_bytes, word_fields, word_items, word_record, words_left};
 ghost use Rattle.goblin_pe_sect.specs.Mapping.{file_offset};
@@ -251,6 +252,29 @@ impl RelocationWord {
         ensures { result ≡ self.now.value % 4096 }
     {
         self.value & 0xFFF
+    }
+
+    /// Writes the record to the front of `bytes`, and answers its size, 2. One that was read is
+    /// written as it stood, and any is read again from what was written, by the same order of bytes.
+    ///
+    /// # Errors
+    /// [`Error::Read`] where there is no room for 2 bytes; `bytes` are then as they were.
+    pub fn try_into_ctx(self, bytes: &mut [u8], endian: Endian) -> Result<usize>
+        ensures size { IfOk result (λ n. n ≡ 2) }
+        ensures written { let after = record_over 2 (encoding endian (word_fields self)) bytes.old in
+            Writes result after bytes.old bytes.new (IsSliceFault bytes.old 0 2) }
+        ensures long { IfOk result (λ n. length (encoding endian (word_fields self)) ≡ 2) }
+        ensures back { IfOk result (λ n. WritesBack 2 word_record word_fields) }
+        ensures again { IfOk result (λ n. ReadsBack 2 word_record word_fields self) }
+    {
+        Record::try_into_ctx(self, bytes, endian)
+    }
+
+    /// The size of the record in bytes, the same in either order: 2.
+    pub fn size_with(endian: &Endian) -> usize
+        ensures { result ≡ 2 }
+    {
+        <RelocationWord as Record>::size_with(endian)
     }
 }
 

@@ -1,6 +1,8 @@
 //! The auxiliary records of a symbol table, which follow the symbols that they describe.
 
-ghost use Rattle.std.specs.Prelude.{length};
+ghost use Rattle.std.specs.Prelude.{length, IfOk, ◌≡◌};
+ghost use Rattle.goblin_base.specs.Answers.{IsSliceFault, Writes};
+ghost use Rattle.goblin_base.specs.Record.{ReadsBack, WritesBack, encoding, record_over};
 ghost use Rattle.goblin_pe_sect.specs.declared.symbol.auxiliary.AuxBeginAndEndFunction.{AuxBeginAndEndFunction};
 ghost use Rattle.goblin_pe_sect.specs.declared.symbol.auxiliary.AuxFunctionDefinition.{AuxFunctionDefinition};
 ghost use Rattle.goblin_pe_sect.specs.declared.symbol.auxiliary.AuxSectionDefinition.{AuxSectionDefinition};
@@ -8,7 +10,9 @@ ghost use Rattle.goblin_pe_sect.specs.declared.symbol.auxiliary.AuxWeakExternal.
 ghost use Rattle.goblin_pe_sect.specs.AuxiliarySymbols.{begin_and_end_function_fields, begin_and_end_function_record, function_definition_fields, function_definition_record, section_definition_fields, section_definition_record, weak_external_fields, weak_external_record};
 
 use super::COFF_SYMBOL_SIZE;
-use goblin_base::{Endian, Field, Record, field_array, field_u8, field_u16, field_u32, put_fields};
+use goblin_base::{
+    Endian, Field, Record, Result, field_array, field_u8, field_u16, field_u32, put_fields,
+};
 
 /// What follows a symbol that defines a function.
 ///
@@ -62,6 +66,32 @@ impl Record for AuxFunctionDefinition {
             Field::Bytes(&self.unused),
         ];
         put_fields(bytes, COFF_SYMBOL_SIZE, &fields, endian);
+    }
+}
+
+impl AuxFunctionDefinition {
+    /// Writes the record to the front of `bytes`, and answers its size, 18. One that was read is
+    /// written as it stood, and any is read again from what was written, by the same order of bytes.
+    ///
+    /// # Errors
+    /// [`Error::Read`](goblin_base::Error::Read) where there is no room for 18 bytes; `bytes` are
+    /// then as they were.
+    pub fn try_into_ctx(self, bytes: &mut [u8], endian: Endian) -> Result<usize>
+        ensures size { IfOk result (λ n. n ≡ 18) }
+        ensures written { let after = record_over 18 (encoding endian (function_definition_fields self)) bytes.old in
+            Writes result after bytes.old bytes.new (IsSliceFault bytes.old 0 18) }
+        ensures long { IfOk result (λ n. length (encoding endian (function_definition_fields self)) ≡ 18) }
+        ensures back { IfOk result (λ n. WritesBack 18 function_definition_record function_definition_fields) }
+        ensures again { IfOk result (λ n. ReadsBack 18 function_definition_record function_definition_fields self) }
+    {
+        Record::try_into_ctx(self, bytes, endian)
+    }
+
+    /// The size of the record in bytes, the same in either order: 18.
+    pub fn size_with(endian: &Endian) -> usize
+        ensures { result ≡ 18 }
+    {
+        <AuxFunctionDefinition as Record>::size_with(endian)
     }
 }
 
@@ -119,6 +149,32 @@ impl Record for AuxBeginAndEndFunction {
     }
 }
 
+impl AuxBeginAndEndFunction {
+    /// Writes the record to the front of `bytes`, and answers its size, 18. One that was read is
+    /// written as it stood, and any is read again from what was written, by the same order of bytes.
+    ///
+    /// # Errors
+    /// [`Error::Read`](goblin_base::Error::Read) where there is no room for 18 bytes; `bytes` are
+    /// then as they were.
+    pub fn try_into_ctx(self, bytes: &mut [u8], endian: Endian) -> Result<usize>
+        ensures size { IfOk result (λ n. n ≡ 18) }
+        ensures written { let after = record_over 18 (encoding endian (begin_and_end_function_fields self)) bytes.old in
+            Writes result after bytes.old bytes.new (IsSliceFault bytes.old 0 18) }
+        ensures long { IfOk result (λ n. length (encoding endian (begin_and_end_function_fields self)) ≡ 18) }
+        ensures back { IfOk result (λ n. WritesBack 18 begin_and_end_function_record begin_and_end_function_fields) }
+        ensures again { IfOk result (λ n. ReadsBack 18 begin_and_end_function_record begin_and_end_function_fields self) }
+    {
+        Record::try_into_ctx(self, bytes, endian)
+    }
+
+    /// The size of the record in bytes, the same in either order: 18.
+    pub fn size_with(endian: &Endian) -> usize
+        ensures { result ≡ 18 }
+    {
+        <AuxBeginAndEndFunction as Record>::size_with(endian)
+    }
+}
+
 /// What follows a symbol for which another may stand.
 ///
 /// Source: PE Format, "Auxiliary Format 3: Weak Externals". Numbers are as stored; the record has
@@ -161,6 +217,32 @@ impl Record for AuxWeakExternal {
             Field::Bytes(&self.unused),
         ];
         put_fields(bytes, COFF_SYMBOL_SIZE, &fields, endian);
+    }
+}
+
+impl AuxWeakExternal {
+    /// Writes the record to the front of `bytes`, and answers its size, 18. One that was read is
+    /// written as it stood, and any is read again from what was written, by the same order of bytes.
+    ///
+    /// # Errors
+    /// [`Error::Read`](goblin_base::Error::Read) where there is no room for 18 bytes; `bytes` are
+    /// then as they were.
+    pub fn try_into_ctx(self, bytes: &mut [u8], endian: Endian) -> Result<usize>
+        ensures size { IfOk result (λ n. n ≡ 18) }
+        ensures written { let after = record_over 18 (encoding endian (weak_external_fields self)) bytes.old in
+            Writes result after bytes.old bytes.new (IsSliceFault bytes.old 0 18) }
+        ensures long { IfOk result (λ n. length (encoding endian (weak_external_fields self)) ≡ 18) }
+        ensures back { IfOk result (λ n. WritesBack 18 weak_external_record weak_external_fields) }
+        ensures again { IfOk result (λ n. ReadsBack 18 weak_external_record weak_external_fields self) }
+    {
+        Record::try_into_ctx(self, bytes, endian)
+    }
+
+    /// The size of the record in bytes, the same in either order: 18.
+    pub fn size_with(endian: &Endian) -> usize
+        ensures { result ≡ 18 }
+    {
+        <AuxWeakExternal as Record>::size_with(endian)
     }
 }
 
@@ -223,5 +305,31 @@ impl Record for AuxSectionDefinition {
             Field::Bytes(&self.unused),
         ];
         put_fields(bytes, COFF_SYMBOL_SIZE, &fields, endian);
+    }
+}
+
+impl AuxSectionDefinition {
+    /// Writes the record to the front of `bytes`, and answers its size, 18. One that was read is
+    /// written as it stood, and any is read again from what was written, by the same order of bytes.
+    ///
+    /// # Errors
+    /// [`Error::Read`](goblin_base::Error::Read) where there is no room for 18 bytes; `bytes` are
+    /// then as they were.
+    pub fn try_into_ctx(self, bytes: &mut [u8], endian: Endian) -> Result<usize>
+        ensures size { IfOk result (λ n. n ≡ 18) }
+        ensures written { let after = record_over 18 (encoding endian (section_definition_fields self)) bytes.old in
+            Writes result after bytes.old bytes.new (IsSliceFault bytes.old 0 18) }
+        ensures long { IfOk result (λ n. length (encoding endian (section_definition_fields self)) ≡ 18) }
+        ensures back { IfOk result (λ n. WritesBack 18 section_definition_record section_definition_fields) }
+        ensures again { IfOk result (λ n. ReadsBack 18 section_definition_record section_definition_fields self) }
+    {
+        Record::try_into_ctx(self, bytes, endian)
+    }
+
+    /// The size of the record in bytes, the same in either order: 18.
+    pub fn size_with(endian: &Endian) -> usize
+        ensures { result ≡ 18 }
+    {
+        <AuxSectionDefinition as Record>::size_with(endian)
     }
 }

@@ -18,7 +18,7 @@ pub(super) fn cut_points(
     ensures cut { IfOk result (λ v. IsCut sections.now file_alignment v.items) }
     ensures near { IfOk result (λ v. AreNear sections.now file_alignment) }
 {
-    let mut points = Vec::new(alloc);
+    let mut points = Vec::with_capacity(alloc, 2 * sections.len() + 1)?;
     points.push(0)?;
     for section in sections {
         let (begin, end) = section_window(section, file_alignment);

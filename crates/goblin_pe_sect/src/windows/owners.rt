@@ -24,6 +24,9 @@ pub struct Owner {
     pub pointer: u32,
 }
 
+// So few windows are walked over for each piece; more are first shared out between halves of the pieces.
+const FEW: usize = 16;
+
 // The window of a section, and what an index keeps of the section.
 #[derive(Copy, Clone)]
 struct Window {
@@ -133,6 +136,20 @@ fn nearby(
     Ok(near)
 }
 
+// Adds the owner of each piece, by a walk over the windows for each.
+fn push_each_owner(
+    begins: &[usize],
+    windows: &[Window],
+    owners: &mut Vec<Option<Owner>>,
+) -> Result<(), AllocError>
+    ensures { OnOk result (owners.new.items ≡ owners.old.items ++ map (owner_among windows.now) begins.now) }
+{
+    'pieces: for begin in begins {
+        owners.push(owner_at(*begin, windows))?;
+    }
+    Ok(())
+}
+
 // Adds the owner of each piece: halves of the pieces, each with the windows that may own some of them.
 fn push_owners(
     alloc: Global,
@@ -145,6 +162,9 @@ fn push_owners(
 {
     if begins.is_empty() {
         return Ok(());
+    }
+    if windows.len() <= FEW {
+        return push_each_owner(begins, windows, owners);
     }
     let count = begins.len();
     let first = begins[0];
@@ -172,7 +192,7 @@ pub(super) fn owners_of(
     ensures { IfOk result (λ v. v.items ≡ map (first_owner opts.now sections.now file_alignment) begins.now) }
 {
     let windows = windows_of(alloc, sections, file_alignment, opts)?;
-    let mut owners = Vec::new(alloc);
+    let mut owners = Vec::with_capacity(alloc, begins.len())?;
     push_owners(alloc, begins, &windows, &mut owners)?;
     Ok(owners)
 }

@@ -2,7 +2,7 @@
 
 use fixture::sample::put;
 use goblin_base::{
-    Cause, Endian, Error, ReadFault, Record, TryFromCtx, gread_with, pread_with, pwrite_u32,
+    Cause, Endian, Error, ReadFault, TryFromCtx, gread_with, pread_with, pwrite_u32,
 };
 use goblin_pe_sect::{DataDirectories, DataDirectory, DataDirectoryType};
 use std::test::Fail;

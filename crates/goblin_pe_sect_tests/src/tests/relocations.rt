@@ -1,7 +1,7 @@
 //! Relocations of objects, and the blocks and words of base relocations.
 
 use fixture::sample::put;
-use goblin_base::{Endian, Error, ReadFault, Record, TryFromCtx};
+use goblin_base::{Endian, Error, ReadFault, TryFromCtx};
 use goblin_pe_sect::relocation::{
     Relocation, RelocationBlock, RelocationBlockIterator, RelocationData, RelocationWord,
     RelocationWordIterator, Relocations,

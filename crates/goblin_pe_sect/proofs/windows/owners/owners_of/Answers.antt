@@ -6,4 +6,4 @@ push_owners-requires c = rising_all c.args.begins.now c.requires.rising
 
 pub returns : goal.returns
 returns c =
-    rw (c.in_ok-push_owners.ensures, c.new-owners.ensures.items, c.deref.ensures.value, c.in_ok-windows.ensures) (owners-sections c.args.opts.now c.args.file_alignment c.args.sections.now c.args.begins.now)
+    rw (c.in_ok-push_owners.ensures, c.in_ok-owners.ensures.items, c.deref.ensures.value, c.in_ok-windows.ensures) (owners-sections c.args.opts.now c.args.file_alignment c.args.sections.now c.args.begins.now)

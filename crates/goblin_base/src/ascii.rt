@@ -1,0 +1,50 @@
+//! Runs of ASCII, found sixteen bytes at a time.
+
+ghost use Rattle.std.specs.Prelude.{◌≡◌, ◌⊎◌, ◌+◌, ◌<◌, ◌≤◌, ℕ, IsTrue, length, slice_index};
+
+use std::simd::prelude::*;
+
+// How many of the 16 bytes from `at` on stand before the first that is a NUL or not ASCII.
+fn run_in_lanes(bytes: &[u8], at: usize) -> usize
+    requires { at + 16 ≤ length bytes.now }
+    ensures within { result ≤ 16 }
+    ensures plain { (k : ℕ) → at ≤ k → k < at + result → (0 < slice_index bytes.now k) × (slice_index bytes.now k < 128) }
+    ensures stops { result < 16 → (slice_index bytes.now (at + result) ≡ 0) ⊎ (128 ≤ slice_index bytes.now (at + result)) }
+{
+    let marks = (u8x16::from_slice(&bytes[at..]) - u8x16::splat(1))
+        .simd_ge(u8x16::splat(127))
+        .to_bitmask();
+    if marks == 0 {
+        16
+    } else {
+        marks.trailing_zeros() as usize
+    }
+}
+
+// Whether a byte is ASCII and no NUL.
+fn is_plain(byte: u8) -> bool
+    ensures yes { IsTrue result → (0 < byte) × (byte < 128) }
+    ensures no { ¬ (IsTrue result) → (byte ≡ 0) ⊎ (128 ≤ byte) }
+{
+    0 < byte && byte < 128
+}
+
+// How many bytes stand before the first that is a NUL or not ASCII.
+pub(crate) fn plain_run(bytes: &[u8]) -> usize
+    ensures within { result ≤ length bytes.now }
+    ensures plain { (k : ℕ) → k < result → (0 < slice_index bytes.now k) × (slice_index bytes.now k < 128) }
+    ensures stops { result < length bytes.now → (slice_index bytes.now result ≡ 0) ⊎ (128 ≤ slice_index bytes.now result) }
+{
+    let mut at = 0;
+    'lanes: while 16 <= bytes.len() - at {
+        let run = run_in_lanes(bytes, at);
+        at += run;
+        if run < 16 {
+            return at;
+        }
+    }
+    'bytes: while at < bytes.len() && is_plain(bytes[at]) {
+        at += 1;
+    }
+    at
+}
