@@ -1,9 +1,13 @@
 -- The readers of headers and of single tables have the same values, and answer alike, for files that agree on what each reaches.
-use Rattle.std.proofs.Common.{◌≡◌, ℕ, ◌+◌, Bool, true, List, Option, refl}
+use Rattle.std.proofs.Common.{◌≡◌, ◌<◌, ℕ, ◌+◌, Bool, true, List, None, Option, Some, IsSomeAnd, refl}
 use Rattle.std.specs.Prelude.{option_map}
 use Rattle.goblin_base.specs.declared.endian.Endian.{Endian}
+use Rattle.goblin_base.specs.declared.endian.Endian.TheVariants.{Little}
 use Rattle.goblin_base.specs.declared.error.ErrorOf.{ErrorOf}
+use Rattle.goblin_base.specs.declared.error.ErrorOf.TheVariants.{Memory}
+use Rattle.goblin_base.specs.Answers.{FirstFault, IsMemory}
 use Rattle.goblin_base.specs.Footprints.{Agree, led_to, slice_footprint}
+use Rattle.goblin_base.specs.Record.{record_at}
 use Rattle.goblin_base.proofs.Footprints.{agree-left, agree-right, alike_answers, alike_or_memory_answers, same-led, same-then}
 use Rattle.goblin_pe_sect.specs.BaseRelocations.{relocation_bytes}
 use Rattle.goblin_pe_sect.specs.Symbols.{table_bytes}
@@ -12,10 +16,24 @@ use Rattle.goblin_pe_head.specs.declared.header.te.TeHeader.{TeHeader}
 use Rattle.goblin_pe_head.specs.CoffHeader.{symbols_end}
 use Rattle.goblin_pe_head.specs.Footprints.{sections_footprint, te_footprint}
 use Rattle.goblin_pe_head.specs.PeHeader.{header_value}
-use Rattle.goblin_pe_head.specs.TeHeader.{te_header, te_sections_at}
+use Rattle.goblin_pe_head.specs.TeHeader.{IsTeFault, displacement, te_header, te_record, te_sections_at}
 use Rattle.goblin_pe_head.proofs.Footprints.{same-header_without_dos, same-sections_at, same-strings_of, same-symbols_of, same-te_header, same-te_sections_at}
 use Rattle.goblin_pe.specs.declared.laws.parts.PartsOf.{PartsOf}
 use Rattle.goblin_pe.specs.TwinParts.{AreAlikeParts, AreParts, AreSameParts, PartsAsked, te_image_at, te_view}
+
+first_none : {A : Type 0} (o : Option A) (IsCause : ErrorOf → Type 0) (Later : A → ErrorOf → Type 0) (e : ErrorOf) → (IsCause e → ⊥) → ((a : A) → Later a e → ⊥) → FirstFault o IsCause Later e → ⊥
+first_none None IsCause Later e here later fault = here fault
+first_none (Some a) IsCause Later e here later fault = later a fault
+
+te_none : (bytes : List ℕ) (p : ℕ) (e : ErrorOf) → IsMemory e → IsTeFault bytes p e → ⊥
+unfolding IsTeFault
+te_none bytes p (Memory m) memory fault =
+    first_none (record_at 40 (te_record Little) bytes p) _ _ (Memory m) (λ f. f) (λ header. first_none (displacement header) _ _ (Memory m) (λ f. f) (λ d f. f)) fault
+te_none bytes p e memory fault = memory
+
+-- a Terse Executable's header is never refused for want of memory
+pub te_there : (bytes : List ℕ) (p : ℕ) (e : ErrorOf) → (te_header bytes p ≡ None) × IsTeFault bytes p e → IsMemory e → IsSomeAnd (te_header bytes p) (λ header. 0 < header.number_of_sections)
+te_there bytes p e refused memory = absurd (te_none bytes p e memory refused.1)
 
 same-te_image_at : (a b : List ℕ) (p : ℕ) → Agree (te_footprint a p) a b → te_image_at a p ≡ te_image_at b p
 unfolding te_image_at te_footprint

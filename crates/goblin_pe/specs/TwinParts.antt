@@ -1,9 +1,9 @@
 -- The readers of headers, of the tables of a COFF file, and of what stands at a directory's address: what they answer for a file, and for another that agrees with it.
-use Rattle.std.specs.Prelude.{◌≡◌, ℕ, ◌+◌, Bool, List, Option, Some, Vec, option_map}
+use Rattle.std.specs.Prelude.{◌≡◌, ◌<◌, ℕ, ◌+◌, Bool, IfErr, IsSomeAnd, List, Option, Some, Vec, option_map}
 use Rattle.std.specs.Global.{Global}
 use Rattle.goblin_base.specs.declared.endian.Endian.{Endian}
 use Rattle.goblin_base.specs.declared.error.ErrorOf.{ErrorOf}
-use Rattle.goblin_base.specs.Answers.{Answers, AnswersOrMemory, FirstFault, ◌>>=◌}
+use Rattle.goblin_base.specs.Answers.{Answers, AnswersOrMemory, FirstFault, IsMemory, ◌>>=◌}
 use Rattle.goblin_base.specs.Footprints.{Agree, Alike, AlikeOrMemory}
 use Rattle.goblin_pe_sect.specs.declared.data_directories.DataDirectory.{DataDirectory}
 use Rattle.goblin_pe_sect.specs.BaseRelocations.{IsRelocationDataFault, relocation_bytes, relocation_data}
@@ -52,6 +52,11 @@ pub record AreParts {D Y : Type 0} (plain : D → Y) (value_of : Endian → List
   pub te : AnswersOrMemory te_view parts.te (te_image_at bytes asked.offset) (IsTeImageFault bytes asked.offset)
   pub relocations : Answers relocation_bytes parts.relocations (relocation_data offset_of bytes asked.relocations) (IsRelocationDataFault offset_of bytes asked.relocations)
   pub value : Answers plain parts.value (data_at offset_of value_of bytes asked.value.virtual_address) (IsDataFault offset_of refusal bytes asked.value.virtual_address)
+
+-- A reader is refused for want of memory only where there is a section; the five that are not here take none.
+pub record ArePartsGrown {D : Type 0} (asked : PartsAsked) (bytes : List ℕ) (parts : PartsOf D) : Type 0 where
+  pub sections : IfErr parts.sections (λ e. IsMemory e → 0 < asked.coff_header.number_of_sections)
+  pub te : IfErr parts.te (λ e. IsMemory e → IsSomeAnd (te_header bytes asked.offset) (λ header. 0 < header.number_of_sections))
 
 -- The two values of a reader are the same, or both missing, where the files agree on what it reaches in the first.
 pub record AreSameParts {Y : Type 0} (value_of : Endian → List ℕ → Option (Y × ℕ)) (strict : Bool) (offset_of : ℕ → Option ℕ) (asked : PartsAsked) (a b : List ℕ) : Type 0 where

@@ -1,13 +1,14 @@
-//! Reads PE files: headers, sections, symbols, relocations, imports, exports, whole files. Each module
-//! of the crates below stands here too, so that a user names one crate.
+//! Reads PE files: headers, sections, symbols, relocations, imports, exports, whole files. The modules
+//! of the crates below stand here too, so that a user names one crate.
 #![tactic(auto)]
 
 pub mod laws;
 pub mod whole;
+pub mod write;
 
 pub use goblin_base::{
-    Cause, Container, Endian, Error, Permissive, ReadFault, Record, Result, ResultOf, Strtab,
-    TryFromCtx, container, endian, error, permissive, read, record, strtab, write,
+    Cause, Container, Endian, Error, Permissive, ReadFault, Result, ResultOf, Strtab, TryFromCtx,
+    container, endian, error, permissive, read, strtab,
 };
 pub use goblin_pe_head::{header, optional_header};
 pub use goblin_pe_sect::{

@@ -1,5 +1,6 @@
 pub mod ExportDirectoryRoundTrip
 pub mod ExportFootprints
+mod ExportGrowths
 mod ExportRows
 mod Grammar
 pub mod Growths
@@ -10,3 +11,4 @@ pub mod Imports
 pub mod LookupSlots
 pub mod Modes
 pub mod RangesInFile
+mod SomeRanges

@@ -4,7 +4,7 @@
 //! three tables. A name pointer and the ordinal with its index are a named export; the ordinal is
 //! the index of its address. An address inside the directory is that of a forwarder's text.
 
-ghost use Rattle.std.specs.Prelude.{◌≡◌, ◌++◌, ◌⊎◌, IfErr, IsOk, IsSome, IsSomeAnd, OnErr, OnOk, length, option_and_then, option_map, option_to_list};
+ghost use Rattle.std.specs.Prelude.{◌≤◌, ◌≡◌, ◌++◌, ◌⊎◌, IfErr, IsOk, IsSome, IsSomeAnd, OnErr, OnOk, length, option_and_then, option_map, option_to_list};
 ghost use Rattle.goblin_base.specs.Answers.{AnswersOrMemory, GivesOrMemory, IsMemory};
 ghost use Rattle.goblin_base.specs.Bytes.{text_at};
 ghost use Rattle.goblin_pe_sect.specs.Mapping.{file_offset};
@@ -231,13 +231,31 @@ impl<'a> Model for Export<'a> {
     } };
 }
 
-// Adds a row that is there.
-fn add_row<'a>(exports: &mut Vec<Export<'a>>, row: Option<Export<'a>>) -> Result<()>
+// How many ordinals number an address that is no forwarder's: so many exports there are at least, where
+// each has a name pointer.
+fn plain_count(tables: &ExportData) -> usize
+    ensures { result ≤ length tables.now.export_ordinal_table }
+{
+    let addresses = tables.export_address_table.as_slice();
+    let mut count = 0;
+    'ordinals: for ordinal in tables.export_ordinal_table.as_slice() {
+        if let Some(ExportAddressTableEntry::ExportRVA(_)) = addresses.get(usize::from(*ordinal)) {
+            count += 1;
+        }
+    }
+    count
+}
+
+// Adds a row that is there; with the first, room is made for so many.
+fn add_row<'a>(exports: &mut Vec<Export<'a>>, row: Option<Export<'a>>, room: usize) -> Result<()>
     ensures added { OnOk result (exports.new.items ≡ exports.old.items ++ option_to_list row.entry) }
     ensures refused { IfErr result IsMemory }
     ensures grown { OnErr result (IsSome row.entry) }
 {
     if let Some(export) = row {
+        if exports.is_empty() {
+            exports.reserve(room)?;
+        }
         exports.push(export)?;
     }
     Ok(())
@@ -336,9 +354,11 @@ impl<'a> Export<'a> {
         if bytes.is_empty() {
             return Ok(exports);
         }
-        'rows: for index in 0..export_data.export_name_pointer_table.as_slice().len() {
+        let pointers = export_data.export_name_pointer_table.as_slice().len();
+        let room = plain_count(export_data).min(pointers);
+        'rows: for index in 0..pointers {
             let row = Export::of_pointer(bytes, export_data, index, address_map);
-            add_row(&mut exports, row)?;
+            add_row(&mut exports, row, room)?;
         }
         Ok(exports)
     }

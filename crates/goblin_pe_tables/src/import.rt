@@ -37,9 +37,7 @@ pub use directory_entry::{ImportDirectoryEntry, SIZEOF_IMPORT_DIRECTORY_ENTRY};
 pub use library::SyntheticImportDirectoryEntry;
 pub(crate) use library::{address_table_rva, lookup_offset};
 pub use listed::Import;
-pub use lookup_table::{
-    HintNameTableEntry, ImportLookupSlots, ImportLookupTable, SyntheticImportLookupTableEntry,
-};
+pub use lookup_table::{HintNameTableEntry, ImportLookupTable, SyntheticImportLookupTableEntry};
 
 /// The imports of an image, library by library.
 ///

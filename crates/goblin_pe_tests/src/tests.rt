@@ -4,6 +4,7 @@
 //! not in each function that has one. What owns memory is looked at by a function that borrows it, or
 //! takes it.
 
+mod counts;
 mod large_file;
 mod raw_pointers;
 mod whole;

@@ -1,12 +1,12 @@
 //! Readers in strict and in permissive mode.
 
-ghost use Rattle.std.specs.Prelude.{false, true};
+ghost use Rattle.std.specs.Prelude.{IfErr, IsSome, false, true};
 ghost use Rattle.goblin_base.specs.declared.permissive.ParseMode.TheVariants.{Permissive, Strict};
-ghost use Rattle.goblin_base.specs.Answers.{Answers, AnswersOrMemory};
+ghost use Rattle.goblin_base.specs.Answers.{Answers, AnswersOrMemory, IsMemory};
 ghost use Rattle.goblin_pe_sect.specs.Mapping.{file_offset};
 ghost use Rattle.goblin_pe_head.specs.PeHeader.{IsHeaderFault, header_value, pe_header};
 ghost use Rattle.goblin_pe.specs.Modes.{Repeats, RepeatsOrMemory, in_mode, in_permissive_mode};
-ghost use Rattle.goblin_pe.specs.TableRuns.{AreRepeated, AreTables};
+ghost use Rattle.goblin_pe.specs.TableRuns.{AreGrown, AreRepeated, AreTables};
 ghost use Rattle.goblin_pe.specs.Whole.{IsWholeFault, whole_file};
 
 use crate::header::Header;
@@ -47,6 +47,8 @@ pub fn mode_whole<'a>(
 ) -> (Result<Whole<'a>>, Result<Whole<'a>>)
     ensures strict { AnswersOrMemory (λ whole. whole) result.0 (whole_file (in_mode Strict opts.now) bytes.now) (IsWholeFault (in_mode Strict opts.now) bytes.now) }
     ensures permissive { AnswersOrMemory (λ whole. whole) result.1 (whole_file (in_mode Permissive opts.now) bytes.now) (IsWholeFault (in_mode Permissive opts.now) bytes.now) }
+    ensures strict_grown { IfErr result.0 (λ e. IsMemory e → IsSome (pe_header true bytes.now)) }
+    ensures permissive_grown { IfErr result.1 (λ e. IsMemory e → IsSome (pe_header false bytes.now)) }
     ensures repeats { RepeatsOrMemory (λ whole. whole) (in_permissive_mode opts.now) result.0 result.1 }
 {
     let strict = Whole::read(alloc, bytes, &opts.with_parse_mode(ParseMode::Strict));
@@ -70,6 +72,8 @@ pub fn mode_tables<'a, 'e, T: Bitfield<'a>, D: TryFromCtx<'a>>(
 ) -> (TablesOf<'a, 'e, D>, TablesOf<'a, 'e, D>)
     ensures strict { AreTables T.format D.plain D.value_of D.refusal true (file_offset opts.now sections.now file_alignment) bytes.now request.now result.0 }
     ensures permissive { AreTables T.format D.plain D.value_of D.refusal false (file_offset opts.now sections.now file_alignment) bytes.now request.now result.1 }
+    ensures strict_grown { AreGrown T.format true opts.now file_alignment (file_offset opts.now sections.now file_alignment) bytes.now request.now result.0 }
+    ensures permissive_grown { AreGrown T.format false opts.now file_alignment (file_offset opts.now sections.now file_alignment) bytes.now request.now result.1 }
     ensures repeats { AreRepeated D.plain (file_offset opts.now sections.now file_alignment request.now.imports.virtual_address) result.0 result.1 }
 {
     let strictly = opts.with_parse_mode(ParseMode::Strict);

@@ -3,7 +3,7 @@
 ghost use Rattle.goblin_pe_sect.specs.Mapping.{file_offset};
 ghost use Rattle.goblin_pe_sect.specs.Options.{is_strict};
 ghost use Rattle.goblin_pe_sect.specs.WindowOrder.{IsReordering};
-ghost use Rattle.goblin_pe.specs.TableRuns.{AreAlike, AreTables};
+ghost use Rattle.goblin_pe.specs.TableRuns.{AreAlike, AreGrown, AreTables};
 
 use crate::data_directories::DataDirectory;
 use crate::import::{Bitfield, ImportData, ImportLookupTable, SyntheticImportLookupTableEntry};
@@ -62,7 +62,8 @@ pub(super) fn read_tables<'a, 'e, T: Bitfield<'a>, D: TryFromCtx<'a>>(
     file_alignment: u32,
     opts: &ParseOptions,
 ) -> TablesOf<'a, 'e, D>
-    ensures { AreTables T.format D.plain D.value_of D.refusal (is_strict opts.now.parse_mode) (file_offset opts.now sections.now file_alignment) bytes.now request.now result }
+    ensures read { AreTables T.format D.plain D.value_of D.refusal (is_strict opts.now.parse_mode) (file_offset opts.now sections.now file_alignment) bytes.now request.now result }
+    ensures grown { AreGrown T.format (is_strict opts.now.parse_mode) opts.now file_alignment (file_offset opts.now sections.now file_alignment) bytes.now request.now result }
 {
     let lookup = SyntheticImportLookupTableEntry::parse_with_opts::<T>(
         alloc,
@@ -120,6 +121,8 @@ pub fn reorder_whole_tables<'a, 'e, T: Bitfield<'a>, D: TryFromCtx<'a>>(
 ) -> (TablesOf<'a, 'e, D>, TablesOf<'a, 'e, D>)
     ensures first { AreTables T.format D.plain D.value_of D.refusal (is_strict opts.now.parse_mode) (file_offset opts.now first.now file_alignment) bytes.now request.now result.0 }
     ensures second { AreTables T.format D.plain D.value_of D.refusal (is_strict opts.now.parse_mode) (file_offset opts.now second.now file_alignment) bytes.now request.now result.1 }
+    ensures first_grown { AreGrown T.format (is_strict opts.now.parse_mode) opts.now file_alignment (file_offset opts.now first.now file_alignment) bytes.now request.now result.0 }
+    ensures second_grown { AreGrown T.format (is_strict opts.now.parse_mode) opts.now file_alignment (file_offset opts.now second.now file_alignment) bytes.now request.now result.1 }
     ensures alike { IsReordering file_alignment first.now second.now → AreAlike D.plain result.0 result.1 }
 {
     let one = read_tables::<T, D>(alloc, bytes, first, request, file_alignment, opts);

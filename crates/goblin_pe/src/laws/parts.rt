@@ -1,9 +1,11 @@
 //! The readers of headers and of single tables, on two files.
 
-ghost use Rattle.goblin_base.specs.Answers.{AnswersOrMemory};
+ghost use Rattle.std.specs.Prelude.{◌<◌, IfErr, IsSomeAnd};
+ghost use Rattle.goblin_base.specs.Answers.{AnswersOrMemory, IsMemory};
 ghost use Rattle.goblin_pe_sect.specs.Mapping.{file_offset};
 ghost use Rattle.goblin_pe_sect.specs.Options.{is_strict};
-ghost use Rattle.goblin_pe.specs.TwinParts.{AreAlikeParts, AreParts, AreSameParts, IsTeImageFault, PartsAsked, te_image_at, te_view};
+ghost use Rattle.goblin_pe_head.specs.TeHeader.{te_header};
+ghost use Rattle.goblin_pe.specs.TwinParts.{AreAlikeParts, AreParts, ArePartsGrown, AreSameParts, IsTeImageFault, PartsAsked, te_image_at, te_view};
 
 use crate::data_directories::DataDirectory;
 use crate::header::{CoffHeader, Header, TeHeader};
@@ -39,9 +41,10 @@ pub struct PartsOf<'a, 'e, D> {
 pub type Parts<'a, D> = PartsOf<'a, 'static, D>;
 
 // The header of a Terse Executable at an offset, and its sections after it.
-#[tactic(auto, unfolding(crate::specs::TwinParts::te_image_at))]
+#[tactic(auto, unfolding(crate::specs::TwinParts::te_image_at), using(crate::proofs::TwinParts::te_there))]
 fn read_te(alloc: Global, bytes: &[u8], offset: usize) -> Result<(TeHeader, Vec<SectionTable>)>
-    ensures { AnswersOrMemory te_view result (te_image_at bytes.now offset) (IsTeImageFault bytes.now offset) }
+    ensures value { AnswersOrMemory te_view result (te_image_at bytes.now offset) (IsTeImageFault bytes.now offset) }
+    ensures grown { IfErr result (λ e. IsMemory e → IsSomeAnd (te_header bytes.now offset) (λ header. 0 < header.number_of_sections)) }
 {
     let mut end = offset;
     let header = TeHeader::parse(bytes, &mut end)?;
@@ -61,8 +64,10 @@ fn read_parts<'a, 'e, D: TryFromCtx<'a>>(
     file_alignment: u32,
     opts: &ParseOptions,
 ) -> PartsOf<'a, 'e, D>
-    ensures { let asked : PartsAsked = record { coff_header = coff_header; offset = offset; relocations = relocations; value = value } in
+    ensures read { let asked : PartsAsked = record { coff_header = coff_header; offset = offset; relocations = relocations; value = value } in
         AreParts D.plain D.value_of D.refusal (is_strict opts.now.parse_mode) (file_offset opts.now sections.now file_alignment) asked bytes.now result }
+    ensures grown { let asked : PartsAsked = record { coff_header = coff_header; offset = offset; relocations = relocations; value = value } in
+        ArePartsGrown asked bytes.now result }
 {
     let mut end = offset;
     PartsOf {
@@ -112,6 +117,10 @@ pub fn twin_parts<'a, 'e, D: TryFromCtx<'a>>(
         AreParts D.plain D.value_of D.refusal (is_strict opts.now.parse_mode) (file_offset opts.now sections.now file_alignment) asked a.now result.0 }
     ensures second { let asked : PartsAsked = record { coff_header = coff_header; offset = offset; relocations = relocations; value = value } in
         AreParts D.plain D.value_of D.refusal (is_strict opts.now.parse_mode) (file_offset opts.now sections.now file_alignment) asked b.now result.1 }
+    ensures first_grown { let asked : PartsAsked = record { coff_header = coff_header; offset = offset; relocations = relocations; value = value } in
+        ArePartsGrown asked a.now result.0 }
+    ensures second_grown { let asked : PartsAsked = record { coff_header = coff_header; offset = offset; relocations = relocations; value = value } in
+        ArePartsGrown asked b.now result.1 }
     ensures same_value { let asked : PartsAsked = record { coff_header = coff_header; offset = offset; relocations = relocations; value = value } in
         AreSameParts D.value_of (is_strict opts.now.parse_mode) (file_offset opts.now sections.now file_alignment) asked a.now b.now }
     ensures alike { let asked : PartsAsked = record { coff_header = coff_header; offset = offset; relocations = relocations; value = value } in

@@ -1,17 +1,19 @@
 //! Readers in both modes, and under two tables of sections.
 
-use super::table_footprints::is_sample;
-use fixture::sample::{put, sample, sample_section, section};
+use super::table_footprints::{are_samples_read, has_sample_exports};
+use fixture::sample::{put, sample, sample_section, sample_with, section};
 use fixture_tables::exports::{FORWARDED, PLAIN, Row, are};
-use fixture_tables::imports::{ALIGNMENT, DIRECTORY, GO, RECORD, SEVEN, are_rows, front_file};
+use fixture_tables::imports::{
+    ALIGNMENT, DIRECTORY, GO, RECORD, SEVEN, are_rows, front_file, is_seven,
+};
 use goblin_base::{Cause, Error};
-use goblin_pe::Whole;
 use goblin_pe::header::Header;
 use goblin_pe::import::{Import, ImportData, ImportDirectoryEntry, ImportLookupTable};
 use goblin_pe::laws::{
     ExportRead, Request, Tables, mode_header, mode_tables, mode_whole, reorder_whole_tables,
 };
 use goblin_pe::options::ParseOptions;
+use goblin_pe::{Part, Whole};
 use goblin_pe_sect::relocation::RelocationData;
 use goblin_pe_sect::{DataDirectory, SectionTable};
 use std::alloc::Global;
@@ -64,26 +66,54 @@ fn have_the_same_header(file: &[u8]) -> bool {
     matches!(&headers, (Ok(strict), Ok(permissive)) if strict == permissive)
 }
 
-/// Whether the sample file was read.
-fn is_sample_read(whole: &goblin_base::Result<Whole>) -> bool {
-    matches!(whole, Ok(whole) if is_sample(whole))
-}
-
-/// Whether the sample file was read both times.
-fn are_samples_read(wholes: &(goblin_base::Result<Whole>, goblin_base::Result<Whole>)) -> bool {
-    is_sample_read(&wholes.0) && is_sample_read(&wholes.1)
-}
-
 /// Whether both modes read the sample file.
-fn is_read_in_modes(alloc: Global, file: &[u8], opts: &ParseOptions) -> bool {
-    are_samples_read(&mode_whole(alloc, file, opts))
+fn is_read_in_modes(alloc: Global, file: &[u8]) -> bool {
+    are_samples_read(&mode_whole(alloc, file, &ParseOptions::default()))
 }
 
 #[test]
 fn both_modes_read_the_same_file(rt: HostRuntime) -> Result<(), Fail> {
     let file = sample(rt.alloc())?;
     assert!(rt; have_the_same_header(&file));
-    assert!(rt; is_read_in_modes(rt.alloc(), &file, &ParseOptions::default()));
+    assert!(rt; is_read_in_modes(rt.alloc(), &file));
+    Ok(())
+}
+
+/// Whether there are no imports.
+fn have_no_whole_imports(data: &Part<ImportData>, imports: &Part<Vec<Import>>) -> bool {
+    match (data, imports) {
+        (Part::Read(data), Part::Read(imports)) => data.import_data.is_empty()
+            && imports.is_empty(),
+        _ => false,
+    }
+}
+
+/// Whether this is the sample file but for its imports' directory, of which nothing was read.
+fn is_sample_without_imports(whole: &Whole) -> bool {
+    whole.header.coff_header.number_of_sections == 1
+        && whole.sections[..] == [sample_section()]
+        && have_no_whole_imports(&whole.import_data, &whole.imports)
+        && has_sample_exports(&whole.export_data, &whole.exports)
+        && matches!(whole.relocations, Part::Absent)
+}
+
+/// Whether a read was refused, since no section maps this address.
+fn is_unmapped(error: &Error, rva: usize) -> bool {
+    matches!(error, Error::Malformed(Cause::Unmapped(address)) if *address == rva)
+}
+
+/// Whether strict mode refuses the file's imports, and permissive mode reads the file without them.
+fn has_imports_in_neither_mode(alloc: Global, file: &[u8]) -> bool {
+    let wholes = mode_whole(alloc, file, &ParseOptions::default());
+    matches!(&wholes.0, Err(error) if is_unmapped(error, 0x9000))
+        && matches!(&wholes.1, Ok(whole) if is_sample_without_imports(whole))
+}
+
+#[test]
+fn permissive_mode_reads_a_file_that_strict_mode_refuses(rt: HostRuntime) -> Result<(), Fail> {
+    // The address of the import directory.
+    let file = sample_with(rt.alloc(), 0xC0, b"\x00\x90")?;
+    assert!(rt; has_imports_in_neither_mode(rt.alloc(), &file));
     Ok(())
 }
 
@@ -176,21 +206,34 @@ fn are_other_tables(tables: &Tables<ImportDirectoryEntry>) -> bool {
         && has_record(&tables.value, &RECORD)
 }
 
-/// Whether these are the tables of the sample file.
-fn are_sample_tables<'a>(
-    alloc: Global,
-    file: &'a [u8],
-    sections: &[SectionTable],
-    tables: &Tables<'a, ImportDirectoryEntry>,
-) -> bool {
-    are_sample_imports(alloc, file, sections, &tables.imports) && are_other_tables(tables)
+/// Whether the imports were refused, since no section maps their directory.
+fn are_imports_unmapped(imports: &goblin_base::Result<ImportData>, rva: usize) -> bool {
+    matches!(imports, Err(error) if is_unmapped(error, rva))
 }
 
-/// Whether no section maps the name's address, and neither imports nor exports were read.
+/// Whether the exports were refused, since no section maps their directory.
+fn are_exports_unmapped(exports: &goblin_base::Result<ExportRead>) -> bool {
+    matches!(exports, Err(error) if is_unmapped(error, 0x10A0))
+}
+
+/// Whether this is the sample file's lookup table without the entry that leads elsewhere.
+fn has_the_ordinal_alone(table: &goblin_base::Result<ImportLookupTable>) -> bool {
+    matches!(table, Ok(table) if matches!(table.as_slice(), [entry] if is_seven(entry)))
+}
+
+/// Whether no section maps the addresses of the base relocations, of the name and of the value.
+fn are_places_unmapped(tables: &Tables<ImportDirectoryEntry>) -> bool {
+    matches!(&tables.relocations, Err(error) if is_unmapped(error, 0x1080))
+        && matches!(&tables.name, Err(error) if is_unmapped(error, 0x1080))
+        && matches!(&tables.value, Err(error) if is_unmapped(error, 0x1000))
+}
+
+/// Whether no section maps any address of the sample file.
 fn are_unmapped(tables: &Tables<ImportDirectoryEntry>) -> bool {
-    matches!(&tables.name, Err(Error::Malformed(Cause::Unmapped(0x1080))))
-        && tables.imports.is_err()
-        && tables.exports.is_err()
+    has_the_ordinal_alone(&tables.lookup)
+        && are_imports_unmapped(&tables.imports, 0x1000)
+        && are_exports_unmapped(&tables.exports)
+        && are_places_unmapped(tables)
 }
 
 /// What was read of a file's tables.
@@ -202,10 +245,32 @@ enum Read {
     Front,
     /// The same, without imports.
     FrontWithoutImports,
-    /// Neither name, imports nor exports, since no section maps the name's address.
+    /// The same, with the imports refused, since no section maps their directory.
+    SampleUnlessImports,
+    /// The same, without imports.
+    SampleWithoutImports,
+    /// Of the lookup table what leads nowhere, since no section maps any address.
     Unmapped,
     /// Anything else.
     Other,
+}
+
+/// What was read beside the sample file's other tables.
+fn read_of_imports<'a>(
+    alloc: Global,
+    file: &'a [u8],
+    sections: &[SectionTable],
+    imports: &goblin_base::Result<ImportData<'a>>,
+) -> Read {
+    if are_sample_imports(alloc, file, sections, imports) {
+        Read::Sample
+    } else if have_no_imports(imports) {
+        Read::SampleWithoutImports
+    } else if are_imports_unmapped(imports, 0x9000) {
+        Read::SampleUnlessImports
+    } else {
+        Read::Other
+    }
 }
 
 /// What was read at the file's front: all, all but the imports, or anything else.
@@ -233,8 +298,8 @@ fn what_is_read<'a>(
     sections: &[SectionTable],
     tables: &Tables<'a, ImportDirectoryEntry>,
 ) -> Read {
-    if are_sample_tables(alloc, file, sections, tables) {
-        Read::Sample
+    if are_other_tables(tables) {
+        read_of_imports(alloc, file, sections, &tables.imports)
     } else if are_unmapped(tables) {
         Read::Unmapped
     } else {
@@ -331,6 +396,22 @@ fn permissive_mode_has_no_imports_from_the_front_of_the_file(rt: HostRuntime) ->
 }
 
 #[test]
+fn permissive_mode_has_no_imports_of_a_directory_that_is_not_mapped(
+    rt: HostRuntime,
+) -> Result<(), Fail> {
+    let alloc = rt.alloc();
+    let file = sample(alloc)?;
+    let imports = DataDirectory {
+        virtual_address: 0x9000,
+        size: 0x28,
+    };
+    let request = Request { imports, ..REQUEST };
+    let read = read_in_modes(alloc, &file, &[sample_section()], &request, ALIGNMENT);
+    assert!(rt; read == (Read::SampleUnlessImports, Read::SampleWithoutImports));
+    Ok(())
+}
+
+#[test]
 fn sections_may_stand_in_any_order(rt: HostRuntime) -> Result<(), Fail> {
     let alloc = rt.alloc();
     let file = sample(alloc)?;
@@ -347,5 +428,7 @@ fn each_table_of_sections_has_its_own_answers(rt: HostRuntime) -> Result<(), Fai
     let file = sample(alloc)?;
     let read = read_by_sections(alloc, &file, &[sample_section()], &[]);
     assert!(rt; read == (Read::Sample, Read::Unmapped));
+    let turned = read_by_sections(alloc, &file, &[], &[sample_section()]);
+    assert!(rt; turned == (Read::Unmapped, Read::Sample));
     Ok(())
 }

@@ -1,5 +1,6 @@
 //! Which bytes of a file its imports and exports depend on.
 
+use super::twin_parts::is_sample_header;
 use fixture::sample::{SAMPLE_LEN, put, sample, sample_section};
 use fixture_tables::exports::{FORWARDED, PLAIN, are};
 use fixture_tables::imports::{
@@ -54,7 +55,7 @@ const WHOLE: &[Span] = &[
 ];
 
 /// The sample file's export directory.
-const EXPORT_DIRECTORY: DataDirectory = DataDirectory {
+pub(super) const EXPORT_DIRECTORY: DataDirectory = DataDirectory {
     virtual_address: 0x10A0,
     size: 0x60,
 };
@@ -233,7 +234,7 @@ fn has_sample_imports(data: &Part<ImportData>, imports: &Part<Vec<Import>>) -> b
     }
 }
 
-fn has_sample_exports(tables: &Part<ExportData>, exports: &Part<Vec<Export>>) -> bool {
+pub(super) fn has_sample_exports(tables: &Part<ExportData>, exports: &Part<Vec<Export>>) -> bool {
     match (tables, exports) {
         (Part::Read(tables), Part::Read(exports)) => are_sample_tables(tables)
             && are(exports, &[PLAIN, FORWARDED]),
@@ -241,9 +242,9 @@ fn has_sample_exports(tables: &Part<ExportData>, exports: &Part<Vec<Export>>) ->
     }
 }
 
-/// Whether these are the sample file's machine, sections and tables.
+/// Whether these are the sample file's header, sections and tables.
 pub(super) fn is_sample(whole: &Whole) -> bool {
-    whole.header.coff_header.machine == 0x14C
+    is_sample_header(&whole.header)
         && whole.sections[..] == [sample_section()]
         && has_sample_imports(&whole.import_data, &whole.imports)
         && has_sample_exports(&whole.export_data, &whole.exports)
@@ -251,12 +252,22 @@ pub(super) fn is_sample(whole: &Whole) -> bool {
 }
 
 /// Whether the sample file's lookup table was read.
-fn is_table_read(table: &goblin_base::Result<ImportLookupTable>) -> bool {
+pub(super) fn is_table_read(table: &goblin_base::Result<ImportLookupTable>) -> bool {
     matches!(table, Ok(table) if is_sample_table(table))
 }
 
+/// Two files in the order in which they are read.
+fn in_order<'a>(file: &'a [u8], other: &'a [u8], is_turned: bool) -> (&'a [u8], &'a [u8]) {
+    if is_turned {
+        (other, file)
+    } else {
+        (file, other)
+    }
+}
+
 /// Whether both files have the sample file's lookup table.
-fn have_lookups<'a>(alloc: Global, a: &'a [u8], b: &'a [u8]) -> bool {
+fn have_lookups<'a>(alloc: Global, file: &'a [u8], other: &'a [u8], is_turned: bool) -> bool {
+    let (a, b) = in_order(file, other, is_turned);
     let sections = [sample_section()];
     let opts = ParseOptions::default();
     let tables = twin_lookup::<u32>(alloc, a, b, 0x240, &sections, ALIGNMENT, &opts);
@@ -264,12 +275,13 @@ fn have_lookups<'a>(alloc: Global, a: &'a [u8], b: &'a [u8]) -> bool {
 }
 
 /// Whether the sample file's import data was read.
-fn are_imports_read(data: &goblin_base::Result<ImportData>) -> bool {
+pub(super) fn are_imports_read(data: &goblin_base::Result<ImportData>) -> bool {
     matches!(data, Ok(data) if are_sample_imports(data))
 }
 
 /// Whether both files have the sample file's import data.
-fn have_imports<'a>(alloc: Global, a: &'a [u8], b: &'a [u8]) -> bool {
+fn have_imports<'a>(alloc: Global, file: &'a [u8], other: &'a [u8], is_turned: bool) -> bool {
+    let (a, b) = in_order(file, other, is_turned);
     let sections = [sample_section()];
     let opts = ParseOptions::default();
     let imports = twin_imports::<u32>(alloc, a, b, DIRECTORY, &sections, ALIGNMENT, &opts);
@@ -277,9 +289,11 @@ fn have_imports<'a>(alloc: Global, a: &'a [u8], b: &'a [u8]) -> bool {
 }
 
 /// Whether both files have the sample file's export data and exports.
-fn have_exports<'a>(alloc: Global, a: &'a [u8], b: &'a [u8], sections: &[SectionTable]) -> bool {
+fn have_exports<'a>(alloc: Global, file: &'a [u8], other: &'a [u8], is_turned: bool) -> bool {
+    let (a, b) = in_order(file, other, is_turned);
+    let sections = [sample_section()];
     let opts = ParseOptions::default();
-    are_both_exports(&twin_exports(alloc, a, b, EXPORT_DIRECTORY, sections, ALIGNMENT, &opts))
+    are_both_exports(&twin_exports(alloc, a, b, EXPORT_DIRECTORY, &sections, ALIGNMENT, &opts))
 }
 
 /// Whether both are the sample file's export data and exports.
@@ -292,7 +306,7 @@ fn are_both_exports(
     are_sample_exports(&exports.0) && are_sample_exports(&exports.1)
 }
 
-fn are_sample_exports(read: &goblin_base::Result<ExportRead>) -> bool {
+pub(super) fn are_sample_exports(read: &goblin_base::Result<ExportRead>) -> bool {
     match read {
         Ok((tables, exports)) => are_sample_tables(tables) && are(exports, &[PLAIN, FORWARDED]),
         Err(_) => false,
@@ -305,13 +319,16 @@ fn are_samples(first: &Whole, second: &Whole) -> bool {
 }
 
 /// Whether the sample file was read both times, with one header.
-fn are_samples_read(wholes: &(goblin_base::Result<Whole>, goblin_base::Result<Whole>)) -> bool {
+pub(super) fn are_samples_read(
+    wholes: &(goblin_base::Result<Whole>, goblin_base::Result<Whole>),
+) -> bool {
     matches!(wholes, (Ok(first), Ok(second)) if are_samples(first, second))
 }
 
 /// Whether both files have the sample file's header, sections and tables.
-fn are_wholes<'a>(alloc: Global, a: &'a [u8], b: &'a [u8], opts: &ParseOptions) -> bool {
-    are_samples_read(&twin_whole(alloc, a, b, opts))
+fn are_wholes<'a>(alloc: Global, file: &'a [u8], other: &'a [u8], is_turned: bool) -> bool {
+    let (a, b) = in_order(file, other, is_turned);
+    are_samples_read(&twin_whole(alloc, a, b, &ParseOptions::default()))
 }
 
 #[test]
@@ -319,7 +336,15 @@ fn a_lookup_table_depends_on_its_footprint_alone(rt: HostRuntime) -> Result<(), 
     let alloc = rt.alloc();
     let file = sample(alloc)?;
     let mut other = sample(alloc)?;
-    assert!(rt; depends_on(&mut other, LOOKUP, |b| have_lookups(alloc, &file, b)));
+    for is_turned in [false, true] {
+        assert!(rt;
+            depends_on(
+                &mut other,
+                LOOKUP,
+                |b| have_lookups(alloc, &file, b, is_turned)
+            )
+        );
+    }
     Ok(())
 }
 
@@ -328,7 +353,15 @@ fn imports_depend_on_their_footprint_alone(rt: HostRuntime) -> Result<(), Fail> 
     let alloc = rt.alloc();
     let file = sample(alloc)?;
     let mut other = sample(alloc)?;
-    assert!(rt; depends_on(&mut other, IMPORTS, |b| have_imports(alloc, &file, b)));
+    for is_turned in [false, true] {
+        assert!(rt;
+            depends_on(
+                &mut other,
+                IMPORTS,
+                |b| have_imports(alloc, &file, b, is_turned)
+            )
+        );
+    }
     Ok(())
 }
 
@@ -337,14 +370,15 @@ fn exports_depend_on_their_footprint_alone(rt: HostRuntime) -> Result<(), Fail> 
     let alloc = rt.alloc();
     let file = sample(alloc)?;
     let mut other = sample(alloc)?;
-    let sections = [sample_section()];
-    assert!(rt;
-        depends_on(
-            &mut other,
-            EXPORTS,
-            |b| have_exports(alloc, &file, b, &sections)
-        )
-    );
+    for is_turned in [false, true] {
+        assert!(rt;
+            depends_on(
+                &mut other,
+                EXPORTS,
+                |b| have_exports(alloc, &file, b, is_turned)
+            )
+        );
+    }
     Ok(())
 }
 
@@ -353,8 +387,15 @@ fn a_whole_file_depends_on_its_footprint_alone(rt: HostRuntime) -> Result<(), Fa
     let alloc = rt.alloc();
     let file = sample(alloc)?;
     let mut other = sample(alloc)?;
-    let opts = ParseOptions::default();
-    assert!(rt; depends_on(&mut other, WHOLE, |b| are_wholes(alloc, &file, b, &opts)));
+    for is_turned in [false, true] {
+        assert!(rt;
+            depends_on(
+                &mut other,
+                WHOLE,
+                |b| are_wholes(alloc, &file, b, is_turned)
+            )
+        );
+    }
     Ok(())
 }
 
@@ -480,21 +521,6 @@ fn imports_of_two_files_are_read_by_entries_of_two_bytes(rt: HostRuntime) -> Res
     let alloc = rt.alloc();
     let file = sample(alloc)?;
     assert!(rt; has_one_library_by_short_entries(alloc, &[], &file));
-    Ok(())
-}
-
-/// Whether the first file has the sample file's import data, and the second is refused for what it lacks.
-fn has_the_first_imports_alone(alloc: Global, first: &[u8], second: &[u8]) -> bool {
-    let sections = [sample_section()];
-    let opts = ParseOptions::default();
-    let imports = twin_imports::<u32>(alloc, first, second, DIRECTORY, &sections, ALIGNMENT, &opts);
-    are_imports_read(&imports.0) && matches!(&imports.1, Err(Error::Malformed(_)))
-}
-
-#[test]
-fn the_imports_of_a_file_are_read_where_a_second_has_none(rt: HostRuntime) -> Result<(), Fail> {
-    let file = sample(rt.alloc())?;
-    assert!(rt; has_the_first_imports_alone(rt.alloc(), &file, &[]));
     Ok(())
 }
 

@@ -46,7 +46,7 @@ fn is_sample_optional_header(optional: &OptionalHeader) -> bool {
 }
 
 /// Whether this is the sample file's header.
-fn is_sample_header(header: &Header) -> bool {
+pub(super) fn is_sample_header(header: &Header) -> bool {
     header.dos_header.pe_pointer == 0x40
         && header.coff_header == COFF_HEADER
         && matches!(&header.optional_header, Some(optional) if is_sample_optional_header(optional))
@@ -73,6 +73,12 @@ fn have_headers(file: &[u8], other: &[u8], are_the_same: bool) -> bool {
     )
 }
 
+/// The same, where the file with the sample file's header is the second.
+fn have_headers_turned(file: &[u8], other: &[u8], are_the_same: bool) -> bool {
+    let (second, first) = twin_header(other, file, &ParseOptions::default());
+    are_headers(&(first, second), are_the_same)
+}
+
 #[test]
 fn a_header_depends_on_the_bytes_before_the_sections(rt: HostRuntime) -> Result<(), Fail> {
     let file = sample(rt.alloc())?;
@@ -80,6 +86,10 @@ fn a_header_depends_on_the_bytes_before_the_sections(rt: HostRuntime) -> Result<
     for place in 0..file.len() {
         flip(&mut other, place);
         assert!(rt; have_headers(&file, &other, TABLE <= place), "{place:#x}");
+        assert!(rt;
+            have_headers_turned(&file, &other, TABLE <= place),
+            "{place:#x}"
+        );
         flip(&mut other, place);
     }
     Ok(())
@@ -100,6 +110,7 @@ fn a_header_is_the_same_where_all_bytes_from_the_sections_on_differ(
         flip(&mut other, place);
     }
     assert!(rt; are_sample_headers(&twin_header(&file, &other, &ParseOptions::default())));
+    assert!(rt; are_sample_headers(&twin_header(&other, &file, &ParseOptions::default())));
     Ok(())
 }
 
@@ -212,6 +223,8 @@ fn single_tables_of_two_files_are_each_files_own(rt: HostRuntime) -> Result<(), 
     put(&mut other, 0x210, b"\x61");
     let read = read_of_each(alloc, &file, &other, &[sample_section()]);
     assert!(rt; read == (Read::Sample, Read::Changed));
+    let turned = read_of_each(alloc, &other, &file, &[sample_section()]);
+    assert!(rt; turned == (Read::Changed, Read::Sample));
     Ok(())
 }
 
@@ -237,9 +250,14 @@ fn is_placed(sections: &[SectionTable]) -> bool {
     matches!(sections, [section] if section.virtual_address == 0x1010)
 }
 
-/// Whether these are the headers of the Terse Executable.
-fn are_terse_headers(read: &goblin_base::Result<(TeHeader, Vec<SectionTable>)>) -> bool {
-    matches!(read, Ok((header, sections)) if header.stripped_size == 0x30 && is_placed(sections))
+/// Whether this is what the Terse Executable's first bytes say of a COFF header.
+fn has_the_machine(header: &goblin_base::Result<Header>) -> bool {
+    matches!(header, Ok(header) if header.coff_header.machine == 1)
+}
+
+/// Whether one section was read.
+fn has_a_section(sections: &goblin_base::Result<Vec<SectionTable>>) -> bool {
+    matches!(sections, Ok(sections) if sections.len() == 1)
 }
 
 /// Whether there is a symbol.
@@ -252,60 +270,112 @@ fn has_the_string(strings: &goblin_base::Result<Option<Strtab>>) -> bool {
     matches!(strings, Ok(Some(strings)) if strings.get_at(0) == Some("ab"))
 }
 
-/// Whether these are the parts of the Terse Executable, from whose addresses 8 is taken.
-fn are_terse_parts(parts: &Parts<DataDirectory>) -> bool {
-    are_terse_headers(&parts.te)
-        && matches!(&parts.sections, Ok(sections) if sections.len() == 1)
-        && has_a_symbol(&parts.symbols)
-        && has_the_string(&parts.strings)
-        && matches!(&parts.value, Ok(value) if value.virtual_address == 7)
+/// Whether these are the headers of the Terse Executable, from whose addresses 8 is taken.
+fn are_terse_headers(read: &goblin_base::Result<(TeHeader, Vec<SectionTable>)>) -> bool {
+    matches!(read, Ok((header, sections)) if header.stripped_size == 0x30 && is_placed(sections))
 }
 
-/// Whether both are the parts of the Terse Executable.
-fn are_both_terse_parts(parts: &TwoParts<DataDirectory>) -> bool {
-    are_terse_parts(&parts.0) && are_terse_parts(&parts.1)
+/// Whether a value was read from the bytes after the first of the strings' length.
+fn has_the_value(value: &goblin_base::Result<DataDirectory>) -> bool {
+    matches!(value, Ok(value) if value.virtual_address == 0x6100_0000)
 }
 
-/// The bytes of the Terse Executable's strings.
-const STRINGS: DataDirectory = DataDirectory {
-    virtual_address: 0x62,
-    size: 8,
-};
-
-/// Whether both files have the Terse Executable's parts.
-fn have_terse_parts(
-    alloc: Global,
-    file: &[u8],
-    other: &[u8],
-    coff_header: CoffHeader,
-    opts: &ParseOptions,
-) -> bool {
-    let parts: TwoParts<DataDirectory> = twin_parts(
-        alloc,
-        file,
-        other,
-        coff_header,
-        0,
-        STRINGS,
-        STRINGS,
-        &[],
-        ALIGNMENT,
-        opts,
-    );
-    are_both_terse_parts(&parts)
+/// How a reader answered: `.` where it read what the Terse Executable has, `x` where it was refused,
+/// and `m` where that was for want of memory.
+fn mark(is_right: bool, error: Option<&Error>) -> u8 {
+    match error {
+        Some(Error::Memory(_)) => b'm',
+        Some(_) => b'x',
+        None if is_right => b'.',
+        None => b'?',
+    }
 }
 
-#[test]
-fn a_terse_executable_is_read_with_its_sections(rt: HostRuntime) -> Result<(), Fail> {
-    let alloc = rt.alloc();
-    let file = terse_file(alloc)?;
-    let again = terse_file(alloc)?;
+/// How each reader answered, in the order of the fields of [`Parts`].
+fn marks(parts: &Parts<DataDirectory>) -> [u8; 7] {
+    [
+        mark(has_the_machine(&parts.header), parts.header.as_ref().err()),
+        mark(
+            has_a_section(&parts.sections),
+            parts.sections.as_ref().err(),
+        ),
+        mark(has_a_symbol(&parts.symbols), parts.symbols.as_ref().err()),
+        mark(has_the_string(&parts.strings), parts.strings.as_ref().err()),
+        mark(are_terse_headers(&parts.te), parts.te.as_ref().err()),
+        mark(
+            has_no_whole_block(&parts.relocations),
+            parts.relocations.as_ref().err(),
+        ),
+        mark(has_the_value(&parts.value), parts.value.as_ref().err()),
+    ]
+}
+
+/// How each reader answers for two files.
+fn marks_of_each(alloc: Global, file: &[u8], other: &[u8]) -> ([u8; 7], [u8; 7]) {
     let coff_header = CoffHeader {
         number_of_sections: 1,
         pointer_to_symbol_table: 0x50,
         number_of_symbol_table: 1,
         ..CoffHeader::default()
     };
-    assert!(rt; have_terse_parts(alloc, &file, &again, coff_header, &ParseOptions::te()));
+    let parts: TwoParts<DataDirectory> = twin_parts(
+        alloc,
+        file,
+        other,
+        coff_header,
+        0,
+        eight_bytes(0x62),
+        eight_bytes(0x63),
+        &[],
+        ALIGNMENT,
+        &ParseOptions::te(),
+    );
+    (marks(&parts.0), marks(&parts.1))
+}
+
+/// The directory of eight bytes at an address.
+fn eight_bytes(virtual_address: u32) -> DataDirectory {
+    DataDirectory {
+        virtual_address,
+        size: 8,
+    }
+}
+
+/// What becomes of the Terse Executable, by bytes at an offset and by its length, and how each reader
+/// answers for it then.
+const CHANGED: &[(usize, &[u8], usize, &[u8; 7])] = &[
+    (0x00, b"VZ", 0x70, b"......."),
+    // The size of an optional header, which is none.
+    (0x14, b"\xE0", 0x70, b"x......"),
+    // A name that would stand elsewhere, by no number.
+    (0x00, b"/x", 0x70, b".x....."),
+    // The length of the strings, which is less than its own four bytes.
+    (0x62, b"\x03", 0x70, b"...x..."),
+    // Fewer stripped bytes than a Terse Executable's header has.
+    (0x06, b"\x27", 0x70, b"....x.."),
+    // A byte of the value less, one of the base relocations, and some of the symbols.
+    (0x00, b"VZ", 0x6A, b"......x"),
+    (0x00, b"VZ", 0x69, b".....xx"),
+    (0x00, b"VZ", 0x60, b"..xx.xx"),
+    (0x00, b"VZ", 0x00, b"xxxxxxx"),
+];
+
+/// Whether each reader answers so for the second file, and reads the first; and also where that is the
+/// second.
+fn are_marked(alloc: Global, file: &[u8], other: &[u8], want: &[u8; 7]) -> bool {
+    marks_of_each(alloc, file, other) == (*b".......", *want)
+        && marks_of_each(alloc, other, file) == (*want, *b".......")
+}
+
+#[test]
+fn each_reader_of_a_terse_executable_is_refused_by_itself(rt: HostRuntime) -> Result<(), Fail> {
+    let alloc = rt.alloc();
+    let file = terse_file(alloc)?;
+    for (offset, bytes, len, want) in CHANGED {
+        let mut other = terse_file(alloc)?;
+        put(&mut other, *offset, bytes);
+        other.truncate(*len);
+        assert!(rt; are_marked(alloc, &file, &other, want), "{want:?}");
+    }
     Ok(())
 }

@@ -1,8 +1,9 @@
 //! The export directory's record, and the three tables that it leads to.
 
-ghost use Rattle.std.specs.Prelude.{◌≡◌, ◌<◌, true, false, List, ℕ, IfErr, IsSome, OnErr, OnOk, length};
-ghost use Rattle.goblin_base.specs.Answers.{Answers, GivesOrMemory};
+ghost use Rattle.std.specs.Prelude.{◌≡◌, ◌<◌, ◌≤◌, true, false, List, ℕ, IfErr, IsSome, OnErr, OnOk, length, IfOk};
+ghost use Rattle.goblin_base.specs.Answers.{Answers, GivesOrMemory, IsSliceFault, Writes};
 ghost use Rattle.goblin_base.specs.Tables.{counted_table_if};
+ghost use Rattle.goblin_base.specs.Record.{ReadsBack, WritesBack, encoding, record_over};
 ghost use Rattle.goblin_pe_tables.specs.declared.export.tables.ExportDirectoryTable.{ExportDirectoryTable};
 ghost use Rattle.goblin_pe_tables.specs.Exports.{IsCountFault, IsNoExportTable, address_entry, addresses, counts_fit, export_directory_at, export_directory_fields, export_directory_record, name_pointers, ordinals};
 
@@ -121,6 +122,29 @@ impl ExportDirectoryTable {
             Err(_) => Err(Error::Malformed(Cause::ExportTable(offset))),
         }
     }
+
+    /// Writes the record to the front of `bytes`, and answers its size, 40. One that was read is
+    /// written as it stood, and any is read again from what was written, by the same order of bytes.
+    ///
+    /// # Errors
+    /// [`Error::Read`] where there is no room for 40 bytes; `bytes` are then as they were.
+    pub fn try_into_ctx(self, bytes: &mut [u8], endian: Endian) -> Result<usize>
+        ensures size { IfOk result (λ n. n ≡ 40) }
+        ensures written { let after = record_over 40 (encoding endian (export_directory_fields self)) bytes.old in
+            Writes result after bytes.old bytes.new (IsSliceFault bytes.old 0 40) }
+        ensures long { IfOk result (λ n. length (encoding endian (export_directory_fields self)) ≡ 40) }
+        ensures back { IfOk result (λ n. WritesBack 40 export_directory_record export_directory_fields) }
+        ensures again { IfOk result (λ n. ReadsBack 40 export_directory_record export_directory_fields self) }
+    {
+        Record::try_into_ctx(self, bytes, endian)
+    }
+
+    /// The size of the record in bytes, the same in either order: 40.
+    pub fn size_with(endian: &Endian) -> usize
+        ensures { result ≡ 40 }
+    {
+        <ExportDirectoryTable as Record>::size_with(endian)
+    }
 }
 
 /// An entry of the export address table.
@@ -166,6 +190,16 @@ impl ExportAddressTableEntry {
     }
 }
 
+// How many whole entries of `width` bytes the file may have from here on, of `count`.
+fn room(bytes: &[u8], begin: usize, width: usize, count: u32) -> usize
+    ensures { result ≤ count }
+{
+    if width == 0 || bytes.len() < begin {
+        return 0;
+    }
+    ((bytes.len() - begin) / width).min(count as usize)
+}
+
 // The table of `count` entries of `width` bytes, cut at the first that is not whole; without an offset
 // it has none.
 fn counted_table<V: Drop, F: Fn(&[u8]) -> V>(
@@ -181,10 +215,10 @@ fn counted_table<V: Drop, F: Fn(&[u8]) -> V>(
         → GivesOrMemory (λ t. t) result (counted_table_if (record { width = width; value_of = value }) count bytes.now offset) }
     ensures grown { OnErr result (IsSome offset × (0 < count)) }
 {
-    let mut entries = Vec::new(alloc);
     let Some(begin) = offset else {
-        return Ok(Table::from(entries));
+        return Ok(Table::from(Vec::new(alloc)));
     };
+    let mut entries = Vec::with_capacity(alloc, room(bytes, begin, width, count))?;
     let mut place = begin;
     'entries: for _ in 0..count {
         let Ok(entry) = pread_slice(bytes, place, width) else {

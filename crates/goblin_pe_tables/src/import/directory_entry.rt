@@ -1,10 +1,12 @@
 //! The records of an import directory.
 
-ghost use Rattle.std.specs.Prelude.{◌≡◌, ◌==◌, ◌&&◌, not};
+ghost use Rattle.std.specs.Prelude.{◌≡◌, ◌==◌, ◌&&◌, not, IfOk, length};
+ghost use Rattle.goblin_base.specs.Answers.{IsSliceFault, Writes};
+ghost use Rattle.goblin_base.specs.Record.{ReadsBack, WritesBack, encoding, record_over};
 ghost use Rattle.goblin_pe_tables.specs.ImportDirectory.{import_fields, import_record, is_last_record};
 ghost use Rattle.goblin_pe_tables.specs.declared.import.directory_entry.ImportDirectoryEntry.{ImportDirectoryEntry};
 
-use goblin_base::{Endian, Field, Record, field_u32, put_fields};
+use goblin_base::{Endian, Field, Record, Result, field_u32, put_fields};
 
 /// The size of an import directory record, in bytes.
 pub const SIZEOF_IMPORT_DIRECTORY_ENTRY: usize = 20;
@@ -87,5 +89,29 @@ impl ImportDirectoryEntry {
         ensures { result ≡ not (is_last_record self.now) }
     {
         self.name_rva != 0 && self.import_address_table_rva != 0
+    }
+
+    /// Writes the record to the front of `bytes`, and answers its size, 20. One that was read is
+    /// written as it stood, and any is read again from what was written, by the same order of bytes.
+    ///
+    /// # Errors
+    /// [`Error::Read`](goblin_base::Error::Read) where there is no room for 20 bytes; `bytes` are
+    /// then as they were.
+    pub fn try_into_ctx(self, bytes: &mut [u8], endian: Endian) -> Result<usize>
+        ensures size { IfOk result (λ n. n ≡ 20) }
+        ensures written { let after = record_over 20 (encoding endian (import_fields self)) bytes.old in
+            Writes result after bytes.old bytes.new (IsSliceFault bytes.old 0 20) }
+        ensures long { IfOk result (λ n. length (encoding endian (import_fields self)) ≡ 20) }
+        ensures back { IfOk result (λ n. WritesBack 20 import_record import_fields) }
+        ensures again { IfOk result (λ n. ReadsBack 20 import_record import_fields self) }
+    {
+        Record::try_into_ctx(self, bytes, endian)
+    }
+
+    /// The size of the record in bytes, the same in either order: 20.
+    pub fn size_with(endian: &Endian) -> usize
+        ensures { result ≡ 20 }
+    {
+        <ImportDirectoryEntry as Record>::size_with(endian)
     }
 }

@@ -13,10 +13,7 @@ use crate::address_map::AddressMap;
 use crate::import::address_table::{ImportAddressTable, address_table};
 use crate::import::bitfield::Bitfield;
 use crate::import::directory_entry::ImportDirectoryEntry;
-use crate::import::lookup_table::{
-    ImportLookupSlots, ImportLookupTable, SyntheticImportLookupTableEntry,
-};
-use crate::table::Table;
+use crate::import::lookup_table::{ImportLookupTable, SyntheticImportLookupTableEntry};
 use goblin_base::{Cause, Error, ResultOf};
 use goblin_pe_sect::options::ParseOptions;
 use goblin_pe_sect::section_table::SectionTable;
@@ -38,7 +35,7 @@ pub struct SyntheticImportDirectoryEntry<'a> {
     pub import_lookup_table: Option<ImportLookupTable<'a>>,
     /// The slot of each entry of the lookup table, in order, counted from 0; none where there is no
     /// table. The slot of an entry that is left out is missing.
-    pub import_lookup_slots: ImportLookupSlots,
+    pub import_lookup_slots: Vec<usize>,
     /// The numbers of the address table up to the first 0, as they stand in the file: copies of the
     /// lookup table's entries, or addresses where the imports are bound.
     pub import_address_table: ImportAddressTable,
@@ -55,7 +52,7 @@ impl<'a> Model for SyntheticImportDirectoryEntry<'a> {
       import_directory_entry = entry.import_directory_entry;
       name = entry.name.now;
       import_lookup_table = option_map (map entry_view) entry.import_lookup_table;
-      import_lookup_slots = entry.import_lookup_slots;
+      import_lookup_slots = entry.import_lookup_slots.items;
       import_address_table = entry.import_address_table;
     } };
 }
@@ -66,16 +63,16 @@ fn lookup_table_if<'a, 'e, T: Bitfield<'a>>(
     bytes: &'a [u8],
     offset: Option<usize>,
     address_map: &AddressMap,
-) -> ResultOf<'e, (Option<ImportLookupTable<'a>>, ImportLookupSlots)>
+) -> ResultOf<'e, (Option<ImportLookupTable<'a>>, Vec<usize>)>
     ensures value { let m = offset_of address_map.now in
         let strict = reads_strictly address_map.now in
         let view = option_map (map entry_view) in
         AnswersOrMemory (λ both. view both.0) result (lookup_table_if strict T.format m bytes.now offset) (IsLookupIfFault strict T.format m bytes.now offset) }
     ensures grown { IfErr result (λ e. IsMemory e → IsSomeAnd offset (KeepsEntries (reads_strictly address_map.now) T.format (offset_of address_map.now) bytes.now)) }
-    ensures slots { IfOk result (λ both. both.1 ≡ lookup_slots_if (reads_strictly address_map.now) T.format (offset_of address_map.now) bytes.now offset) }
+    ensures slots { IfOk result (λ both. both.1.items ≡ lookup_slots_if (reads_strictly address_map.now) T.format (offset_of address_map.now) bytes.now offset) }
 {
     let Some(offset) = offset else {
-        return Ok((None, Table::from(Vec::new(alloc))));
+        return Ok((None, Vec::new(alloc)));
     };
     let (table, slots) = SyntheticImportLookupTableEntry::parse_by::<T>(
         alloc,

@@ -1,6 +1,6 @@
 //! The list of imports.
 
-ghost use Rattle.std.specs.Prelude.{◌≡◌, ◌<◌, ◌++◌, IfErr, IfOk, None, OnErr, false, length, map, min, option_map, string_bytes, true};
+ghost use Rattle.std.specs.Prelude.{◌≡◌, ◌<◌, ◌≤◌, ◌⊎◌, ◌++◌, ◌∷◌, [], IfErr, IfOk, None, OnErr, OnOk, false, length, map, min, option_map, string_bytes, true, vec_capacity, vec_len};
 ghost use Rattle.std.specs.Option.{option_copied};
 ghost use Rattle.goblin_base.specs.Answers.{AnswersOrMemory, GivesOrMemory, IsMemory};
 ghost use Rattle.goblin_pe_tables.specs.ImportBound.{AreFew};
@@ -84,38 +84,6 @@ fn import_offset(rva: u32, size: usize, slot: usize) -> Option<usize>
 }
 
 impl<'a> Import<'a> {
-    // The import of an entry.
-    #[tactic(auto, unfolding(crate::specs::Imports::import_of))]
-    fn of_entry(
-        alloc: Global,
-        entry: &SyntheticImportLookupTableEntry<'a>,
-        dll: &'a str,
-        slot: usize,
-        offset: usize,
-        size: usize,
-    ) -> Result<Import<'a>>
-        ensures value { GivesOrMemory (λ x. x) result (import_of dll.now slot offset size (entry_view entry.now)) }
-        ensures grown { OnErr result ((import_of dll.now slot offset size (entry_view entry.now)).is_borrowed ≡ false) }
-    {
-        let (name, ordinal, rva) = match entry {
-            SyntheticImportLookupTableEntry::OrdinalNumber(ordinal) => {
-                (CowStr::Owned(ordinal_name(alloc, *ordinal)?), *ordinal, 0)
-            }
-            SyntheticImportLookupTableEntry::HintNameTableRVA((rva, named)) => {
-                (CowStr::Borrowed(named.name), named.hint, *rva as usize)
-            }
-        };
-        Ok(Import {
-            name,
-            dll,
-            ordinal,
-            offset,
-            rva,
-            size,
-            slot,
-        })
-    }
-
     /// The imports of `import_data`, whose address tables have entries of type `T`: one for each
     /// entry that a lookup table keeps, in the order of the libraries and of the entries. The file
     /// and the sections are not looked at.
@@ -158,11 +126,18 @@ fn kept_entries<'b, 'a>(
     }
 }
 
+// How many slots a library has.
+fn slot_count(library: &SyntheticImportDirectoryEntry) -> usize
+    ensures { result ≡ length library.now.import_lookup_slots }
+{
+    library.import_lookup_slots.len()
+}
+
 // Whether a library has as many entries as slots.
 fn has_slots(library: &SyntheticImportDirectoryEntry) -> bool
     ensures { result ≡ has_slots library.now }
 {
-    kept_entries(library).len() == library.import_lookup_slots.as_slice().len()
+    kept_entries(library).len() == slot_count(library)
 }
 
 // The first library that has not as many entries as slots.
@@ -186,6 +161,49 @@ fn count_of(libraries: &[SyntheticImportDirectoryEntry]) -> usize
     count
 }
 
+// Appends the import of an entry.
+#[tactic(auto, unfolding(crate::specs::Imports::import_of))]
+fn push_entry<'a>(
+    alloc: Global,
+    imports: &mut Vec<Import<'a>>,
+    entry: &SyntheticImportLookupTableEntry<'a>,
+    dll: &'a str,
+    slot: usize,
+    offset: usize,
+    size: usize,
+) -> Result<()>
+    ensures added { OnOk result (imports.new.items ≡ imports.old.items ++ import_of dll.now slot offset size (entry_view entry.now) ∷ []) }
+    ensures refused { IfErr result IsMemory }
+    ensures grown { OnErr result (((import_of dll.now slot offset size (entry_view entry.now)).is_borrowed ≡ false) ⊎ (vec_capacity imports.old ≤ vec_len imports.old)) }
+{
+    match entry {
+        SyntheticImportLookupTableEntry::OrdinalNumber(ordinal) => {
+            let name = ordinal_name(alloc, *ordinal)?;
+            imports.push(Import {
+                name: CowStr::Owned(name),
+                dll,
+                ordinal: *ordinal,
+                offset,
+                rva: 0,
+                size,
+                slot,
+            })?;
+        }
+        SyntheticImportLookupTableEntry::HintNameTableRVA((rva, named)) => {
+            imports.push(Import {
+                name: CowStr::Borrowed(named.name),
+                dll,
+                ordinal: named.hint,
+                offset,
+                rva: *rva as usize,
+                size,
+                slot,
+            })?;
+        }
+    }
+    Ok(())
+}
+
 // Appends the imports of a table's entries, each in its slot of `size` bytes of the address table at
 // `rva`.
 fn push_entries<'a>(
@@ -207,8 +225,7 @@ fn push_entries<'a>(
         let Some(offset) = import_offset(rva, size, slot) else {
             return Err(Error::Malformed(Cause::Overflow));
         };
-        let import = Import::of_entry(alloc, entry, dll, slot, offset, size)?;
-        imports.push(import)?;
+        push_entry(alloc, imports, entry, dll, slot, offset, size)?;
     }
     Ok(())
 }
@@ -228,7 +245,7 @@ fn push_imports<'a>(
         alloc,
         imports,
         kept_entries(library),
-        library.import_lookup_slots.as_slice(),
+        &library.import_lookup_slots,
         library.name,
         library.import_directory_entry.import_address_table_rva,
         size,
@@ -248,7 +265,7 @@ fn imports_of<'a>(
 {
     if let Some(library) = first_without_slots(libraries) {
         let entries = kept_entries(library).len();
-        let slots = library.import_lookup_slots.as_slice().len();
+        let slots = slot_count(library);
         return Err(Error::Malformed(Cause::SlotCount(entries, slots)));
     }
     let mut imports = Vec::with_capacity(alloc, count_of(libraries))?;

@@ -113,12 +113,6 @@ impl<'a> SyntheticImportLookupTableEntry<'a> {
 /// Source: PE Format, "Import Lookup Table".
 pub type ImportLookupTable<'a> = Table<SyntheticImportLookupTableEntry<'a>>;
 
-/// The slots of the entries that a lookup table keeps, in order: how many entries stand before each
-/// in the file. The entry of the address table that belongs to an import has the same index.
-///
-/// Source: PE Format, "Import Address Table".
-pub type ImportLookupSlots = Table<usize>;
-
 impl<'a> SyntheticImportLookupTableEntry<'a> {
     /// The lookup table at the file offset `offset`, as
     /// [`SyntheticImportLookupTableEntry::parse_with_opts`] with the default options.
@@ -186,7 +180,9 @@ impl<'a> SyntheticImportLookupTableEntry<'a> {
 
     /// The pair (lookup table at the file offset `offset`, as
     /// [`SyntheticImportLookupTableEntry::parse_with_opts`] reads it; the slot of each entry that it
-    /// keeps). The slots rise, and lie below the slot where the table ends.
+    /// keeps, in order). The slot of an entry is how many entries stand before it in the file; in the
+    /// address table its own entry has the same index. The slots rise, and lie below the slot where
+    /// the table ends.
     ///
     /// # Errors
     /// As [`SyntheticImportLookupTableEntry::parse_with_opts`].
@@ -198,17 +194,17 @@ impl<'a> SyntheticImportLookupTableEntry<'a> {
         sections: &[SectionTable],
         file_alignment: u32,
         opts: &ParseOptions,
-    ) -> ResultOf<'e, (ImportLookupTable<'a>, ImportLookupSlots)>
+    ) -> ResultOf<'e, (ImportLookupTable<'a>, Vec<usize>)>
         ensures value { let m = file_offset opts.now sections.now file_alignment in
             let strict = is_strict opts.now.parse_mode in
             AnswersOrMemory (λ both. map entry_view both.0) result (lookup_table strict T.format m bytes.now offset) (IsLookupTableFault strict T.format m bytes.now offset) }
         ensures grown { let m = file_offset opts.now sections.now file_alignment in
             IfErr result (λ e. IsMemory e → KeepsEntries (is_strict opts.now.parse_mode) T.format m bytes.now offset ⊎ HasPieces opts.now file_alignment) }
         ensures slots { let m = file_offset opts.now sections.now file_alignment in
-            IfOk result (λ both. both.1 ≡ lookup_slots (is_strict opts.now.parse_mode) T.format m bytes.now offset) }
-        ensures counted { IfOk result (λ both. length both.0 ≡ length both.1) }
-        ensures rising { IfOk result (λ both. IsStrictlyIncreasing both.1) }
-        ensures below { IfOk result (λ both. All (λ slot. slot < stop (entry_slots T.format) bytes.now offset) both.1) }
+            IfOk result (λ both. both.1.items ≡ lookup_slots (is_strict opts.now.parse_mode) T.format m bytes.now offset) }
+        ensures counted { IfOk result (λ both. length both.0 ≡ length both.1.items) }
+        ensures rising { IfOk result (λ both. IsStrictlyIncreasing both.1.items) }
+        ensures below { IfOk result (λ both. All (λ slot. slot < stop (entry_slots T.format) bytes.now offset) both.1.items) }
     {
         let address_map = AddressMap::prepare(alloc, sections, file_alignment, opts)?;
         SyntheticImportLookupTableEntry::parse_by::<T>(alloc, bytes, offset, &address_map)
@@ -220,13 +216,13 @@ impl<'a> SyntheticImportLookupTableEntry<'a> {
         bytes: &'a [u8],
         offset: usize,
         address_map: &AddressMap,
-    ) -> ResultOf<'e, (ImportLookupTable<'a>, ImportLookupSlots)>
+    ) -> ResultOf<'e, (ImportLookupTable<'a>, Vec<usize>)>
         ensures value { let m = offset_of address_map.now in
             let strict = reads_strictly address_map.now in
             AnswersOrMemory (λ both. map entry_view both.0) result (lookup_table strict T.format m bytes.now offset) (IsLookupTableFault strict T.format m bytes.now offset) }
         ensures grown { IfErr result (λ e. IsMemory e → KeepsEntries (reads_strictly address_map.now) T.format (offset_of address_map.now) bytes.now offset) }
-        ensures slots { IfOk result (λ both. both.1 ≡ lookup_slots (reads_strictly address_map.now) T.format (offset_of address_map.now) bytes.now offset) }
-        ensures counted { IfOk result (λ both. length both.0 ≡ length both.1) }
+        ensures slots { IfOk result (λ both. both.1.items ≡ lookup_slots (reads_strictly address_map.now) T.format (offset_of address_map.now) bytes.now offset) }
+        ensures counted { IfOk result (λ both. length both.0 ≡ length both.1.items) }
     {
         let size = T::size_of();
         let mut entries = Vec::new(alloc);
@@ -248,7 +244,7 @@ impl<'a> SyntheticImportLookupTableEntry<'a> {
             place += size;
             slot += 1;
         }
-        Ok((Table::from(entries), Table::from(slots)))
+        Ok((Table::from(entries), slots))
     }
 }
 

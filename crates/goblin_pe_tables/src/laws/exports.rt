@@ -1,11 +1,12 @@
 //! The exports of two files.
 
-ghost use Rattle.std.specs.Prelude.{◌≡◌};
-ghost use Rattle.goblin_base.specs.Answers.{AnswersOrMemory};
+ghost use Rattle.std.specs.Prelude.{◌≡◌, ◌⊎◌, IfErr, IsSomeAnd};
+ghost use Rattle.goblin_base.specs.Answers.{AnswersOrMemory, IsMemory};
 ghost use Rattle.goblin_base.specs.Footprints.{Agree, AlikeOrMemory};
 ghost use Rattle.goblin_pe_sect.specs.Mapping.{file_offset};
+ghost use Rattle.goblin_pe_sect.specs.WindowIndex.{HasPieces};
 ghost use Rattle.goblin_pe_tables.specs.ExportFootprints.{export_footprint, export_read, export_read_view};
-ghost use Rattle.goblin_pe_tables.specs.Exports.{IsExportDataFault};
+ghost use Rattle.goblin_pe_tables.specs.Exports.{HasEntries, IsExportDataFault, export_data};
 
 use crate::export::{Export, ExportData};
 use goblin_base::Result;
@@ -30,8 +31,10 @@ pub fn read_exports<'a>(
     file_alignment: u32,
     opts: &ParseOptions,
 ) -> Result<ExportRead<'a>>
-    ensures { let offset_of = file_offset opts.now sections.now file_alignment in
+    ensures value { let offset_of = file_offset opts.now sections.now file_alignment in
         AnswersOrMemory export_read_view result (export_read offset_of directory bytes.now) (IsExportDataFault offset_of directory bytes.now) }
+    ensures grown { let offset_of = file_offset opts.now sections.now file_alignment in
+        IfErr result (λ e. IsMemory e → IsSomeAnd (export_data offset_of directory bytes.now) HasEntries ⊎ HasPieces opts.now file_alignment) }
 {
     let tables = ExportData::parse_with_opts(
         alloc,
@@ -53,7 +56,8 @@ pub fn read_exports<'a>(
 /// one.
 ///
 /// # Errors
-/// For each file as [`ExportData::parse_with_opts`] and [`Export::parse_with_opts`].
+/// For each file as [`ExportData::parse_with_opts`] and [`Export::parse_with_opts`]; memory is wanted
+/// where the record counts entries, or where addresses are mapped.
 pub fn twin_exports<'a>(
     alloc: Global,
     a: &'a [u8],
@@ -67,6 +71,10 @@ pub fn twin_exports<'a>(
         AnswersOrMemory export_read_view result.0 (export_read offset_of directory a.now) (IsExportDataFault offset_of directory a.now) }
     ensures second { let offset_of = file_offset opts.now sections.now file_alignment in
         AnswersOrMemory export_read_view result.1 (export_read offset_of directory b.now) (IsExportDataFault offset_of directory b.now) }
+    ensures first_grown { let offset_of = file_offset opts.now sections.now file_alignment in
+        IfErr result.0 (λ e. IsMemory e → IsSomeAnd (export_data offset_of directory a.now) HasEntries ⊎ HasPieces opts.now file_alignment) }
+    ensures second_grown { let offset_of = file_offset opts.now sections.now file_alignment in
+        IfErr result.1 (λ e. IsMemory e → IsSomeAnd (export_data offset_of directory b.now) HasEntries ⊎ HasPieces opts.now file_alignment) }
     ensures same_value { let offset_of = file_offset opts.now sections.now file_alignment in
         Agree (export_footprint offset_of directory a.now) a.now b.now → export_read offset_of directory a.now ≡ export_read offset_of directory b.now }
     ensures alike { let offset_of = file_offset opts.now sections.now file_alignment in

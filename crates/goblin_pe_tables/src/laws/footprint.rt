@@ -1,11 +1,12 @@
 //! Which bytes of a file its imports depend on.
 
-ghost use Rattle.std.specs.Prelude.{◌≡◌, ◌<◌, ◌≤◌, ◌↔◌, ◌++◌, ℕ, IfErr, IfOk, OnOk, length};
+ghost use Rattle.std.specs.Prelude.{◌≡◌, ◌<◌, ◌≤◌, ◌⊎◌, ◌↔◌, ◌++◌, ℕ, IfErr, IfOk, OnErr, OnOk, length};
 ghost use Rattle.std.specs.List.{All};
 ghost use Rattle.goblin_base.specs.Answers.{IsMemory};
 ghost use Rattle.goblin_base.specs.Footprints.{Covers, positions, stretch_footprint};
 ghost use Rattle.goblin_pe_sect.specs.Mapping.{file_offset};
 ghost use Rattle.goblin_pe_sect.specs.Options.{is_strict};
+ghost use Rattle.goblin_pe_sect.specs.WindowIndex.{HasPieces};
 ghost use Rattle.goblin_pe_tables.specs.Addresses.{offset_of};
 ghost use Rattle.goblin_pe_tables.specs.ImportFootprints.{addresses_footprint, entry_footprint, hint_footprint, import_footprint, libraries_footprint, library_footprint, lookup_footprint};
 
@@ -25,6 +26,7 @@ use std::alloc::Global;
 fn add_positions<'e>(ranges: &mut Vec<(usize, usize)>, begin: usize, end: usize) -> ResultOf<'e, ()>
     ensures added { OnOk result (ranges.new.items ≡ ranges.old.items ++ positions begin end) }
     ensures refused { IfErr result IsMemory }
+    ensures grown { OnErr result (0 < length (positions begin end)) }
 {
     if begin < end {
         ranges.push((begin, end))?;
@@ -40,6 +42,7 @@ fn add_stretch<'e>(
 ) -> ResultOf<'e, ()>
     ensures added { OnOk result (ranges.new.items ≡ ranges.old.items ++ stretch_footprint bytes.now offset) }
     ensures refused { IfErr result IsMemory }
+    ensures grown { OnErr result (0 < length (stretch_footprint bytes.now offset)) }
 {
     if bytes.len() <= offset {
         return Ok(());
@@ -52,6 +55,7 @@ fn add_stretch<'e>(
 fn add_hint<'e>(ranges: &mut Vec<(usize, usize)>, bytes: &[u8], offset: usize) -> ResultOf<'e, ()>
     ensures added { OnOk result (ranges.new.items ≡ ranges.old.items ++ hint_footprint bytes.now offset) }
     ensures refused { IfErr result IsMemory }
+    ensures grown { OnErr result (0 < length (hint_footprint bytes.now offset)) }
 {
     let Ok(hint) = pread_slice(bytes, offset, 2) else {
         return Ok(());
@@ -71,6 +75,7 @@ fn add_entry<'a, 'e, T: Bitfield<'a>>(
 ) -> ResultOf<'e, ()>
     ensures added { OnOk result (ranges.new.items ≡ ranges.old.items ++ entry_footprint (offset_of address_map.now) bytes.now (T.value entry.now)) }
     ensures refused { IfErr result IsMemory }
+    ensures grown { OnErr result (0 < length (entry_footprint (offset_of address_map.now) bytes.now (T.value entry.now))) }
 {
     if entry.is_ordinal() {
         return Ok(());
@@ -90,6 +95,7 @@ fn add_lookup_table<'a, 'e, T: Bitfield<'a>>(
 ) -> ResultOf<'e, ()>
     ensures added { OnOk result (ranges.new.items ≡ ranges.old.items ++ lookup_footprint T.format (offset_of address_map.now) bytes.now offset) }
     ensures refused { IfErr result IsMemory }
+    ensures grown { OnErr result (0 < length (lookup_footprint T.format (offset_of address_map.now) bytes.now offset)) }
 {
     let size = T::size_of();
     let mut place = offset;
@@ -113,6 +119,7 @@ fn add_address_table<'a, 'e, T: Bitfield<'a>>(
 ) -> ResultOf<'e, ()>
     ensures added { OnOk result (ranges.new.items ≡ ranges.old.items ++ addresses_footprint T.format bytes.now offset) }
     ensures refused { IfErr result IsMemory }
+    ensures grown { OnErr result (0 < length (addresses_footprint T.format bytes.now offset)) }
 {
     let size = T::size_of();
     let mut place = offset;
@@ -137,6 +144,7 @@ fn add_library<'a, 'e, T: Bitfield<'a>>(
 ) -> ResultOf<'e, ()>
     ensures added { OnOk result (ranges.new.items ≡ ranges.old.items ++ library_footprint T.format (offset_of address_map.now) bytes.now entry.now) }
     ensures refused { IfErr result IsMemory }
+    ensures grown { OnErr result (0 < length (library_footprint T.format (offset_of address_map.now) bytes.now entry.now)) }
 {
     if let Some(offset) = address_map.offset_of(entry.name_rva) {
         add_stretch(ranges, bytes, offset)?;
@@ -159,6 +167,7 @@ fn add_libraries<'a, 'e, T: Bitfield<'a>>(
 ) -> ResultOf<'e, ()>
     ensures added { OnOk result (ranges.new.items ≡ ranges.old.items ++ libraries_footprint T.format (offset_of address_map.now) bytes.now offset) }
     ensures refused { IfErr result IsMemory }
+    ensures grown { OnErr result (0 < length (libraries_footprint T.format (offset_of address_map.now) bytes.now offset)) }
 {
     let mut place = offset;
     'records: loop {
@@ -183,6 +192,7 @@ fn import_ranges<'a, 'e, T: Bitfield<'a>>(
 ) -> ResultOf<'e, Vec<(usize, usize)>>
     ensures ranges { IfOk result (λ v. v.items ≡ import_footprint (is_strict address_map.now.opts.parse_mode) T.format (offset_of address_map.now) bytes.now rva) }
     ensures refused { IfErr result IsMemory }
+    ensures grown { OnErr result (0 < length (import_footprint (is_strict address_map.now.opts.parse_mode) T.format (offset_of address_map.now) bytes.now rva)) }
 {
     let mut ranges = Vec::new(alloc);
     match address_map.offset_of(rva) {
@@ -199,7 +209,7 @@ fn import_ranges<'a, 'e, T: Bitfield<'a>>(
 /// None is empty, and none passes the file.
 ///
 /// # Errors
-/// [`Error::Memory`](goblin_base::Error::Memory) alone.
+/// [`Error::Memory`](goblin_base::Error::Memory) alone, where addresses are mapped or a range is listed.
 pub fn footprint_imports<'a, 'e, T: Bitfield<'a>>(
     alloc: Global,
     bytes: &'a [u8],
@@ -213,6 +223,8 @@ pub fn footprint_imports<'a, 'e, T: Bitfield<'a>>(
         IfOk result (λ v. (p : ℕ) → Covers v.items p ↔ Covers footprint p) }
     ensures within { IfOk result (λ v. All (λ range. (range.0 < range.1) × (range.1 ≤ length bytes.now)) v.items) }
     ensures refused { IfErr result IsMemory }
+    ensures grown { let footprint = import_footprint (is_strict opts.now.parse_mode) T.format (file_offset opts.now sections.now file_alignment) bytes.now directory.virtual_address in
+        OnErr result ((0 < length footprint) ⊎ HasPieces opts.now file_alignment) }
 {
     let address_map = AddressMap::prepare(alloc, sections, file_alignment, opts)?;
     let ranges = import_ranges::<T>(alloc, bytes, directory.virtual_address, &address_map)?;

@@ -1,13 +1,14 @@
 //! The imports of two files.
 
-ghost use Rattle.std.specs.Prelude.{◌≡◌, map};
-ghost use Rattle.goblin_base.specs.Answers.{AnswersOrMemory};
+ghost use Rattle.std.specs.Prelude.{◌≡◌, ◌⊎◌, IfErr, IsSomeAnd, map};
+ghost use Rattle.goblin_base.specs.Answers.{AnswersOrMemory, IsMemory};
 ghost use Rattle.goblin_base.specs.Footprints.{Agree, AlikeOrMemory};
 ghost use Rattle.goblin_pe_sect.specs.Mapping.{file_offset};
 ghost use Rattle.goblin_pe_sect.specs.Options.{is_strict};
-ghost use Rattle.goblin_pe_tables.specs.ImportDirectory.{IsImportDataFault, import_data};
+ghost use Rattle.goblin_pe_sect.specs.WindowIndex.{HasPieces};
+ghost use Rattle.goblin_pe_tables.specs.ImportDirectory.{HasRecords, IsImportDataFault, import_data};
 ghost use Rattle.goblin_pe_tables.specs.ImportFootprints.{import_footprint, lookup_footprint};
-ghost use Rattle.goblin_pe_tables.specs.ImportLookup.{IsLookupTableFault, entry_view, lookup_table};
+ghost use Rattle.goblin_pe_tables.specs.ImportLookup.{IsLookupTableFault, KeepsEntries, entry_view, lookup_table};
 
 use crate::import::{Bitfield, ImportData, ImportLookupTable, SyntheticImportLookupTableEntry};
 use goblin_base::ResultOf;
@@ -42,6 +43,10 @@ pub fn twin_lookup<'a, 'e, T: Bitfield<'a>>(
     ensures second { let m = file_offset opts.now sections.now file_alignment in
         let strict = is_strict opts.now.parse_mode in
         AnswersOrMemory (map entry_view) result.1 (lookup_table strict T.format m b.now offset) (IsLookupTableFault strict T.format m b.now offset) }
+    ensures first_grown { let m = file_offset opts.now sections.now file_alignment in
+        IfErr result.0 (λ e. IsMemory e → KeepsEntries (is_strict opts.now.parse_mode) T.format m a.now offset ⊎ HasPieces opts.now file_alignment) }
+    ensures second_grown { let m = file_offset opts.now sections.now file_alignment in
+        IfErr result.1 (λ e. IsMemory e → KeepsEntries (is_strict opts.now.parse_mode) T.format m b.now offset ⊎ HasPieces opts.now file_alignment) }
     ensures same_value { let m = file_offset opts.now sections.now file_alignment in
         let strict = is_strict opts.now.parse_mode in
         Agree (lookup_footprint T.format m a.now offset) a.now b.now → lookup_table strict T.format m a.now offset ≡ lookup_table strict T.format m b.now offset }
@@ -92,6 +97,10 @@ pub fn twin_imports<'a, 'e, T: Bitfield<'a>>(
     ensures second { let m = file_offset opts.now sections.now file_alignment in
         let strict = is_strict opts.now.parse_mode in
         AnswersOrMemory (λ x. x) result.1 (import_data strict T.format m b.now directory.virtual_address) (IsImportDataFault strict T.format m b.now directory.virtual_address) }
+    ensures first_grown { let place = file_offset opts.now sections.now file_alignment directory.virtual_address in
+        IfErr result.0 (λ e. IsMemory e → IsSomeAnd place (HasRecords a.now) ⊎ HasPieces opts.now file_alignment) }
+    ensures second_grown { let place = file_offset opts.now sections.now file_alignment directory.virtual_address in
+        IfErr result.1 (λ e. IsMemory e → IsSomeAnd place (HasRecords b.now) ⊎ HasPieces opts.now file_alignment) }
     ensures same_value { let m = file_offset opts.now sections.now file_alignment in
         let strict = is_strict opts.now.parse_mode in
         Agree (import_footprint strict T.format m a.now directory.virtual_address) a.now b.now →

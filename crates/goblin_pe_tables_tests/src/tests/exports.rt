@@ -3,12 +3,12 @@
 use super::shared::is_told;
 use fixture::sample::{put, sample, sample_section, sample_with, section};
 use fixture_tables::exports::{FORWARDED, PLAIN, Row, are};
-use goblin_base::{Cause, Endian, Error, Record, gread_with};
+use goblin_base::{Cause, Endian, Error, gread_with};
 use goblin_pe_sect::utils::get_data;
 use goblin_pe_sect::{DataDirectory, ParseOptions, RawPointerRule, SectionTable};
 use goblin_pe_tables::export::{
-    Export, ExportAddressTableEntry, ExportData, ExportDirectoryTable, Reexport,
-    SIZEOF_EXPORT_DIRECTORY_TABLE,
+    Export, ExportAddressTable, ExportAddressTableEntry, ExportData, ExportDirectoryTable,
+    Reexport, SIZEOF_EXPORT_DIRECTORY_TABLE,
 };
 use goblin_pe_tables::table::Table;
 use std::alloc::{AllocError, Global};
@@ -76,8 +76,8 @@ fn exports_are_dropped_for_a_missing_part_and_not_for_a_name(rt: HostRuntime) ->
 fn table_lengths(alloc: Global, file: &[u8]) -> goblin_base::Result<(usize, usize)> {
     let tables = data_of(alloc, file)?;
     Ok((
-        tables.export_name_pointer_table.as_slice().len(),
-        tables.export_ordinal_table.as_slice().len(),
+        tables.export_name_pointer_table.len(),
+        tables.export_ordinal_table.len(),
     ))
 }
 
@@ -127,7 +127,7 @@ fn an_empty_file_has_no_exports(rt: HostRuntime) -> Result<(), Fail> {
 fn are_sample_tables(tables: &ExportData) -> bool {
     tables.name == Some("a.dll")
         && tables.export_directory_table.ordinal_base == 1
-        && tables.export_address_table.as_slice().len() == 2
+        && tables.export_address_table.len() == 2
 }
 
 /// Whether a file's tables and exports are the sample's, by these sections and options.
@@ -286,6 +286,33 @@ fn tables_made_by_hand_lead_to_exports(rt: HostRuntime) -> Result<(), Fail> {
 fn tables_made_by_hand_are_given_back(rt: HostRuntime) -> Result<(), Fail> {
     let addresses = made_tables(rt.alloc())?.export_address_table.into_vec();
     assert!(rt; addresses.as_slice() == [ExportAddressTableEntry::ExportRVA(0x1010)].as_slice());
+    Ok(())
+}
+
+/// Whether an address of a table is that of a forwarder.
+fn has_forwarder(table: &ExportAddressTable) -> bool {
+    for entry in table {
+        if let ExportAddressTableEntry::ForwarderRVA(_) = entry {
+            return true;
+        }
+    }
+    false
+}
+
+/// Whether tables made by hand have a forwarder, and those of a file.
+fn have_forwarders(alloc: Global, file: &[u8]) -> goblin_base::Result<(bool, bool)> {
+    let made = made_tables(alloc)?;
+    let read = data_of(alloc, file)?;
+    Ok((
+        has_forwarder(&made.export_address_table),
+        has_forwarder(&read.export_address_table),
+    ))
+}
+
+#[test]
+fn each_entry_of_a_table_is_met_in_a_loop(rt: HostRuntime) -> Result<(), Fail> {
+    let file = sample(rt.alloc())?;
+    assert!(rt; have_forwarders(rt.alloc(), &file)? == (false, true));
     Ok(())
 }
 

@@ -9,12 +9,11 @@ use fixture::sample::{put, sample, sample_section, sample_with};
 use fixture_tables::imports::{
     ALIGNMENT, DIRECTORY, GO, RECORD, Row, SEVEN, Short, are_rows, is_go, is_sample_table, is_seven,
 };
-use goblin_base::{Cause, Endian, Error, ParseMode, ReadFault, Record, ResultOf, TryFromCtx};
+use goblin_base::{Cause, Endian, Error, ParseMode, ReadFault, ResultOf, TryFromCtx};
 use goblin_pe_sect::{DataDirectory, ParseOptions};
 use goblin_pe_tables::import::{
-    Bitfield, HintNameTableEntry, Import, ImportData, ImportDirectoryEntry, ImportLookupSlots,
-    ImportLookupTable, SIZEOF_IMPORT_DIRECTORY_ENTRY, SyntheticImportDirectoryEntry,
-    SyntheticImportLookupTableEntry,
+    Bitfield, HintNameTableEntry, Import, ImportData, ImportDirectoryEntry, ImportLookupTable,
+    SIZEOF_IMPORT_DIRECTORY_ENTRY, SyntheticImportDirectoryEntry, SyntheticImportLookupTableEntry,
 };
 use std::alloc::Global;
 use std::test::Fail;
@@ -152,7 +151,7 @@ fn permissive_lookup_length<'a, 'e, T: Bitfield<'a>>(
     let table = SyntheticImportLookupTableEntry::parse_with_opts::<T>(
         alloc, file, 0x240, &sections, ALIGNMENT, &opts,
     )?;
-    Ok(table.as_slice().len())
+    Ok(table.len())
 }
 
 /// How many entries each reader gives of the sample file's lookup table, by entries of type `T`.
@@ -203,7 +202,7 @@ fn permissive_address_length<'a, 'e, T: Bitfield<'a>>(
     let library = SyntheticImportDirectoryEntry::parse_with_opts::<T>(
         alloc, file, RECORD, &sections, ALIGNMENT, &opts,
     )?;
-    Ok(library.import_address_table.as_slice().len())
+    Ok(library.import_address_table.len())
 }
 
 /// How many entries the address table has that each reader gives of the sample file's record, by
@@ -416,7 +415,7 @@ fn lookup_at(
     file: &[u8],
     offset: usize,
     mode: ParseMode,
-) -> goblin_base::Result<(ImportLookupTable<'_>, ImportLookupSlots)> {
+) -> goblin_base::Result<(ImportLookupTable<'_>, Vec<usize>)> {
     let sections = [sample_section()];
     let opts = options(mode);
     SyntheticImportLookupTableEntry::parse_with_slots::<u32>(
@@ -463,7 +462,7 @@ fn a_lookup_table_is_read_with_its_slots(rt: HostRuntime) -> Result<(), Fail> {
 fn with_one_slot(alloc: Global, file: &[u8]) -> goblin_base::Result<ImportData<'_>> {
     let mut data = strict_data_of(alloc, file)?;
     for library in &mut data.import_data {
-        library.import_lookup_slots = ImportLookupSlots::from(vec![in alloc; 0]?);
+        library.import_lookup_slots = vec![in alloc; 0]?;
     }
     Ok(data)
 }
@@ -617,7 +616,7 @@ fn each_refusal_of_import_data_tells_its_cause(rt: HostRuntime) -> Result<(), Fa
 /// Whether the lookup table at 0x248 has no entries and no slots.
 fn is_empty(alloc: Global, file: &[u8], mode: ParseMode) -> goblin_base::Result<bool> {
     let both = lookup_at(alloc, file, 0x248, mode)?;
-    Ok(both.0.as_slice().is_empty() && both.1.as_slice().is_empty())
+    Ok(both.0.is_empty() && both.1.is_empty())
 }
 
 #[test]

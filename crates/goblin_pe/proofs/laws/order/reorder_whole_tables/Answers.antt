@@ -6,4 +6,4 @@ pub returns-clause-alike : goal.returns-clause-alike
 returns-clause-alike g c = λ reordered.
     are_alike _ _ _ _ _ _ _ _ _ _ _
     (map-reordered c.args.opts.now c.args.first.now c.args.second.now c.args.file_alignment reordered)
-    c.read_tables-one.ensures c.read_tables-other.ensures
+    c.read_tables-one.ensures.read c.read_tables-other.ensures.read

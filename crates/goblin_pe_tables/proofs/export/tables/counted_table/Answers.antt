@@ -4,10 +4,10 @@ use Rattle.goblin_base.proofs.CountedTables.{counted-all, counted-cut, counted-n
 use Rattle.goblin_pe_tables.proofs.export.tables.counted_table.Goals as goal
 
 pub returns-in_default-clause-value : goal.returns-in_default-clause-value
-returns-in_default-clause-value g c = λ value says. counted-none _ _ _ _ c.in_default.is ∙ sym (c.from.ensures ∙ c.new-entries.ensures.items)
+returns-in_default-clause-value g c = λ value says. counted-none _ _ _ _ c.in_default.is ∙ sym (c.from.ensures ∙ c.new.ensures.items)
 
 pub entries-init : goal.entries-init
-entries-init g c = λ value says. rw c.new-entries.ensures.items (counted-start _ _ _)
+entries-init g c = λ value says. rw c.in_ok-entries.ensures.items (counted-start _ _ _)
 
 pub returns-in_default-pread_slice-clause-value : goal.returns-in_default-pread_slice-clause-value
 returns-in_default-pread_slice-clause-value g c = λ value says.

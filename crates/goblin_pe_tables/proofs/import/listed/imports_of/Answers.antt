@@ -1,8 +1,7 @@
-use Rattle.std.proofs.Common.{length, ap, sym, ◌∙◌, refl, Some, inr, arith}
+use Rattle.std.proofs.Common.{ap, sym, ◌∙◌, refl, Some, inr, arith}
 use Rattle.std.proofs.lemmas.Option.{slice_get-get_or}
 use Rattle.std.proofs.lemmas.Result.{err_from_is_err_and}
 use Rattle.goblin_base.specs.Tables.{each_below}
-use Rattle.goblin_pe_tables.specs.ImportDirectory.{ImportedLibrary}
 use Rattle.goblin_pe_tables.proofs.Imports.{entries-counted, library-next, library-refused, slots-refused, slots-there}
 use Rattle.goblin_pe_tables.proofs.import.listed.imports_of.Goals as goal
 
@@ -12,7 +11,7 @@ libraries-init c = rw c.in_ok-imports.ensures.items refl
 
 pub returns-in-Some-clause-value : goal.returns-in-Some-clause-value
 returns-in-Some-clause-value c =
-    λ _. slots-refused _ _ _ _ _ (sym c.in-Some.ensures) c.kept_entries-entries.ensures.count (ap length (c.as_slice-slots.ensures ∙ ap (λ (l : ImportedLibrary). l.import_lookup_slots) c.library.view_is))
+    λ _. slots-refused _ _ _ _ _ (sym c.in-Some.ensures) c.kept_entries-entries.ensures.count c.slot_count-slots.ensures
 
 pub push_imports-requires : goal.push_imports-requires
 push_imports-requires c =

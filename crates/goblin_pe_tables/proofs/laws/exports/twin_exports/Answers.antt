@@ -7,4 +7,4 @@ returns-clause-same_value c = λ agree. same-export_read _ _ _ _ agree
 
 pub returns-clause-alike : goal.returns-clause-alike
 returns-clause-alike c = λ agree.
-    alike_or_memory_answers _ _ _ _ _ _ _ c.read_exports-first.ensures c.read_exports-second.ensures (same-export_read _ _ _ _ agree)
+    alike_or_memory_answers _ _ _ _ _ _ _ c.read_exports-first.ensures.value c.read_exports-second.ensures.value (same-export_read _ _ _ _ agree)

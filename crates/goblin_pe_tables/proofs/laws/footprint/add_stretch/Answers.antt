@@ -11,3 +11,6 @@ returns-then-bytes-offset-clause-added c =
 
 pub returns-clause-added : goal.returns-clause-added
 returns-clause-added c = rw (← stretch-is c.args.bytes.now c.args.offset c.min.result c.before_nul.result.now c.before_nul.ensures c.min.ensures) c.add_positions.ensures.added
+
+pub returns-clause-grown : goal.returns-clause-grown
+returns-clause-grown c = rw (← stretch-is c.args.bytes.now c.args.offset c.min.result c.before_nul.result.now c.before_nul.ensures c.min.ensures) c.add_positions.ensures.grown

@@ -55,9 +55,9 @@ returns-clause-slots g c =
     let width : 1 ≤ g.T.Bitfield.format.width = omega (arith, c.size_of-size.ensures.width, c.size_of-size.ensures.positive) in
     elim c.match-read_entry.branch [
       | in_default+then-is_permissive w ↦
-          c.from-2.ensures ∙ sym (kept-all _ _ _ _ _ _ _ _ width c.slots.invariant.0 c.slots.invariant.1 _ w.in_default.ensures.0 refl)
+          sym (kept-all _ _ _ _ _ _ _ _ width c.slots.invariant.0 c.slots.invariant.1 _ w.in_default.ensures.0 refl)
       | in-Ok+then-is_zero w ↦
-          c.from-2.ensures ∙ sym (kept-all _ _ _ _ _ _ _ _ width c.slots.invariant.0 c.slots.invariant.1 _ w.in-Ok.ensures (sym w.is_zero.ensures ∙ w.if-is_zero.true))
+          sym (kept-all _ _ _ _ _ _ _ _ width c.slots.invariant.0 c.slots.invariant.1 _ w.in-Ok.ensures (sym w.is_zero.ensures ∙ w.if-is_zero.true))
     ]
 
 pub returns-in_err-push_kept-clause-grown : goal.returns-in_err-push_kept-clause-grown
