@@ -1,6 +1,8 @@
 -- What the callers count.
-use Rattle.std.specs.Prelude.{ℕ, List, Option, length}
+use Rattle.std.specs.Prelude.{ℕ, suc, List, [], ◌∷◌, Option, length}
 use Rattle.std.specs.Option.{option_map}
+use Rattle.goblin_pe.specs.declared.export.ExportAddressTableEntry.{ExportAddressTableEntry}
+use Rattle.goblin_pe.specs.declared.export.ExportAddressTableEntry.TheVariants.{ExportRVA, ForwarderRVA}
 use Rattle.goblin_pe.specs.declared.whole.Part.{Part}
 use Rattle.goblin_pe.specs.declared.whole.Part.TheVariants as part
 use Rattle.goblin_pe.specs.declared.options.ParseMode.TheVariants.{Permissive}
@@ -21,3 +23,9 @@ entry_count part.Refused = 0
 -- how many functions a file imports, damaged parts passed over
 abbrev pub import_count : List ℕ → Option ℕ
 import_count bytes = option_map (λ whole. entry_count whole.imports) (whole_file permissive_options bytes)
+
+-- how many entries of an address table lead to a forwarder
+abbrev pub forwarder_count : List ExportAddressTableEntry → ℕ
+forwarder_count [] = 0
+forwarder_count (ExportRVA rva ∷ entries) = forwarder_count entries
+forwarder_count (ForwarderRVA rva ∷ entries) = suc (forwarder_count entries)

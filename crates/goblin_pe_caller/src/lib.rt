@@ -1,29 +1,36 @@
 //! A caller of `goblin_pe` alone: neither its code nor its clauses name a crate below.
 #![tactic(auto)]
 
-ghost use Rattle.std.specs.Prelude.{◌≡◌, drop, length, option_map};
-ghost use Rattle.goblin_pe.specs.Answers.{Answers, AnswersOrMemory};
+ghost use Rattle.std.specs.Prelude.{◌≡◌, ◌↔◌, ◌*◌, [], IfOk, IsTrue, drop, length, option_map, slice_get};
+ghost use Rattle.std.specs.List.{Contains};
+ghost use Rattle.goblin_pe.specs.Answers.{Answers, AnswersOrMemory, IsSliceFault, Writes};
 ghost use Rattle.goblin_pe.specs.BaseRelocations.{block_items, relocation_bytes, word_items};
+ghost use Rattle.goblin_pe.specs.CoffHeader.{coff_fields, coff_header};
 ghost use Rattle.goblin_pe.specs.DataDirectories.{present_from};
 ghost use Rattle.goblin_pe.specs.Mapping.{IsDataFault, data_at, file_offset};
 ghost use Rattle.goblin_pe.specs.Options.{default_options};
+ghost use Rattle.goblin_pe.specs.Record.{ReadsBack, encoding, record_over};
 ghost use Rattle.goblin_pe.specs.Relocations.{relocations_left};
 ghost use Rattle.goblin_pe.specs.RichHeader.{IsRichFault, rich_header};
 ghost use Rattle.goblin_pe.specs.RichMetadata.{metadata_items};
 ghost use Rattle.goblin_pe.specs.Symbols.{symbols_in, table_bytes};
 ghost use Rattle.goblin_pe.specs.Whole.{IsWholeFault};
+ghost use Rattle.goblin_pe.specs.declared.endian.Endian.{Endian};
 ghost use Rattle.goblin_pe.specs.declared.error.CauseOf.TheVariants.{Message};
 ghost use Rattle.goblin_pe.specs.declared.error.ErrorOf.TheVariants.{Malformed};
-ghost use Rattle.goblin_pe_caller.specs.Counts.{entry_count, import_count, permissive_options};
+ghost use Rattle.goblin_pe_caller.specs.Counts.{entry_count, forwarder_count, import_count, permissive_options};
 
 use goblin_pe::data_directories::{DataDirectories, DataDirectory};
-use goblin_pe::header::RichHeader;
+use goblin_pe::export::{
+    ExportAddressTable, ExportAddressTableEntry, ExportNamePointerTable, ExportOrdinalTable,
+};
+use goblin_pe::header::{CoffHeader, RichHeader};
 use goblin_pe::options::{ParseMode, ParseOptions};
 use goblin_pe::relocation::{RelocationBlock, RelocationData, Relocations};
 use goblin_pe::section_table::SectionTable;
-use goblin_pe::symbol::SymbolTable;
+use goblin_pe::symbol::{Symbol, SymbolTable};
 use goblin_pe::utils::get_data;
-use goblin_pe::{Cause, Error, Part, Result, ResultOf, TryFromCtx, Whole};
+use goblin_pe::{Cause, Endian, Error, Part, Result, ResultOf, TryFromCtx, Whole};
 use std::alloc::Global;
 
 #[cfg(test)]
@@ -127,4 +134,62 @@ pub fn value_at<'a, 'e, T: TryFromCtx<'a>>(
     };
     let value = get_data(bytes, sections, directory, 0x200)?;
     Ok(value)
+}
+
+/// Writes a COFF header to the front of `bytes`, little-endian, and answers its size.
+///
+/// # Errors
+/// As [`CoffHeader::try_into_ctx`].
+pub fn write_header(header: CoffHeader, bytes: &mut [u8]) -> Result<usize>
+    ensures size { IfOk result (λ n. n ≡ 20) }
+    ensures written { let after = record_over 20 (encoding Endian.Little (coff_fields header)) bytes.old in
+        Writes result after bytes.old bytes.new (IsSliceFault bytes.old 0 20) }
+    ensures again { IfOk result (λ n. ReadsBack 20 coff_header coff_fields header) }
+{
+    header.try_into_ctx(bytes, Endian::Little)
+}
+
+/// How many bytes the records of a symbol table take.
+pub fn symbols_size(count: u32) -> usize
+    ensures { result ≡ 18 * count }
+{
+    Symbol::size_with(&Endian::Little) * count as usize
+}
+
+/// How many addresses of a table are those of forwarders.
+pub fn count_forwarders(table: &ExportAddressTable) -> usize
+    ensures { result ≡ forwarder_count table.now }
+{
+    let mut count = 0;
+    'entries: for entry in table.iter() {
+        if let ExportAddressTableEntry::ForwarderRVA(_) = entry {
+            count += 1;
+        }
+    }
+    count
+}
+
+/// The name pointer at `index`, `None` where the table has none there.
+pub fn name_pointer(table: &ExportNamePointerTable, index: usize) -> Option<u32>
+    ensures { result ≡ slice_get table.now index }
+{
+    if index < table.len() {
+        Some(table[index])
+    } else {
+        None
+    }
+}
+
+/// Whether a table has this ordinal.
+pub fn has_ordinal(table: &ExportOrdinalTable, ordinal: u16) -> bool
+    ensures { IsTrue result ↔ Contains table.now ordinal }
+{
+    table.iter().any(|entry| *entry == ordinal)
+}
+
+/// Whether nothing is exported by name.
+pub fn is_without_names(table: &ExportNamePointerTable) -> bool
+    ensures { IsTrue result ↔ (table.now ≡ []) }
+{
+    table.is_empty()
 }

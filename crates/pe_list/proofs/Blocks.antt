@@ -1,8 +1,8 @@
 -- How many blocks there are.
 use Rattle.std.proofs.Common.{ℕ, zero, suc, ◌+◌, ◌-◌, ◌≤◌, Bool, true, false, cond, List, [], ◌∷◌, length, arith}
 use Rattle.std.specs.Prelude.{Result, Ok, Err, nat_lt}
-use Rattle.goblin_base.specs.declared.error.ErrorOf.{ErrorOf}
-use Rattle.goblin_pe_sect.specs.BaseRelocations.{Block, block_at, block_items, first_items, then_items}
+use Rattle.goblin_pe.specs.declared.error.ErrorOf.{ErrorOf}
+use Rattle.goblin_pe.specs.BaseRelocations.{Block, block_at, block_items, first_items, then_items}
 use Rattle.pe_list.specs.Lines.{block_count}
 
 counted : (items : List (Result Block ErrorOf)) → block_count items ≤ length items

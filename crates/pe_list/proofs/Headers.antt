@@ -1,21 +1,23 @@
 -- A file that was read, and one for which memory was asked, has a header.
-use Rattle.std.proofs.Common.{◌≡◌, ◌<◌, ℕ, Bool, List, [], ◌∷◌, length, Some, refl, subst, sym, arith, Option}
+use Rattle.std.proofs.Common.{◌≡◌, ◌<◌, ℕ, Bool, List, [], ◌∷◌, length, None, Some, refl, subst, arith, Option}
 use Rattle.std.specs.Prelude.{IsSome}
 use Rattle.std.proofs.lemmas.Bool.{false≢true}
-use Rattle.goblin_base.proofs.Steps.{step}
-use Rattle.goblin_base.specs.declared.permissive.ParseMode.{ParseMode}
-use Rattle.goblin_pe_sect.specs.declared.options.ParseOptions.{ParseOptions}
-use Rattle.goblin_pe_sect.specs.Options.{is_strict}
-use Rattle.goblin_pe_head.specs.DosHeader.{dos_header}
-use Rattle.goblin_pe_head.specs.PeHeader.{PeHeader, pe_header}
+use Rattle.goblin_pe.specs.declared.options.ParseMode.{ParseMode}
+use Rattle.goblin_pe.specs.declared.options.ParseOptions.{ParseOptions}
+use Rattle.goblin_pe.specs.Answers.{◌>>=◌}
+use Rattle.goblin_pe.specs.Options.{is_strict}
+use Rattle.goblin_pe.specs.DosHeader.{dos_header}
+use Rattle.goblin_pe.specs.PeHeader.{pe_header}
 use Rattle.goblin_pe.specs.Whole.{WholeFile, whole_file}
 use Rattle.pe_list.specs.Listing.{run_options}
 
+first_there : {A B : Type 0} (o : Option A) (f : A → Option B) (b : B) → (o >>= f) ≡ Some b → IsSome o
+first_there None f b read = absurd cc
+first_there (Some a) f b read = refl
+
 header_there : (mode : ParseMode) (bytes : List ℕ) (whole : WholeFile) → whole_file (run_options mode) bytes ≡ Some whole → IsSome (pe_header (is_strict mode) bytes)
 unfolding whole_file
-header_there mode bytes whole read =
-    let header = step (pe_header (is_strict mode) bytes) _ whole read in
-    subst (λ (o : Option PeHeader). IsSome o) (sym header.is) refl
+header_there mode bytes whole read = first_there (pe_header (is_strict mode) bytes) _ whole read
 
 -- the same by options that are those of a run
 pub header_by : (opts : ParseOptions) (mode : ParseMode) (bytes : List ℕ) (whole : WholeFile) → opts ≡ run_options mode → whole_file opts bytes ≡ Some whole → IsSome (pe_header (is_strict mode) bytes)

@@ -1,8 +1,8 @@
 -- What the words of the command line ask for.
 use Rattle.std.specs.Prelude.{ℕ, List, [], ◌∷◌, Option, None, Some, codes, if◌then◌else◌}
 use Rattle.std.specs.Str.{bytes_eq}
-use Rattle.goblin_base.specs.declared.permissive.ParseMode.{ParseMode}
-use Rattle.goblin_base.specs.declared.permissive.ParseMode.TheVariants.{Strict, Permissive}
+use Rattle.goblin_pe.specs.declared.options.ParseMode.{ParseMode}
+use Rattle.goblin_pe.specs.declared.options.ParseMode.TheVariants.{Strict, Permissive}
 
 -- the mode that the words ask for, the first being the program's name: none where they are a wrong use
 abbrev pub mode_of_words : List (List ℕ) → Option ParseMode

@@ -1,12 +1,12 @@
 -- The lines of a listing.
 use Rattle.std.specs.Prelude.{ℕ, ◌/◌, List, [], ◌∷◌, ◌++◌, codes, length, unwrap_or, Option, Some, None, Result, Ok, Err, suc}
 use Rattle.std.specs.List.{concat, flat_map}
-use Rattle.goblin_base.specs.declared.error.ErrorOf.{ErrorOf}
-use Rattle.goblin_base.specs.Bytes.{before_nul}
-use Rattle.goblin_pe_sect.specs.BaseRelocations.{Block, block_items}
-use Rattle.goblin_pe_sect.specs.SectionTable.{Section}
-use Rattle.goblin_pe_head.specs.declared.optional_header.OptionalHeader.{OptionalHeader}
-use Rattle.goblin_pe_head.specs.PeHeader.{PeHeader}
+use Rattle.goblin_pe.specs.declared.error.ErrorOf.{ErrorOf}
+use Rattle.goblin_pe.specs.Bytes.{before_nul}
+use Rattle.goblin_pe.specs.BaseRelocations.{Block, block_items}
+use Rattle.goblin_pe.specs.SectionTable.{Section}
+use Rattle.goblin_pe.specs.declared.optional_header.OptionalHeader.{OptionalHeader}
+use Rattle.goblin_pe.specs.PeHeader.{PeHeader}
 use Rattle.goblin_pe.specs.declared.whole.Part.{Part}
 use Rattle.goblin_pe.specs.declared.whole.Part.TheVariants.{Absent, Read, Refused}
 use Rattle.goblin_pe.specs.Exports.{ExportRow}

@@ -1,10 +1,10 @@
 -- The listing of a file, where the file has what it lists.
 use Rattle.std.specs.Prelude.{ℕ, List, Option}
 use Rattle.std.specs.Option.{option_map}
-use Rattle.goblin_base.specs.declared.error.ErrorOf.{ErrorOf}
-use Rattle.goblin_base.specs.declared.permissive.ParseMode.{ParseMode}
-use Rattle.goblin_pe_sect.specs.declared.options.ParseOptions.{ParseOptions}
-use Rattle.goblin_pe_sect.specs.Options.{default_options}
+use Rattle.goblin_pe.specs.declared.error.ErrorOf.{ErrorOf}
+use Rattle.goblin_pe.specs.declared.options.ParseMode.{ParseMode}
+use Rattle.goblin_pe.specs.declared.options.ParseOptions.{ParseOptions}
+use Rattle.goblin_pe.specs.Options.{default_options}
 use Rattle.goblin_pe.specs.Whole.{WholeFile, IsWholeFault, whole_file}
 use Rattle.pe_list.specs.Lines.{whole_lines}
 

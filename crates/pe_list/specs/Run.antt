@@ -1,8 +1,8 @@
 -- How a run ends.
 use Rattle.std.specs.Prelude.{ℕ, List, take, ◌<◌, length, Option, Result, Err, ⊤, codes}
 use Rattle.std.specs.Io.KnownBytes.{Appends}
-use Rattle.goblin_base.specs.declared.error.ErrorOf.{ErrorOf}
-use Rattle.goblin_base.specs.declared.error.ErrorOf.TheVariants.{Memory}
+use Rattle.goblin_pe.specs.declared.error.ErrorOf.{ErrorOf}
+use Rattle.goblin_pe.specs.declared.error.ErrorOf.TheVariants.{Memory}
 use Rattle.pe_list.specs.declared.program.RunFault.{RunFault}
 use Rattle.pe_list.specs.declared.program.RunFault.TheVariants.{Refused, Input, Output}
 

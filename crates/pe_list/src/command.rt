@@ -4,7 +4,7 @@ ghost use Rattle.std.specs.Prelude.{◌≡◌, map, string_bytes};
 ghost use Rattle.std.specs.Vec.Iter.{into_iter_items};
 ghost use Rattle.pe_list.specs.Command.{mode_of_words};
 
-use goblin_base::ParseMode;
+use goblin_pe::options::ParseMode;
 use std::env::Args;
 
 /// The line that answers a wrong use.

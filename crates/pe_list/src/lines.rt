@@ -18,10 +18,10 @@
 
 ghost use Rattle.std.specs.Prelude.{◌≡◌, ◌++◌, ℕ, IfErr, IsSome, List, OnOk, codes, length, option_map, string_bytes};
 ghost use Rattle.std.specs.List.{flat_map};
-ghost use Rattle.goblin_base.specs.Answers.{AnswersOrMemory, IsMemory};
-ghost use Rattle.goblin_pe_sect.specs.Options.{is_strict};
-ghost use Rattle.goblin_pe_head.specs.PeHeader.{header_value, pe_header};
-ghost use Rattle.goblin_pe_sect.specs.BaseRelocations.{block_item, block_items, relocation_bytes};
+ghost use Rattle.goblin_pe.specs.Answers.{AnswersOrMemory, IsMemory};
+ghost use Rattle.goblin_pe.specs.Options.{is_strict};
+ghost use Rattle.goblin_pe.specs.PeHeader.{header_value, pe_header};
+ghost use Rattle.goblin_pe.specs.BaseRelocations.{block_item, block_items, relocation_bytes};
 ghost use Rattle.goblin_pe.specs.Forwarders.{forwarder_value};
 ghost use Rattle.goblin_pe.specs.Whole.{items_part, part_map};
 ghost use Rattle.pe_list.specs.Lines.{block_count, block_line, export_line, forward_field, header_line, if_there, import_line, optional_fields, part_lines, relocation_lines, section_line, shown_name, whole_lines};
@@ -29,15 +29,15 @@ ghost use Rattle.pe_list.specs.Listing.{IsLayoutFault, listing_of};
 ghost use Rattle.pe_list.specs.Text.{hex_field, name_field};
 
 use crate::text::{push_decimal, push_hex, push_name, push_name_bytes};
-use goblin_base::{Error, ParseMode, before_nul};
 use goblin_pe::export::{Export, Reexport};
 use goblin_pe::header::Header;
 use goblin_pe::import::Import;
 use goblin_pe::optional_header::OptionalHeader;
-use goblin_pe::options::ParseOptions;
+use goblin_pe::options::{ParseMode, ParseOptions};
+use goblin_pe::read::before_nul;
 use goblin_pe::relocation::{RelocationBlock, RelocationData};
 use goblin_pe::section_table::SectionTable;
-use goblin_pe::{Part, Whole};
+use goblin_pe::{Error, Part, Whole};
 use std::alloc::{AllocError, Global};
 
 /// The listing of a file: a line for the header, for each section, and for each table of the file with

@@ -2,14 +2,15 @@
 
 ghost use Rattle.std.specs.Prelude.{◌≡◌, ◌≢◌, ◌<◌, length, string_bytes, Err, IfErr, IfOk, IfSome, IsSomeAnd, IsTrue, None, OnErr, OnOk, Some};
 ghost use Rattle.std.specs.Io.KnownBytes.{Appends, Keeps};
-ghost use Rattle.goblin_base.specs.Answers.{IsMemory};
+ghost use Rattle.goblin_pe.specs.Answers.{IsMemory};
 ghost use Rattle.pe_list.specs.Listing.{IsLayoutFault, listing_of};
 ghost use Rattle.pe_list.specs.Run.{AppendsPart, IfRefused};
 
 use crate::lines::list;
 use crate::transfer::{read_all, write_text};
 use crate::watched::Watched;
-use goblin_base::{Error, ParseMode};
+use goblin_pe::Error;
+use goblin_pe::options::ParseMode;
 use std::alloc::Global;
 use std::io::{Read, Write};
 

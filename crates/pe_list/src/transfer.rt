@@ -6,7 +6,7 @@ ghost use Rattle.pe_list.specs.Run.{AppendsPart, IsOutOfMemory};
 
 use crate::program::RunFault;
 use crate::watched::Watched;
-use goblin_base::Error;
+use goblin_pe::Error;
 use std::alloc::Global;
 use std::io::{Read, Write};
 

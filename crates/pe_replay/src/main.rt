@@ -9,10 +9,13 @@ ghost use Rattle.goblin_pe_head.specs.PeHeader.{header_bytes, pe_header};
 
 use calls::show_call;
 use goblin_base::{Endian, Error, ErrorOf, Strtab};
+use goblin_pe::Whole;
+use goblin_pe::laws::footprint_imports;
 use goblin_pe_head::{CoffHeader, Header, TeHeader};
+use goblin_pe_sect::options::RawPointerRule;
 use goblin_pe_sect::symbol::Symbol;
 use goblin_pe_sect::utils::find_offset;
-use goblin_pe_sect::{ParseOptions, SectionTable, WindowIndex};
+use goblin_pe_sect::{DataDirectory, ParseOptions, SectionTable, WindowIndex};
 use std::alloc::{AllocError, Global};
 use std::io::{ErrorKind, Read, Write};
 use std::process::ExitCode;
@@ -92,30 +95,47 @@ fn text(word: &Option<String>) -> &str {
 fn show(rt: &HostRuntime, word: &str, operand: &str, form: &str) -> Result<(), Refused> {
     match word {
         "call" => show_call(rt, operand, form),
-        "walk" => show_file(rt, word, number(operand)?),
-        "index" => show_file(rt, word, number(operand)?),
-        _ => show_file(rt, word, 0),
+        "walk" => show_file(rt, word, number(operand)?, &look_up_options(form)),
+        "index" => show_file(rt, word, number(operand)?, &look_up_options(form)),
+        _ => show_file(rt, word, 0, &ParseOptions::default()),
     }
+}
+
+// The options by which addresses are looked up: by `rounded` a section's data begins where the Windows
+// loader takes it to.
+fn look_up_options(form: &str) -> ParseOptions {
+    let mut opts = ParseOptions::default();
+    if form == "rounded" {
+        opts.raw_pointer_rule = RawPointerRule::RoundedTo512;
+    }
+    opts
 }
 
 fn number(word: &str) -> Result<u32, Refused> {
     word.parse::<u32>().map_err(|_| Refused::Other)
 }
 
-fn show_file(rt: &HostRuntime, word: &str, count: u32) -> Result<(), Refused> {
+fn show_file(rt: &HostRuntime, word: &str, count: u32, opts: &ParseOptions) -> Result<(), Refused> {
     let mut file = Vec::new(rt.alloc());
     rt.stdin().read_to_end(&mut file)?;
-    show_bytes(rt, &file, word, count)
+    show_bytes(rt, &file, word, count, opts)
 }
 
 // Shows what the word asks for of a file.
-fn show_bytes(rt: &HostRuntime, file: &[u8], word: &str, count: u32) -> Result<(), Refused> {
+fn show_bytes(
+    rt: &HostRuntime,
+    file: &[u8],
+    word: &str,
+    count: u32,
+    opts: &ParseOptions,
+) -> Result<(), Refused> {
     match word {
         "header" => show_header(rt, file),
         "te" => show_te(rt, file),
         "symbols" => show_symbols(rt, file),
-        "walk" => show_sum(rt, walked(rt.alloc(), file, count)),
-        "index" => show_sum(rt, indexed(rt.alloc(), file, count)),
+        "walk" => show_sum(rt, walked(rt.alloc(), file, count, opts)),
+        "index" => show_sum(rt, indexed(rt.alloc(), file, count, opts)),
+        "footprint" => show_sum(rt, footprint_ranges(rt.alloc(), file)),
         _ => Err(Refused::Other),
     }
 }
@@ -283,29 +303,60 @@ fn sections_of(alloc: Global, file: &[u8]) -> goblin_base::Result<Vec<SectionTab
 }
 
 // The file offsets of `count` addresses of an object, added up: by a walk over its sections for each.
-fn walked(alloc: Global, file: &[u8], count: u32) -> Result<usize, Refused> {
+fn walked(alloc: Global, file: &[u8], count: u32, opts: &ParseOptions) -> Result<usize, Refused> {
     let sections = sections_of(alloc, file)?;
-    let opts = ParseOptions::default();
     let mut sum = 0usize;
     for i in 0..count as usize {
-        let found = find_offset(i.wrapping_mul(STEP) % SPAN, &sections, ALIGNMENT, &opts);
+        let found = find_offset(i.wrapping_mul(STEP) % SPAN, &sections, ALIGNMENT, opts);
         sum = sum.wrapping_add(found.unwrap_or(0));
     }
     Ok(sum)
 }
 
 // The same by an index of its sections.
-fn indexed(alloc: Global, file: &[u8], count: u32) -> Result<usize, Refused> {
+fn indexed(alloc: Global, file: &[u8], count: u32, opts: &ParseOptions) -> Result<usize, Refused> {
     let sections = sections_of(alloc, file)?;
-    indexed_in(alloc, &sections, count)
+    indexed_in(alloc, &sections, count, opts)
 }
 
-fn indexed_in(alloc: Global, sections: &[SectionTable], count: u32) -> Result<usize, Refused> {
-    let index = WindowIndex::prepare(alloc, sections, ALIGNMENT, &ParseOptions::default())?;
+fn indexed_in(
+    alloc: Global,
+    sections: &[SectionTable],
+    count: u32,
+    opts: &ParseOptions,
+) -> Result<usize, Refused> {
+    let index = WindowIndex::prepare(alloc, sections, ALIGNMENT, opts)?;
     let mut sum = 0usize;
     for i in 0..count as usize {
         let found = index.find(i.wrapping_mul(STEP) % SPAN);
         sum = sum.wrapping_add(found.unwrap_or(0));
     }
     Ok(sum)
+}
+
+// How many ranges the footprint of the imports of an image for 64 bits has.
+fn footprint_ranges(alloc: Global, file: &[u8]) -> Result<usize, Refused> {
+    let whole = Whole::read(alloc, file, &ParseOptions::default())?;
+    footprint_of(alloc, file, &whole)
+}
+
+fn footprint_of(alloc: Global, file: &[u8], whole: &Whole) -> Result<usize, Refused> {
+    let Some(header) = &whole.header.optional_header else {
+        return Err(Refused::Other);
+    };
+    let Some(directory) = header.data_directories.get_import_table() else {
+        return Err(Refused::Other);
+    };
+    ranges_of(alloc, file, *directory, &whole.sections)
+}
+
+fn ranges_of(
+    alloc: Global,
+    file: &[u8],
+    directory: DataDirectory,
+    sections: &[SectionTable],
+) -> Result<usize, Refused> {
+    let opts = ParseOptions::default();
+    let ranges = footprint_imports::<u64>(alloc, file, directory, sections, ALIGNMENT, &opts)?;
+    Ok(ranges.len())
 }

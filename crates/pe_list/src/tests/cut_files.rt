@@ -2,7 +2,7 @@
 
 use super::sample::{is_refused, mode_without};
 use fixture::sample::{TABLE_END, put, sample};
-use goblin_base::ParseMode;
+use goblin_pe::options::ParseMode;
 use std::test::Fail;
 
 #[test]

@@ -5,13 +5,13 @@ use super::sample::{LISTING, is_input_fault, is_output_fault};
 use crate::program::{RunFault, run};
 use crate::watched::Watched;
 use fixture::sample::{SAMPLE_LEN, sample};
-use goblin_base::ParseMode;
+use goblin_pe::options::ParseMode;
 use std::alloc::Global;
 use std::io;
 use std::io::{ErrorKind, Read, Write};
 use std::test::Fail;
 
-/// Gives up to `step` bytes a call, but for one call, which fails.
+/// Gives up to `step` bytes a call, but for the calls that fail.
 #[derive(Drop)]
 struct Source {
     bytes: Vec<u8>,
@@ -19,6 +19,8 @@ struct Source {
     step: usize,
     /// Which call fails, the first being 1.
     failing: usize,
+    /// Which call fails again, or 0.
+    failing_again: usize,
     /// The room of each call's buffer.
     rooms: Vec<usize>,
 }
@@ -30,6 +32,7 @@ impl Source {
             at: 0,
             step,
             failing,
+            failing_again: 0,
             rooms: Vec::new(alloc),
         }
     }
@@ -38,7 +41,8 @@ impl Source {
 impl Read for Source {
     fn read(&mut self, buf: &mut [u8]) -> io::Result<usize> {
         self.rooms.push(buf.len())?;
-        if self.rooms.len() == self.failing {
+        let calls = self.rooms.len();
+        if calls == self.failing || calls == self.failing_again {
             return Err(io::Error::from(ErrorKind::Interrupted));
         }
         let rest = self.bytes.get(self.at..).unwrap_or(&[]);
@@ -142,6 +146,42 @@ fn no_read_follows_a_failed_one_or_the_end(rt: HostRuntime) -> Result<(), Fail> 
                 "by {step}, where call {failing} fails"
             );
         }
+    }
+    Ok(())
+}
+
+/// Whether a run over a reader whose first call failed before, and whose call `failing_again` fails in the
+/// run, stops there. Where none fails again it makes so many reads.
+fn stops_at_the_second_failure(alloc: Global, source: &mut Source, reads: usize) -> bool {
+    let failing_again = source.failing_again;
+    let mut taken = Vec::new(alloc);
+    let mut reader = Watched::new(&mut *source);
+    let has_failed = reader.read(&mut [0; 4]).is_err();
+    let ran = run(
+        alloc,
+        &mut reader,
+        &mut Watched::new(&mut taken),
+        ParseMode::Strict,
+    );
+    let calls = if failing_again == 0 {
+        reads
+    } else {
+        failing_again
+    };
+    has_failed && source.rooms.len() == calls && ends_by_call(&ran, &taken, failing_again)
+}
+
+#[test]
+fn no_read_follows_a_second_failed_one(rt: HostRuntime) -> Result<(), Fail> {
+    let alloc = rt.alloc();
+    // The first call fails before the run; then three give 0x100 bytes each, and the last meets the end.
+    for failing_again in [0, 2, 3, 4, 5] {
+        let mut source = Source::new(alloc, sample(alloc)?, 0x100, 1);
+        source.failing_again = failing_again;
+        assert!(rt;
+            stops_at_the_second_failure(alloc, &mut source, 5),
+            "where call {failing_again} fails"
+        );
     }
     Ok(())
 }

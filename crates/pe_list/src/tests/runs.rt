@@ -7,7 +7,7 @@ use super::sample::{
 use crate::program::run;
 use crate::watched::Watched;
 use fixture::sample::{ELSEWHERE, TABLE, TABLE_END, put, sample, sample_named};
-use goblin_base::ParseMode;
+use goblin_pe::options::ParseMode;
 use std::alloc::{AllocError, Global};
 use std::test::Fail;
 

@@ -2,7 +2,7 @@
 
 use crate::program::{RunFault, run};
 use crate::watched::Watched;
-use goblin_base::ParseMode;
+use goblin_pe::options::ParseMode;
 use std::alloc::Global;
 
 /// The line of the sample file's header.

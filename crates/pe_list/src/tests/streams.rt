@@ -4,7 +4,7 @@ use super::sample::{LISTING, is_input_fault, is_output_fault};
 use crate::program::{RunFault, run};
 use crate::watched::Watched;
 use fixture::sample::{SAMPLE_LEN, sample};
-use goblin_base::ParseMode;
+use goblin_pe::options::ParseMode;
 use std::alloc::Global;
 use std::io;
 use std::io::{ErrorKind, Read, Write};

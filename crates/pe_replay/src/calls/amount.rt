@@ -35,6 +35,13 @@ impl<T: Amount> Amount for Vec<T> {
     }
 }
 
+/// A slot is one.
+impl Amount for usize {
+    fn amount(&self) -> usize {
+        1
+    }
+}
+
 impl<T: Amount> Amount for Option<T> {
     fn amount(&self) -> usize {
         match self {
@@ -71,14 +78,14 @@ impl Amount for WindowIndex {
 
 impl<V> Amount for Table<V> {
     fn amount(&self) -> usize {
-        self.as_slice().len()
+        self.len()
     }
 }
 
 /// How many addresses it has.
 impl Amount for SyntheticImportDirectoryEntry<'_> {
     fn amount(&self) -> usize {
-        self.import_address_table.as_slice().len()
+        self.import_address_table.len()
     }
 }
 
@@ -99,7 +106,7 @@ impl Amount for Import<'_> {
 /// How many addresses it has.
 impl Amount for ExportData<'_> {
     fn amount(&self) -> usize {
-        self.export_address_table.as_slice().len()
+        self.export_address_table.len()
     }
 }
 

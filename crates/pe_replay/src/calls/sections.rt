@@ -28,6 +28,7 @@ fn parts_seen(alloc: Global, file: &[u8], word: &str, opts: &Option<ParseOptions
         "clone_with_empty_name" => clone_of(alloc, Some(String::new(alloc))),
         "clone_with_short_name" => clone_of(alloc, None),
         "data" => data_seen(alloc, 6, 4),
+        "data_of_32_mib" => data_seen(alloc, 1 << 25, 4),
         "data_without_zeros" => data_seen(alloc, 4, 4),
         "data_past_the_file" => data_seen(alloc, 6, 13),
         "strings" => strings_seen(alloc, 1),

@@ -1,6 +1,6 @@
 -- The blocks that are counted, and those that are left, are all blocks.
 use Rattle.std.proofs.Common.{◌≡◌, ◌+◌}
-use Rattle.goblin_pe_sect.specs.BaseRelocations.{block_items, blocks_left, relocation_bytes}
+use Rattle.goblin_pe.specs.BaseRelocations.{block_items, blocks_left, relocation_bytes}
 use Rattle.pe_list.specs.Lines.{block_count}
 use Rattle.pe_list.proofs.lines.block_count.Given as goal
 

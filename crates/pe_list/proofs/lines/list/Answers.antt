@@ -1,6 +1,6 @@
 use Rattle.std.proofs.Common.{ap, ◌∙◌}
 use Rattle.std.proofs.lemmas.Result.{err_from_is_err_and}
-use Rattle.goblin_pe_sect.specs.declared.options.ParseOptions.{ParseOptions}
+use Rattle.goblin_pe.specs.declared.options.ParseOptions.{ParseOptions}
 use Rattle.pe_list.proofs.Headers.{header_by}
 use Rattle.pe_list.proofs.lines.list.Goals as goal
 

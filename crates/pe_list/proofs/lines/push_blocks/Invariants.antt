@@ -1,7 +1,7 @@
 -- What is printed so far, and what is printed of the blocks that are left, are all lines.
 use Rattle.std.proofs.Common.{◌≡◌, ◌++◌, string_bytes}
 use Rattle.std.specs.List.{flat_map}
-use Rattle.goblin_pe_sect.specs.BaseRelocations.{block_items, blocks_left, relocation_bytes}
+use Rattle.goblin_pe.specs.BaseRelocations.{block_items, blocks_left, relocation_bytes}
 use Rattle.pe_list.specs.Lines.{block_line}
 use Rattle.pe_list.proofs.lines.push_blocks.Given as goal
 

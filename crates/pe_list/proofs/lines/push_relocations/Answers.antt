@@ -1,7 +1,7 @@
 use Rattle.std.proofs.Common.{◌++◌, ap, ◌∙◌}
 use Rattle.std.specs.Prelude.{codes, ℕ, string_bytes}
 use Rattle.std.specs.List.{flat_map}
-use Rattle.goblin_pe_sect.specs.BaseRelocations.{block_items, relocation_bytes}
+use Rattle.goblin_pe.specs.BaseRelocations.{block_items, relocation_bytes}
 use Rattle.goblin_pe.specs.Whole.{part_map}
 use Rattle.pe_list.specs.Lines.{block_count, block_line, part_lines}
 use Rattle.pe_list.specs.Text.{decimal_field}

@@ -1,9 +1,9 @@
 use Rattle.std.proofs.Common.{◌++◌, ap, ◌∙◌}
 use Rattle.std.specs.Prelude.{codes, List, string_bytes, length}
-use Rattle.goblin_pe_sect.specs.SectionTable.{Section}
+use Rattle.goblin_pe.specs.SectionTable.{Section}
 use Rattle.std.specs.List.{flat_map}
-use Rattle.goblin_pe_head.specs.PeHeader.{header_value}
-use Rattle.goblin_pe_sect.specs.BaseRelocations.{relocation_bytes}
+use Rattle.goblin_pe.specs.PeHeader.{header_value}
+use Rattle.goblin_pe.specs.BaseRelocations.{relocation_bytes}
 use Rattle.goblin_pe.specs.Whole.{items_part, part_map}
 use Rattle.pe_list.specs.Lines.{export_line, header_line, import_line, part_lines, relocation_lines, section_line, whole_lines}
 use Rattle.pe_list.proofs.Pushed.{pushed, pushed_last}
