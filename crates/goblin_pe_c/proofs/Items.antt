@@ -3,16 +3,13 @@ use Rattle.std.proofs.Common.{◌≡◌, ℕ, suc, ◌+◌, ◌/◌, ◌<◌, �
 use Rattle.std.specs.Prelude.{Result, Ok, Err}
 use Rattle.std.proofs.lemmas.Bool.{cases_lt}
 use Rattle.std.proofs.Math.ListN.{drop_of_length-le}
-use Rattle.std.proofs.lemmas.List.{append_assoc, append-nil, drop-set-lt, length-append, length-drop, length-map, length-set, map-append, set_past, take-append-le, take_all, take_more_set}
+use Rattle.std.proofs.lemmas.List.{append_assoc, append-nil, drop-set-lt, length-append, length-map, length-set, map-append, set_past, take-append-le, take_all, take_more_set}
 use Rattle.std.proofs.lemmas.Grind.{drop_more_same}
 use Rattle.goblin_base.specs.declared.error.ErrorOf.{ErrorOf}
-use Rattle.goblin_pe_sect.specs.BaseRelocations.{block_items}
 use Rattle.goblin_pe_sect.specs.Symbols.{SymbolItem, symbols_in}
 use Rattle.goblin_pe_sect.proofs.SymbolHeads.{symbols_most}
-use Rattle.goblin_pe_sect.proofs.BlockItems.{items_most}
 use Rattle.goblin_base.proofs.RecordItems.{record_items-none}
 use Rattle.goblin_pe_head.specs.RichMetadata.{metadata_at, metadata_items}
-use Rattle.goblin_pe_head.proofs.RichEntries.{length_items}
 use Rattle.goblin_pe_c.specs.declared.fault.PeFault.{PeFault}
 use Rattle.goblin_pe_c.specs.Faults.{fault_of, no_fault}
 use Rattle.goblin_pe_c.specs.Filled.{Filled}
@@ -65,11 +62,11 @@ items-start {R} {B} view items left old is =
     let none : take (length old) no ≡ no = take_all (length old) no (omega arith) in
     record { done = []; values = ap (λ (xs : List (Result B ErrorOf)). values_of xs) (sym is); rest = ap (λ (xs : List (Result B ErrorOf)). rest_of xs) (sym is); counted = refl; filled = (sym none, refl); same = refl }
 
-values-ok : {B : Type 0} (left more : List (Result B ErrorOf)) (b : B) → left ≡ Ok b ∷ more → values_of left ≡ b ∷ values_of more
+pub values-ok : {B : Type 0} (left more : List (Result B ErrorOf)) (b : B) → left ≡ Ok b ∷ more → values_of left ≡ b ∷ values_of more
 unfolding values_of
 values-ok left more b h = rw h refl
 
-rest-ok : {B : Type 0} (left more : List (Result B ErrorOf)) (b : B) → left ≡ Ok b ∷ more → rest_of left ≡ rest_of more
+pub rest-ok : {B : Type 0} (left more : List (Result B ErrorOf)) (b : B) → left ≡ Ok b ∷ more → rest_of left ≡ rest_of more
 unfolding rest_of
 rest-ok left more b h = rw h refl
 
@@ -94,22 +91,17 @@ no-more {R} {B} view items left old records count h none =
     let all : values_of items ≡ h.done = h.values ∙ ap (λ (xs : List B). h.done ++ xs) none ∙ append-nil h.done in
     record { filled = rw all h.filled; counted = sym h.counted ∙ ap (λ (xs : List B). length xs) (sym all); rest = sym h.rest }
 
-nothing : {B : Type 0} (left : List (Result B ErrorOf)) → left ≡ [] → (values_of left ≡ []) × (rest_of left ≡ no_fault)
+pub nothing : {B : Type 0} (left : List (Result B ErrorOf)) → left ≡ [] → (values_of left ≡ []) × (rest_of left ≡ no_fault)
 unfolding values_of rest_of
 nothing left h = (rw h refl, rw h refl)
 
-refused : {B : Type 0} (left more : List (Result B ErrorOf)) (e : ErrorOf) → left ≡ Err e ∷ more → (values_of left ≡ []) × (rest_of left ≡ fault_of e)
+pub refused : {B : Type 0} (left more : List (Result B ErrorOf)) (e : ErrorOf) → left ≡ Err e ∷ more → (values_of left ≡ []) × (rest_of left ≡ fault_of e)
 unfolding values_of rest_of
 refused left more e h = (rw h refl, rw h refl)
 
 pub items-end : {R B : Type 0} (view : R → B) (items left : List (Result B ErrorOf)) (old records : List R) (count : ℕ) → IsFillingItems view items left old records count → left ≡ [] → AreFilledItems view items old records count no_fault
 items-end view items left old records count h is =
     let none = nothing left is in
-    subst (AreFilledItems view items old records count) none.1 (no-more view items left old records count h none.0)
-
-pub items-refused : {R B : Type 0} (view : R → B) (items left more : List (Result B ErrorOf)) (old records : List R) (count : ℕ) (e : ErrorOf) → IsFillingItems view items left old records count → left ≡ Err e ∷ more → AreFilledItems view items old records count (fault_of e)
-items-refused view items left more old records count e h is =
-    let none = refused left more e is in
     subst (AreFilledItems view items old records count) none.1 (no-more view items left old records count h none.0)
 
 -- there are no more values than items
@@ -127,17 +119,6 @@ count-below {R} {B} view items left more old records count b h is =
     let left_count : length (values_of left) ≡ suc (length (values_of more)) = ap (λ (xs : List B). length xs) (values-ok left more b is) in
     let counted = h.counted in
     omega (arith, few, total, left_count, counted)
-
--- there are no more blocks than bytes
-pub blocks_below : (directory : List ℕ) → length (block_items directory 0) ≤ length directory + 1
-blocks_below directory = let most = items_most directory 0 in omega (arith, most)
-
--- there are no more entries than bytes
-pub entries_below : (key padding : ℕ) (bytes : List ℕ) → length (metadata_items key (drop padding bytes)) ≤ length bytes + 1
-entries_below key padding bytes =
-    let most = length_items key (drop padding bytes) in
-    let left = length-drop padding bytes in
-    omega (arith, most, left)
 
 -- nothing follows more padding than there are data
 pub no-entries : (key padding : ℕ) (bytes : List ℕ) → length bytes < padding → metadata_items key (drop padding bytes) ≡ []

@@ -7,6 +7,7 @@ use Rattle.goblin_pe.specs.Whole.{WholeFile}
 use Rattle.goblin_pe_c.specs.declared.file.PeTable.{PeTable}
 use Rattle.goblin_pe_c.specs.declared.file.PeFile.{PeFile}
 use Rattle.goblin_pe_c.specs.Blocks.{relocations_of}
+use Rattle.goblin_pe_c.specs.Directories.{directories_of}
 use Rattle.goblin_pe_c.specs.Headers.{coff_record, dos_record, optional_record}
 use Rattle.goblin_pe_c.specs.RichHeaders.{rich_of}
 
@@ -25,6 +26,7 @@ table_of Refused = record { count = 0; state = 2 }
 abbrev pub file_of : WholeFile → PeFile
 file_of w = record {
   optional_header = optional_record w.header.optional_header;
+  directories = length (directories_of w.header.optional_header);
   sections = length w.sections;
   imports = table_of w.imports;
   exports = table_of w.exports;

@@ -5,12 +5,13 @@ pub mod Exports
 pub mod Faults
 pub mod Files
 pub mod Filled
+pub mod Footprints
 pub mod Headers
 pub mod Imports
 pub mod Items
 pub mod Objects
+pub mod Opened
 pub mod Options
-pub mod Reads
 pub mod RichHeaders
 pub mod Sections
 pub mod Symbols

@@ -1,5 +1,5 @@
 -- What a call says of an object.
-use Rattle.std.specs.Prelude.{◌≡◌, ℕ, ◌+◌, Bool, List, [], length, map, Option, None, Some}
+use Rattle.std.specs.Prelude.{◌≡◌, ℕ, ◌+◌, ◌/◌, ◌<◌, ◌≤◌, Bool, List, [], length, map, Option, None, Some}
 use Rattle.goblin_base.specs.declared.endian.Endian.TheVariants.{Little}
 use Rattle.goblin_base.specs.declared.error.ErrorOf.{ErrorOf}
 use Rattle.goblin_base.specs.Answers.{◌>>=◌, FirstFault, IsSliceFault}
@@ -35,6 +35,10 @@ IsObjectSectionsFault strict bytes h = IsSectionsFault strict (symbols_end h) h.
 -- the header at the front of a file
 abbrev pub object_header : List ℕ → Option CoffHeader
 object_header bytes = record_at 20 (coff_header Little) bytes 0
+
+-- memory is taken for sections alone, and only where the file has room for as many
+abbrev pub TakesMemory : List ℕ → CoffHeader → Type 0
+TakesMemory bytes h = (0 < h.number_of_sections) × (h.number_of_sections ≤ length bytes / 40)
 
 -- the header stands at the front of the file
 unfoldable pub object_file : Bool → List ℕ → Option ObjectFile

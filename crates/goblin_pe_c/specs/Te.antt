@@ -1,5 +1,5 @@
 -- What a call says of a Terse Executable.
-use Rattle.std.specs.Prelude.{◌≡◌, ℕ, List, map, Option, Some}
+use Rattle.std.specs.Prelude.{◌≡◌, ℕ, ◌/◌, ◌<◌, ◌≤◌, List, length, map, Option, Some}
 use Rattle.goblin_base.specs.declared.error.ErrorOf.{ErrorOf}
 use Rattle.goblin_base.specs.Answers.{◌>>=◌, FirstFault}
 use Rattle.goblin_pe_sect.specs.SectionTable.{Section}
@@ -21,6 +21,10 @@ te_image bytes = do
   header ← te_header bytes 0
   sections ← te_sections_at header bytes 40
   Some (record { header = header; sections = sections })
+
+-- memory is taken for sections alone, and only where the file has room for as many
+abbrev pub TakesMemory : List ℕ → TeHeader → Type 0
+TakesMemory bytes h = (0 < h.number_of_sections) × (h.number_of_sections ≤ length bytes / 40)
 
 -- which cause is true of an image that is refused: that of the first part that is not there
 unfoldable pub IsImageFault : List ℕ → ErrorOf → Type 0

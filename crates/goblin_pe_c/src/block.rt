@@ -1,17 +1,17 @@
 //! The records of base relocation blocks.
 
-ghost use Rattle.std.specs.Prelude.{◌≡◌, length};
+ghost use Rattle.std.specs.Prelude.{◌≡◌, IfErr, IfOk, map};
+ghost use Rattle.goblin_base.specs.Answers.{IsMemory};
 ghost use Rattle.goblin_pe_sect.specs.BaseRelocations.{block_items, block_value, relocation_bytes};
 ghost use Rattle.goblin_pe.specs.Whole.{part_map};
-ghost use Rattle.goblin_pe_c.specs.Filled.{Filled};
 ghost use Rattle.goblin_pe_c.specs.Items.{rest_of, values_of};
 ghost use Rattle.goblin_pe_c.specs.Blocks.{block_view, blocks_in, relocations_of};
 
 use crate::fault::{PeFault, fault_of, no_fault};
 use crate::file::PeTable;
-use crate::filled::put;
-use goblin_pe::Part;
 use goblin_pe::relocation::{RelocationBlock, RelocationData};
+use goblin_pe::{Part, Result};
+use std::alloc::Global;
 
 /// A block of base relocations, for one page of the image in memory.
 #[repr(C)]
@@ -47,47 +47,46 @@ fn block_record<'a>(block: &RelocationBlock<'a>) -> PeBlock<'a>
     }
 }
 
-// Fills the records of the blocks of a directory, as far as there is room, and answers how many there
-// are, and why a rest is none.
-#[tactic(auto, using(crate::proofs::Items::blocks_below))]
-fn fill_items<'a>(records: &mut [PeBlock<'a>], relocations: &RelocationData<'a>) -> (usize, PeFault)
-    ensures filled { Filled block_view (values_of (block_items (relocation_bytes relocations.now) 0)) records.old records.new }
-    ensures count { result.0 ≡ length (values_of (block_items (relocation_bytes relocations.now) 0)) }
-    ensures rest { result.1 ≡ rest_of (block_items (relocation_bytes relocations.now) 0) }
+// The records of the blocks of a directory, and why a rest is none.
+fn item_records<'a>(
+    alloc: Global,
+    relocations: &RelocationData<'a>,
+) -> Result<(Vec<PeBlock<'a>>, PeFault)>
+    ensures refused { IfErr result IsMemory }
+    ensures values { IfOk result (λ made. map block_view made.0.items ≡ values_of (block_items (relocation_bytes relocations.now) 0)) }
+    ensures rest { IfOk result (λ made. made.1 ≡ rest_of (block_items (relocation_bytes relocations.now) 0)) }
 {
-    let mut count = 0usize;
+    let mut records = Vec::new(alloc);
     'blocks: for block in relocations.blocks() {
         match block {
-            Ok(block) => {
-                put(records, count, block_record(&block));
-                count += 1;
-            }
-            Err(error) => return (count, fault_of(&error)),
+            Ok(block) => records.push(block_record(&block))?,
+            Err(error) => return Ok((records, fault_of(&error))),
         }
     }
-    (count, no_fault())
+    Ok((records, no_fault()))
 }
 
-/// Fills the records of base relocation blocks, as far as there is room, and answers what is said of
-/// them as a whole.
+/// The records of base relocation blocks, in memory of their own, and what is said of them as a whole.
 #[tactic(auto, unfolding(goblin_pe::specs::Whole::part_map))]
-pub fn fill_blocks<'a>(
-    records: &mut [PeBlock<'a>],
+pub fn block_records<'a>(
+    alloc: Global,
     relocations: &Part<RelocationData<'a>>,
-) -> PeRelocations
-    ensures filled { Filled block_view (blocks_in (part_map relocation_bytes relocations.now)) records.old records.new }
-    ensures value { result ≡ relocations_of (part_map relocation_bytes relocations.now) }
+) -> Result<(Vec<PeBlock<'a>>, PeRelocations)>
+    ensures refused { IfErr result IsMemory }
+    ensures values { IfOk result (λ made. map block_view made.0.items ≡ blocks_in (part_map relocation_bytes relocations.now)) }
+    ensures said { IfOk result (λ made. made.1 ≡ relocations_of (part_map relocation_bytes relocations.now)) }
 {
-    let (count, state, rest) = match relocations {
-        Part::Absent => (0, 0, no_fault()),
+    let (records, state, rest) = match relocations {
+        Part::Absent => (Vec::new(alloc), 0, no_fault()),
         Part::Read(relocations) => {
-            let (count, rest) = fill_items(records, relocations);
-            (count, 1, rest)
+            let (records, rest) = item_records(alloc, relocations)?;
+            (records, 1, rest)
         }
-        Part::Refused => (0, 2, no_fault()),
+        Part::Refused => (Vec::new(alloc), 2, no_fault()),
     };
-    PeRelocations {
-        blocks: PeTable { count, state },
-        rest,
-    }
+    let blocks = PeTable {
+        count: records.len(),
+        state,
+    };
+    Ok((records, PeRelocations { blocks, rest }))
 }

@@ -1,10 +1,12 @@
 //! The records of exports.
 
 ghost use Rattle.std.specs.Prelude.{◌≡◌, map};
-ghost use Rattle.goblin_pe_c.specs.Filled.{Filled};
+ghost use Rattle.goblin_base.specs.Answers.{GivesOrMemory};
 ghost use Rattle.goblin_pe_c.specs.Exports.{export_said, export_view};
 
+use goblin_pe::Result;
 use goblin_pe::export::{Export, Reexport};
+use std::alloc::Global;
 
 /// An export.
 #[repr(C)]
@@ -60,12 +62,14 @@ fn export_record<'a>(export: &Export<'a>) -> PeExport<'a>
     }
 }
 
-/// Fills the records of exports, as far as there is room.
-pub fn fill_exports<'a>(records: &mut [PeExport<'a>], exports: &[Export<'a>])
-    ensures { Filled export_view (map export_said exports.now) records.old records.new }
+/// The records of exports, in memory of their own.
+pub fn export_records<'a>(alloc: Global, exports: &[Export<'a>]) -> Result<Vec<PeExport<'a>>>
+    ensures { GivesOrMemory (λ v. map export_view v.items) result (map export_said exports.now) }
 {
-    let count = exports.len().min(records.len());
+    let count = exports.len();
+    let mut records = Vec::with_capacity(alloc, count)?;
     'records: for i in 0..count {
-        records[i] = export_record(&exports[i]);
+        records.push(export_record(&exports[i]))?;
     }
+    Ok(records)
 }

@@ -19,6 +19,8 @@ const CAUSES: usize = 33;
 // No text of a refusal that numbers say is longer.
 const TEXT_ROOM: usize = 160;
 
+const _: () = prove!(TEXT_ROOM == 160);
+
 /// Why a call gave no value, in numbers; the status 0 is that it gave one.
 #[repr(C)]
 #[derive(Copy, Clone)]

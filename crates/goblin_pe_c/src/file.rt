@@ -7,6 +7,7 @@ ghost use Rattle.goblin_pe_c.specs.Files.{file_of, table_of};
 ghost use Rattle.goblin_pe_c.specs.RichHeaders.{rich_of};
 
 use crate::block::PeRelocations;
+use crate::directory::directories_of;
 use crate::headers::{
     PeCoffHeader, PeDosHeader, PeOptionalHeader, coff_record, dos_record, optional_record,
 };
@@ -29,6 +30,9 @@ pub struct PeTable {
 pub struct PeFile {
     /// The optional header.
     pub optional_header: PeOptionalHeader,
+    /// How many data directories there are, whatever the room: sixteen, or none where there is no
+    /// optional header.
+    pub directories: usize,
     /// How many sections there are, whatever the room.
     pub sections: usize,
     /// The imports.
@@ -69,6 +73,7 @@ pub fn file_of(whole: &Whole, relocations: PeRelocations, rich_header: PeRichHea
     let header = &whole.header;
     PeFile {
         optional_header: optional_record(&header.optional_header),
+        directories: directories_of(&header.optional_header).len(),
         sections: whole.sections.len(),
         imports: table_of(&whole.imports),
         exports: table_of(&whole.exports),

@@ -1,10 +1,13 @@
 //! The records of imports.
 
 ghost use Rattle.std.specs.Prelude.{◌≡◌, map};
-ghost use Rattle.goblin_pe_c.specs.Filled.{Filled, alone};
+ghost use Rattle.goblin_base.specs.Answers.{GivesOrMemory};
+ghost use Rattle.goblin_pe_c.specs.Filled.{alone};
 ghost use Rattle.goblin_pe_c.specs.Imports.{import_view, with_ordinal_name};
 
+use goblin_pe::Result;
 use goblin_pe::import::Import;
+use std::alloc::Global;
 use std::borrow::CowStr;
 
 /// An import.
@@ -52,12 +55,14 @@ fn import_record<'a>(import: &Import<'a>) -> PeImport<'a>
     }
 }
 
-/// Fills the records of imports, as far as there is room.
-pub fn fill_imports<'a>(records: &mut [PeImport<'a>], imports: &[Import<'a>])
-    ensures { Filled import_view (map (λ x. alone (with_ordinal_name x)) imports.now) records.old records.new }
+/// The records of imports, in memory of their own.
+pub fn import_records<'a>(alloc: Global, imports: &[Import<'a>]) -> Result<Vec<PeImport<'a>>>
+    ensures { GivesOrMemory (λ v. map import_view v.items) result (map (λ x. alone (with_ordinal_name x)) imports.now) }
 {
-    let count = imports.len().min(records.len());
+    let count = imports.len();
+    let mut records = Vec::with_capacity(alloc, count)?;
     'records: for i in 0..count {
-        records[i] = import_record(&imports[i]);
+        records.push(import_record(&imports[i]))?;
     }
+    Ok(records)
 }

@@ -1,7 +1,8 @@
 //! PE files for callers that are not written in Rattle: a static library with a flat interface.
 //!
-//! A call borrows the caller's bytes and fills the caller's records. Each text in a record is a slice
-//! of those bytes, so nothing is copied, and nothing has to be freed.
+//! A call borrows the caller's bytes. Each text in a record is a slice of those bytes, so no text is
+//! copied. The tables of a whole file, and the bytes on which its imports depend, are handed over as memory
+//! that the caller frees; the other calls fill the caller's records.
 #![tactic(auto)]
 
 mod block;
@@ -10,12 +11,13 @@ mod export;
 mod fault;
 mod file;
 mod filled;
+mod footprint;
 mod headers;
 mod import;
 mod mapping;
 mod object;
+mod open;
 mod options;
-mod read;
 mod rich;
 mod section;
 mod symbol;

@@ -11,8 +11,8 @@ use goblin_pe::options::ParseOptions;
 use goblin_pe::section_table::SectionTable;
 use goblin_pe::utils::find_offset;
 
-// The section of a record, without its name from the string table, which no mapping asks for.
-fn section_of(section: &PeSection) -> SectionTable
+/// The section of a record, without its name from the string table, which no mapping asks for.
+pub fn section_of(section: &PeSection) -> SectionTable
     ensures { result ≡ unnamed (section_view section.now) }
 {
     SectionTable {

@@ -1,12 +1,12 @@
 //! The call that reads an object.
 
-ghost use Rattle.std.specs.Prelude.{◌+◌, ◌≡◌, IfErr, IsSome, Some, map, option_map};
+ghost use Rattle.std.specs.Prelude.{◌+◌, ◌≡◌, IfErr, IsSomeAnd, Some, map, option_map};
 ghost use Rattle.goblin_base.specs.Answers.{AnswersOrMemory, IsMemory};
 ghost use Rattle.goblin_pe_sect.specs.Options.{is_strict};
 ghost use Rattle.goblin_pe_sect.specs.Symbols.{table_bytes};
 ghost use Rattle.goblin_pe_c.specs.Calls.{Reads, Reported};
 ghost use Rattle.goblin_pe_c.specs.Filled.{Filled, alone};
-ghost use Rattle.goblin_pe_c.specs.Objects.{IsObjectFault, IsObjectSectionsFault, ObjectRecords, SaysObject, object_file, object_header, object_record, object_sections, symbols_table, symbol_rows};
+ghost use Rattle.goblin_pe_c.specs.Objects.{IsObjectFault, IsObjectSectionsFault, ObjectRecords, SaysObject, TakesMemory, object_file, object_header, object_record, object_sections, symbols_table, symbol_rows};
 ghost use Rattle.goblin_pe_c.specs.Options.{options_of};
 ghost use Rattle.goblin_pe_c.specs.Sections.{section_said};
 ghost use Rattle.goblin_pe_c.specs.Symbols.{symbol_view};
@@ -62,14 +62,16 @@ impl<'a> Model for Object<'a> {
 }
 
 // The sections of an object with this header, whose records follow the optional header.
+#[tactic(auto, using(crate::proofs::Refusals::sections_take))]
 fn sections_of(
     alloc: Global,
     bytes: &[u8],
     header: &CoffHeader,
     opts: &ParseOptions,
 ) -> Result<Vec<SectionTable>>
-    ensures { let strict = is_strict opts.now.parse_mode in
+    ensures value { let strict = is_strict opts.now.parse_mode in
         AnswersOrMemory (λ v. v.items) result (object_sections strict bytes.now header.now) (IsObjectSectionsFault strict bytes.now header.now) }
+    ensures grown { IfErr result (λ e. IsMemory e → TakesMemory bytes.now header.now) }
 {
     let mut offset = after_optional_header(header.size_of_optional_header);
     header.sections_with_opts(alloc, bytes, &mut offset, opts)
@@ -88,7 +90,7 @@ impl<'a> Object<'a> {
     fn read(alloc: Global, bytes: &'a [u8], opts: &ParseOptions) -> Result<Object<'a>>
         ensures value { let strict = is_strict opts.now.parse_mode in
             AnswersOrMemory (λ x. x) result (object_file strict bytes.now) (IsObjectFault strict bytes.now) }
-        ensures grown { IfErr result (λ e. IsMemory e → IsSome (object_header bytes.now)) }
+        ensures grown { IfErr result (λ e. IsMemory e → IsSomeAnd (object_header bytes.now) (TakesMemory bytes.now)) }
     {
         let header = CoffHeader::parse(bytes, &mut 0)?;
         let sections = sections_of(alloc, bytes, &header, opts)?;
@@ -157,7 +159,7 @@ fn read<'a>(
     ensures { let old : ObjectRecords = record { object = object.old; sections = sections.old; symbols = symbols.old } in
         let new : ObjectRecords = record { object = object.new; sections = sections.new; symbols = symbols.new } in
         let strict = is_strict opts.now.parse_mode in
-        Reads (object_header bytes.now) (object_file strict bytes.now) (IsObjectFault strict bytes.now) (λ x. SaysObject x old new) (new ≡ old) result }
+        Reads (object_header bytes.now) (TakesMemory bytes.now) (object_file strict bytes.now) (IsObjectFault strict bytes.now) (λ x. SaysObject x old new) (new ≡ old) result }
 {
     let whole = Object::read(alloc, bytes, opts)?;
     fill(&whole, bytes, opts, object, sections, symbols);
@@ -166,7 +168,8 @@ fn read<'a>(
 
 /// Reads an object, which begins with a COFF header: says in `object` what it is, and fills the records
 /// of its sections and symbols as far as there is room. After a refusal nothing is changed; memory is
-/// refused (the status 5) only where the header is there.
+/// refused (the status 5) only where the header says that there are sections, and the file has room for
+/// as many.
 #[unsafe(no_mangle)]
 pub extern "C" fn goblin_pe_read_object<'a>(
     alloc: Global,
@@ -179,7 +182,7 @@ pub extern "C" fn goblin_pe_read_object<'a>(
     ensures { let old : ObjectRecords = record { object = object.old; sections = sections.old; symbols = symbols.old } in
         let new : ObjectRecords = record { object = object.new; sections = sections.new; symbols = symbols.new } in
         let strict = is_strict (options_of options.now).parse_mode in
-        Reported result (Reads (object_header bytes.now) (object_file strict bytes.now) (IsObjectFault strict bytes.now) (λ x. SaysObject x old new) (new ≡ old)) }
+        Reported result (Reads (object_header bytes.now) (TakesMemory bytes.now) (object_file strict bytes.now) (IsObjectFault strict bytes.now) (λ x. SaysObject x old new) (new ≡ old)) }
 {
     let opts = options_of(options);
     match read(alloc, bytes, &opts, object, sections, symbols) {

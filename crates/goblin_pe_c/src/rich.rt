@@ -1,15 +1,16 @@
 //! The Rich header and the records of its entries.
 
-ghost use Rattle.std.specs.Prelude.{◌≡◌, drop, length, map, option_map};
+ghost use Rattle.std.specs.Prelude.{◌≡◌, IfErr, IfOk, drop, map, option_map};
+ghost use Rattle.goblin_base.specs.Answers.{IsMemory};
 ghost use Rattle.goblin_pe_head.specs.RichHeader.{rich_value};
 ghost use Rattle.goblin_pe_head.specs.RichMetadata.{metadata_items};
-ghost use Rattle.goblin_pe_c.specs.Filled.{Filled};
 ghost use Rattle.goblin_pe_c.specs.Items.{rest_of, values_of};
 ghost use Rattle.goblin_pe_c.specs.RichHeaders.{entries_in, entry_items, entry_view, rich_of};
 
 use crate::fault::{PeFault, fault_of, no_fault};
-use crate::filled::put;
+use goblin_pe::Result;
 use goblin_pe::header::{RichHeader, RichMetadata};
+use std::alloc::Global;
 
 /// An entry of the Rich header: a tool, and how often it was used.
 #[repr(C)]
@@ -54,57 +55,60 @@ fn entry_record(entry: &RichMetadata) -> PeRichEntry
     }
 }
 
-// Fills the records of the entries, as far as there is room, and answers how many there are, and why a
-// rest is none.
-fn fill_items(records: &mut [PeRichEntry], rich: &RichHeader) -> (usize, PeFault)
-    ensures filled { Filled entry_view (values_of (entry_items (rich_value rich.now))) records.old records.new }
-    ensures count { result.0 ≡ length (values_of (entry_items (rich_value rich.now))) }
-    ensures rest { result.1 ≡ rest_of (entry_items (rich_value rich.now)) }
+// The records of the entries, and why a rest is none.
+fn item_records(alloc: Global, rich: &RichHeader) -> Result<(Vec<PeRichEntry>, PeFault)>
+    ensures refused { IfErr result IsMemory }
+    ensures values { IfOk result (λ made. map entry_view made.0.items ≡ values_of (entry_items (rich_value rich.now))) }
+    ensures rest { IfOk result (λ made. made.1 ≡ rest_of (entry_items (rich_value rich.now))) }
 {
-    let mut count = 0usize;
+    let mut records = Vec::new(alloc);
     // No header that was read has more padding than data.
     if rich.padding_size > rich.bytes.len() {
-        return (count, no_fault());
+        return Ok((records, no_fault()));
     }
     'entries: for entry in rich.metadatas() {
         match entry {
-            Ok(entry) => {
-                put(records, count, entry_record(&entry));
-                count += 1;
-            }
-            Err(error) => return (count, fault_of(&error)),
+            Ok(entry) => records.push(entry_record(&entry))?,
+            Err(error) => return Ok((records, fault_of(&error))),
         }
     }
-    (count, no_fault())
+    Ok((records, no_fault()))
 }
 
-/// Fills the records of the entries, as far as there is room, and answers what is said of the Rich
-/// header as a whole.
-pub fn fill_entries(records: &mut [PeRichEntry], rich: &Option<RichHeader>) -> PeRichHeader
-    ensures filled { Filled entry_view (entries_in (option_map rich_value rich.now)) records.old records.new }
-    ensures value { result ≡ rich_of (option_map rich_value rich.now) }
+/// The records of the entries, in memory of their own, and what is said of the Rich header as a whole.
+pub fn entry_records(
+    alloc: Global,
+    rich: &Option<RichHeader>,
+) -> Result<(Vec<PeRichEntry>, PeRichHeader)>
+    ensures refused { IfErr result IsMemory }
+    ensures values { IfOk result (λ made. map entry_view made.0.items ≡ entries_in (option_map rich_value rich.now)) }
+    ensures said { IfOk result (λ made. made.1 ≡ rich_of (option_map rich_value rich.now)) }
 {
     match rich {
-        None => PeRichHeader {
-            entries: 0,
-            padding_size: 0,
-            rest: no_fault(),
-            key: 0,
-            start_offset: 0,
-            end_offset: 0,
-            is_present: false,
-        },
+        None => {
+            let header = PeRichHeader {
+                entries: 0,
+                padding_size: 0,
+                rest: no_fault(),
+                key: 0,
+                start_offset: 0,
+                end_offset: 0,
+                is_present: false,
+            };
+            Ok((Vec::new(alloc), header))
+        }
         Some(rich) => {
-            let (entries, rest) = fill_items(records, rich);
-            PeRichHeader {
-                entries,
+            let (records, rest) = item_records(alloc, rich)?;
+            let header = PeRichHeader {
+                entries: records.len(),
                 padding_size: rich.padding_size,
                 rest,
                 key: rich.key,
                 start_offset: rich.start_offset,
                 end_offset: rich.end_offset,
                 is_present: true,
-            }
+            };
+            Ok((records, header))
         }
     }
 }

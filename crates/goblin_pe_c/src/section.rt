@@ -2,12 +2,15 @@
 
 ghost use Rattle.std.specs.Prelude.{◌≡◌, map, option_map};
 ghost use Rattle.goblin_pe_sect.specs.Options.{is_strict};
+ghost use Rattle.goblin_base.specs.Answers.{GivesOrMemory};
 ghost use Rattle.goblin_pe_c.specs.Filled.{Filled, alone};
 ghost use Rattle.goblin_pe_c.specs.Sections.{named_in, real_name_in, section_said};
 
+use goblin_pe::Result;
 use goblin_pe::options::ParseOptions;
 use goblin_pe::read::pread_str;
 use goblin_pe::section_table::SectionTable;
+use std::alloc::Global;
 
 /// A section, as its record describes it.
 #[repr(C)]
@@ -99,4 +102,22 @@ pub fn fill_sections<'a>(
     'records: for i in 0..count {
         records[i] = section_record(bytes, &sections[i], table, opts);
     }
+}
+
+/// The records of sections, in memory of their own.
+pub fn section_records<'a>(
+    alloc: Global,
+    bytes: &'a [u8],
+    sections: &[SectionTable],
+    table: usize,
+    opts: &ParseOptions,
+) -> Result<Vec<PeSection<'a>>>
+    ensures { GivesOrMemory (λ v. map section_said v.items) result (map (λ s. alone (named_in (is_strict opts.now.parse_mode) bytes.now table s)) sections.now) }
+{
+    let count = sections.len();
+    let mut records = Vec::with_capacity(alloc, count)?;
+    'records: for i in 0..count {
+        records.push(section_record(bytes, &sections[i], table, opts))?;
+    }
+    Ok(records)
 }

@@ -1,12 +1,12 @@
 //! The call that reads a Terse Executable.
 
-ghost use Rattle.std.specs.Prelude.{◌≡◌, IfErr, IsSome, Some, map};
+ghost use Rattle.std.specs.Prelude.{◌≡◌, IfErr, IsSomeAnd, Some, map};
 ghost use Rattle.goblin_base.specs.Answers.{AnswersOrMemory, IsMemory};
 ghost use Rattle.goblin_pe_head.specs.TeHeader.{te_header};
 ghost use Rattle.goblin_pe_c.specs.Calls.{Reads, Reported};
 ghost use Rattle.goblin_pe_c.specs.Filled.{Filled, alone};
 ghost use Rattle.goblin_pe_c.specs.Sections.{section_said};
-ghost use Rattle.goblin_pe_c.specs.Te.{IsImageFault, SaysImage, TeRecords, te_header_record, te_image};
+ghost use Rattle.goblin_pe_c.specs.Te.{IsImageFault, SaysImage, TakesMemory, TeRecords, te_header_record, te_image};
 
 use crate::fault::{PeFault, fault_of, no_fault};
 use crate::section::{PeSection, fill_sections};
@@ -71,10 +71,10 @@ impl Model for Image {
 
 impl Image {
     // Reads the header at the front of a file, and the sections that follow it.
-    #[tactic(auto, unfolding(crate::specs::Te::te_image, crate::specs::Te::IsImageFault), using(crate::proofs::Refusals::te_header_there))]
+    #[tactic(auto, unfolding(crate::specs::Te::te_image, crate::specs::Te::IsImageFault), using(crate::proofs::Refusals::te_header_there, crate::proofs::Refusals::te_sections_take))]
     fn read(alloc: Global, bytes: &[u8]) -> Result<Image>
         ensures value { AnswersOrMemory (λ x. x) result (te_image bytes.now) (IsImageFault bytes.now) }
-        ensures grown { IfErr result (λ e. IsMemory e → IsSome (te_header bytes.now 0)) }
+        ensures grown { IfErr result (λ e. IsMemory e → IsSomeAnd (te_header bytes.now 0) (TakesMemory bytes.now)) }
     {
         let mut offset = 0;
         let header = TeHeader::parse(bytes, &mut offset)?;
@@ -136,7 +136,7 @@ fn read<'a>(
 ) -> Result<()>
     ensures { let old : TeRecords = record { header = header.old; sections = sections.old } in
         let new : TeRecords = record { header = header.new; sections = sections.new } in
-        Reads (te_header bytes.now 0) (te_image bytes.now) (IsImageFault bytes.now) (λ x. SaysImage x old new) (new ≡ old) result }
+        Reads (te_header bytes.now 0) (TakesMemory bytes.now) (te_image bytes.now) (IsImageFault bytes.now) (λ x. SaysImage x old new) (new ≡ old) result }
 {
     let image = Image::read(alloc, bytes)?;
     fill(&image, bytes, header, sections);
@@ -146,7 +146,7 @@ fn read<'a>(
 /// Reads the header at the front of a Terse Executable and the sections that follow it, and fills the
 /// records of sections as far as there is room; `header` says how many there are. The signature is not
 /// looked at. After a refusal nothing is changed; memory is refused (the status 5) only where the header
-/// is there.
+/// says that there are sections, and the file has room for as many.
 #[unsafe(no_mangle)]
 pub extern "C" fn goblin_pe_read_te<'a>(
     alloc: Global,
@@ -156,7 +156,7 @@ pub extern "C" fn goblin_pe_read_te<'a>(
 ) -> PeFault
     ensures { let old : TeRecords = record { header = header.old; sections = sections.old } in
         let new : TeRecords = record { header = header.new; sections = sections.new } in
-        Reported result (Reads (te_header bytes.now 0) (te_image bytes.now) (IsImageFault bytes.now) (λ x. SaysImage x old new) (new ≡ old)) }
+        Reported result (Reads (te_header bytes.now 0) (TakesMemory bytes.now) (te_image bytes.now) (IsImageFault bytes.now) (λ x. SaysImage x old new) (new ≡ old)) }
 {
     match read(alloc, bytes, header, sections) {
         Ok(()) => no_fault(),

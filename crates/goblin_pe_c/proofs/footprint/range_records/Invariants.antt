@@ -1,0 +1,6 @@
+use Rattle.std.proofs.Common.{◌≡◌, map, take}
+use Rattle.goblin_pe_c.specs.Footprints.{range_said, range_view}
+use Rattle.goblin_pe_c.proofs.footprint.range_records.Given as goal
+
+abbrev pub invariant-records : goal.invariant-records
+invariant-records l = map range_said (take l.i l.ranges) ≡ map range_view l.records.items

@@ -1,0 +1,15 @@
+use Rattle.std.proofs.Common.{arith}
+use Rattle.goblin_pe_sect.specs.Options.{is_strict}
+use Rattle.goblin_pe_c.specs.Filled.{alone}
+use Rattle.goblin_pe_c.specs.Sections.{named_in, section_said}
+use Rattle.goblin_pe_c.proofs.Making.{making-start, making-next, making-end}
+use Rattle.goblin_pe_c.proofs.section.section_records.Goals as goal
+
+pub records-init : goal.records-init
+records-init c = making-start section_said (λ s. alone (named_in (is_strict c.args.opts.now.parse_mode) c.args.bytes.now c.args.table s)) c.args.sections.now _ c.in_ok-records.ensures.items
+
+pub records-preserved : goal.records-preserved
+records-preserved c = making-next _ _ _ _ _ _ _ _ c.records.invariant (omega (arith, c.records-test.true)) c.index-sections-i.is c.section_record.ensures c.in_ok-push.ensures.items
+
+pub returns : goal.returns
+returns c = making-end _ _ _ _ _ c.records.invariant (omega (arith, c.records-test.false))

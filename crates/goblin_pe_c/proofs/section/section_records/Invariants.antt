@@ -1,0 +1,8 @@
+use Rattle.std.proofs.Common.{◌≡◌, map, take}
+use Rattle.goblin_pe_sect.specs.Options.{is_strict}
+use Rattle.goblin_pe_c.specs.Filled.{alone}
+use Rattle.goblin_pe_c.specs.Sections.{named_in, section_said}
+use Rattle.goblin_pe_c.proofs.section.section_records.Given as goal
+
+abbrev pub invariant-records : goal.invariant-records
+invariant-records l = map (λ s. alone (named_in (is_strict l.opts.parse_mode) l.bytes l.table s)) (take l.i l.sections) ≡ map section_said l.records.items

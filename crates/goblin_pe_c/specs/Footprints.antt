@@ -1,0 +1,35 @@
+-- Which bytes of a file its imports depend on, as a call tells them.
+use Rattle.std.specs.Prelude.{◌≡◌, ℕ, ◌-◌, if◌then◌else◌, List, [], map, Result, Ok, Err}
+use Rattle.goblin_base.specs.declared.error.ErrorOf.{ErrorOf}
+use Rattle.goblin_base.specs.Answers.{IsMemory}
+use Rattle.goblin_base.specs.Footprints.{Range}
+use Rattle.goblin_pe_sect.specs.declared.options.ParseOptions.{ParseOptions}
+use Rattle.goblin_pe_sect.specs.Mapping.{file_offset}
+use Rattle.goblin_pe_sect.specs.Options.{is_strict}
+use Rattle.goblin_pe_sect.specs.SectionTable.{Section}
+use Rattle.goblin_pe.specs.ImportFootprints.{import_footprint}
+use Rattle.goblin_pe.specs.Whole.{entry_format}
+use Rattle.goblin_pe_c.specs.declared.directory.PeDirectory.{PeDirectory}
+use Rattle.goblin_pe_c.specs.declared.footprint.PeRange.{PeRange}
+use Rattle.goblin_pe_c.specs.declared.footprint.PeRanges.{PeRanges}
+use Rattle.goblin_pe_c.specs.declared.headers.PeOptionalHeader.{PeOptionalHeader}
+
+-- what a record says of a range: its first position, and how many there are
+abbrev pub range_view : PeRange → ℕ × ℕ
+range_view r = (r.offset, r.length)
+
+-- the same of the positions from the first number on and before the second
+abbrev pub range_said : Range → ℕ × ℕ
+range_said range = (range.0, range.1 - range.0)
+
+-- the footprint of the imports to which a directory leads, if there is one, in a file with this optional header and these sections
+unfoldable pub footprint_by : ParseOptions → PeOptionalHeader → PeDirectory → List Section → List ℕ → List Range
+footprint_by opts header directory sections bytes =
+    if directory.is_present
+    then import_footprint (is_strict opts.parse_mode) (entry_format header.magic) (file_offset opts sections header.file_alignment) bytes directory.virtual_address
+    else []
+
+-- A call lists the ranges of a footprint, or memory was refused, and all is left as it was.
+abbrev pub Lists : List Range → PeRanges → PeRanges → Result Unit ErrorOf → Type 0
+Lists footprint old new (Ok x) = map range_view new.ranges.now ≡ map range_said footprint
+Lists footprint old new (Err e) = IsMemory e × (new ≡ old)

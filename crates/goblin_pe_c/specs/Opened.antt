@@ -1,0 +1,41 @@
+-- What the tables of a whole file say that stand in memory of their own.
+use Rattle.std.specs.Prelude.{◌≡◌, ◌≤◌, ◌/◌, List, ℕ, length, map}
+use Rattle.goblin_pe_head.specs.PeHeader.{PeHeader}
+use Rattle.goblin_pe.specs.Whole.{WholeFile}
+use Rattle.goblin_pe_c.specs.declared.directory.PeDirectory.{PeDirectory}
+use Rattle.goblin_pe_c.specs.declared.file.PeFile.{PeFile}
+use Rattle.goblin_pe_c.specs.declared.open.PeTables.{PeTables}
+use Rattle.goblin_pe_c.specs.Blocks.{block_view, blocks_in}
+use Rattle.goblin_pe_c.specs.Directories.{directories_of, directory_record}
+use Rattle.goblin_pe_c.specs.Exports.{export_said, export_view}
+use Rattle.goblin_pe_c.specs.Files.{entries_of, file_of}
+use Rattle.goblin_pe_c.specs.Filled.{Filled, alone}
+use Rattle.goblin_pe_c.specs.Imports.{import_view}
+use Rattle.goblin_pe_c.specs.RichHeaders.{entries_in, entry_view}
+use Rattle.goblin_pe_c.specs.Sections.{section_said}
+
+-- the file has room for as many sections as its header says
+abbrev pub HasRoom : List ℕ → PeHeader → Type 0
+HasRoom bytes h = h.coff_header.number_of_sections ≤ length bytes / 40
+
+-- what a caller hands in to be filled
+pub record Opened : Type 0 where
+  pub file : PeFile
+  pub directories : List PeDirectory
+  pub tables : PeTables
+
+-- the tables are those of a file, each whole
+abbrev pub AreTablesOf : WholeFile → PeTables → Type 0
+AreTablesOf w t =
+    (map entry_view t.rich_entries.now ≡ entries_in w.header.rich_header)
+    × (map section_said t.sections.now ≡ map alone w.sections)
+    × (map import_view t.imports.now ≡ map alone (entries_of w.imports))
+    × (map export_view t.exports.now ≡ map export_said (entries_of w.exports))
+    × (map block_view t.blocks.now ≡ blocks_in w.relocations)
+
+-- what a call says of a file whose tables it keeps: the directories as far as there is room, all else whole
+abbrev pub Opens : WholeFile → Opened → Opened → Type 0
+Opens w old new =
+    (new.file ≡ file_of w)
+    × (Filled (λ d. d) (map directory_record (directories_of w.header.optional_header)) old.directories new.directories)
+    × AreTablesOf w new.tables
