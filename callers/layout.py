@@ -1,8 +1,8 @@
 #!/usr/bin/env python3
 """Compares the records of the crate goblin_pe_c with those that the callers declare: the same names, with the
 same fields in the same order and of the same types. Compares also the numbers that stand in the records, each
-with its name: those of goblin_pe_c's code, and of the enums of the callers. The last line says how many passed
-and failed."""
+with its name: those of goblin_pe_c's code, and of the enums of the callers; and the calls, by what they take and
+answer, and the version of their interface. The last line says how many passed and failed."""
 import os
 import re
 import sys
@@ -12,7 +12,7 @@ CRATES = os.path.join(HERE, "../crates")
 CRATE = os.path.join(CRATES, "goblin_pe_c/src")
 NUMBERS = {"uint8_t": "u8", "uint16_t": "u16", "uint32_t": "u32", "uint64_t": "u64", "int16_t": "i16", "size_t": "usize", "bool": "bool"}
 PYTHON = {"c.c_uint8": "u8", "c.c_uint16": "u16", "c.c_uint32": "u32", "c.c_uint64": "u64", "c.c_int16": "i16", "c.c_size_t": "usize",
-          "c.c_bool": "bool"}
+          "c.c_bool": "bool", "Text": "text"}
 
 
 def text(*path):
@@ -27,11 +27,13 @@ def camel(name):
 def rust_fields(body, slices):
     """Fields as they stand in Rattle and in Rust, with one word for slices of the file."""
     fields = re.findall(r"^ +pub (\w+): (.+),$", body, re.M)
-    return [(name, "text" if kind in slices else re.sub(r"^Pe(?=[A-Z])", "", kind)) for name, kind in fields]
+    table = lambda kind: re.match(r"(?:&'a \[Pe|List<'a, )(\w+)(?:<'a>)?[\]>]$", kind)
+    return [(name, "text" if kind in slices else "table of " + table(kind)[1] if table(kind) else re.sub(r"^Pe(?=[A-Z])", "", kind))
+            for name, kind in fields]
 
 
 def rust_records(source, prefix, slices):
-    found = re.findall(r"#\[repr\(C\)\]\n#\[derive\([^)]*\)\]\npub struct " + prefix + r"(\w+)(?:<'a>)? \{\n(.*?)\n\}", source, re.S)
+    found = re.findall(r"#\[repr\(C\)\]\n(?:#\[derive\([^)]*\)\]\n)?pub struct " + prefix + r"(\w+)(?:<'a>)? \{\n(.*?)\n\}", source, re.S)
     return {name: rust_fields(body, slices) for name, body in found}
 
 
@@ -40,26 +42,33 @@ def c_kind(kind, count):
         return "text"
     if kind.startswith("struct "):
         return camel(kind[len("struct goblin_pe_"):])
+    if kind.startswith("table_of_"):
+        return "table of " + camel(kind[len("table_of_"):])
     return "[%s; %s]" % (NUMBERS[kind], count) if count else NUMBERS[kind]
 
 
 def c_records(source):
     source = re.sub(r"/\*.*?\*/", "", source, flags=re.S)
+    # (a table is a pointer and a count)
+    source = re.sub(r"const struct goblin_pe_(\w+) \*(\w+);\n +size_t \1_count;", r"table_of_\1 \2;", source)
     found = re.findall(r"struct goblin_pe_(\w+) \{\n(.*?)\n\};", source, re.S)
     fields = lambda body: re.findall(r"^ +((?:struct )?\w+) (\w+)(?:\[(\d+)\])?;$", body, re.M)
     return {camel(name): [(field, c_kind(kind, count)) for kind, field, count in fields(body)] for name, body in found if name != "text"}
 
 
-def python_kind(kind):
-    array = re.match(r"(c\.\w+) \* (\d+)$", kind)
-    if array:
-        return "[%s; %s]" % (PYTHON[array.group(1)], array.group(2))
-    return "text" if kind == "Text" else PYTHON.get(kind, kind)
+def python_kinds(source):
+    """The types of fields by their names: numbers, and arrays of them."""
+    found = re.findall(r"^(\w+) = Annotated\[.+, (c\.\w+)(?: \* (\d+))?\]$", source, re.M)
+    return {name: "[%s; %s]" % (PYTHON[kind], count) if count else PYTHON.get(kind, kind) for name, kind, count in found}
 
 
 def python_records(source):
-    found = re.findall(r"^class (\w+)\(Record\):.*?_fields_ = \[\n(.*?)\n    \]", source, re.S | re.M)
-    return {name: [(field, python_kind(kind)) for field, kind in re.findall(r'\("(\w+)", (.+)\),', body)] for name, body in found}
+    kinds = {**PYTHON, **python_kinds(source)}
+    found = re.findall(r"^class (\w+)\(Record\):\n.*?\n\n((?:    \w+: \w+\n)+)", source, re.S | re.M)
+    tables = re.findall(r"^class (\w+)\(HandedOver\):.*?KINDS = \{(.*?)\}", source, re.S | re.M)
+    return {**{name: [(field, "table of " + kind) for field, kind in re.findall(r'"(\w+)": (\w+)', body)] for name, body in tables},
+            **{name: [(field, kinds.get(kind, kind)) for field, kind in re.findall(r"(\w+): (\w+)", body)]
+               for name, body in found if name != "Text"}}
 
 
 def snake(name):
@@ -134,20 +143,76 @@ def python_numbers(source):
     return named_alike({kind: numbered(re.findall(r"^    ([A-Z]\w*) = (\d+)$", body, re.M)) for kind, body in found})
 
 
+def own_calls(source):
+    """The calls of a file of goblin_pe_c, each as what it answers and takes; a slice is a pointer and a count."""
+    found = re.findall(r'pub extern "C" fn goblin_pe_(\w+)(?:<\'a>)?\((.*?)\) -> (\w+)$', source, re.S | re.M)
+    def kinds(taken):
+        for kind in re.findall(r"\w+: ([^,\n]+)", taken):
+            kind = re.sub(r"^&(?:'a )?(mut )?", "*", kind).replace("<'a>", "").replace("Pe", "")
+            if kind.startswith("*["):
+                yield from ("*" + kind[2:-1], "usize")
+            elif kind != "Global":
+                yield kind
+    return {"goblin_pe_" + name: [answer.replace("Pe", ""), *kinds(taken)] for name, taken, answer in found}
+
+
+def c_calls(source):
+    source = re.sub(r"/\*.*?\*/", "", source, flags=re.S)
+    def kind(words):
+        star, words = "*" * words.count("*"), re.sub(r"\bconst |\*", "", words).strip()
+        return star + (camel(words[len("struct goblin_pe_"):]) if words.startswith("struct ") else NUMBERS[words])
+    found = re.findall(r"^((?:struct )?\w+) goblin_pe_(\w+)\(([^)]*)\);", source, re.M)
+    return {"goblin_pe_" + name: [kind(answer), *(kind(re.sub(r"\w+$", "", it)) for it in " ".join(taken.split()).split(", ") if it != "void")]
+            for answer, name, taken in found}
+
+
+def rust_calls(source):
+    found = re.findall(r"^    (?:safe )?fn (goblin_pe_\w+)(?:<'a>)?\((.*?)\) -> (\w+);", source, re.S | re.M)
+    kind = lambda it: re.sub(r"^(?:\*const |\*mut |&mut |&)", "*", re.sub(r"<'.>", "", it))
+    return {name: [answer, *map(kind, re.findall(r"\w+: ([^,\n]+)", taken))] for name, taken, answer in found}
+
+
+def python_calls(source):
+    """The calls as the module declares them; its pointers to bytes have no type of their own."""
+    found = re.findall(r'"(goblin_pe_\w+)": \(([\w.]+), \[(.*?)\]\)', source, re.S)
+    def kinds(taken):
+        for whole, counted, pointer, kind in re.findall(r"(\*_counted\(([\w, ]+)\)|c\.POINTER\(([\w.]+)\)|([\w.]+))", taken):
+            if counted:
+                yield from (it for name in counted.split(", ") for it in ("*" + name, "usize"))
+            elif pointer:
+                yield "*" + PYTHON.get(pointer, pointer)
+            else:
+                yield {"c.c_void_p": "*u8", "c.c_char_p": "*u8", "_OPTIONS": "*Options"}.get(kind) or PYTHON[kind]
+    calls = {name: [PYTHON.get(answer, answer), *kinds(taken)] for name, answer, taken in found}
+    return {"goblin_pe_interface": ["u32"], **calls}
+
+
+def version(pattern, source):
+    return {"interface": int(re.search(pattern, source, re.S)[1])}
+
+
 def main():
     ours = {}
     for name in sorted(os.listdir(CRATE)):
         ours.update(rust_records(text(CRATE, name), "Pe", {"&'a [u8]"}))
+        ours.update(own_calls(text(CRATE, name)))
     callers = {
         "c/goblin_pe.h": c_records(text("c/goblin_pe.h")),
         "rust/src": rust_records(text("rust/src/raw.rs"), "", {"Slice<'a>"}),
-        "python/goblin_pe.py": python_records(text("python/goblin_pe.py")),
+        "python/goblin_pe": python_records(text("python/goblin_pe/records.py")),
     }
     callers["rust/src"].pop("Slice", None)
     ours.update(own_numbers())
     callers["c/goblin_pe.h"].update(c_numbers(text("c/goblin_pe.h")))
     callers["rust/src"].update(rust_numbers(text("rust/src/numbers.rs")))
-    callers["python/goblin_pe.py"].update(python_numbers(text("python/goblin_pe.py")))
+    callers["python/goblin_pe"].update(python_numbers(text("python/goblin_pe/numbers.py") + "\n\n"))
+    callers["c/goblin_pe.h"].update(c_calls(text("c/goblin_pe.h")))
+    callers["rust/src"].update(rust_calls(text("rust/src/raw.rs")))
+    callers["python/goblin_pe"].update(python_calls(text("python/goblin_pe/_library.py")))
+    ours.update(version(r"fn goblin_pe_interface\(\).*?\{\n +(\d+)", text(CRATE, "open.rt")))
+    callers["c/goblin_pe.h"].update(version(r"#define GOBLIN_PE_INTERFACE (\d+)", text("c/goblin_pe.h")))
+    callers["rust/src"].update(version(r"const INTERFACE: u32 = (\d+)", text("rust/src/raw.rs")))
+    callers["python/goblin_pe"].update(version(r"INTERFACE = (\d+)", text("python/goblin_pe/_library.py")))
     passed = failed = 0
     for path, records in callers.items():
         for name in sorted({*ours, *records}):

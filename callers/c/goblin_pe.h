@@ -7,10 +7,14 @@
 
    callers/c/list.c is such a program.
 
-   A call reads a whole file that lies in memory. It borrows the caller's bytes, and fills the caller's
-   records; a text in a record is a pointer into those bytes and a length, so nothing is copied, nothing
-   has to be freed, and the texts stay good as long as the bytes do. Where the file offset of a text is
-   wanted, it is the difference of two pointers.
+   A call reads a file that lies in memory. It borrows the caller's bytes; a text in a record is a pointer
+   into those bytes and a length, so no text is copied, and the texts stay good as long as the bytes do.
+   The tables of an image, and the ranges of a footprint, are memory of their own, which goblin_pe_free
+   and goblin_pe_free_ranges give back; all else is filled into the caller's records.
+
+   The file offset of a text that has bytes is the difference of two pointers. A text of length 0 may
+   point anywhere: it stands for one that is absent, as its record says, or that permissive mode could
+   not read, and only sometimes for an empty one in the file.
 
    What a caller owes, which nothing checks:
    - Pointers are not null, also where there are no bytes or no records: any other will do then.
@@ -30,13 +34,14 @@
 #include <stdbool.h>
 #include <stddef.h>
 #include <stdint.h>
+#include <stdlib.h>
 
 #ifdef __cplusplus
 extern "C" {
 #endif
 
 /* The version of this interface, which goblin_pe_interface answers. */
-#define GOBLIN_PE_INTERFACE 1
+#define GOBLIN_PE_INTERFACE 2
 
 /* The state of a table: the file has none or it was not asked for, it was read, or it is refused and
    was passed over. */
@@ -561,6 +566,9 @@ struct goblin_pe_symbol {
 struct goblin_pe_file {
     /* The optional header. */
     struct goblin_pe_optional_header optional_header;
+    /* How many data directories there are, whatever the room: sixteen, or none where there is no
+       optional header. Records past them are those of an earlier file, if any. */
+    size_t directories;
     /* How many sections there are, whatever the room. */
     size_t sections;
     /* The imports. */
@@ -587,6 +595,14 @@ struct goblin_pe_object {
     struct goblin_pe_coff_header coff_header;
 };
 
+/* A range of the file. */
+struct goblin_pe_range {
+    /* The file offset of its first byte. */
+    size_t offset;
+    /* How many bytes it has: at least one. */
+    size_t length;
+};
+
 /* Strictly, with addresses mapped by the sections from their raw pointers as stored, and imports. */
 #define GOBLIN_PE_DEFAULT_OPTIONS { false, true, false, true }
 
@@ -595,30 +611,90 @@ static const uint8_t goblin_pe_no_bytes[1] = { 0 };
 #define GOBLIN_PE_NO_TEXT { goblin_pe_no_bytes, 0 }
 #define GOBLIN_PE_EMPTY_SECTION \
     { GOBLIN_PE_NO_TEXT, { 0 }, 0, 0, 0, 0, 0, 0, 0, 0, 0, false }
-#define GOBLIN_PE_EMPTY_IMPORT \
-    { GOBLIN_PE_NO_TEXT, GOBLIN_PE_NO_TEXT, 0, 0, 0, 0, 0, false }
-#define GOBLIN_PE_EMPTY_EXPORT \
-    { GOBLIN_PE_NO_TEXT, GOBLIN_PE_NO_TEXT, GOBLIN_PE_NO_TEXT, 0, 0, 0, 0, false, false, 0 }
-#define GOBLIN_PE_EMPTY_BLOCK \
-    { GOBLIN_PE_NO_TEXT, 0, 0 }
 #define GOBLIN_PE_EMPTY_SYMBOL \
     { GOBLIN_PE_NO_TEXT, 0, { 0 }, 0, 0, 0, 0, 0, false }
 
 /* The version of this interface as the library was built with it. */
 uint32_t goblin_pe_interface(void);
 
-/* Reads a whole file: says in `file` what it is and how many entries its tables have, and fills the
-   records as far as there is room. A file has sixteen data directories or none. With no room, a call
-   counts. */
-struct goblin_pe_fault goblin_pe_read(
+/* The tables of an image. Each that is not empty is a block of memory of its own, and the texts in it
+   are in the file's bytes. */
+struct goblin_pe_tables {
+    const struct goblin_pe_rich_entry *rich_entries;
+    size_t rich_entry_count;
+    const struct goblin_pe_section *sections;
+    size_t section_count;
+    const struct goblin_pe_import *imports;
+    size_t import_count;
+    const struct goblin_pe_export *exports;
+    size_t export_count;
+    const struct goblin_pe_block *blocks;
+    size_t block_count;
+};
+
+/* Tables of nothing, to be filled. */
+static const uint64_t goblin_pe_no_table[1] = { 0 };
+#define GOBLIN_PE_NO_TABLE(kind) (const struct goblin_pe_##kind *)(const void *)goblin_pe_no_table, 0
+#define GOBLIN_PE_NO_TABLES \
+    { GOBLIN_PE_NO_TABLE(rich_entry), GOBLIN_PE_NO_TABLE(section), GOBLIN_PE_NO_TABLE(import), \
+      GOBLIN_PE_NO_TABLE(export), GOBLIN_PE_NO_TABLE(block) }
+
+/* Reads an image once: says in `file` what it is, fills the records of its data directories as far as
+   there is room (a file has sixteen or none), and puts all other tables into `tables`, each whole. The
+   tables that stood there before are not freed. After a refusal nothing is to be freed. */
+struct goblin_pe_fault goblin_pe_open(
     const uint8_t *bytes, size_t length, const struct goblin_pe_options *options,
     struct goblin_pe_file *file,
-    struct goblin_pe_rich_entry *rich_entries, size_t rich_entry_room,
     struct goblin_pe_directory *directories, size_t directory_room,
-    struct goblin_pe_section *sections, size_t section_room,
-    struct goblin_pe_import *imports, size_t import_room,
-    struct goblin_pe_export *exports, size_t export_room,
-    struct goblin_pe_block *blocks, size_t block_room);
+    struct goblin_pe_tables *tables);
+
+/* Frees the tables of an image, and leaves tables of nothing. */
+static inline void goblin_pe_free(struct goblin_pe_tables *tables)
+{
+    static const struct goblin_pe_tables none = GOBLIN_PE_NO_TABLES;
+    if (tables->rich_entry_count)
+        free((void *)tables->rich_entries);
+    if (tables->section_count)
+        free((void *)tables->sections);
+    if (tables->import_count)
+        free((void *)tables->imports);
+    if (tables->export_count)
+        free((void *)tables->exports);
+    if (tables->block_count)
+        free((void *)tables->blocks);
+    *tables = none;
+}
+
+/* Ranges of the file: a block of memory of its own where there is any. */
+struct goblin_pe_ranges {
+    const struct goblin_pe_range *ranges;
+    size_t range_count;
+};
+
+/* Ranges of nothing, to be filled. */
+#define GOBLIN_PE_NO_RANGES { GOBLIN_PE_NO_TABLE(range) }
+
+/* Puts into `ranges` the bytes of a file on which its imports depend, by what goblin_pe_open said of it:
+   its optional header, its directory GOBLIN_PE_DIRECTORY_IMPORT_TABLE (one of zeros where the file has
+   no directories) and its sections. A file of the same length with the same bytes in these ranges, and
+   with the same header, directory and sections, has the same imports. The ranges come in no order and
+   may overlap; none passes the file. Whether imports are asked for makes no difference. The ranges that
+   stood there before are not freed. Refused is memory alone, and then nothing is to be freed. */
+struct goblin_pe_fault goblin_pe_footprint_imports(
+    const uint8_t *bytes, size_t length, const struct goblin_pe_options *options,
+    const struct goblin_pe_optional_header *optional_header,
+    const struct goblin_pe_directory *directory,
+    const struct goblin_pe_section *sections, size_t section_count,
+    struct goblin_pe_ranges *ranges);
+
+/* Frees the ranges of a footprint, and leaves ranges of nothing. */
+static inline void goblin_pe_free_ranges(struct goblin_pe_ranges *ranges)
+{
+    static const struct goblin_pe_ranges none = GOBLIN_PE_NO_RANGES;
+    if (ranges->range_count)
+        free((void *)ranges->ranges);
+    *ranges = none;
+}
 
 /* Reads an object, which begins with a COFF header; only the mode of the options counts. */
 struct goblin_pe_fault goblin_pe_read_object(

@@ -83,9 +83,6 @@ static int refused(struct goblin_pe_fault fault)
 }
 
 static const struct goblin_pe_section no_section = GOBLIN_PE_EMPTY_SECTION;
-static const struct goblin_pe_import no_import = GOBLIN_PE_EMPTY_IMPORT;
-static const struct goblin_pe_export no_export = GOBLIN_PE_EMPTY_EXPORT;
-static const struct goblin_pe_block no_block = GOBLIN_PE_EMPTY_BLOCK;
 static const struct goblin_pe_symbol no_symbol = GOBLIN_PE_EMPTY_SYMBOL;
 
 static void put_sections(const struct goblin_pe_section *sections, size_t count)
@@ -137,53 +134,31 @@ static int list_image(const uint8_t *bytes, size_t length, bool is_permissive)
 {
     struct goblin_pe_options options = GOBLIN_PE_DEFAULT_OPTIONS;
     struct goblin_pe_file file = { 0 };
-    struct goblin_pe_rich_entry no_entry = { 0 };
     struct goblin_pe_directory no_directory = { 0 };
+    struct goblin_pe_tables tables = GOBLIN_PE_NO_TABLES;
     options.is_permissive = is_permissive;
-    struct goblin_pe_section *sections = records(0, &no_section, sizeof no_section);
-    struct goblin_pe_import *imports = records(0, &no_import, sizeof no_import);
-    struct goblin_pe_export *exports = records(0, &no_export, sizeof no_export);
-    struct goblin_pe_block *blocks = records(0, &no_block, sizeof no_block);
-    /* how many there are, and then the records */
-    struct goblin_pe_fault fault = goblin_pe_read(
-        bytes, length, &options, &file, &no_entry, 0, &no_directory, 0, sections, 0, imports, 0,
-        exports, 0, blocks, 0);
-    if (fault.status == GOBLIN_PE_OK) {
-        free(sections);
-        free(imports);
-        free(exports);
-        free(blocks);
-        sections = records(file.sections, &no_section, sizeof no_section);
-        imports = records(file.imports.count, &no_import, sizeof no_import);
-        exports = records(file.exports.count, &no_export, sizeof no_export);
-        blocks = records(file.relocations.blocks.count, &no_block, sizeof no_block);
-        fault = goblin_pe_read(bytes, length, &options, &file, &no_entry, 0, &no_directory, 0,
-                               sections, file.sections, imports, file.imports.count, exports,
-                               file.exports.count, blocks, file.relocations.blocks.count);
-    }
-    if (fault.status == GOBLIN_PE_OK) {
-        printf("header machine=0x%x sections=%zu", file.coff_header.machine, file.sections);
-        if (file.coff_header.size_of_optional_header)
-            printf(" magic=0x%x entry=0x%x", file.optional_header.magic,
-                   file.optional_header.address_of_entry_point);
-        putchar('\n');
-        put_sections(sections, file.sections);
-        put_table("imports", file.imports);
-        put_imports(imports, file.imports.count);
-        put_table("exports", file.exports);
-        put_exports(exports, file.exports.count);
-        put_table("relocations", file.relocations.blocks);
-        for (size_t i = 0; i < file.relocations.blocks.count; i++)
-            printf("block rva=0x%x size=0x%x words=%zu\n", blocks[i].rva, blocks[i].size,
-                   blocks[i].words.length / 2);
-        if (file.relocations.rest.status != GOBLIN_PE_OK)
-            puts("block refused");
-    }
-    free(sections);
-    free(imports);
-    free(exports);
-    free(blocks);
-    return fault.status == GOBLIN_PE_OK ? 0 : refused(fault);
+    struct goblin_pe_fault fault =
+        goblin_pe_open(bytes, length, &options, &file, &no_directory, 0, &tables);
+    if (fault.status != GOBLIN_PE_OK)
+        return refused(fault);
+    printf("header machine=0x%x sections=%zu", file.coff_header.machine, file.sections);
+    if (file.coff_header.size_of_optional_header)
+        printf(" magic=0x%x entry=0x%x", file.optional_header.magic,
+               file.optional_header.address_of_entry_point);
+    putchar('\n');
+    put_sections(tables.sections, tables.section_count);
+    put_table("imports", file.imports);
+    put_imports(tables.imports, tables.import_count);
+    put_table("exports", file.exports);
+    put_exports(tables.exports, tables.export_count);
+    put_table("relocations", file.relocations.blocks);
+    for (size_t i = 0; i < tables.block_count; i++)
+        printf("block rva=0x%x size=0x%x words=%zu\n", tables.blocks[i].rva, tables.blocks[i].size,
+               tables.blocks[i].words.length / 2);
+    if (file.relocations.rest.status != GOBLIN_PE_OK)
+        puts("block refused");
+    goblin_pe_free(&tables);
+    return 0;
 }
 
 static int list_symbols(const uint8_t *bytes, size_t length)

@@ -13,17 +13,14 @@ static void *reads(void *imports_wanted)
 {
     static const struct goblin_pe_options options = GOBLIN_PE_DEFAULT_OPTIONS;
     for (int i = 0; i < 200; i++) {
-        struct goblin_pe_rich_entry entry = { 0 };
-        struct goblin_pe_directory directory = { 0 };
-        struct goblin_pe_section section = GOBLIN_PE_EMPTY_SECTION;
-        struct goblin_pe_import import = GOBLIN_PE_EMPTY_IMPORT;
-        struct goblin_pe_export export = GOBLIN_PE_EMPTY_EXPORT;
-        struct goblin_pe_block block = GOBLIN_PE_EMPTY_BLOCK;
         struct goblin_pe_file file = { 0 };
+        struct goblin_pe_directory directory = { 0 };
+        struct goblin_pe_tables tables = GOBLIN_PE_NO_TABLES;
         struct goblin_pe_fault fault =
-            goblin_pe_read(bytes, length, &options, &file, &entry, 1, &directory, 1, &section, 1,
-                           &import, 1, &export, 1, &block, 1);
-        if (fault.status != GOBLIN_PE_OK || file.imports.count != *(const size_t *)imports_wanted)
+            goblin_pe_open(bytes, length, &options, &file, &directory, 1, &tables);
+        size_t found = tables.import_count;
+        goblin_pe_free(&tables);
+        if (fault.status != GOBLIN_PE_OK || found != *(const size_t *)imports_wanted)
             return NULL;
     }
     return imports_wanted;

@@ -3,7 +3,7 @@ names, and what the module says of wrong input: fields.py FILE.."""
 import struct
 import sys
 
-from goblin_pe import Cause, Counted, DirectoryType, Fault, ObjectFile, Pe, ReadFault, Refused, Status, Te, options
+from goblin_pe import Cause, Counted, DirectoryType, ObjectFile, Pe, ReadFault, Refused, Status, Te, options
 
 DOS = ("signature bytes_on_last_page pages_in_file relocations size_of_header_in_paragraphs minimum_extra_paragraphs_needed "
        "maximum_extra_paragraphs_needed initial_relative_ss initial_sp checksum initial_ip initial_relative_cs "
@@ -78,7 +78,7 @@ def refused(kind, data, text):
 
 def texts():
     """The cause of each number has a text of its own, which is whole with the widest numbers, too."""
-    told = [str(Refused(Fault(1, cause, 2**64 - 1, 2**64 - 1))) for cause in range(36)]
+    told = [str(Refused(1, cause, 2**64 - 1, 2**64 - 1)) for cause in range(36)]
     assert told[0] == told[1] == told[35] == "", told
     assert len(set(told[2:35])) == 33, told
     assert told[32] == ("the words of a base relocation block can't be read: 0xffffffffffffffff bytes "
@@ -89,7 +89,7 @@ def texts():
 
 def names():
     """A status and a cause are numbers by their names, where they have one."""
-    named = [(it.status, it.cause) for it in (Refused(Fault(*it, 0, 0)) for it in ((1, 22), (3, 1), (4, 3), (5, 0), (1, 35)))]
+    named = [(it.status, it.cause) for it in (Refused(*it) for it in ((1, 22), (3, 1), (4, 3), (5, 0), (1, 35)))]
     assert [type(cause) for _, cause in named] == [Cause, Counted, ReadFault, int, int], named
     assert named == [(Status.MALFORMED, Cause.UNMAPPED), (Status.TOO_SHORT, Counted.SECTIONS), (Status.BAD_READ, ReadFault.BAD_INPUT),
                      (Status.NO_MEMORY, 0), (Status.MALFORMED, 35)], named

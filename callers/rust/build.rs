@@ -1,15 +1,47 @@
-//! Links the archive libgoblin_pe.a, which is in the folder that GOBLIN_PE_LIB names, or else in ../lib.
+//! Links the library: from the folder that the variable GOBLIN_PE_LIB names, else from that into which
+//! callers/build puts it, else from where pkg-config finds it.
 use std::env;
-use std::path::PathBuf;
+use std::path::{Path, PathBuf};
+use std::process::Command;
 
 fn main() {
-    println!("cargo:rerun-if-env-changed=GOBLIN_PE_LIB");
-    let here = PathBuf::from(env::var_os("CARGO_MANIFEST_DIR").unwrap_or_default());
-    let lib = env::var_os("GOBLIN_PE_LIB").map_or_else(|| here.join("../lib"), PathBuf::from);
-    println!("cargo:rustc-link-search=native={}", lib.display());
-    println!("cargo:rustc-link-lib=static=goblin_pe");
-    println!(
-        "cargo:rerun-if-changed={}",
-        lib.join("libgoblin_pe.a").display()
-    );
+    println!("cargo::rerun-if-env-changed=GOBLIN_PE_LIB");
+    println!("cargo::rerun-if-env-changed=PKG_CONFIG_PATH");
+    let folder = match env::var_os("GOBLIN_PE_LIB") {
+        Some(named) => Some(PathBuf::from(named)),
+        None => beside().or_else(installed),
+    };
+    match folder.as_deref().and_then(|it| Some((it, kind_in(it)?))) {
+        Some((folder, (kind, name))) => {
+            println!("cargo::rustc-link-search=native={}", folder.display());
+            println!("cargo::rustc-link-lib={kind}=goblin_pe");
+            println!("cargo::rerun-if-changed={}", folder.join(name).display());
+        }
+        None => println!(
+            "cargo::error=the library libgoblin_pe is not there: run callers/build of its repository, \
+             or name the folder with libgoblin_pe.a by the variable GOBLIN_PE_LIB"
+        ),
+    }
+}
+
+// How the library in a folder is linked, and its file there; the archive where there are both.
+fn kind_in(folder: &Path) -> Option<(&'static str, &'static str)> {
+    let kinds = [("static", "libgoblin_pe.a"), ("dylib", "libgoblin_pe.so")];
+    kinds
+        .into_iter()
+        .find(|(_, name)| folder.join(name).exists())
+}
+
+// The folder lib beside that of this crate, in the repository.
+fn beside() -> Option<PathBuf> {
+    let here = PathBuf::from(env::var_os("CARGO_MANIFEST_DIR")?);
+    Some(here.join("../lib")).filter(|it| kind_in(it).is_some())
+}
+
+// The folder that pkg-config answers.
+fn installed() -> Option<PathBuf> {
+    let words = ["--variable=libdir", "goblin_pe"];
+    let answer = Command::new("pkg-config").args(words).output().ok()?;
+    let folder = String::from_utf8(answer.stdout).ok()?;
+    answer.status.success().then(|| folder.trim().into())
 }

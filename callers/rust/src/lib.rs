@@ -5,8 +5,12 @@
 //! All names and texts borrow from the bytes. Addresses (`rva`) are relative to the image's base, and
 //! offsets are file offsets, both in bytes, but for that of an import, which is an address.
 //!
-//! `callers/build` makes the archive that this crate links, in `callers/lib` or where the variable
-//! `GOBLIN_PE_LIB` says. A crate names this one by its path: `goblin_pe = { path = ".../callers/rust" }`.
+//! What was read can be kept and handed to other threads as long as the bytes live. A file may ask for
+//! much memory: where it is refused, so is the read, by [`ErrorKind::Memory`].
+//!
+//! `callers/build` makes the library that this crate links, in `callers/lib`, or `callers/install` puts
+//! it where pkg-config finds it; the variable `GOBLIN_PE_LIB` names another folder with it. A crate names
+//! this one by its path: `goblin_pe = { path = ".../callers/rust" }`.
 //!
 //! ```no_run
 //! use goblin_pe::{Options, Pe};
@@ -24,8 +28,8 @@ mod numbers;
 #[allow(unsafe_code)]
 mod raw;
 
-use std::cell::Cell;
 use std::fmt;
+use std::ops::Range;
 
 use numbers::Forwards;
 pub use numbers::{Cause, Counted, DirectoryType, ErrorKind, Part, ReadFault};
@@ -69,7 +73,7 @@ impl fmt::Debug for Text<'_> {
 }
 
 /// The Rich header, which says by which tools a file was made.
-#[derive(Clone, Copy, Debug)]
+#[derive(Clone, Copy, Debug, PartialEq, Eq)]
 pub struct RichHeader {
     /// The key, with which each stored word is the exclusive or.
     pub key: u32,
@@ -82,7 +86,7 @@ pub struct RichHeader {
 }
 
 /// A section.
-#[derive(Clone, Copy, Debug)]
+#[derive(Clone, Copy, Debug, PartialEq, Eq)]
 pub struct Section<'a> {
     /// The name from the string table, else the eight bytes up to the first NUL.
     pub name: Text<'a>,
@@ -300,6 +304,14 @@ impl<'a> From<&raw::Block<'a>> for Block<'a> {
 pub struct Error(raw::Fault);
 
 impl Error {
+    // That memory was refused, to this crate itself.
+    const MEMORY: Error = Error(raw::Fault {
+        status: ErrorKind::Memory as u32,
+        cause: 0,
+        first: 0,
+        second: 0,
+    });
+
     // The refusal that a fault says, where it says one.
     fn of(fault: raw::Fault) -> Option<Error> {
         (fault.status != 0).then_some(Error(fault))
@@ -359,23 +371,27 @@ impl fmt::Debug for Error {
 
 impl std::error::Error for Error {}
 
-// The records of the last file that a thread let go, so that the next one is read in one pass and
-// needs no fresh memory.
-thread_local! {
-    static SPARE: Cell<Option<raw::Records<'static>>> = const { Cell::new(None) };
+// Memory for so many values, none of them there yet.
+fn room<T>(count: usize) -> Result<Vec<T>, Error> {
+    let mut room = Vec::new();
+    room.try_reserve_exact(count).map_err(|_| Error::MEMORY)?;
+    Ok(room)
 }
 
-// The room of a thread's first try: entries of the Rich header, sections, imports, exports, blocks.
-const FIRST: [usize; 5] = [32, 16, 256, 64, 16];
-
-// The most records of a kind that are kept: as many as there are ordinals.
-const KEPT: usize = 65_536;
+// So many copies of a record, to be filled.
+fn records<T: Clone>(empty: T, count: usize) -> Result<Vec<T>, Error> {
+    let mut records = room(count)?;
+    records.resize(count, empty);
+    Ok(records)
+}
 
 /// An image that was read.
 pub struct Pe<'a> {
+    bytes: &'a [u8],
     options: Options,
     file: raw::File,
-    records: raw::Records<'a>,
+    directories: [raw::Directory; 16],
+    tables: raw::Tables<'a>,
 }
 
 impl<'a> Pe<'a> {
@@ -385,50 +401,20 @@ impl<'a> Pe<'a> {
     /// Why it was refused.
     pub fn read(bytes: &'a [u8], options: &Options) -> Result<Pe<'a>, Error> {
         let mut pe = Pe {
+            bytes,
             options: *options,
             file: raw::File::default(),
-            records: SPARE.take().unwrap_or_default(),
+            directories: Default::default(),
+            tables: raw::Tables::EMPTY,
         };
-        pe.make_room(FIRST);
-        pe.fill(bytes)?;
-        if pe.make_room(pe.counts()) {
-            pe.fill(bytes)?;
-        }
-        Ok(pe)
-    }
-
-    fn fill(&mut self, bytes: &'a [u8]) -> Result<(), Error> {
-        Error::test(raw::read(
+        Error::test(raw::open(
             bytes,
-            &self.options,
-            &mut self.file,
-            &mut self.records,
-        ))
-    }
-
-    // How many records of each kind the file asks for.
-    fn counts(&self) -> [usize; 5] {
-        let file = &self.file;
-        [
-            file.rich_header.entries,
-            file.sections,
-            file.imports.count,
-            file.exports.count,
-            file.relocations.blocks.count,
-        ]
-    }
-
-    // Makes room for this many records of each kind, and answers whether there was less.
-    fn make_room(&mut self, room: [usize; 5]) -> bool {
-        let records = &mut self.records;
-        let grown = [
-            grow(&mut records.rich_entries, room[0], RichEntry::default()),
-            grow(&mut records.sections, room[1], raw::Section::EMPTY),
-            grow(&mut records.imports, room[2], raw::Import::EMPTY),
-            grow(&mut records.exports, room[3], raw::Export::EMPTY),
-            grow(&mut records.blocks, room[4], raw::Block::EMPTY),
-        ];
-        grown.contains(&true)
+            options,
+            &mut pe.file,
+            &mut pe.directories,
+            &mut pe.tables,
+        ))?;
+        Ok(pe)
     }
 
     /// The DOS header.
@@ -459,7 +445,7 @@ impl<'a> Pe<'a> {
 
     /// The entries of the Rich header.
     pub fn rich_entries(&self) -> &[RichEntry] {
-        &self.records.rich_entries[..self.file.rich_header.entries]
+        self.tables.rich_entries.get()
     }
 
     /// Why the rest that follows the entries of the Rich header is no entry; `None` where there is
@@ -478,7 +464,7 @@ impl<'a> Pe<'a> {
     /// The data directories that are there, as pairs (index, directory), by rising index; an index
     /// below 15 is that of a [`DirectoryType`].
     pub fn data_directories(&self) -> impl Iterator<Item = (usize, DataDirectory)> + '_ {
-        let directories = self.records.directories.iter().enumerate();
+        let directories = self.directory_records().iter().enumerate();
         directories.filter(|(_, d)| d.is_present).map(|(index, d)| {
             let directory = DataDirectory {
                 virtual_address: d.virtual_address,
@@ -488,13 +474,18 @@ impl<'a> Pe<'a> {
         })
     }
 
+    fn directory_records(&self) -> &[raw::Directory] {
+        let count = self.file.directories.min(self.directories.len());
+        &self.directories[..count]
+    }
+
     /// The sections.
     pub fn sections(&self) -> impl ExactSizeIterator<Item = Section<'_>> {
         self.section_records().iter().map(Section::from)
     }
 
     fn section_records(&self) -> &[raw::Section<'a>] {
-        &self.records.sections[..self.file.sections]
+        self.tables.sections.get()
     }
 
     /// How the imports stand.
@@ -504,9 +495,7 @@ impl<'a> Pe<'a> {
 
     /// The imports.
     pub fn imports(&self) -> impl ExactSizeIterator<Item = Import<'a>> + '_ {
-        self.records.imports[..self.file.imports.count]
-            .iter()
-            .map(Import::from)
+        self.tables.imports.get().iter().map(Import::from)
     }
 
     /// How the exports stand.
@@ -516,9 +505,7 @@ impl<'a> Pe<'a> {
 
     /// The exports.
     pub fn exports(&self) -> impl ExactSizeIterator<Item = Export<'a>> + '_ {
-        self.records.exports[..self.file.exports.count]
-            .iter()
-            .map(Export::from)
+        self.tables.exports.get().iter().map(Export::from)
     }
 
     /// How the base relocations stand.
@@ -528,9 +515,7 @@ impl<'a> Pe<'a> {
 
     /// The blocks of base relocations.
     pub fn blocks(&self) -> impl ExactSizeIterator<Item = Block<'a>> + '_ {
-        self.records.blocks[..self.file.relocations.blocks.count]
-            .iter()
-            .map(Block::from)
+        self.tables.blocks.get().iter().map(Block::from)
     }
 
     /// Why the rest that follows the blocks is no block; `None` where there is no rest.
@@ -546,32 +531,45 @@ impl<'a> Pe<'a> {
         let alignment = self.file.optional_header.file_alignment;
         raw::find_offset(rva, self.section_records(), alignment, &self.options)
     }
-}
 
-impl Drop for Pe<'_> {
-    fn drop(&mut self) {
-        let records = std::mem::take(&mut self.records);
-        let most = [
-            records.sections.len(),
-            records.imports.len(),
-            records.exports.len(),
-            records.blocks.len(),
-        ];
-        if most.iter().all(|&count| count <= KEPT) {
-            let spare = records.emptied();
-            // A thread that ends keeps nothing.
-            let _ = SPARE.try_with(|kept| kept.set(Some(spare)));
-        }
+    /// The bytes of the file on which its imports depend, by its headers and sections: a file of the
+    /// same length, headers and sections that has the same bytes in these ranges has the same imports.
+    /// They come in no order and may overlap; none is empty, and none passes the file.
+    ///
+    /// # Errors
+    /// [`ErrorKind::Memory`] alone.
+    pub fn import_footprint(&self) -> Result<Vec<Range<usize>>, Error> {
+        let none = raw::Directory::default();
+        let directories = self.directory_records();
+        let mut ranges = raw::Ranges::EMPTY;
+        Error::test(raw::footprint_imports(
+            self.bytes,
+            &self.options,
+            &self.file.optional_header,
+            directories
+                .get(DirectoryType::ImportTable as usize)
+                .unwrap_or(&none),
+            self.section_records(),
+            &mut ranges,
+        ))?;
+        let found = ranges.ranges.get();
+        let mut footprint = room(found.len())?;
+        footprint.extend(found.iter().map(|it| it.offset..it.offset + it.length));
+        Ok(footprint)
     }
 }
 
-// Grows a list to a length, and answers whether it was shorter.
-fn grow<T: Copy>(records: &mut Vec<T>, length: usize, empty: T) -> bool {
-    let is_shorter = records.len() < length;
-    if is_shorter {
-        records.resize(length, empty);
+impl fmt::Debug for Pe<'_> {
+    /// What was read, by its numbers.
+    fn fmt(&self, f: &mut fmt::Formatter<'_>) -> fmt::Result {
+        f.debug_struct("Pe")
+            .field("machine", &self.coff_header().machine)
+            .field("sections", &self.sections().len())
+            .field("imports", &(self.import_table(), self.imports().len()))
+            .field("exports", &(self.export_table(), self.exports().len()))
+            .field("blocks", &(self.relocation_table(), self.blocks().len()))
+            .finish_non_exhaustive()
     }
-    is_shorter
 }
 
 /// A symbol of an object.
@@ -615,8 +613,8 @@ impl<'a> Object<'a> {
             &mut [],
             &mut [],
         ))?;
-        let mut sections = vec![raw::Section::EMPTY; object.sections];
-        let mut symbols = vec![raw::Symbol::EMPTY; object.symbols.count];
+        let mut sections = records(raw::Section::EMPTY, object.sections)?;
+        let mut symbols = records(raw::Symbol::EMPTY, object.symbols.count)?;
         Error::test(raw::read_object(
             bytes,
             options,
@@ -655,6 +653,17 @@ impl<'a> Object<'a> {
     }
 }
 
+impl fmt::Debug for Object<'_> {
+    /// What was read, by its numbers.
+    fn fmt(&self, f: &mut fmt::Formatter<'_>) -> fmt::Result {
+        f.debug_struct("Object")
+            .field("machine", &self.coff_header().machine)
+            .field("sections", &self.sections.len())
+            .field("symbols", &self.symbols.len())
+            .finish_non_exhaustive()
+    }
+}
+
 /// A Terse Executable that was read.
 pub struct Te<'a> {
     header: TeHeader,
@@ -668,7 +677,7 @@ impl<'a> Te<'a> {
     /// Why it was refused.
     pub fn read(bytes: &'a [u8]) -> Result<Te<'a>, Error> {
         let mut header = TeHeader::default();
-        let mut sections = vec![raw::Section::EMPTY; u8::MAX.into()];
+        let mut sections = records(raw::Section::EMPTY, u8::MAX.into())?;
         Error::test(raw::read_te(bytes, &mut header, &mut sections))?;
         sections.truncate(header.number_of_sections.into());
         Ok(Te { header, sections })
@@ -685,7 +694,18 @@ impl<'a> Te<'a> {
     }
 }
 
-/// Whether the library that is linked has the interface that this crate declares.
+impl fmt::Debug for Te<'_> {
+    /// What was read, by its numbers.
+    fn fmt(&self, f: &mut fmt::Formatter<'_>) -> fmt::Result {
+        f.debug_struct("Te")
+            .field("machine", &self.header.machine)
+            .field("sections", &self.sections.len())
+            .finish_non_exhaustive()
+    }
+}
+
+/// Whether the library that is linked has the interface that this crate declares. Each read asks so, and
+/// panics where it has not.
 pub fn is_linked_as_declared() -> bool {
-    raw::interface() == raw::INTERFACE
+    raw::is_linked_as_declared()
 }

@@ -3,9 +3,10 @@
 
 use std::marker::PhantomData;
 use std::ptr::NonNull;
+use std::sync::Once;
 
 /// The version of the interface that is declared here.
-pub const INTERFACE: u32 = 1;
+pub const INTERFACE: u32 = 2;
 
 /// Bytes of the file that was read.
 #[repr(C)]
@@ -443,6 +444,9 @@ pub struct Symbol<'a> {
 pub struct File {
     /// The optional header.
     pub optional_header: OptionalHeader,
+    /// How many data directories there are, whatever the room: sixteen, or none where there is no
+    /// optional header.
+    pub directories: usize,
     /// How many sections there are, whatever the room.
     pub sections: usize,
     /// The imports.
@@ -489,45 +493,6 @@ impl Section<'_> {
     };
 }
 
-impl Import<'_> {
-    /// A record that says nothing.
-    pub const EMPTY: Self = Import {
-        name: Slice::EMPTY,
-        dll: Slice::EMPTY,
-        offset: 0,
-        rva: 0,
-        size: 0,
-        slot: 0,
-        ordinal: 0,
-        is_by_name: false,
-    };
-}
-
-impl Export<'_> {
-    /// A record that says nothing.
-    pub const EMPTY: Self = Export {
-        name: Slice::EMPTY,
-        lib: Slice::EMPTY,
-        export_name: Slice::EMPTY,
-        ordinal: 0,
-        offset: 0,
-        rva: 0,
-        size: 0,
-        has_name: false,
-        has_offset: false,
-        forwards: 0,
-    };
-}
-
-impl Block<'_> {
-    /// A record that says nothing.
-    pub const EMPTY: Self = Block {
-        words: Slice::EMPTY,
-        rva: 0,
-        size: 0,
-    };
-}
-
 impl Symbol<'_> {
     /// A record that says nothing.
     pub const EMPTY: Self = Symbol {
@@ -555,83 +520,108 @@ impl Default for Options {
     }
 }
 
-/// The records of a file.
-#[derive(Default)]
-pub struct Records<'a> {
-    /// Those of the Rich header's entries.
-    pub rich_entries: Vec<RichEntry>,
-    /// Those of the data directories.
-    pub directories: [Directory; 16],
-    /// Those of the sections.
-    pub sections: Vec<Section<'a>>,
-    /// Those of the imports.
-    pub imports: Vec<Import<'a>>,
-    /// Those of the exports.
-    pub exports: Vec<Export<'a>>,
-    /// Those of the base relocation blocks.
-    pub blocks: Vec<Block<'a>>,
-    // How many sections, imports, exports and blocks may be filled; the others are empty.
-    used: [usize; 4],
+/// Records in a block of memory of the library's, which is freed with the list.
+#[repr(C)]
+pub struct List<'a, T> {
+    first: NonNull<T>,
+    count: usize,
+    of: PhantomData<&'a [T]>,
 }
 
-impl Records<'_> {
-    /// The same records, all of them empty, for another file.
-    pub fn emptied(mut self) -> Records<'static> {
-        self.sections
-            .iter_mut()
-            .take(self.used[0])
-            .for_each(|s| *s = Section::EMPTY);
-        self.imports
-            .iter_mut()
-            .take(self.used[1])
-            .for_each(|x| *x = Import::EMPTY);
-        self.exports
-            .iter_mut()
-            .take(self.used[2])
-            .for_each(|x| *x = Export::EMPTY);
-        self.blocks
-            .iter_mut()
-            .take(self.used[3])
-            .for_each(|b| *b = Block::EMPTY);
-        self.used = [0; 4];
-        // SAFETY: only the lifetime changes, and no record has a slice of the file any more.
-        unsafe { std::mem::transmute::<Records<'_>, Records<'static>>(self) }
-    }
+// SAFETY: it is a `Box<[T]>` that is not changed.
+unsafe impl<T: Send> Send for List<'_, T> {}
+// SAFETY: it is a `Box<[T]>` that is not changed.
+unsafe impl<T: Sync> Sync for List<'_, T> {}
 
-    // Notes that a call filled as much as a file has.
-    fn note(&mut self, file: &File) {
-        let counts = [
-            file.sections,
-            file.imports.count,
-            file.exports.count,
-            file.relocations.blocks.count,
-        ];
-        for (used, count) in self.used.iter_mut().zip(counts) {
-            *used = count.max(*used);
+impl<T> List<'_, T> {
+    /// No records.
+    pub const EMPTY: Self = List {
+        first: NonNull::dangling(),
+        count: 0,
+        of: PhantomData,
+    };
+
+    /// The records.
+    pub fn get(&self) -> &[T] {
+        // SAFETY: it is `EMPTY`, or was stored by the library, and nothing has been freed.
+        unsafe { std::slice::from_raw_parts(self.first.as_ptr(), self.count) }
+    }
+}
+
+impl<T> Drop for List<'_, T> {
+    fn drop(&mut self) {
+        if self.count != 0 {
+            // SAFETY: the library took the block by `malloc` for these records, and hands it over.
+            unsafe { free(self.first.as_ptr().cast()) }
         }
     }
+}
+
+/// The tables of a file.
+#[repr(C)]
+pub struct Tables<'a> {
+    /// The entries of the Rich header.
+    pub rich_entries: List<'a, RichEntry>,
+    /// The sections.
+    pub sections: List<'a, Section<'a>>,
+    /// The imports.
+    pub imports: List<'a, Import<'a>>,
+    /// The exports.
+    pub exports: List<'a, Export<'a>>,
+    /// The blocks of base relocations.
+    pub blocks: List<'a, Block<'a>>,
+}
+
+impl Tables<'_> {
+    /// Tables that are empty.
+    pub const EMPTY: Self = Tables {
+        rich_entries: List::EMPTY,
+        sections: List::EMPTY,
+        imports: List::EMPTY,
+        exports: List::EMPTY,
+        blocks: List::EMPTY,
+    };
+}
+
+/// A range of the file.
+#[repr(C)]
+#[derive(Clone, Copy, Debug, Default, PartialEq, Eq)]
+pub struct Range {
+    /// The file offset of its first byte.
+    pub offset: usize,
+    /// How many bytes it has: at least one.
+    pub length: usize,
+}
+
+/// Ranges of the file.
+#[repr(C)]
+pub struct Ranges<'a> {
+    /// The ranges.
+    pub ranges: List<'a, Range>,
+}
+
+impl Ranges<'_> {
+    /// No ranges.
+    pub const EMPTY: Self = Ranges {
+        ranges: List::EMPTY,
+    };
+}
+
+unsafe extern "C" {
+    fn free(block: *mut std::ffi::c_void);
 }
 
 unsafe extern "C" {
     safe fn goblin_pe_interface() -> u32;
 
-    fn goblin_pe_read<'a>(
+    fn goblin_pe_open<'a>(
         bytes: *const u8,
         length: usize,
         options: &Options,
         file: &mut File,
-        rich_entries: *mut RichEntry,
-        rich_entry_room: usize,
         directories: *mut Directory,
         directory_room: usize,
-        sections: *mut Section<'a>,
-        section_room: usize,
-        imports: *mut Import<'a>,
-        import_room: usize,
-        exports: *mut Export<'a>,
-        export_room: usize,
-        blocks: *mut Block<'a>,
-        block_room: usize,
+        tables: &mut Tables<'a>,
     ) -> Fault;
 
     fn goblin_pe_read_object<'a>(
@@ -662,47 +652,59 @@ unsafe extern "C" {
         offset: &mut usize,
     ) -> bool;
 
+    fn goblin_pe_footprint_imports(
+        bytes: *const u8,
+        length: usize,
+        options: &Options,
+        optional_header: &OptionalHeader,
+        directory: &Directory,
+        sections: *const Section<'_>,
+        section_count: usize,
+        ranges: &mut Ranges<'_>,
+    ) -> Fault;
+
     fn goblin_pe_fault_text(fault: &Fault, text: *mut u8, room: usize) -> usize;
 }
 
-/// The version of the interface that the library was built with.
-pub fn interface() -> u32 {
-    goblin_pe_interface()
+/// Whether the library has the interface that is declared here.
+pub fn is_linked_as_declared() -> bool {
+    goblin_pe_interface() == INTERFACE
 }
 
-/// Reads a whole file; fills the records as far as there is room.
-pub fn read<'a>(
+// Tests, before the first read, that the library has the interface that is declared here: the records of
+// another would be other records.
+fn test_interface() {
+    static TEST: Once = Once::new();
+    TEST.call_once(|| {
+        assert!(
+            is_linked_as_declared(),
+            "the library libgoblin_pe that is linked has another interface than the crate goblin_pe"
+        )
+    });
+}
+
+/// Reads a whole file. The tables were empty before.
+pub fn open<'a>(
     bytes: &'a [u8],
     options: &Options,
     file: &mut File,
-    records: &mut Records<'a>,
+    directories: &mut [Directory],
+    tables: &mut Tables<'a>,
 ) -> Fault {
+    test_interface();
     // SAFETY: the declaration fits the library's, which asks for nothing more; each pointer and length
-    // are those of one slice, borrowed for the call; what is stored in the records lives for `'a`.
-    let fault = unsafe {
-        goblin_pe_read(
+    // are those of one slice, borrowed for the call; what is stored in the tables lives for `'a`.
+    unsafe {
+        goblin_pe_open(
             bytes.as_ptr(),
             bytes.len(),
             options,
             file,
-            records.rich_entries.as_mut_ptr(),
-            records.rich_entries.len(),
-            records.directories.as_mut_ptr(),
-            records.directories.len(),
-            records.sections.as_mut_ptr(),
-            records.sections.len(),
-            records.imports.as_mut_ptr(),
-            records.imports.len(),
-            records.exports.as_mut_ptr(),
-            records.exports.len(),
-            records.blocks.as_mut_ptr(),
-            records.blocks.len(),
+            directories.as_mut_ptr(),
+            directories.len(),
+            tables,
         )
-    };
-    if fault.status == 0 {
-        records.note(file);
     }
-    fault
 }
 
 /// Reads an object; fills the records as far as there is room.
@@ -713,7 +715,8 @@ pub fn read_object<'a>(
     sections: &mut [Section<'a>],
     symbols: &mut [Symbol<'a>],
 ) -> Fault {
-    // SAFETY: as in `read`.
+    test_interface();
+    // SAFETY: as in `open`.
     unsafe {
         goblin_pe_read_object(
             bytes.as_ptr(),
@@ -730,7 +733,8 @@ pub fn read_object<'a>(
 
 /// Reads a Terse Executable; fills the records as far as there is room.
 pub fn read_te<'a>(bytes: &'a [u8], header: &mut TeHeader, sections: &mut [Section<'a>]) -> Fault {
-    // SAFETY: as in `read`.
+    test_interface();
+    // SAFETY: as in `open`.
     unsafe {
         goblin_pe_read_te(
             bytes.as_ptr(),
@@ -750,7 +754,7 @@ pub fn find_offset(
     options: &Options,
 ) -> Option<usize> {
     let mut offset = 0;
-    // SAFETY: as in `read`; the records are only read.
+    // SAFETY: as in `open`; the records are only read.
     let is_found = unsafe {
         goblin_pe_find_offset(
             rva,
@@ -764,8 +768,32 @@ pub fn find_offset(
     is_found.then_some(offset)
 }
 
+/// Lists the ranges of the file on which its imports depend. There were none before.
+pub fn footprint_imports(
+    bytes: &[u8],
+    options: &Options,
+    optional_header: &OptionalHeader,
+    directory: &Directory,
+    sections: &[Section<'_>],
+    ranges: &mut Ranges<'_>,
+) -> Fault {
+    // SAFETY: as in `open`; the records are only read.
+    unsafe {
+        goblin_pe_footprint_imports(
+            bytes.as_ptr(),
+            bytes.len(),
+            options,
+            optional_header,
+            directory,
+            sections.as_ptr(),
+            sections.len(),
+            ranges,
+        )
+    }
+}
+
 /// Writes the text of a refusal as far as there is room; answers how long it is.
 pub fn fault_text(fault: &Fault, text: &mut [u8]) -> usize {
-    // SAFETY: as in `read`.
+    // SAFETY: as in `open`.
     unsafe { goblin_pe_fault_text(fault, text.as_mut_ptr(), text.len()) }
 }

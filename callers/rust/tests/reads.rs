@@ -138,6 +138,64 @@ fn addresses_are_mapped() {
     assert_eq!(offset, Some(pointer / 512 * 512));
 }
 
+// The records of one file are never those of the one before it.
+#[test]
+fn a_file_without_directories_has_none_after_one_with_them() {
+    let mut bytes = sample("imports_by_name_x64.dll");
+    let pe = Pe::read(&bytes, &Options::default()).unwrap();
+    assert!(pe.data_directory(DirectoryType::ImportTable).is_some());
+    drop(pe);
+    let size_of_optional_header = number(&bytes, 0x3C, 4) as usize + 20;
+    bytes[size_of_optional_header..][..2].fill(0);
+    let pe = Pe::read(&bytes, &Options::default()).unwrap();
+    assert!(pe.optional_header().is_none());
+    assert_eq!(pe.data_directory(DirectoryType::ImportTable), None);
+    assert_eq!(pe.data_directories().count(), 0);
+    assert_eq!(pe.import_footprint().unwrap(), []);
+}
+
+// All of a file is changed but for its headers and the footprint of its imports: they are the same.
+#[test]
+fn imports_depend_on_their_footprint_alone() {
+    let options = Options {
+        is_permissive: true,
+        ..Options::default()
+    };
+    for name in ["imports_by_name_x64.dll", "imports_by_ordinal_x86.dll"] {
+        let bytes = sample(name);
+        let pe = Pe::read(&bytes, &options).unwrap();
+        let headers = pe.optional_header().unwrap().size_of_headers as usize;
+        let mut other: Vec<u8> = bytes.iter().map(|byte| !byte).collect();
+        other[..headers].copy_from_slice(&bytes[..headers]);
+        for range in pe.import_footprint().unwrap() {
+            other[range.clone()].copy_from_slice(&bytes[range]);
+        }
+        let other = Pe::read(&other, &options).unwrap();
+        assert!(pe.imports().eq(other.imports()), "{name}");
+        assert_ne!(pe.imports().len(), 0, "{name}");
+    }
+}
+
+#[test]
+fn what_was_read_is_shared_and_shown() {
+    fn is_shared<T: Send + Sync>(_: &T) {}
+    let bytes = sample("imports_by_name_x64.dll");
+    let pe = Pe::read(&bytes, &Options::default()).unwrap();
+    is_shared(&pe);
+    is_shared(&pe.imports().next().unwrap());
+    let shown = "Pe { machine: 34404, sections: 4, imports: (Read, 1), exports: (Read, 2), blocks: (Read, 1), .. }";
+    assert_eq!(format!("{pe:?}"), shown);
+    let bytes = sample("object_x64.obj");
+    let object = Object::read(&bytes, &Options::default()).unwrap();
+    is_shared(&object);
+    assert!(format!("{object:?}").starts_with("Object { machine: 34404, "));
+    let bytes = sample("firmware_x64.te");
+    let te = Te::read(&bytes).unwrap();
+    is_shared(&te);
+    assert!(format!("{te:?}").starts_with("Te { machine: 34404, "));
+    is_shared(&Te::read(b"").err().unwrap());
+}
+
 #[test]
 fn objects_and_terse_executables() {
     let bytes = sample("object_x64.obj");

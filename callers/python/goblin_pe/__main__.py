@@ -1,19 +1,24 @@
-"""Lists a file as pe_list does: list.py [--permissive] FILE. With --symbols the symbols of an object, and
-with --te the header of a Terse Executable, as pe_replay shows them."""
+"""Lists a file as pe_list does. With --symbols it lists the symbols of an object, and with --te the header of a Terse
+Executable, as pe_replay shows them."""
+import argparse
 import sys
+from typing import Iterator, List, Sequence
 
-from goblin_pe import ObjectFile, Pe, Refused, Te, options
+from . import ObjectFile, Pe, Refused, Te, options
 
 
-def shown(text):
+def shown(text: bytes) -> str:
+    """A text, its bytes outside printable ASCII and the backslash by their numbers."""
     return "".join(chr(it) if 0x20 <= it <= 0x7E and it != 0x5C else "\\x%02x" % it for it in text)
 
 
-def heading(label, state, entries):
+def heading(label: str, state: str, entries: Sequence[object]) -> str:
+    """How a table stands."""
     return "%s %s" % (label, len(entries) if state == "read" else state)
 
 
-def image(data, is_permissive):
+def image(data: bytes, is_permissive: bool = False) -> Iterator[str]:
+    """The lines of an image."""
     pe = Pe(data, options(is_permissive=is_permissive))
     line = "header machine=%#x sections=%d" % (pe.coff_header.machine, len(pe.sections))
     if pe.optional_header:
@@ -43,7 +48,8 @@ def image(data, is_permissive):
         yield "block refused"
 
 
-def symbols(data):
+def symbols(data: bytes) -> Iterator[str]:
+    """The lines of an object."""
     found = ObjectFile(data)
     for s in found.symbols:
         yield "symbol %d value=%d section=%d class=%d aux=%d name=%s" % (
@@ -53,7 +59,8 @@ def symbols(data):
             yield "relocations %s %d" % (shown(s.name), s.number_of_relocations)
 
 
-def te(data):
+def te(data: bytes) -> Iterator[str]:
+    """The lines of a Terse Executable."""
     found = Te(data)
     h = found.header
     for field in ("signature", "machine", "number_of_sections", "subsystem", "stripped_size", "entry_point", "base_of_code", "image_base"):
@@ -65,14 +72,26 @@ def te(data):
             shown(s.name), s.virtual_address, s.virtual_size, s.size_of_raw_data, s.pointer_to_raw_data, s.characteristics)
 
 
-def main(words):
-    with open(words[-1], "rb") as file:
-        data = file.read()
-    lines = {"--symbols": symbols, "--te": te}.get(words[0], lambda it: image(it, words[0] == "--permissive"))
+def permissively(data: bytes) -> Iterator[str]:
+    """The lines of an image, damaged parts passed over."""
+    return image(data, is_permissive=True)
+
+
+def main(words: List[str]) -> int:
+    """Lists the file that the words name, and answers the status of the program."""
+    parser = argparse.ArgumentParser(prog="python -m goblin_pe", description="Lists a PE file.")
+    kind = parser.add_mutually_exclusive_group()
+    for name, lines, what in [("--permissive", permissively, "pass over damaged parts"), ("--symbols", symbols, "list the symbols of an object"),
+                              ("--te", te, "list a Terse Executable")]:
+        kind.add_argument(name, dest="lines", action="store_const", const=lines, help=what)
+    parser.add_argument("file", metavar="FILE")
+    parser.set_defaults(lines=image)
+    asked = parser.parse_args(words)
     try:
-        print("\n".join(lines(data)))
-    except Refused as refused:
-        print("refused: %s" % refused, file=sys.stderr)
+        with open(asked.file, "rb") as file:
+            print("\n".join(asked.lines(file.read())))
+    except (OSError, Refused) as error:
+        print("%s: %s" % ("refused" if isinstance(error, Refused) else "read failed", error), file=sys.stderr)
         return 1
     return 0
 

@@ -1,0 +1,242 @@
+"""Reads PE files that can't be trusted: images with their headers, sections, imports, exports and base
+relocations, objects with their symbols, and Terse Executables.
+
+    from goblin_pe import Pe, Refused, options
+
+    try:
+        pe = Pe(open("some.dll", "rb").read(), options(is_permissive=True))
+    except Refused as refused:
+        print(refused, refused.status, refused.cause)
+    else:
+        for x in pe.imports:
+            print(x.dll, x.name, x.ordinal)
+
+`python -m goblin_pe FILE` lists a file.
+
+Pe, ObjectFile and Te read bytes, a memoryview, a mapped file or any other buffer that lies in one piece, and copy
+none of it; options() says how. The bytes must not change meanwhile. What was read is Python's own: it stays when the
+buffer is gone. Texts are bytes. Addresses (rva) are relative to the image's base, offsets are file offsets, both in
+bytes; but the offset of an import is the address of its entry in the address table.
+
+A refusal raises Refused, also where the library is refused memory: its status is then Status.NO_MEMORY. MemoryError
+comes from Python alone, where there is no memory for what was read.
+
+The rows Section, Import, Export, Block, Symbol and Range are named tuples (goblin_pe.rows); the headers are records
+whose fields are those of the format (goblin_pe.records); State, Status, Cause, Counted, ReadFault and DirectoryType
+name numbers (goblin_pe.numbers). All of them can be imported from here.
+
+The reader is the proved library goblin_pe_c. Its shared library stands beside an installed module; in the repository
+callers/build puts it into callers/lib. The variable GOBLIN_PE_SO names another when the module is imported.
+"""
+import ctypes as c
+import mmap
+import operator
+import sys
+from typing import Any, Dict, List, Optional, Tuple, Type, Union
+
+from . import records
+from ._library import LIB as _LIB, held as _held, text_of as _text_of
+from .numbers import (Cause as Cause, Counted as Counted, DirectoryType as DirectoryType, ReadFault as ReadFault,
+                      State as State, Status as Status)
+from .records import (CoffHeader as CoffHeader, Directory as Directory, DosHeader as DosHeader, OptionalHeader as OptionalHeader,
+                      Options as Options, RichEntry as RichEntry, RichHeader as RichHeader, TeHeader as TeHeader)
+from .rows import (Block as Block, Export as Export, Import as Import, Range as Range, Rows as _Rows, Section as Section,
+                   Symbol as Symbol)
+
+__all__ = ["Pe", "ObjectFile", "Te", "Refused", "options"]
+
+# The bytes of a file.
+if sys.version_info >= (3, 12):
+    from collections.abc import Buffer as Data
+else:
+    Data = Union[bytes, bytearray, memoryview, mmap.mmap]
+
+
+def _named(kind: Any, number: int) -> Any:
+    # the number by its name, where it has one
+    try:
+        return kind(number)
+    except ValueError:
+        return number
+
+
+class Refused(ValueError):
+    """A call was refused. The error's text is that of the refusal; `status` is a Status, `cause` by the status
+    a Cause, a Counted or a ReadFault, else 0, and `first` and `second` are the numbers of the cause. A number
+    that has no name here is an int."""
+
+    _CAUSES = {Status.MALFORMED: Cause, Status.TOO_SHORT: Counted, Status.BAD_READ: ReadFault}
+
+    def __init__(self, status: int, cause: int = 0, first: int = 0, second: int = 0):
+        super().__init__(_text_of(records.Fault(status, cause, first, second)))
+        self.status = _named(Status, status)
+        self.cause = _named(self._CAUSES.get(self.status, int), cause)
+        self.first, self.second = first, second
+
+    def __reduce__(self) -> Tuple[Any, ...]:
+        # copied and sent between processes by its numbers, which are what it is made of
+        return type(self), (self.status, self.cause, self.first, self.second), self.__dict__
+
+
+def _refusal(fault: records.Fault) -> Optional[Refused]:
+    return Refused(fault.status, fault.cause, fault.first, fault.second) if fault.status else None
+
+
+def _test(fault: records.Fault) -> None:
+    refusal = _refusal(fault)
+    if refusal:
+        raise refusal
+
+
+def _blank(record: Any) -> Any:
+    # a record whose texts are empty, but point somewhere
+    for field in record._fields_:
+        if field[1] is records.Text:
+            setattr(record, field[0], records.Text(records.NOWHERE, 0))
+    return record
+
+
+def _room(kind: Type[records.Record], count: int) -> Any:
+    # records to be filled; one more than asked for, so that the pointer is never null
+    return (kind * (count + 1)).from_buffer_copy(bytes(_blank(kind())) * (count + 1))
+
+
+def options(is_permissive: bool = False, resolve_rva: bool = True, rounds_raw_pointers: bool = False,
+            parse_imports: bool = True) -> Options:
+    """How a file is read; by default strictly, with all its tables.
+
+    is_permissive: whether damaged parts are passed over.
+    resolve_rva: whether an address is mapped to a file offset by the sections; where not, it is the offset.
+    rounds_raw_pointers: whether the mapping rounds the raw pointer of a section down to 512, as the Windows
+        loader does; where not, it takes the pointer as stored.
+    parse_imports: whether the imports are read; where not, their table is absent.
+    """
+    return Options(is_permissive, resolve_rva, rounds_raw_pointers, parse_imports)
+
+
+def _state(table: records.Table) -> str:
+    return State(table.state).name.lower()
+
+
+class Pe:
+    """An image that was read: Pe(data, how), where `data` are the file's bytes and `how` is what options()
+    answers. A file that is refused raises Refused.
+
+    dos_header, coff_header: the headers.
+    optional_header, rich_header: the same, or None where the file has none.
+    rich_entries: the entries of the Rich header.
+    data_directories: the directories that are there, by their index, which is a DirectoryType below 15.
+    sections: a list of Section.
+    import_table, export_table, relocation_table: "absent", "read" or "refused"; only what was read has entries.
+    imports, exports, blocks: lists of Import, of Export and of Block.
+    block_rest: why the rest that follows the blocks is no block, as a Refused; None where there is no rest.
+
+    It keeps `data` for import_footprint, until close() or the end of a `with`; all else needs it no longer.
+    """
+
+    def __init__(self, data: Data, how: Optional[Options] = None):
+        self._data: Optional[Data] = data
+        self._options = how or options()
+        file, directories, tables = records.File(), (Directory * 16)(), records.Tables()
+        with memoryview(data) as view, _held(view) as (address, length), tables:
+            _test(_LIB.goblin_pe_open(address, length, c.byref(self._options), c.byref(file), directories, 16, c.byref(tables)))
+            with view.cast("B") as in_bytes:
+                self._take_headers(file, directories[: file.directories])
+                self._take_tables(file, tables, _Rows(in_bytes, address))
+
+    def _take_headers(self, file: records.File, directories: List[Directory]) -> None:
+        self._header = file.optional_header
+        self._imports_at = directories[DirectoryType.IMPORT_TABLE] if directories else Directory()
+        self.dos_header: DosHeader = file.dos_header
+        self.coff_header: CoffHeader = file.coff_header
+        self.optional_header: Optional[OptionalHeader] = file.optional_header if directories else None
+        self.rich_header: Optional[RichHeader] = file.rich_header if file.rich_header.is_present else None
+        self.data_directories: Dict[int, Directory] = {
+            _named(DirectoryType, index): d for index, d in enumerate(directories) if d.is_present}
+
+    def _take_tables(self, file: records.File, tables: records.Tables, rows: _Rows) -> None:
+        found = tables.records("sections")
+        self.sections: List[Section] = [rows.section(s) for s in found]
+        self._count, self._mapping = len(found), (records.Section * (len(found) + 1))(*map(_blank, found))
+        self.rich_entries: List[RichEntry] = [RichEntry.from_buffer_copy(entry) for entry in tables.records("rich_entries")]
+        self.import_table = _state(file.imports)
+        self.imports: List[Import] = [rows.imported(x) for x in tables.records("imports")]
+        self.export_table = _state(file.exports)
+        self.exports: List[Export] = [rows.exported(x) for x in tables.records("exports")]
+        self.relocation_table = _state(file.relocations.blocks)
+        self.blocks: List[Block] = [rows.block(b) for b in tables.records("blocks")]
+        self.block_rest = _refusal(file.relocations.rest)
+
+    def __repr__(self) -> str:
+        return "<Pe machine=%#x sections=%d imports=%d exports=%d blocks=%d>" % (
+            self.coff_header.machine, len(self.sections), len(self.imports), len(self.exports), len(self.blocks))
+
+    def __enter__(self) -> "Pe":
+        return self
+
+    def __exit__(self, *error: object) -> None:
+        self.close()
+
+    def close(self) -> None:
+        """Lets go of the file's bytes."""
+        self._data = None
+
+    def find_offset(self, rva: int) -> Optional[int]:
+        """The file offset of an address: None where no section maps it or the file alignment is no power of two;
+        the address itself where the options say that addresses are offsets. OverflowError is raised where it has more
+        than 64 bits or a sign."""
+        operator.index(rva).to_bytes(c.sizeof(c.c_size_t), "little")
+        offset = c.c_size_t()
+        is_found = _LIB.goblin_pe_find_offset(rva, self._mapping, self._count, self._header.file_alignment,
+                                              c.byref(self._options), c.byref(offset))
+        return offset.value if is_found else None
+
+    def import_footprint(self) -> List[Range]:
+        """The bytes of the file on which its imports depend, by its headers and sections: a file of the same length,
+        headers and sections that has the same bytes in these ranges has the same imports. They come in no order and
+        may overlap; none is empty, and none passes the file. ValueError is raised after close()."""
+        if self._data is None:
+            raise ValueError("the file's bytes are no longer here")
+        ranges = records.Ranges()
+        with _held(self._data) as (address, length), ranges:
+            _test(_LIB.goblin_pe_footprint_imports(address, length, c.byref(self._options), c.byref(self._header),
+                                                   c.byref(self._imports_at), self._mapping, self._count, c.byref(ranges)))
+            return [Range(it.offset, it.length) for it in ranges.records("ranges")]
+
+
+class ObjectFile:
+    """An object that was read: ObjectFile(data, how); of the options only is_permissive counts. A file that is refused
+    raises Refused.
+
+    coff_header: the header.
+    sections, symbols: lists of Section and of Symbol.
+    """
+
+    def __init__(self, data: Data, how: Optional[Options] = None):
+        how, found, counts = how or options(), records.Object(), (0, 0)
+        with memoryview(data) as view, _held(view) as (address, length), view.cast("B") as in_bytes:
+            for _ in range(2):
+                sections, symbols = _room(records.Section, counts[0]), _room(records.Symbol, counts[1])
+                _test(_LIB.goblin_pe_read_object(address, length, c.byref(how), c.byref(found), sections, counts[0],
+                                                 symbols, counts[1]))
+                counts = (found.sections, found.symbols.count)
+            rows = _Rows(in_bytes, address)
+            self.coff_header: CoffHeader = found.coff_header
+            self.sections: List[Section] = [rows.section(s) for s in sections[: counts[0]]]
+            self.symbols: List[Symbol] = [rows.symbol(s) for s in symbols[: counts[1]]]
+
+
+class Te:
+    """A Terse Executable that was read: Te(data). Its signature is not looked at. A file that is refused raises Refused.
+
+    header: the header.
+    sections: a list of Section.
+    """
+
+    def __init__(self, data: Data):
+        header, sections = TeHeader(), _room(records.Section, 255)
+        with memoryview(data) as view, _held(view) as (address, length), view.cast("B") as in_bytes:
+            _test(_LIB.goblin_pe_read_te(address, length, c.byref(header), sections, 255))
+            rows = _Rows(in_bytes, address)
+            self.header: TeHeader = header
+            self.sections: List[Section] = [rows.section(s) for s in sections[: header.number_of_sections]]

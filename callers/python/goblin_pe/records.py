@@ -1,0 +1,361 @@
+"""The library's records. Their fields are those of the crate goblin_pe_c, in the same order; callers/layout.py
+compares them, and goblin_pe.h says of each field what it is."""
+import ctypes as c
+from typing import Annotated, Sequence, Type, TypeVar
+
+# The types of fields: what Python sees of each, and how it lies in memory.
+U8 = Annotated[int, c.c_uint8]
+U16 = Annotated[int, c.c_uint16]
+U32 = Annotated[int, c.c_uint32]
+U64 = Annotated[int, c.c_uint64]
+I16 = Annotated[int, c.c_int16]
+Size = Annotated[int, c.c_size_t]
+Address = Annotated[int, c.c_void_p]
+Flag = Annotated[bool, c.c_bool]
+Name = Annotated[Sequence[int], c.c_uint8 * 8]
+Words4 = Annotated[Sequence[int], c.c_uint16 * 4]
+Words10 = Annotated[Sequence[int], c.c_uint16 * 10]
+
+
+class Record(c.Structure):
+    """A record whose fields are shown by their names."""
+
+    def __repr__(self) -> str:
+        fields = ", ".join("%s=%r" % (field[0], getattr(self, field[0])) for field in self._fields_)
+        return "%s(%s)" % (type(self).__name__, fields)
+
+
+_Kind = TypeVar("_Kind", bound=Record)
+
+
+def _laid_out(kind: Type[_Kind]) -> Type[_Kind]:
+    # a record with the fields that it names, in their order
+    kind._fields_ = [(name, getattr(hint, "__metadata__", [hint])[0]) for name, hint in kind.__annotations__.items()]
+    return kind
+
+
+@_laid_out
+class Text(Record):
+    """Bytes of the file that was read."""
+
+    bytes: Address
+    length: Size
+
+
+@_laid_out
+class Options(Record):
+    """What a call does and leaves out."""
+
+    is_permissive: Flag
+    resolve_rva: Flag
+    rounds_raw_pointers: Flag
+    parse_imports: Flag
+
+
+@_laid_out
+class Fault(Record):
+    """Why a call gave no value, in numbers; the status 0 is that it gave one."""
+
+    status: U32
+    cause: U32
+    first: U64
+    second: U64
+
+
+@_laid_out
+class DosHeader(Record):
+    """The DOS header."""
+
+    pe_pointer: U32
+    signature: U16
+    bytes_on_last_page: U16
+    pages_in_file: U16
+    relocations: U16
+    size_of_header_in_paragraphs: U16
+    minimum_extra_paragraphs_needed: U16
+    maximum_extra_paragraphs_needed: U16
+    initial_relative_ss: U16
+    initial_sp: U16
+    checksum: U16
+    initial_ip: U16
+    initial_relative_cs: U16
+    file_address_of_relocation_table: U16
+    overlay_number: U16
+    reserved: Words4
+    oem_id: U16
+    oem_info: U16
+    reserved2: Words10
+
+
+@_laid_out
+class CoffHeader(Record):
+    """The COFF header."""
+
+    machine: U16
+    number_of_sections: U16
+    time_date_stamp: U32
+    pointer_to_symbol_table: U32
+    number_of_symbol_table: U32
+    size_of_optional_header: U16
+    characteristics: U16
+
+
+@_laid_out
+class OptionalHeader(Record):
+    """The optional header; zeros where there is none."""
+
+    size_of_code: U64
+    size_of_initialized_data: U64
+    size_of_uninitialized_data: U64
+    base_of_code: U64
+    image_base: U64
+    size_of_stack_reserve: U64
+    size_of_stack_commit: U64
+    size_of_heap_reserve: U64
+    size_of_heap_commit: U64
+    address_of_entry_point: U32
+    base_of_data: U32
+    section_alignment: U32
+    file_alignment: U32
+    win32_version_value: U32
+    size_of_image: U32
+    size_of_headers: U32
+    check_sum: U32
+    loader_flags: U32
+    number_of_rva_and_sizes: U32
+    magic: U16
+    major_operating_system_version: U16
+    minor_operating_system_version: U16
+    major_image_version: U16
+    minor_image_version: U16
+    major_subsystem_version: U16
+    minor_subsystem_version: U16
+    subsystem: U16
+    dll_characteristics: U16
+    major_linker_version: U8
+    minor_linker_version: U8
+
+
+@_laid_out
+class Directory(Record):
+    """An entry of the table of data directories."""
+
+    end: Size
+    virtual_address: U32
+    size: U32
+    is_present: Flag
+
+
+@_laid_out
+class DataDirectory(Record):
+    """Where a table of an image lies."""
+
+    virtual_address: U32
+    size: U32
+
+
+@_laid_out
+class TeHeader(Record):
+    """The header of a Terse Executable, its addresses as they are in the stripped file."""
+
+    image_base: U64
+    entry_point: U32
+    base_of_code: U32
+    reloc_dir: DataDirectory
+    debug_dir: DataDirectory
+    signature: U16
+    machine: U16
+    stripped_size: U16
+    number_of_sections: U8
+    subsystem: U8
+
+
+@_laid_out
+class RichEntry(Record):
+    """An entry of the Rich header: a tool, and how often it was used."""
+
+    use_count: U32
+    build: U16
+    product: U16
+
+
+@_laid_out
+class RichHeader(Record):
+    """The Rich header; zeros where there is none."""
+
+    entries: Size
+    padding_size: Size
+    rest: Fault
+    key: U32
+    start_offset: U32
+    end_offset: U32
+    is_present: Flag
+
+
+@_laid_out
+class Section(Record):
+    """A section, as its record describes it."""
+
+    real_name: Text
+    name: Name
+    virtual_size: U32
+    virtual_address: U32
+    size_of_raw_data: U32
+    pointer_to_raw_data: U32
+    pointer_to_relocations: U32
+    pointer_to_linenumbers: U32
+    number_of_relocations: U16
+    number_of_linenumbers: U16
+    characteristics: U32
+    has_real_name: Flag
+
+
+@_laid_out
+class Import(Record):
+    """An import."""
+
+    name: Text
+    dll: Text
+    offset: Size
+    rva: Size
+    size: Size
+    slot: Size
+    ordinal: U16
+    is_by_name: Flag
+
+
+@_laid_out
+class Export(Record):
+    """An export."""
+
+    name: Text
+    lib: Text
+    export_name: Text
+    ordinal: Size
+    offset: Size
+    rva: Size
+    size: Size
+    has_name: Flag
+    has_offset: Flag
+    forwards: U8
+
+
+@_laid_out
+class Block(Record):
+    """A block of base relocations, for one page of the image in memory."""
+
+    words: Text
+    rva: U32
+    size: U32
+
+
+@_laid_out
+class Table(Record):
+    """A table of the file."""
+
+    count: Size
+    state: U32
+
+
+@_laid_out
+class Relocations(Record):
+    """The base relocations."""
+
+    blocks: Table
+    rest: Fault
+
+
+@_laid_out
+class Symbol(Record):
+    """A symbol."""
+
+    name: Text
+    index: Size
+    record_name: Name
+    value: U32
+    section_number: I16
+    typ: U16
+    storage_class: U8
+    number_of_aux_symbols: U8
+    has_name: Flag
+
+
+@_laid_out
+class File(Record):
+    """The file as a whole."""
+
+    optional_header: OptionalHeader
+    directories: Size
+    sections: Size
+    imports: Table
+    exports: Table
+    relocations: Relocations
+    rich_header: RichHeader
+    dos_header: DosHeader
+    coff_header: CoffHeader
+
+
+@_laid_out
+class Object(Record):
+    """An object as a whole."""
+
+    sections: Size
+    symbols: Table
+    coff_header: CoffHeader
+
+
+@_laid_out
+class Range(Record):
+    """A range of the file."""
+
+    offset: Size
+    length: Size
+
+
+# Where there are no bytes and no records: the library wants pointers that are not null.
+_NOWHERE = c.create_string_buffer(8)
+NOWHERE = c.addressof(_NOWHERE)
+
+_free = c.CDLL(None).free
+_free.restype, _free.argtypes = None, [c.c_void_p]
+
+
+class HandedOver(c.Structure):
+    """Tables that the library hands over, each a block of memory of its own where it is not empty. They are
+    empty before, and freed at the end of a `with`."""
+
+    KINDS: "dict[str, Type[Record]]" = {}
+
+    def __init__(self) -> None:
+        super().__init__(*(it for kind in self.KINDS.values() for it in (c.cast(NOWHERE, c.POINTER(kind)), 0)))
+
+    def records(self, name: str) -> list:
+        """The records of a table, good until it is freed."""
+        return getattr(self, name)[: getattr(self, name + "_count")]
+
+    def __enter__(self) -> "HandedOver":
+        return self
+
+    def __exit__(self, *error: object) -> None:
+        for name in self.KINDS:
+            if getattr(self, name + "_count"):
+                _free(getattr(self, name))
+
+
+def _tables(kinds: "dict[str, Type[Record]]") -> list:
+    # each table is a pointer and a count
+    return [it for name, kind in kinds.items() for it in ((name, c.POINTER(kind)), (name + "_count", c.c_size_t))]
+
+
+class Tables(HandedOver):
+    """The tables of an image."""
+
+    KINDS = {"rich_entries": RichEntry, "sections": Section, "imports": Import, "exports": Export, "blocks": Block}
+    _fields_ = _tables(KINDS)
+
+
+class Ranges(HandedOver):
+    """Ranges of the file."""
+
+    KINDS = {"ranges": Range}
+    _fields_ = _tables(KINDS)

@@ -1,0 +1,110 @@
+"""What was read of a file, as rows of Python: texts are bytes, and nothing points into the file."""
+import struct
+from typing import List, NamedTuple, Optional, Tuple, Union
+
+from . import records
+from .numbers import Forwards
+
+
+class Section(NamedTuple):
+    """A section: its name (that of the string table where it has one, else its eight bytes up to the first NUL) and the
+    fields of its record."""
+
+    name: bytes
+    virtual_size: int
+    virtual_address: int
+    size_of_raw_data: int
+    pointer_to_raw_data: int
+    pointer_to_relocations: int
+    pointer_to_linenumbers: int
+    number_of_relocations: int
+    number_of_linenumbers: int
+    characteristics: int
+
+
+class Import(NamedTuple):
+    """An import. One by ordinal has the name None; of one by name the ordinal is the hint. The offset is the address of its
+    entry in the address table."""
+
+    dll: bytes
+    name: Optional[bytes]
+    ordinal: int
+    offset: int
+    rva: int
+    size: int
+    slot: int
+
+
+class Export(NamedTuple):
+    """An export. A name that can't be read is None, and so is the file offset of an address that no section maps. The
+    forwarder is None, or the pair (library, name or ordinal)."""
+
+    name: Optional[bytes]
+    rva: int
+    offset: Optional[int]
+    forwarder: Optional[Tuple[bytes, Union[bytes, int]]]
+
+
+class Block(NamedTuple):
+    """A block of base relocations. Of a word the type is in the high four bits, the offset in the page in the low twelve."""
+
+    rva: int
+    size: int
+    words: List[int]
+
+
+class Symbol(NamedTuple):
+    """A symbol of an object. A name that can't be read is None."""
+
+    index: int
+    name: Optional[bytes]
+    value: int
+    section_number: int
+    typ: int
+    storage_class: int
+    number_of_aux_symbols: int
+
+
+class Range(NamedTuple):
+    """A range of the file: the offset of its first byte, and how many bytes it has."""
+
+    offset: int
+    length: int
+
+
+class Rows:
+    """Makes rows of records whose texts point into the bytes of a file that is held at an address."""
+
+    def __init__(self, data: memoryview, address: int):
+        self._data, self._address = data, address
+
+    def _begin(self, text: records.Text) -> int:
+        return text.bytes - self._address
+
+    def text(self, text: records.Text) -> bytes:
+        """A text, copied; one of no bytes may point anywhere."""
+        return self._data[self._begin(text): self._begin(text) + text.length].tobytes() if text.length else b""
+
+    def section(self, s: records.Section) -> Section:
+        """The row of a section."""
+        name = self.text(s.real_name) if s.has_real_name else bytes(s.name).split(b"\0")[0]
+        return Section(name, *(getattr(s, field) for field in Section._fields[1:]))
+
+    def imported(self, x: records.Import) -> Import:
+        """The row of an import."""
+        return Import(self.text(x.dll), self.text(x.name) if x.is_by_name else None, x.ordinal, x.offset, x.rva, x.size, x.slot)
+
+    def exported(self, x: records.Export) -> Export:
+        """The row of an export."""
+        forwarder = (self.text(x.lib), self.text(x.export_name) if x.forwards == Forwards.NAME else x.ordinal) if x.forwards else None
+        return Export(self.text(x.name) if x.has_name else None, x.rva, x.offset if x.has_offset else None, forwarder)
+
+    def block(self, b: records.Block) -> Block:
+        """The row of a block."""
+        count = b.words.length // 2
+        words = struct.unpack_from("<%dH" % count, self._data, self._begin(b.words)) if count else ()
+        return Block(b.rva, b.size, list(words))
+
+    def symbol(self, s: records.Symbol) -> Symbol:
+        """The row of a symbol."""
+        return Symbol(s.index, self.text(s.name) if s.has_name else None, *(getattr(s, field) for field in Symbol._fields[2:]))

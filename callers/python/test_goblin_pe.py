@@ -1,0 +1,146 @@
+"""Tries the module beyond its listings: python3 -X dev -m unittest test_goblin_pe."""
+import array
+import concurrent.futures
+import copy
+import ctypes
+import mmap
+import multiprocessing
+import os
+import pickle
+import pydoc
+import tempfile
+import tracemalloc
+import unittest
+
+import goblin_pe
+from goblin_pe import Cause, DirectoryType, ObjectFile, Pe, Refused, Status, Te, options
+from goblin_pe.records import Text
+from goblin_pe.rows import Rows
+
+SAMPLES = os.environ.get("GOBLIN_PE_SAMPLES", os.path.join(os.path.dirname(os.path.abspath(__file__)), "../../samples"))
+
+
+def sample(name):
+    with open(os.path.join(SAMPLES, name), "rb") as file:
+        return file.read()
+
+
+def imports_in(data):
+    """What a worker does in a process of its own."""
+    return len(Pe(data).imports)
+
+
+class Refusals(unittest.TestCase):
+    FILES = [sample("imports_by_name_x64.dll"), sample("forwarders_x64.dll"), b"no image"]
+
+    def assert_no_image(self, refused):
+        self.assertEqual((refused.status, refused.cause, refused.first), (Status.MALFORMED, Cause.DOS_MAGIC, 0x6F6E))
+        self.assertEqual(str(refused), "the file begins with 0x6f6e in place of the DOS signature")
+
+    def test_a_refusal_is_copied_and_pickled(self):
+        with self.assertRaises(Refused) as caught:
+            Pe(b"no image")
+        caught.exception.path = "a.dll"
+        for made in (copy.copy, copy.deepcopy, lambda it: pickle.loads(pickle.dumps(it))):
+            refused = made(caught.exception)
+            self.assert_no_image(refused)
+            self.assertEqual(refused.path, "a.dll")
+
+    def test_a_pool_hands_on_the_refusal_of_one_file(self):
+        with multiprocessing.Pool(2) as pool:
+            self.assertEqual(pool.map_async(imports_in, self.FILES[:2]).get(timeout=60), [1, 0])
+            with self.assertRaises(Refused) as caught:
+                pool.map_async(imports_in, self.FILES).get(timeout=60)
+        self.assert_no_image(caught.exception)
+
+    def test_an_executor_hands_on_the_refusal_of_one_file(self):
+        with concurrent.futures.ProcessPoolExecutor(2) as executor:
+            tasks = [executor.submit(imports_in, data) for data in self.FILES]
+            self.assert_no_image(tasks[2].exception(timeout=60))
+            self.assertEqual([task.result(timeout=60) for task in tasks[:2]], [1, 0])
+
+
+class Buffers(unittest.TestCase):
+    def test_each_buffer_is_read(self):
+        data = sample("imports_by_name_x64.dll")
+        wanted = Pe(data)
+        with tempfile.TemporaryFile() as file:
+            file.write(data)
+            file.flush()
+            with mmap.mmap(file.fileno(), 0, access=mmap.ACCESS_READ) as mapped:
+                for buffer in (bytearray(data), memoryview(data), array.array("B", data), memoryview(data).cast("H"), mapped):
+                    pe = Pe(buffer)
+                    self.assertEqual((pe.sections, pe.imports, pe.exports, pe.blocks),
+                                     (wanted.sections, wanted.imports, wanted.exports, wanted.blocks))
+                    self.assertEqual(pe.import_footprint(), wanted.import_footprint())
+            # what was read has nothing to do with the buffer any more
+            self.assertEqual(pe.imports, wanted.imports)
+            self.assertEqual(pe.find_offset(0x1020), 0x420)
+            self.assertRaises(ValueError, pe.import_footprint)
+
+    def test_objects_and_terse_executables_from_other_buffers(self):
+        data = sample("object_x64.obj")
+        self.assertEqual(ObjectFile(bytearray(data)).symbols, ObjectFile(data).symbols)
+        data = sample("firmware_x64.te")
+        self.assertEqual(Te(bytearray(data)).sections, Te(data).sections)
+
+    def test_no_buffer_is_copied(self):
+        data = bytearray(sample("imports_by_name_x64.dll")) + bytearray(1 << 26)
+        tracemalloc.start()
+        Pe(data).import_footprint()
+        self.assertLess(tracemalloc.get_traced_memory()[1], 1 << 20)
+        tracemalloc.stop()
+        data.append(0)  # no buffer is held any more
+
+    def test_what_is_no_buffer_is_refused(self):
+        self.assertRaises(BufferError, Pe, memoryview(sample("imports_by_name_x64.dll"))[::2])
+        self.assertRaises(TypeError, Pe, "a text")
+
+    def test_with(self):
+        with Pe(sample("imports_by_name_x64.dll")) as pe:
+            self.assertTrue(pe.import_footprint())
+        self.assertRaises(ValueError, pe.import_footprint)
+        self.assertEqual([x.dll for x in pe.imports], [b"KERNEL32.dll"])
+        self.assertEqual(repr(pe), "<Pe machine=0x8664 sections=4 imports=1 exports=2 blocks=1>")
+
+
+class Numbers(unittest.TestCase):
+    def test_addresses_have_64_bits(self):
+        for how in (options(), options(is_permissive=True, resolve_rva=False)):
+            pe = Pe(sample("imports_by_name_x64.dll"), how)
+            for rva in (2**64 + 0x1020, 2**64, -1):
+                self.assertRaises(OverflowError, pe.find_offset, rva)
+        self.assertEqual(pe.find_offset(2**64 - 1), 2**64 - 1)
+
+    def test_long_texts_are_not_cut(self):
+        data = bytes(range(64))
+        address = ctypes.cast(data, ctypes.c_void_p).value
+        text = Rows(memoryview(data), address).text(Text(address, 2**32 + 3))
+        self.assertEqual(text, data)  # not three bytes of it: as much as there is
+
+
+class Files(unittest.TestCase):
+    def test_a_file_without_directories_has_none_after_one_with_them(self):
+        data = sample("imports_by_name_x64.dll")
+        self.assertIn(DirectoryType.IMPORT_TABLE, Pe(data).data_directories)
+        size_of_optional_header = int.from_bytes(data[0x3C:0x40], "little") + 20
+        pe = Pe(data[:size_of_optional_header] + bytes(2) + data[size_of_optional_header + 2:])
+        self.assertEqual((pe.optional_header, pe.data_directories, pe.import_footprint()), (None, {}, []))
+
+    def test_imports_depend_on_their_footprint_alone(self):
+        data, how = sample("imports_by_name_x64.dll"), options(is_permissive=True)
+        pe = Pe(data, how)
+        other = bytearray(~it & 0xFF for it in data)
+        for begin, length in [(0, pe.optional_header.size_of_headers), *pe.import_footprint()]:
+            other[begin: begin + length] = data[begin: begin + length]
+        self.assertEqual(Pe(other, how).imports, pe.imports)
+
+    def test_help_names_what_is_for_users(self):
+        text = pydoc.plain(pydoc.render_doc(goblin_pe))
+        for name in ("class Pe", "class ObjectFile", "class Te", "class Refused", "options(", "import_footprint("):
+            self.assertIn(name, text)
+        self.assertNotIn("ctypes", text)
+
+
+if __name__ == "__main__":
+    unittest.main()

@@ -1,0 +1,56 @@
+//! Where this crate itself is refused memory, a read answers so, and the process goes on.
+use goblin_pe::{Error, ErrorKind, Object, Options, Pe, Te};
+use std::alloc::{GlobalAlloc, Layout, System};
+use std::cell::Cell;
+
+thread_local! {
+    static IS_REFUSED: Cell<bool> = const { Cell::new(false) };
+}
+
+/// An allocator that refuses all that a thread asks for while it says so.
+struct Refusing;
+
+// SAFETY: it is the system's, or answers that there is no memory.
+unsafe impl GlobalAlloc for Refusing {
+    unsafe fn alloc(&self, layout: Layout) -> *mut u8 {
+        if IS_REFUSED.get() {
+            return std::ptr::null_mut();
+        }
+        unsafe { System.alloc(layout) }
+    }
+
+    unsafe fn dealloc(&self, block: *mut u8, layout: Layout) {
+        unsafe { System.dealloc(block, layout) }
+    }
+}
+
+#[global_allocator]
+static ALLOCATOR: Refusing = Refusing;
+
+fn sample(name: &str) -> Vec<u8> {
+    let folder = std::env::var("GOBLIN_PE_SAMPLES").expect("GOBLIN_PE_SAMPLES names the samples");
+    std::fs::read(format!("{folder}/{name}")).expect("the sample is there")
+}
+
+// What a call answers that is refused all memory.
+fn refused<T>(call: impl FnOnce() -> Result<T, Error>) -> Option<ErrorKind> {
+    IS_REFUSED.set(true);
+    let answer = call();
+    IS_REFUSED.set(false);
+    answer.err().map(|error| error.kind())
+}
+
+#[test]
+fn refused_memory_is_an_error() {
+    let options = Options::default();
+    let object = sample("object_x64.obj");
+    let te = sample("firmware_x64.te");
+    let image = sample("imports_by_name_x64.dll");
+    let pe = Pe::read(&image, &options).unwrap();
+    let memory = Some(ErrorKind::Memory);
+    assert_eq!(refused(|| Object::read(&object, &options)), memory);
+    assert_eq!(refused(|| Te::read(&te)), memory);
+    assert_eq!(refused(|| pe.import_footprint()), memory);
+    assert!(Object::read(&object, &options).is_ok() && Te::read(&te).is_ok());
+    assert!(pe.import_footprint().is_ok());
+}
