@@ -12,6 +12,7 @@ use Rattle.goblin_base.specs.Record.{record_at}
 use Rattle.goblin_base.specs.Tables.{concat_below}
 use Rattle.goblin_base.specs.Values.{value_at}
 use Rattle.goblin_base.proofs.Footprints.{agree-below, agree-left, agree-right, same-led, same-record_at, same-slice_at, same-slice_range, same-text_at, same-within, same_map}
+use Rattle.goblin_base.proofs.Readings.{value-local}
 use Rattle.goblin_pe_sect.specs.declared.data_directories.DataDirectory.{DataDirectory}
 use Rattle.goblin_pe_sect.specs.BaseRelocations.{relocation_data}
 use Rattle.goblin_pe_sect.specs.DataDirectories.{directories_at, directory_record, directory_entry_at, entry_ending}
@@ -90,27 +91,7 @@ same-relocation_data offset_of a b directory h =
     same-led (offset_of directory.virtual_address) (offset_of directory.virtual_address) (λ o. slice_at a o directory.size) (λ o. slice_at b o directory.size) (λ o. slice_footprint a o directory.size) a b
     refl (λ o is own. same-slice_at a b o directory.size own) h
 
-same-rest : (a b : List ℕ) (p : ℕ) → p < length a → Agree (rest_footprint a p) a b → drop p a ≡ drop p b
-same-rest a b p lt h =
-    let n : ℕ = length a - p in
-    let end : p + n ≡ length a = omega (arith, lt) in
-    let width : p + n - p ≡ n = omega arith in
-    let all_a : slice_range a p (p + n) ≡ drop p a = take_all (p + n - p) (drop p a) (omega (arith, width, length-drop p a)) in
-    let all_b : slice_range b p (p + n) ≡ drop p b = take_all (p + n - p) (drop p b) (omega (arith, width, length-drop p b, h.same_length)) in
-    sym all_a ∙ same-within p (length a) a b p n h (omega arith) (omega (arith, end)) (omega (arith, end)) ∙ all_b
-
-same-value_at : {Y : Type 0} (value_of : Endian → List ℕ → Option (Y × ℕ)) (a b : List ℕ) (p : ℕ) → Agree (rest_footprint a p) a b → value_at value_of Little a p ≡ value_at value_of Little b p
-same-value_at {Y} value_of a b p h =
-    let value : List ℕ → Option Y = λ own. option_map (λ (x : Y × ℕ). x.0) (value_of Little own) in
-    let length_is : nat_lt p (length a) ≡ nat_lt p (length b) = ap (nat_lt p) h.same_length in
-    elim (cases_Bool (nat_lt p (length a))) [
-      | inl before ↦
-          let same : drop p a ≡ drop p b = same-rest a b p (ltb-true p (length a) before) h in
-          ap (λ (own : List ℕ). cond (nat_lt p (length a)) (value own) None) same ∙ ap (λ (t : Bool). cond t (value (drop p b)) None) length_is
-      | inr past ↦ cond-false (nat_lt p (length a)) (value (drop p a)) None past ∙ sym (cond-false (nat_lt p (length b)) (value (drop p b)) None (sym length_is ∙ past))
-    ]
-
 pub same-data_at : {Y : Type 0} (offset_of : ℕ → Option ℕ) (value_of : Endian → List ℕ → Option (Y × ℕ)) (a b : List ℕ) (rva : ℕ) → Agree (data_footprint offset_of a rva) a b → data_at offset_of value_of a rva ≡ data_at offset_of value_of b rva
 unfolding data_footprint
 same-data_at offset_of value_of a b rva h =
-    same-led (offset_of rva) (offset_of rva) (value_at value_of Little a) (value_at value_of Little b) (rest_footprint a) a b refl (λ p is own. same-value_at value_of a b p own) h
+    same-led (offset_of rva) (offset_of rva) (value_at value_of Little a) (value_at value_of Little b) (rest_footprint a) a b refl (λ p is own. value-local value_of Little a b p own) h

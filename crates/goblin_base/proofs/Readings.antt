@@ -1,0 +1,214 @@
+-- The laws of readings, once for each way to put them together; and what they give for two files.
+use Rattle.std.proofs.Common.{◌≡◌, ◌<◌, ◌+◌, ◌-◌, ◌++◌, ℕ, Bool, cond, nat_lt, length, drop}
+use Rattle.std.proofs.Common.{List, Option, Some, None, Result, ap, subst, sym, inl, inr, ◌∙◌}
+use Rattle.std.proofs.Common.{arith, take_all}
+use Rattle.std.specs.Prelude.{IsSomeAnd, option_map, slice_range}
+use Rattle.std.proofs.lemmas.Bool.{cases_Bool, cond-false, ltb-true}
+use Rattle.std.proofs.lemmas.List.{length-drop}
+use Rattle.goblin_base.specs.declared.endian.Endian.{Endian}
+use Rattle.goblin_base.specs.declared.error.CauseOf.{CauseOf}
+use Rattle.goblin_base.specs.declared.error.ErrorOf.{ErrorOf}
+use Rattle.goblin_base.specs.declared.error.ErrorOf.TheVariants.{BadMagic, BufferTooShort}
+use Rattle.goblin_base.specs.declared.error.ErrorOf.TheVariants.{Malformed, Memory, Read}
+use Rattle.goblin_base.specs.Answers.{◌>>=◌, FirstFault, IsBoundedTextFault, IsMemory}
+use Rattle.goblin_base.specs.Answers.{IsSliceFault, IsTextFault}
+use Rattle.goblin_base.specs.Footprints.{Agree, led_to, rest_footprint, slot_footprint}
+use Rattle.goblin_base.specs.Reading.{Reading, Reads, ReadsOrMemory, Twins, TwinsOrMemory}
+use Rattle.goblin_base.specs.Tables.{IsTableFault, SlotFormat, kept_slots, slot_at}
+use Rattle.goblin_base.specs.Tables.{slot_place, slot_table, stop}
+use Rattle.goblin_base.specs.Values.{IsBadOffset, IsValueFault, value_at}
+use Rattle.goblin_base.proofs.Footprints.{agree-left, agree-right, alike_answers}
+use Rattle.goblin_base.proofs.Footprints.{alike_or_memory_answers, same-kept_slots, same-led}
+use Rattle.goblin_base.proofs.Footprints.{same-slot_table, same-within}
+use Rattle.goblin_base.proofs.Inside.{AreInside, both-in, led-in, slots-in}
+
+-- ---- a read, and one that depends on its value
+
+module _ {A B : Type 0} (r : Reading A) (f : A → Reading B) where
+  pub then-local : (a b : List ℕ)
+      → Agree (r.reaches a ++ led_to (r.value a) (λ x. (f x).reaches a)) a b
+      → (r.value a >>= (λ x. (f x).value a)) ≡ (r.value b >>= (λ x. (f x).value b))
+  then-local a b h =
+      same-led (r.value a) (r.value b) (λ x. (f x).value a) (λ x. (f x).value b)
+      (λ x. (f x).reaches a) a b
+      (r.is_local a b (agree-left (r.reaches a) _ a b h))
+      (λ x is agree. (f x).is_local a b agree)
+      (agree-right (r.reaches a) _ a b h)
+
+  pub then-inside : (bytes : List ℕ)
+      → AreInside bytes (r.reaches bytes ++ led_to (r.value bytes) (λ x. (f x).reaches bytes))
+  then-inside bytes =
+      both-in bytes (r.reaches bytes) _ (r.is_inside bytes)
+      (led-in bytes (r.value bytes) (λ x. (f x).reaches bytes) (λ x. (f x).is_inside bytes))
+
+first_no_memory : {A : Type 0} (value : Option A) (IsCause : ErrorOf → Type 0)
+    (Later : A → ErrorOf → Type 0) (e : ErrorOf) → (IsCause e → ¬ IsMemory e)
+    → ((x : A) → Later x e → ¬ IsMemory e) → FirstFault value IsCause Later e → ¬ IsMemory e
+first_no_memory None IsCause Later e one rest h = one h
+first_no_memory (Some x) IsCause Later e one rest h = rest x h
+
+pub then-not_memory : {A B : Type 0} (r : Reading A) (f : A → Reading B) (bytes : List ℕ)
+    (e : ErrorOf)
+    → FirstFault (r.value bytes) (r.IsCause bytes) (λ x. (f x).IsCause bytes) e → ¬ IsMemory e
+then-not_memory r f bytes e =
+    first_no_memory (r.value bytes) (r.IsCause bytes) (λ x. (f x).IsCause bytes) e
+    (r.not_memory bytes e) (λ x. (f x).not_memory bytes e)
+
+-- ---- causes of single reads
+
+pub malformed-not_memory : (cause : CauseOf) (e : ErrorOf) → e ≡ Malformed cause → ¬ IsMemory e
+malformed-not_memory cause e is memory =
+    let same : IsMemory (Malformed cause) = subst IsMemory is memory in absurd same
+
+pub slice-not_memory : (bytes : List ℕ) (p n : ℕ) (e : ErrorOf)
+    → IsSliceFault bytes p n e → ¬ IsMemory e
+slice-not_memory bytes p n (Memory m) h = absurd h
+slice-not_memory bytes p n (Malformed c) h = λ m. m
+slice-not_memory bytes p n (BadMagic k) h = λ m. m
+slice-not_memory bytes p n (BufferTooShort k what) h = λ m. m
+slice-not_memory bytes p n (Read fault) h = λ m. m
+
+pub text-not_memory : (bytes : List ℕ) (p : ℕ) (e : ErrorOf)
+    → IsTextFault bytes p e → ¬ IsMemory e
+text-not_memory bytes p (Memory m) h = absurd h
+text-not_memory bytes p (Malformed c) h = λ m. m
+text-not_memory bytes p (BadMagic k) h = λ m. m
+text-not_memory bytes p (BufferTooShort k what) h = λ m. m
+text-not_memory bytes p (Read fault) h = λ m. m
+
+pub bounded_text-not_memory : (bytes : List ℕ) (p n : ℕ) (e : ErrorOf)
+    → IsBoundedTextFault bytes p n e → ¬ IsMemory e
+bounded_text-not_memory bytes p n (Memory m) h = absurd h
+bounded_text-not_memory bytes p n (Malformed c) h = λ m. m
+bounded_text-not_memory bytes p n (BadMagic k) h = λ m. m
+bounded_text-not_memory bytes p n (BufferTooShort k what) h = λ m. m
+bounded_text-not_memory bytes p n (Read fault) h = λ m. m
+
+bad_offset-not_memory : (e : ErrorOf) → IsBadOffset e → ¬ IsMemory e
+bad_offset-not_memory (Memory m) h = absurd h
+bad_offset-not_memory (Malformed c) h = λ m. m
+bad_offset-not_memory (BadMagic k) h = λ m. m
+bad_offset-not_memory (BufferTooShort k what) h = λ m. m
+bad_offset-not_memory (Read fault) h = λ m. m
+
+-- ---- a typed value, which may depend on all bytes that follow
+
+same_rest : (a b : List ℕ) (p : ℕ) → p < length a → Agree (rest_footprint a p) a b
+    → drop p a ≡ drop p b
+same_rest a b p lt h =
+    let n : ℕ = length a - p in
+    let end : p + n ≡ length a = omega (arith, lt) in
+    let width : p + n - p ≡ n = omega arith in
+    let all_a : slice_range a p (p + n) ≡ drop p a =
+    take_all (p + n - p) (drop p a) (omega (arith, width, length-drop p a)) in
+    let all_b : slice_range b p (p + n) ≡ drop p b =
+    take_all (p + n - p) (drop p b)
+    (omega (arith, width, length-drop p b, h.same_length)) in
+    sym all_a
+    ∙ same-within p (length a) a b p n h (omega arith) (omega (arith, end)) (omega (arith, end))
+    ∙ all_b
+
+pub value-local : {Y : Type 0} (value_of : Endian → List ℕ → Option (Y × ℕ)) (endian : Endian)
+    (a b : List ℕ) (p : ℕ) → Agree (rest_footprint a p) a b
+    → value_at value_of endian a p ≡ value_at value_of endian b p
+value-local {Y} value_of endian a b p h =
+    let value : List ℕ → Option Y = λ own. option_map (λ (x : Y × ℕ). x.0) (value_of endian own) in
+    let test : nat_lt p (length a) ≡ nat_lt p (length b) = ap (nat_lt p) h.same_length in
+    elim (cases_Bool (nat_lt p (length a))) [
+      | inl before ↦
+          let same : drop p a ≡ drop p b = same_rest a b p (ltb-true p (length a) before) h in
+          ap (λ (own : List ℕ). cond (nat_lt p (length a)) (value own) None) same
+          ∙ ap (λ (t : Bool). cond t (value (drop p b)) None) test
+      | inr past ↦
+          cond-false (nat_lt p (length a)) (value (drop p a)) None past
+          ∙ sym (cond-false (nat_lt p (length b)) (value (drop p b)) None (sym test ∙ past))
+    ]
+
+pub value-not_memory : (refusal : Endian → List ℕ → ErrorOf → Type 0)
+    → ((endian : Endian) (own : List ℕ) (e : ErrorOf) → refusal endian own e → ¬ IsMemory e)
+    → (endian : Endian) (bytes : List ℕ) (p : ℕ) (e : ErrorOf)
+    → IsValueFault refusal endian bytes p e → ¬ IsMemory e
+value-not_memory refusal own_cause endian bytes p e (inl h) = bad_offset-not_memory e h.1
+value-not_memory refusal own_cause endian bytes p e (inr h) =
+    own_cause endian (drop p bytes) e h.1
+
+-- ---- two reads beside each other
+
+pub beside-local : {A B C : Type 0} (r : Reading A) (s : Reading B)
+    (both : Option A → Option B → C) (a b : List ℕ) → Agree (r.reaches a ++ s.reaches a) a b
+    → both (r.value a) (s.value a) ≡ both (r.value b) (s.value b)
+beside-local r s both a b h =
+    ap (λ x. both x (s.value a))
+    (r.is_local a b (agree-left (r.reaches a) (s.reaches a) a b h))
+    ∙ ap (both (r.value b)) (s.is_local a b (agree-right (r.reaches a) (s.reaches a) a b h))
+
+pub beside-inside : {A B : Type 0} (r : Reading A) (s : Reading B) (bytes : List ℕ)
+    → AreInside bytes (r.reaches bytes ++ s.reaches bytes)
+beside-inside r s bytes =
+    both-in bytes (r.reaches bytes) (s.reaches bytes) (r.is_inside bytes) (s.is_inside bytes)
+
+-- ---- tables of slots, each entry read on its own
+
+module _ {V A : Type 0} (slots : SlotFormat V) (piece : V → Reading (List A)) (o : ℕ) where
+  pub table-local : (needs_end : Bool) (a b : List ℕ)
+      → Agree (slot_footprint slots (λ v. (piece v).reaches a) a o) a b
+      → slot_table slots needs_end (λ v. (piece v).value a) a o
+      ≡ slot_table slots needs_end (λ v. (piece v).value b) b o
+  table-local needs_end a b h =
+      same-slot_table slots needs_end (λ v. (piece v).reaches a) (λ v. (piece v).value a)
+      (λ v. (piece v).value b) a b o (λ v agree. (piece v).is_local a b agree) h
+
+  pub kept-local : (a b : List ℕ)
+      → Agree (slot_footprint slots (λ v. (piece v).reaches a) a o) a b
+      → kept_slots slots (λ v. (piece v).value a) a o
+      ≡ kept_slots slots (λ v. (piece v).value b) b o
+  kept-local a b h =
+      same-kept_slots slots (λ v. (piece v).reaches a) (λ v. (piece v).value a)
+      (λ v. (piece v).value b) a b o (λ v agree. (piece v).is_local a b agree) h
+
+  pub table-inside : (bytes : List ℕ)
+      → AreInside bytes (slot_footprint slots (λ v. (piece v).reaches bytes) bytes o)
+  table-inside bytes =
+      slots-in bytes slots o (λ v. (piece v).reaches bytes) (λ v. (piece v).is_inside bytes)
+
+  some_no_memory : (bytes : List ℕ) (slot : Option V) (e : ErrorOf)
+      → IsSomeAnd slot (λ v. ((piece v).value bytes ≡ None) × (piece v).IsCause bytes e)
+      → ¬ IsMemory e
+  some_no_memory bytes None e h = absurd h
+  some_no_memory bytes (Some v) e h = (piece v).not_memory bytes e h.1
+
+  pub table-not_memory : (needs_end : Bool) (missing : ℕ → Reading V) (bytes : List ℕ)
+      (e : ErrorOf)
+      → IsTableFault slots needs_end (λ v. (piece v).value bytes)
+      (λ p. (missing p).IsCause bytes) (λ v. (piece v).IsCause bytes) bytes o e
+      → ¬ IsMemory e
+  table-not_memory needs_end missing bytes e (inl h) =
+      (missing (slot_place slots o (stop slots bytes o))).not_memory bytes e h.1.2
+  table-not_memory needs_end missing bytes e (inr h) =
+      some_no_memory bytes (slot_at slots bytes o h.0) e h.3
+
+-- ---- two files
+
+pub twins : {X Y : Type 0} (view : X → Y) (reading : Reading Y) (a b : List ℕ)
+    (r q : Result X ErrorOf) → Reads view r reading a → Reads view q reading b
+    → Twins view reading a b (r, q)
+twins view reading a b r q h k = record {
+  first = h;
+  second = k;
+  same = reading.is_local a b;
+  alike = λ agree.
+      alike_answers view r q (reading.value a) (reading.value b) (reading.IsCause a)
+      (reading.IsCause b) h k (reading.is_local a b agree);
+}
+
+pub twins_or_memory : {X Y : Type 0} (view : X → Y) (reading : Reading Y) (a b : List ℕ)
+    (r q : Result X ErrorOf) → ReadsOrMemory view r reading a
+    → ReadsOrMemory view q reading b → TwinsOrMemory view reading a b (r, q)
+twins_or_memory view reading a b r q h k = record {
+  first = h;
+  second = k;
+  same = reading.is_local a b;
+  alike = λ agree.
+      alike_or_memory_answers view r q (reading.value a) (reading.value b)
+      (reading.IsCause a) (reading.IsCause b) h k (reading.is_local a b agree);
+}

@@ -1,0 +1,268 @@
+-- How readings are put together. Each word keeps the laws of a reading. So a definition by these
+-- words needs no proof of them.
+use Rattle.std.specs.Prelude.{◌≡◌, ℕ, Bool, true, false, List, [], ◌++◌, Option, Some, None}
+use Rattle.std.specs.Prelude.{option_map, refl}
+use Rattle.std.proofs.Common.{ap, ◌∙◌}
+use Rattle.goblin_base.specs.declared.endian.Endian.{Endian}
+use Rattle.goblin_base.specs.declared.error.CauseOf.{CauseOf}
+use Rattle.goblin_base.specs.declared.error.ErrorOf.{ErrorOf}
+use Rattle.goblin_base.specs.declared.error.ErrorOf.TheVariants.{Malformed}
+use Rattle.goblin_base.specs.Answers as answers
+use Rattle.goblin_base.specs.Answers.{FirstFault, IsBoundedTextFault, IsFirstMissing, IsMemory}
+use Rattle.goblin_base.specs.Answers.{IsSliceFault, IsTextFault, all_at}
+use Rattle.goblin_base.specs.Bytes as bytes_of
+use Rattle.goblin_base.specs.Footprints.{counted_footprint, led_to, rest_footprint}
+use Rattle.goblin_base.specs.Footprints.{slice_footprint, slot_footprint, stretch_footprint}
+use Rattle.goblin_base.specs.Reading.{Reading}
+use Rattle.goblin_base.specs.Record as records
+use Rattle.goblin_base.specs.Tables as tables
+use Rattle.goblin_base.specs.Tables.{Format, IsTableFault, SlotFormat, concat_below, kept_slots}
+use Rattle.goblin_base.specs.Tables.{slot_table}
+use Rattle.goblin_base.specs.Values as values
+use Rattle.goblin_base.specs.Values.{IsValueFault}
+use Rattle.goblin_base.proofs.Footprints.{agree-below, same-all_at, same-bounded_text_at}
+use Rattle.goblin_base.proofs.Footprints.{same-counted_table, same-number_at, same-record_at}
+use Rattle.goblin_base.proofs.Footprints.{same-slice_at, same-text_at}
+use Rattle.goblin_base.proofs.Inside.{below-in, counted-in, none-in, rest-in, slice-in, stretch-in}
+use Rattle.goblin_base.proofs.Readings.{beside-inside, beside-local, bounded_text-not_memory}
+use Rattle.goblin_base.proofs.Readings.{kept-local, malformed-not_memory, slice-not_memory}
+use Rattle.goblin_base.proofs.Readings.{table-inside, table-local, table-not_memory}
+use Rattle.goblin_base.proofs.Readings.{text-not_memory, then-inside, then-local}
+use Rattle.goblin_base.proofs.Readings.{then-not_memory, value-local, value-not_memory}
+
+-- ---- what reads nothing
+
+-- a value that may be missing; which cause is then true, and that this cause is no Memory
+abbrev pub needs_by : {A : Type 0} → Option A → (IsCause : ErrorOf → Type 0)
+    → ((e : ErrorOf) → IsCause e → ¬ IsMemory e) → Reading A
+needs_by value IsCause not_memory = record {
+  value = λ bytes. value;
+  IsCause = λ bytes. IsCause;
+  reaches = λ bytes. [];
+  is_local = λ a b agree. refl;
+  is_inside = none-in;
+  not_memory = λ bytes. not_memory;
+}
+
+-- the same, where there is one cause
+abbrev pub needs : {A : Type 0} → Option A → CauseOf → Reading A
+needs value cause = needs_by value (λ e. e ≡ Malformed cause) (malformed-not_memory cause)
+
+-- a value that is there
+abbrev pub given : {A : Type 0} → A → Reading A
+given x = needs_by (Some x) (λ e. ⊥) (λ e h. absurd h)
+
+-- ---- what stands at an offset
+
+-- the number of the n bytes at p
+abbrev pub number_at : Endian → ℕ → ℕ → Reading ℕ
+number_at endian n p = record {
+  value = λ bytes. bytes_of.number_at endian n bytes p;
+  IsCause = λ bytes. IsSliceFault bytes p n;
+  reaches = λ bytes. slice_footprint bytes p n;
+  is_local = λ a b agree. same-number_at endian n a b p agree;
+  is_inside = λ bytes. slice-in bytes p n;
+  not_memory = λ bytes. slice-not_memory bytes p n;
+}
+
+-- the slice of the n bytes at p
+abbrev pub slice_at : ℕ → ℕ → Reading (List ℕ)
+slice_at p n = record {
+  value = λ bytes. bytes_of.slice_at bytes p n;
+  IsCause = λ bytes. IsSliceFault bytes p n;
+  reaches = λ bytes. slice_footprint bytes p n;
+  is_local = λ a b agree. same-slice_at a b p n agree;
+  is_inside = λ bytes. slice-in bytes p n;
+  not_memory = λ bytes. slice-not_memory bytes p n;
+}
+
+-- the record of `size` bytes at p
+abbrev pub record_at : {R : Type 0} → ℕ → (List ℕ → R) → ℕ → Reading R
+record_at size value p = record {
+  value = λ bytes. records.record_at size value bytes p;
+  IsCause = λ bytes. IsSliceFault bytes p size;
+  reaches = λ bytes. slice_footprint bytes p size;
+  is_local = λ a b agree. same-record_at size value a b p agree;
+  is_inside = λ bytes. slice-in bytes p size;
+  not_memory = λ bytes. slice-not_memory bytes p size;
+}
+
+-- the text at p
+abbrev pub text_at : ℕ → Reading (List ℕ)
+text_at p = record {
+  value = λ bytes. bytes_of.text_at bytes p;
+  IsCause = λ bytes. IsTextFault bytes p;
+  reaches = λ bytes. stretch_footprint bytes p;
+  is_local = λ a b agree. same-text_at a b p agree;
+  is_inside = λ bytes. stretch-in bytes p;
+  not_memory = λ bytes. text-not_memory bytes p;
+}
+
+-- the text at p within n bytes; it reaches all n
+abbrev pub bounded_text_at : ℕ → ℕ → Reading (List ℕ)
+bounded_text_at p n = record {
+  value = λ bytes. bytes_of.bounded_text_at bytes p n;
+  IsCause = λ bytes. IsBoundedTextFault bytes p n;
+  reaches = λ bytes. slice_footprint bytes p n;
+  is_local = λ a b agree. same-bounded_text_at a b p n agree;
+  is_inside = λ bytes. slice-in bytes p n;
+  not_memory = λ bytes. bounded_text-not_memory bytes p n;
+}
+
+-- The value of a type at p, with all that follows it. `refusal` says which cause is true where
+-- the bytes from p on are refused; it is no Memory.
+abbrev pub value_at : {Y : Type 0} → (Endian → List ℕ → Option (Y × ℕ))
+    → (refusal : Endian → List ℕ → ErrorOf → Type 0)
+    → ((endian : Endian) (own : List ℕ) (e : ErrorOf) → refusal endian own e → ¬ IsMemory e)
+    → Endian → ℕ → Reading Y
+value_at value_of refusal not_memory endian p = record {
+  value = λ bytes. values.value_at value_of endian bytes p;
+  IsCause = λ bytes. IsValueFault refusal endian bytes p;
+  reaches = λ bytes. rest_footprint bytes p;
+  is_local = λ a b agree. value-local value_of endian a b p agree;
+  is_inside = λ bytes. rest-in bytes p;
+  not_memory = λ bytes. value-not_memory refusal not_memory endian bytes p;
+}
+
+-- ---- one reading
+
+-- what is made of the value, or of its lack; the cause stays
+abbrev pub turned : {A B : Type 0} → (Option A → Option B) → Reading A → Reading B
+turned f r = record {
+  value = λ bytes. f (r.value bytes);
+  IsCause = r.IsCause;
+  reaches = r.reaches;
+  is_local = λ a b agree. ap f (r.is_local a b agree);
+  is_inside = r.is_inside;
+  not_memory = r.not_memory;
+}
+
+-- what is made of the value
+abbrev pub mapped : {A B : Type 0} → (A → B) → Reading A → Reading B
+mapped f r = turned (option_map f) r
+
+-- the same read, with this cause where it is refused
+abbrev pub because : {A : Type 0} → CauseOf → Reading A → Reading A
+because cause r = record r {
+  IsCause = λ bytes e. e ≡ Malformed cause;
+  not_memory = λ bytes. malformed-not_memory cause;
+}
+
+abbrev pub in_its_place : {A : Type 0} → Bool → A → Option A → Option A
+in_its_place strict d (Some x) = Some x
+in_its_place true d None = None
+in_its_place false d None = Some d
+
+-- strict mode refuses what is missing, permissive mode takes d for it
+abbrev pub or_else : {A : Type 0} → Bool → A → Reading A → Reading A
+or_else strict d r = turned (in_its_place strict d) r
+
+-- The item as a list. Where there is none, strict mode refuses, and permissive mode leaves it out.
+abbrev pub or_left_out : {A : Type 0} → Bool → Reading A → Reading (List A)
+or_left_out strict r = turned (tables.or_left_out strict) r
+
+-- ---- two readings
+
+infixl 10 ◌>>=◌
+-- a read, and one that depends on its value
+abbrev pub ◌>>=◌ : {A B : Type 0} → Reading A → (A → Reading B) → Reading B
+r >>= f = record {
+  value = λ bytes. answers.◌>>=◌ (r.value bytes) (λ x. (f x).value bytes);
+  IsCause = λ bytes. FirstFault (r.value bytes) (r.IsCause bytes) (λ x. (f x).IsCause bytes);
+  reaches = λ bytes. r.reaches bytes ++ led_to (r.value bytes) (λ x. (f x).reaches bytes);
+  is_local = then-local r f;
+  is_inside = then-inside r f;
+  not_memory = then-not_memory r f;
+}
+
+abbrev pub pair_of : {A B : Type 0} → Option A → Option B → Option (A × B)
+pair_of None y = None
+pair_of (Some x) None = None
+pair_of (Some x) (Some y) = Some (x, y)
+
+infixl 10 ◌beside◌
+-- Two reads whose places are known. Each is reached, also where the other is refused. The cause is
+-- that of the first where it is refused, and else that of the second.
+abbrev pub ◌beside◌ : {A B : Type 0} → Reading A → Reading B → Reading (A × B)
+r beside s = record {
+  value = λ bytes. pair_of (r.value bytes) (s.value bytes);
+  IsCause = λ bytes. FirstFault (r.value bytes) (r.IsCause bytes) (λ x. s.IsCause bytes);
+  reaches = λ bytes. r.reaches bytes ++ s.reaches bytes;
+  is_local = beside-local r s pair_of;
+  is_inside = beside-inside r s;
+  not_memory = then-not_memory r (λ x. s);
+}
+
+-- ---- lists of reads
+
+-- n reads, one for each index: each is reached, and the cause is that of the first that is refused
+abbrev pub each : {A : Type 0} → (ℕ → Reading A) → ℕ → Reading (List A)
+each read n = record {
+  value = λ bytes. all_at (λ i. (read i).value bytes) n;
+  IsCause = λ bytes.
+      IsFirstMissing (λ i. (read i).value bytes) n (λ i. (read i).IsCause bytes);
+  reaches = λ bytes. concat_below (λ i. (read i).reaches bytes) n;
+  is_local = λ a b agree.
+      same-all_at (λ i. (read i).value a) (λ i. (read i).value b) n
+      (λ j below.
+      (read j).is_local a b (agree-below (λ i. (read i).reaches a) n j a b below agree));
+  is_inside = λ bytes.
+      below-in bytes (λ i. (read i).reaches bytes) n (λ i. (read i).is_inside bytes);
+  not_memory = λ bytes e h. (read h.0).not_memory bytes e h.4;
+}
+
+-- ---- tables of a given count
+
+-- the entries of a table of `count` at o, cut at the first that is not whole
+abbrev pub counted : {V : Type 0} → Format V → ℕ → ℕ → Reading (List V)
+counted format count o = record {
+  value = λ bytes. Some (tables.counted_table format count bytes o);
+  IsCause = λ bytes e. ⊥;
+  reaches = λ bytes. counted_footprint format count bytes o;
+  is_local = λ a b agree. ap (λ xs. Some xs) (same-counted_table format count a b o agree);
+  is_inside = λ bytes. counted-in bytes format count o;
+  not_memory = λ bytes e h. absurd h;
+}
+
+-- ---- tables of slots
+
+-- A table of slots at o ends at its stop. What `piece` reads of the entry of each slot before it
+-- is put together. The cause is that of the first entry that is refused. If none is, and the end
+-- is needed, but the stop's slot is not in the file, `missing` says the cause, from the slot's
+-- place. The table reaches what each entry before the stop leads to, and the slots up to and with
+-- the stop.
+abbrev pub table : {V A : Type 0} → SlotFormat V → Bool → (ℕ → Reading V)
+    → (V → Reading (List A)) → ℕ → Reading (List A)
+table slots needs_end missing piece o = record {
+  value = λ bytes. slot_table slots needs_end (λ v. (piece v).value bytes) bytes o;
+  IsCause = λ bytes.
+      IsTableFault slots needs_end (λ v. (piece v).value bytes)
+      (λ p. (missing p).IsCause bytes) (λ v. (piece v).IsCause bytes) bytes o;
+  reaches = λ bytes. slot_footprint slots (λ v. (piece v).reaches bytes) bytes o;
+  is_local = table-local slots piece o needs_end;
+  is_inside = table-inside slots piece o;
+  not_memory = table-not_memory slots piece o needs_end missing;
+}
+
+abbrev pub with_slots : {A : Type 0} → List ℕ → Option A → Option (A × List ℕ)
+with_slots kept None = None
+with_slots kept (Some x) = Some (x, kept)
+
+-- the same, with the indexes of the slots of whose entries something is kept
+abbrev pub table_with_slots : {V A : Type 0} → SlotFormat V → Bool → (ℕ → Reading V)
+    → (V → Reading (List A)) → ℕ → Reading (List A × List ℕ)
+table_with_slots slots needs_end missing piece o =
+    let kept : List ℕ → List ℕ =
+    λ bytes. kept_slots slots (λ v. (piece v).value bytes) bytes o in
+    let whole = table slots needs_end missing piece o in
+    record {
+      value = λ bytes. with_slots (kept bytes) (whole.value bytes);
+      IsCause = whole.IsCause;
+      reaches = whole.reaches;
+      is_local = λ a b agree.
+          ap (with_slots (kept a)) (whole.is_local a b agree)
+          ∙ ap (λ (again : List ℕ). with_slots again (whole.value b))
+          (kept-local slots piece o a b agree);
+      is_inside = whole.is_inside;
+      not_memory = whole.not_memory;
+    }
