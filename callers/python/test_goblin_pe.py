@@ -8,12 +8,13 @@ import multiprocessing
 import os
 import pickle
 import pydoc
+import struct
 import tempfile
 import tracemalloc
 import unittest
 
 import goblin_pe
-from goblin_pe import Cause, DirectoryType, ObjectFile, Pe, Refused, Status, Te, options
+from goblin_pe import Cause, DirectoryType, ObjectFile, Pe, ReadFault, Refused, Status, Te, options
 from goblin_pe.records import Text
 from goblin_pe.rows import Rows
 
@@ -60,6 +61,19 @@ class Refusals(unittest.TestCase):
             self.assertEqual([task.result(timeout=60) for task in tasks[:2]], [1, 0])
 
 
+    def test_what_was_read_comes_from_a_pool(self):
+        with multiprocessing.Pool(2) as pool:
+            read = pool.map_async(Pe, self.FILES[:2]).get(timeout=60)
+        for pe, data in zip(read, self.FILES):
+            wanted = Pe(data)
+            self.assertEqual((pe.sections, pe.imports, pe.exports, pe.blocks, pe.dos_header, pe.optional_header, pe.data_directories),
+                             (wanted.sections, wanted.imports, wanted.exports, wanted.blocks, wanted.dos_header,
+                              wanted.optional_header, wanted.data_directories))
+            rva = pe.sections[0].virtual_address
+            self.assertEqual(pe.find_offset(rva), wanted.find_offset(rva))
+            self.assertRaises(ValueError, pe.import_footprint)  # the bytes stay where they were
+
+
 class Buffers(unittest.TestCase):
     def test_each_buffer_is_read(self):
         data = sample("imports_by_name_x64.dll")
@@ -102,6 +116,33 @@ class Buffers(unittest.TestCase):
         self.assertRaises(ValueError, pe.import_footprint)
         self.assertEqual([x.dll for x in pe.imports], [b"KERNEL32.dll"])
         self.assertEqual(repr(pe), "<Pe machine=0x8664 sections=4 imports=1 exports=2 blocks=1>")
+
+
+class Records(unittest.TestCase):
+    def test_records_are_shown_and_compared_by_their_fields(self):
+        header, other = (Pe(sample("imports_by_name_x64.dll")).dos_header for _ in range(2))
+        self.assertEqual(header, other)
+        self.assertIn("reserved=[0, 0, 0, 0], oem_id=0", repr(header))
+        other.reserved[3] = 1
+        self.assertNotEqual(header, other)
+        self.assertNotEqual(header, Pe(sample("imports_by_name_x64.dll")).coff_header)
+
+    def test_a_rest_of_the_rich_header_is_told(self):
+        data, key = bytearray(sample("program_x64.exe")), 0x1234ABCD
+        self.assertIsNone(Pe(data).rich_rest)
+        words = [0x536E6144, 0, 0, 0, 261 << 16 | 30159, 7]
+        for rest, wanted in (([], None), ([5], (Status.BAD_READ, ReadFault.TOO_BIG))):
+            stored = struct.pack("<%dI" % len(words + rest), *(it ^ key for it in words + rest)) + struct.pack("<II", 0x68636952, key)
+            data[64: 64 + len(stored)] = stored
+            pe = Pe(data)
+            self.assertEqual([(it.build, it.product, it.use_count) for it in pe.rich_entries], [(30159, 261, 7)])
+            self.assertEqual(pe.rich_rest and (pe.rich_rest.status, pe.rich_rest.cause), wanted)
+
+    def test_the_options_are_those_of_the_read(self):
+        how = options()
+        pe = Pe(sample("imports_by_name_x64.dll"), how)
+        how.resolve_rva = False
+        self.assertEqual(pe.find_offset(0x1020), 0x420)
 
 
 class Numbers(unittest.TestCase):

@@ -3,8 +3,10 @@ relocations, objects with their symbols, and Terse Executables.
 
     from goblin_pe import Pe, Refused, options
 
+    with open("some.dll", "rb") as file:
+        data = file.read()
     try:
-        pe = Pe(open("some.dll", "rb").read(), options(is_permissive=True))
+        pe = Pe(data, options(is_permissive=True))
     except Refused as refused:
         print(refused, refused.status, refused.cause)
     else:
@@ -88,17 +90,20 @@ def _test(fault: records.Fault) -> None:
         raise refusal
 
 
-def _blank(record: Any) -> Any:
-    # a record whose texts are empty, but point somewhere
-    for field in record._fields_:
-        if field[1] is records.Text:
-            setattr(record, field[0], records.Text(records.NOWHERE, 0))
-    return record
-
-
 def _room(kind: Type[records.Record], count: int) -> Any:
-    # records to be filled; one more than asked for, so that the pointer is never null
-    return (kind * (count + 1)).from_buffer_copy(bytes(_blank(kind())) * (count + 1))
+    # records to be filled, whose texts are empty, but point somewhere; one more than asked for, so that the pointer is
+    # never null
+    blank = kind()
+    for field in blank._fields_:
+        if field[1] is records.Text:
+            setattr(blank, field[0], records.Text(records.NOWHERE, 0))
+    return (kind * (count + 1)).from_buffer_copy(bytes(blank) * (count + 1))
+
+
+def _records_of(sections: List[Section]) -> Any:
+    # sections, for the mapping of addresses, which looks at no name; one more than there are
+    blank, none = records.Text(records.NOWHERE, 0), (c.c_uint8 * 8)()
+    return (records.Section * (len(sections) + 1))(*(records.Section(blank, none, *s[1:], False) for s in sections))
 
 
 def options(is_permissive: bool = False, resolve_rva: bool = True, rounds_raw_pointers: bool = False,
@@ -125,18 +130,20 @@ class Pe:
     dos_header, coff_header: the headers.
     optional_header, rich_header: the same, or None where the file has none.
     rich_entries: the entries of the Rich header.
+    rich_rest: why the rest that follows these entries is no entry, as a Refused; None where there is no rest.
     data_directories: the directories that are there, by their index, which is a DirectoryType below 15.
     sections: a list of Section.
     import_table, export_table, relocation_table: "absent", "read" or "refused"; only what was read has entries.
     imports, exports, blocks: lists of Import, of Export and of Block.
     block_rest: why the rest that follows the blocks is no block, as a Refused; None where there is no rest.
 
-    It keeps `data` for import_footprint, until close() or the end of a `with`; all else needs it no longer.
+    It keeps `data` for import_footprint, until close() or the end of a `with`; all else needs it no longer. A copy,
+    as it is sent to another process, has all but `data`.
     """
 
     def __init__(self, data: Data, how: Optional[Options] = None):
         self._data: Optional[Data] = data
-        self._options = how or options()
+        self._options = Options.from_buffer_copy(how or options())
         file, directories, tables = records.File(), (Directory * 16)(), records.Tables()
         with memoryview(data) as view, _held(view) as (address, length), tables:
             _test(_LIB.goblin_pe_open(address, length, c.byref(self._options), c.byref(file), directories, 16, c.byref(tables)))
@@ -155,10 +162,10 @@ class Pe:
             _named(DirectoryType, index): d for index, d in enumerate(directories) if d.is_present}
 
     def _take_tables(self, file: records.File, tables: records.Tables, rows: _Rows) -> None:
-        found = tables.records("sections")
-        self.sections: List[Section] = [rows.section(s) for s in found]
-        self._count, self._mapping = len(found), (records.Section * (len(found) + 1))(*map(_blank, found))
+        self.sections: List[Section] = [rows.section(s) for s in tables.records("sections")]
+        self._mapping = _records_of(self.sections)
         self.rich_entries: List[RichEntry] = [RichEntry.from_buffer_copy(entry) for entry in tables.records("rich_entries")]
+        self.rich_rest = _refusal(file.rich_header.rest)
         self.import_table = _state(file.imports)
         self.imports: List[Import] = [rows.imported(x) for x in tables.records("imports")]
         self.export_table = _state(file.exports)
@@ -170,6 +177,13 @@ class Pe:
     def __repr__(self) -> str:
         return "<Pe machine=%#x sections=%d imports=%d exports=%d blocks=%d>" % (
             self.coff_header.machine, len(self.sections), len(self.imports), len(self.exports), len(self.blocks))
+
+    def __getstate__(self) -> Dict[str, Any]:
+        return {name: it for name, it in self.__dict__.items() if name != "_mapping"} | {"_data": None}
+
+    def __setstate__(self, state: Dict[str, Any]) -> None:
+        self.__dict__.update(state)
+        self._mapping = _records_of(self.sections)
 
     def __enter__(self) -> "Pe":
         return self
@@ -185,9 +199,10 @@ class Pe:
         """The file offset of an address: None where no section maps it or the file alignment is no power of two;
         the address itself where the options say that addresses are offsets. OverflowError is raised where it has more
         than 64 bits or a sign."""
-        operator.index(rva).to_bytes(c.sizeof(c.c_size_t), "little")
+        rva = operator.index(rva)
+        rva.to_bytes(c.sizeof(c.c_size_t), "little")
         offset = c.c_size_t()
-        is_found = _LIB.goblin_pe_find_offset(rva, self._mapping, self._count, self._header.file_alignment,
+        is_found = _LIB.goblin_pe_find_offset(rva, self._mapping, len(self._mapping) - 1, self._header.file_alignment,
                                               c.byref(self._options), c.byref(offset))
         return offset.value if is_found else None
 
@@ -200,7 +215,8 @@ class Pe:
         ranges = records.Ranges()
         with _held(self._data) as (address, length), ranges:
             _test(_LIB.goblin_pe_footprint_imports(address, length, c.byref(self._options), c.byref(self._header),
-                                                   c.byref(self._imports_at), self._mapping, self._count, c.byref(ranges)))
+                                                   c.byref(self._imports_at), self._mapping, len(self._mapping) - 1,
+                                                   c.byref(ranges)))
             return [Range(it.offset, it.length) for it in ranges.records("ranges")]
 
 

@@ -1,7 +1,7 @@
 """The library's records. Their fields are those of the crate goblin_pe_c, in the same order; callers/layout.py
 compares them, and goblin_pe.h says of each field what it is."""
 import ctypes as c
-from typing import Annotated, Sequence, Type, TypeVar
+from typing import Annotated, Any, List, Sequence, Type, TypeVar
 
 # The types of fields: what Python sees of each, and how it lies in memory.
 U8 = Annotated[int, c.c_uint8]
@@ -18,11 +18,18 @@ Words10 = Annotated[Sequence[int], c.c_uint16 * 10]
 
 
 class Record(c.Structure):
-    """A record whose fields are shown by their names."""
+    """A record: it is shown by its fields, and is the same as one with the same fields."""
+
+    def _values(self) -> List[Any]:
+        values = (getattr(self, field[0]) for field in self._fields_)
+        return [list(it) if isinstance(it, c.Array) else it for it in values]
 
     def __repr__(self) -> str:
-        fields = ", ".join("%s=%r" % (field[0], getattr(self, field[0])) for field in self._fields_)
+        fields = ", ".join("%s=%r" % (field[0], value) for field, value in zip(self._fields_, self._values()))
         return "%s(%s)" % (type(self).__name__, fields)
+
+    def __eq__(self, other: object) -> bool:
+        return isinstance(other, Record) and type(other) is type(self) and self._values() == other._values()
 
 
 _Kind = TypeVar("_Kind", bound=Record)
@@ -329,9 +336,10 @@ class HandedOver(c.Structure):
     def __init__(self) -> None:
         super().__init__(*(it for kind in self.KINDS.values() for it in (c.cast(NOWHERE, c.POINTER(kind)), 0)))
 
-    def records(self, name: str) -> list:
+    def records(self, name: str) -> List[Any]:
         """The records of a table, good until it is freed."""
-        return getattr(self, name)[: getattr(self, name + "_count")]
+        found: List[Any] = getattr(self, name)[: getattr(self, name + "_count")]
+        return found
 
     def __enter__(self) -> "HandedOver":
         return self
@@ -342,7 +350,7 @@ class HandedOver(c.Structure):
                 _free(getattr(self, name))
 
 
-def _tables(kinds: "dict[str, Type[Record]]") -> list:
+def _tables(kinds: "dict[str, Type[Record]]") -> List[Any]:
     # each table is a pointer and a count
     return [it for name, kind in kinds.items() for it in ((name, c.POINTER(kind)), (name + "_count", c.c_size_t))]
 
