@@ -1,6 +1,7 @@
 /* Reads a file with its first growth of memory refused, then its second, and so on, until a read meets no
-   refusal: growths image|object|te|footprint FILE. The status is 0 where each refused growth is answered as such,
-   changes no record and leaves no block behind. It stands before malloc, realloc and free of glibc. */
+   refusal: growths image|object|te|footprint FILE. The status is 0 where each refused growth is answered as
+   such, changes no record and leaves no block behind; the footprint of a file without an import directory
+   wants no memory. It stands before malloc, realloc and free of glibc. */
 #include "goblin_pe.h"
 
 #include <stdio.h>
@@ -54,9 +55,12 @@ struct records {
     struct goblin_pe_ranges ranges;
 };
 
+/* The image of whose imports the footprint is asked for, as it was opened with ample memory. */
+static struct records image;
+
 static const struct goblin_pe_options options = GOBLIN_PE_DEFAULT_OPTIONS;
 
-static struct goblin_pe_fault opened(size_t length, struct records *r)
+static struct goblin_pe_fault open_image(size_t length, struct records *r)
 {
     return goblin_pe_open(bytes, length, &options, &r->file, r->directories, 16, &r->tables);
 }
@@ -66,11 +70,11 @@ static struct goblin_pe_fault read_by(const char *kind, size_t length, struct re
     static struct goblin_pe_section no_section;
     static struct goblin_pe_symbol no_symbol;
     if (!strcmp(kind, "image"))
-        return opened(length, r);
+        return open_image(length, r);
     if (!strcmp(kind, "footprint"))
-        return goblin_pe_footprint_imports(bytes, length, &options, &r->file.optional_header,
-                                           &r->directories[GOBLIN_PE_DIRECTORY_IMPORT_TABLE],
-                                           r->tables.sections, r->tables.section_count, &r->ranges);
+        return goblin_pe_footprint_imports(bytes, length, &options, &image.file.optional_header,
+                                           &image.directories[GOBLIN_PE_DIRECTORY_IMPORT_TABLE],
+                                           image.tables.sections, image.tables.section_count, &r->ranges);
     if (!strcmp(kind, "object"))
         return goblin_pe_read_object(bytes, length, &options, &r->object, &no_section, 0, &no_symbol, 0);
     return goblin_pe_read_te(bytes, length, &r->te_header, &no_section, 0);
@@ -86,8 +90,12 @@ int main(int argc, char **argv)
         return 3;
     size_t length = fread(bytes, 1, sizeof bytes, from);
     fclose(from);
-    if (!strcmp(argv[1], "footprint") && opened(length, &old).status != GOBLIN_PE_OK)
-        return 2;
+    bool wants_memory = true;
+    if (!strcmp(argv[1], "footprint")) {
+        if (open_image(length, &image).status != GOBLIN_PE_OK)
+            return 3;
+        wants_memory = image.directories[GOBLIN_PE_DIRECTORY_IMPORT_TABLE].is_present;
+    }
     for (size_t growth = 1;; growth++) {
         memcpy(&new, &old, sizeof new);
         left = growth;
@@ -98,7 +106,7 @@ int main(int argc, char **argv)
         if (!was_refused) {
             goblin_pe_free(&new.tables);
             goblin_pe_free_ranges(&new.ranges);
-            return fault.status == GOBLIN_PE_OK && growth > 1 ? 0 : 1;
+            return fault.status == GOBLIN_PE_OK && (growth > 1) == wants_memory ? 0 : 1;
         }
         if (fault.status != GOBLIN_PE_NO_MEMORY || memcmp(&new, &old, sizeof new) || blocks)
             return 1;

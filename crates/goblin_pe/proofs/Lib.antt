@@ -1,5 +1,6 @@
 pub mod Parts
 pub mod PermissiveReads
+pub mod SectionRoom
 pub mod TableRuns
 pub mod TwinParts
 pub mod WholeFootprints

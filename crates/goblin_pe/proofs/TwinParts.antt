@@ -19,6 +19,7 @@ use Rattle.goblin_pe_head.specs.PeHeader.{header_value}
 use Rattle.goblin_pe_head.specs.TeHeader.{IsTeFault, displacement, te_header, te_record, te_sections_at}
 use Rattle.goblin_pe_head.proofs.Footprints.{same-header_without_dos, same-sections_at, same-strings_of, same-symbols_of, same-te_header, same-te_sections_at}
 use Rattle.goblin_pe.specs.declared.laws.parts.PartsOf.{PartsOf}
+use Rattle.goblin_pe.specs.SectionRoom.{TakesSections}
 use Rattle.goblin_pe.specs.TwinParts.{AreAlikeParts, AreParts, AreSameParts, PartsAsked, te_image_at, te_view}
 
 first_none : {A : Type 0} (o : Option A) (IsCause : ErrorOf → Type 0) (Later : A → ErrorOf → Type 0) (e : ErrorOf) → (IsCause e → ⊥) → ((a : A) → Later a e → ⊥) → FirstFault o IsCause Later e → ⊥
@@ -32,7 +33,7 @@ te_none bytes p (Memory m) memory fault =
 te_none bytes p e memory fault = memory
 
 -- a Terse Executable's header is never refused for want of memory
-pub te_there : (bytes : List ℕ) (p : ℕ) (e : ErrorOf) → (te_header bytes p ≡ None) × IsTeFault bytes p e → IsMemory e → IsSomeAnd (te_header bytes p) (λ header. 0 < header.number_of_sections)
+pub te_there : (bytes : List ℕ) (p : ℕ) (e : ErrorOf) → (te_header bytes p ≡ None) × IsTeFault bytes p e → IsMemory e → IsSomeAnd (te_header bytes p) (λ header. TakesSections header.number_of_sections bytes)
 te_there bytes p e refused memory = absurd (te_none bytes p e memory refused.1)
 
 same-te_image_at : (a b : List ℕ) (p : ℕ) → Agree (te_footprint a p) a b → te_image_at a p ≡ te_image_at b p

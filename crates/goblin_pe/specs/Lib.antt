@@ -1,4 +1,5 @@
 pub mod Modes
+pub mod SectionRoom
 pub mod TableRuns
 pub mod TwinParts
 pub mod Whole

@@ -1,5 +1,5 @@
 -- The readers of headers, of the tables of a COFF file, and of what stands at a directory's address: what they answer for a file, and for another that agrees with it.
-use Rattle.std.specs.Prelude.{◌≡◌, ◌<◌, ℕ, ◌+◌, Bool, IfErr, IsSomeAnd, List, Option, Some, Vec, option_map}
+use Rattle.std.specs.Prelude.{◌≡◌, ℕ, ◌+◌, Bool, IfErr, IsSomeAnd, List, Option, Some, Vec, option_map}
 use Rattle.std.specs.Global.{Global}
 use Rattle.goblin_base.specs.declared.endian.Endian.{Endian}
 use Rattle.goblin_base.specs.declared.error.ErrorOf.{ErrorOf}
@@ -18,6 +18,7 @@ use Rattle.goblin_pe_head.specs.Footprints.{header_at_footprint, sections_footpr
 use Rattle.goblin_pe_head.specs.PeHeader.{IsHeaderAtFault, header_value, header_without_dos}
 use Rattle.goblin_pe_head.specs.TeHeader.{IsTeFault, IsTeSectionsFault, te_header, te_sections_at}
 use Rattle.goblin_pe.specs.declared.laws.parts.PartsOf.{PartsOf}
+use Rattle.goblin_pe.specs.SectionRoom.{TakesSections}
 
 -- the header of a Terse Executable at p, and its sections after it
 unfoldable pub te_image_at : List ℕ → ℕ → Option (TeHeader × List Section)
@@ -53,10 +54,10 @@ pub record AreParts {D Y : Type 0} (plain : D → Y) (value_of : Endian → List
   pub relocations : Answers relocation_bytes parts.relocations (relocation_data offset_of bytes asked.relocations) (IsRelocationDataFault offset_of bytes asked.relocations)
   pub value : Answers plain parts.value (data_at offset_of value_of bytes asked.value.virtual_address) (IsDataFault offset_of refusal bytes asked.value.virtual_address)
 
--- A reader is refused for want of memory only where there is a section; the five that are not here take none.
+-- A reader is refused for want of memory only where there is a section, and the file has room for all; the five that are not here take none.
 pub record ArePartsGrown {D : Type 0} (asked : PartsAsked) (bytes : List ℕ) (parts : PartsOf D) : Type 0 where
-  pub sections : IfErr parts.sections (λ e. IsMemory e → 0 < asked.coff_header.number_of_sections)
-  pub te : IfErr parts.te (λ e. IsMemory e → IsSomeAnd (te_header bytes asked.offset) (λ header. 0 < header.number_of_sections))
+  pub sections : IfErr parts.sections (λ e. IsMemory e → TakesSections asked.coff_header.number_of_sections bytes)
+  pub te : IfErr parts.te (λ e. IsMemory e → IsSomeAnd (te_header bytes asked.offset) (λ header. TakesSections header.number_of_sections bytes))
 
 -- The two values of a reader are the same, or both missing, where the files agree on what it reaches in the first.
 pub record AreSameParts {Y : Type 0} (value_of : Endian → List ℕ → Option (Y × ℕ)) (strict : Bool) (offset_of : ℕ → Option ℕ) (asked : PartsAsked) (a b : List ℕ) : Type 0 where

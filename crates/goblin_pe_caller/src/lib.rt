@@ -29,6 +29,7 @@ use goblin_pe::options::{ParseMode, ParseOptions};
 use goblin_pe::relocation::{RelocationBlock, RelocationData, Relocations};
 use goblin_pe::section_table::SectionTable;
 use goblin_pe::symbol::{Symbol, SymbolTable};
+use goblin_pe::table::*;
 use goblin_pe::utils::get_data;
 use goblin_pe::{Cause, Endian, Error, Part, Result, ResultOf, TryFromCtx, Whole};
 use std::alloc::Global;
@@ -161,7 +162,7 @@ pub fn count_forwarders(table: &ExportAddressTable) -> usize
     ensures { result ≡ forwarder_count table.now }
 {
     let mut count = 0;
-    'entries: for entry in table.iter() {
+    'entries: for entry in table {
         if let ExportAddressTableEntry::ForwarderRVA(_) = entry {
             count += 1;
         }

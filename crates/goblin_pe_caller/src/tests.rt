@@ -15,7 +15,7 @@ use goblin_pe::options::ParseOptions;
 use goblin_pe::relocation::{RelocationData, RelocationWord, Relocations};
 use goblin_pe::section_table::SectionTable;
 use goblin_pe::symbol::SymbolTable;
-use goblin_pe::table::Table;
+use goblin_pe::table::*;
 use goblin_pe::{Cause, Endian, Error};
 use std::alloc::{AllocError, Global};
 use std::test::Fail;
@@ -116,7 +116,7 @@ fn records_are_written_and_measured(rt: HostRuntime) -> Result<(), Fail> {
 /// How many entries of a table are those that stand at their indexes: all.
 fn count_at_indexes(table: &ExportAddressTable) -> usize {
     let mut index = 0;
-    for entry in table.iter() {
+    for entry in table {
         if index < table.len() && table[index] == *entry {
             index += 1;
         }

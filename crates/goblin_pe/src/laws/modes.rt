@@ -1,12 +1,13 @@
 //! Readers in strict and in permissive mode.
 
-ghost use Rattle.std.specs.Prelude.{IfErr, IsSome, false, true};
+ghost use Rattle.std.specs.Prelude.{IfErr, IsSomeAnd, false, true};
 ghost use Rattle.goblin_base.specs.declared.permissive.ParseMode.TheVariants.{Permissive, Strict};
 ghost use Rattle.goblin_base.specs.Answers.{Answers, AnswersOrMemory, IsMemory};
 ghost use Rattle.goblin_pe_sect.specs.Mapping.{file_offset};
 ghost use Rattle.goblin_pe_head.specs.PeHeader.{IsHeaderFault, header_value, pe_header};
 ghost use Rattle.goblin_pe.specs.Modes.{Repeats, RepeatsOrMemory, in_mode, in_permissive_mode};
 ghost use Rattle.goblin_pe.specs.TableRuns.{AreGrown, AreRepeated, AreTables};
+ghost use Rattle.goblin_pe.specs.SectionRoom.{HasRoom};
 ghost use Rattle.goblin_pe.specs.Whole.{IsWholeFault, whole_file};
 
 use crate::header::Header;
@@ -47,8 +48,8 @@ pub fn mode_whole<'a>(
 ) -> (Result<Whole<'a>>, Result<Whole<'a>>)
     ensures strict { AnswersOrMemory (λ whole. whole) result.0 (whole_file (in_mode Strict opts.now) bytes.now) (IsWholeFault (in_mode Strict opts.now) bytes.now) }
     ensures permissive { AnswersOrMemory (λ whole. whole) result.1 (whole_file (in_mode Permissive opts.now) bytes.now) (IsWholeFault (in_mode Permissive opts.now) bytes.now) }
-    ensures strict_grown { IfErr result.0 (λ e. IsMemory e → IsSome (pe_header true bytes.now)) }
-    ensures permissive_grown { IfErr result.1 (λ e. IsMemory e → IsSome (pe_header false bytes.now)) }
+    ensures strict_grown { IfErr result.0 (λ e. IsMemory e → IsSomeAnd (pe_header true bytes.now) (HasRoom bytes.now)) }
+    ensures permissive_grown { IfErr result.1 (λ e. IsMemory e → IsSomeAnd (pe_header false bytes.now) (HasRoom bytes.now)) }
     ensures repeats { RepeatsOrMemory (λ whole. whole) (in_permissive_mode opts.now) result.0 result.1 }
 {
     let strict = Whole::read(alloc, bytes, &opts.with_parse_mode(ParseMode::Strict));

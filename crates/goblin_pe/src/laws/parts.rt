@@ -1,10 +1,11 @@
 //! The readers of headers and of single tables, on two files.
 
-ghost use Rattle.std.specs.Prelude.{◌<◌, IfErr, IsSomeAnd};
+ghost use Rattle.std.specs.Prelude.{IfErr, IsSomeAnd};
 ghost use Rattle.goblin_base.specs.Answers.{AnswersOrMemory, IsMemory};
 ghost use Rattle.goblin_pe_sect.specs.Mapping.{file_offset};
 ghost use Rattle.goblin_pe_sect.specs.Options.{is_strict};
 ghost use Rattle.goblin_pe_head.specs.TeHeader.{te_header};
+ghost use Rattle.goblin_pe.specs.SectionRoom.{TakesSections};
 ghost use Rattle.goblin_pe.specs.TwinParts.{AreAlikeParts, AreParts, ArePartsGrown, AreSameParts, IsTeImageFault, PartsAsked, te_image_at, te_view};
 
 use crate::data_directories::DataDirectory;
@@ -41,10 +42,10 @@ pub struct PartsOf<'a, 'e, D> {
 pub type Parts<'a, D> = PartsOf<'a, 'static, D>;
 
 // The header of a Terse Executable at an offset, and its sections after it.
-#[tactic(auto, unfolding(crate::specs::TwinParts::te_image_at), using(crate::proofs::TwinParts::te_there))]
+#[tactic(auto, unfolding(crate::specs::TwinParts::te_image_at), using(crate::proofs::TwinParts::te_there, crate::proofs::SectionRoom::te_sections_take))]
 fn read_te(alloc: Global, bytes: &[u8], offset: usize) -> Result<(TeHeader, Vec<SectionTable>)>
     ensures value { AnswersOrMemory te_view result (te_image_at bytes.now offset) (IsTeImageFault bytes.now offset) }
-    ensures grown { IfErr result (λ e. IsMemory e → IsSomeAnd (te_header bytes.now offset) (λ header. 0 < header.number_of_sections)) }
+    ensures grown { IfErr result (λ e. IsMemory e → IsSomeAnd (te_header bytes.now offset) (λ header. TakesSections header.number_of_sections bytes.now)) }
 {
     let mut end = offset;
     let header = TeHeader::parse(bytes, &mut end)?;
@@ -53,6 +54,7 @@ fn read_te(alloc: Global, bytes: &[u8], offset: usize) -> Result<(TeHeader, Vec<
 }
 
 // The answers of the readers for one file.
+#[tactic(auto, using(crate::proofs::SectionRoom::sections_answer_takes))]
 fn read_parts<'a, 'e, D: TryFromCtx<'a>>(
     alloc: Global,
     bytes: &'a [u8],
@@ -100,7 +102,8 @@ fn read_parts<'a, 'e, D: TryFromCtx<'a>>(
 /// base relocations; and of the value all from its offset on.
 ///
 /// # Errors
-/// For each file as the readers that the fields of [`PartsOf`] name.
+/// For each file as the readers that the fields of [`PartsOf`] name; memory is wanted only of sections
+/// for which the file has room.
 pub fn twin_parts<'a, 'e, D: TryFromCtx<'a>>(
     alloc: Global,
     a: &'a [u8],

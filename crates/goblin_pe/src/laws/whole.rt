@@ -1,10 +1,11 @@
 //! Whole files, two at a time.
 
-ghost use Rattle.std.specs.Prelude.{◌≡◌, IfErr, IsSome};
+ghost use Rattle.std.specs.Prelude.{◌≡◌, IfErr, IsSomeAnd};
 ghost use Rattle.goblin_base.specs.Answers.{AnswersOrMemory, IsMemory};
 ghost use Rattle.goblin_base.specs.Footprints.{Agree, AlikeOrMemory};
 ghost use Rattle.goblin_pe_sect.specs.Options.{is_strict};
 ghost use Rattle.goblin_pe_head.specs.PeHeader.{pe_header};
+ghost use Rattle.goblin_pe.specs.SectionRoom.{HasRoom};
 ghost use Rattle.goblin_pe.specs.Whole.{IsWholeFault, whole_file};
 ghost use Rattle.goblin_pe.specs.WholeFootprints.{whole_footprint};
 
@@ -21,6 +22,7 @@ use std::alloc::Global;
 ///
 /// # Errors
 /// For each file as [`Whole::read`].
+#[tactic(auto, using(crate::proofs::SectionRoom::whole_answer_takes))]
 pub fn twin_whole<'a>(
     alloc: Global,
     a: &'a [u8],
@@ -29,8 +31,8 @@ pub fn twin_whole<'a>(
 ) -> (Result<Whole<'a>>, Result<Whole<'a>>)
     ensures first { AnswersOrMemory (λ x. x) result.0 (whole_file opts.now a.now) (IsWholeFault opts.now a.now) }
     ensures second { AnswersOrMemory (λ x. x) result.1 (whole_file opts.now b.now) (IsWholeFault opts.now b.now) }
-    ensures first_grown { IfErr result.0 (λ e. IsMemory e → IsSome (pe_header (is_strict opts.now.parse_mode) a.now)) }
-    ensures second_grown { IfErr result.1 (λ e. IsMemory e → IsSome (pe_header (is_strict opts.now.parse_mode) b.now)) }
+    ensures first_grown { IfErr result.0 (λ e. IsMemory e → IsSomeAnd (pe_header (is_strict opts.now.parse_mode) a.now) (HasRoom a.now)) }
+    ensures second_grown { IfErr result.1 (λ e. IsMemory e → IsSomeAnd (pe_header (is_strict opts.now.parse_mode) b.now) (HasRoom b.now)) }
     ensures same_value { Agree (whole_footprint opts.now a.now) a.now b.now → whole_file opts.now a.now ≡ whole_file opts.now b.now }
     ensures alike { Agree (whole_footprint opts.now a.now) a.now b.now → AlikeOrMemory (λ x. x) result.0 result.1 }
 {

@@ -1,0 +1,46 @@
+-- Too many sections for a file are told before memory is asked for, so want of memory tells that there is room.
+use Rattle.std.proofs.Common.{◌≡◌, ◌<◌, ◌≤◌, List, ℕ, arith, length}
+use Rattle.std.specs.Prelude.{◌/◌, codes, IfErr, IfSome, IsErrAnd, IsSome, IsSomeAnd, Option, None, Some, Result, Ok, Err}
+use Rattle.goblin_base.specs.declared.error.ErrorOf.{ErrorOf}
+use Rattle.goblin_base.specs.declared.error.ErrorOf.TheVariants.{Memory}
+use Rattle.goblin_base.specs.Answers.{IsMemory, IsTooShort}
+use Rattle.goblin_pe_head.specs.declared.header.te.TeHeader.{TeHeader}
+use Rattle.goblin_pe_head.specs.CoffHeader.{IsTooManySections}
+use Rattle.goblin_pe_head.specs.PeHeader.{PeHeader}
+use Rattle.goblin_pe_head.specs.TeHeader.{te_header}
+use Rattle.goblin_pe.specs.SectionRoom.{HasRoom, HasRoomFor, TakesSections}
+
+short_none : (n room : ℕ) (kind : List ℕ) (e : ErrorOf) → IsMemory e → IsTooShort n kind room e → ⊥
+short_none n room kind (Memory m) h fault = fault
+short_none n room kind e h fault = h
+
+pub has_room : (n : ℕ) (bytes : List ℕ) (e : ErrorOf) → (length bytes / 40 < n → IsTooManySections n bytes e) → IsMemory e → HasRoomFor n bytes
+has_room n bytes e first memory =
+    let enough : ¬ (length bytes / 40 < n) = λ h. short_none n (length bytes / 40) (codes "sections") e memory (first h) in
+    omega arith
+
+pub sections_take : (n : ℕ) (bytes : List ℕ) (e : ErrorOf) → (length bytes / 40 < n → IsTooManySections n bytes e) → (IsMemory e → 0 < n) → IsMemory e → TakesSections n bytes
+sections_take n bytes e first grown memory = (grown memory, has_room n bytes e first memory)
+
+pub te_sections_take : (bytes : List ℕ) (p : ℕ) (h : TeHeader) (e : ErrorOf) → te_header bytes p ≡ Some h
+    → (length bytes / 40 < h.number_of_sections → IsTooManySections h.number_of_sections bytes e)
+    → (IsMemory e → 0 < h.number_of_sections) → IsMemory e → IsSomeAnd (te_header bytes p) (λ header. TakesSections header.number_of_sections bytes)
+te_sections_take bytes p h e is first grown memory = rw is (sections_take h.number_of_sections bytes e first grown memory)
+
+pub whole_takes : (header : Option PeHeader) (bytes : List ℕ) (e : ErrorOf)
+    → IfSome header (λ h. length bytes / 40 < h.coff_header.number_of_sections → IsTooManySections h.coff_header.number_of_sections bytes e)
+    → (IsMemory e → IsSome header) → IsMemory e → IsSomeAnd header (HasRoom bytes)
+whole_takes None bytes e first grown memory = absurd (cc (grown memory))
+whole_takes (Some h) bytes e first grown memory = has_room h.coff_header.number_of_sections bytes e first memory
+
+-- the same of answers
+pub sections_answer_takes : {A : Type 0} (n : ℕ) (bytes : List ℕ) (result : Result A ErrorOf) → (length bytes / 40 < n → IsErrAnd result (IsTooManySections n bytes))
+    → IfErr result (λ e. IsMemory e → 0 < n) → IfErr result (λ e. IsMemory e → TakesSections n bytes)
+sections_answer_takes n bytes (Ok x) first grown = tt
+sections_answer_takes n bytes (Err e) first grown = sections_take n bytes e first grown
+
+pub whole_answer_takes : {A : Type 0} (header : Option PeHeader) (bytes : List ℕ) (result : Result A ErrorOf)
+    → IfSome header (λ h. length bytes / 40 < h.coff_header.number_of_sections → IsErrAnd result (IsTooManySections h.coff_header.number_of_sections bytes))
+    → IfErr result (λ e. IsMemory e → IsSome header) → IfErr result (λ e. IsMemory e → IsSomeAnd header (HasRoom bytes))
+whole_answer_takes header bytes (Ok x) first grown = tt
+whole_answer_takes header bytes (Err e) first grown = whole_takes header bytes e first grown
