@@ -1,34 +1,30 @@
 -- What strict mode reads of tables and of whole files, permissive mode reads, too.
-use Rattle.std.proofs.Common.{◌≡◌, ℕ, ◌+◌, Bool, true, false, cond, List, [], Option, Some, None, Result, Ok, Err, refl, sym, ap, ◌∙◌}
-use Rattle.std.specs.Prelude.{nat_eq, option_map}
-use Rattle.goblin_base.specs.declared.endian.Endian.TheVariants.{Little}
+use Rattle.std.proofs.Common.{◌≡◌, ℕ, Bool, true, false, cond, List, [], Option, Some, None, Result, Ok, Err, refl, sym, ap, ◌∙◌}
+use Rattle.std.specs.Prelude.{nat_eq}
 use Rattle.goblin_base.specs.declared.error.ErrorOf.{ErrorOf}
 use Rattle.goblin_base.specs.declared.error.ErrorOf.TheVariants.{Malformed, BadMagic, BufferTooShort, Read, Memory}
 use Rattle.goblin_base.specs.declared.permissive.ParseMode.{ParseMode}
 use Rattle.goblin_base.specs.declared.permissive.ParseMode.TheVariants.{Strict, Permissive}
 use Rattle.goblin_base.specs.Answers.{Answers, AnswersOrMemory, IsMemory, ◌>>=◌}
-use Rattle.goblin_base.specs.Bytes.{number_at, text_at}
-use Rattle.goblin_base.specs.Tables.{Format, each_below, or_left_out}
-use Rattle.goblin_base.proofs.Kept.{Keeps, kept_slots-kept, map-kept, or_left_out-kept, slot_table-kept, then-kept, then-kept_by}
+use Rattle.goblin_base.specs.Tables.{Format, each_below}
+use Rattle.goblin_base.proofs.Kept.{Keeps}
 use Rattle.goblin_base.proofs.Steps.{mapped, same_value, step}
 use Rattle.goblin_pe_sect.specs.declared.data_directories.DataDirectory.{DataDirectory}
 use Rattle.goblin_pe_sect.specs.declared.options.ParseOptions.{ParseOptions}
-use Rattle.goblin_pe_sect.specs.Mapping.{file_offset, name_at, name_or_none}
+use Rattle.goblin_pe_sect.specs.Mapping.{file_offset}
 use Rattle.goblin_pe_sect.specs.SectionTable.{Section}
 use Rattle.goblin_pe_sect.specs.BaseRelocations.{relocation_data}
-use Rattle.goblin_pe_sect.proofs.PermissiveReads.{name_or_none-kept}
 use Rattle.goblin_pe_head.specs.CoffHeader.{symbols_end}
 use Rattle.goblin_pe_head.specs.PeHeader.{PeHeader, pe_header}
 use Rattle.goblin_pe_head.proofs.PermissiveReads.{header-kept, sections_at-kept}
-use Rattle.goblin_pe_tables.specs.declared.import.directory_entry.ImportDirectoryEntry.{ImportDirectoryEntry}
 use Rattle.goblin_pe.specs.declared.whole.Part.{Part}
 use Rattle.goblin_pe.specs.declared.whole.Part.TheVariants.{Absent, Refused}
 use Rattle.goblin_pe.specs.declared.whole.Part.TheVariants as part
-use Rattle.goblin_pe_tables.specs.ImportDirectory.{ImportedLibrary, import_data, import_slots, libraries_at, libraries_if, library_of, lookup_offset, lookup_slots_if, lookup_table_if}
-use Rattle.goblin_pe_tables.specs.ImportLookup.{EntryValue, LookupEntry, entry_slots, hint_name, kept_entry, kept_name, lookup_table, or_empty}
-use Rattle.goblin_pe_tables.specs.ImportLookup.LookupEntry.{ByName}
+use Rattle.goblin_pe_tables.specs.ImportDirectory.{ImportedLibrary, import_data, libraries_at, libraries_if}
+use Rattle.goblin_pe_tables.specs.ImportLookup.{EntryValue}
 use Rattle.goblin_pe_tables.specs.Imports.{ImportValue, imports_of}
 use Rattle.goblin_pe_tables.specs.Exports.{export_data}
+use Rattle.goblin_pe_tables.proofs.ImportRepeats.{libraries_at-kept}
 use Rattle.goblin_pe.specs.Modes.{Repeats, RepeatsOrMemory, in_mode, in_permissive_mode, is_front, unless_front}
 use Rattle.goblin_pe.specs.Whole.{FileTables, TablePlaces, WholeFile, entry_format, export_data_part, exports_part, file_sections, import_data_part, imports_part, part_at, part_map, part_of, part_then, places_in, relocations_part, section_table_offset, tables_of, whole_file}
 
@@ -54,60 +50,7 @@ repeats view becomes (Ok x) (Ok y) value again IsCause IsOther one two kept = sa
 repeats view becomes (Ok x) (Err e) value again IsCause IsOther one two kept = absurd (cc (kept (view x) one, two.0))
 repeats view becomes (Err d) second value again IsCause IsOther one two kept = tt
 
--- ---- lookup tables
-
-or_empty-kept : (text : Option (List ℕ)) → Keeps (or_empty true text) (or_empty false text)
-or_empty-kept None text e = absurd cc
-or_empty-kept (Some own) text e = e
-
-hint_name-kept : (bytes : List ℕ) (p : ℕ) → Keeps (hint_name true bytes p) (hint_name false bytes p)
-unfolding hint_name
-hint_name-kept bytes p =
-    then-kept (number_at Little 2 bytes p) (number_at Little 2 bytes p) _ _ (λ hint same. same)
-    (λ hint. then-kept (or_empty true (text_at bytes (p + 2))) (or_empty false (text_at bytes (p + 2))) _ _ (or_empty-kept (text_at bytes (p + 2))) (λ name made same. same))
-
-kept_name-kept : (bytes : List ℕ) (rva : ℕ) (place : Option ℕ) → Keeps (kept_name true bytes rva place) (kept_name false bytes rva place)
-kept_name-kept bytes rva None xs e = e
-kept_name-kept bytes rva (Some p) xs e =
-    or_left_out-kept (option_map (ByName rva) (hint_name true bytes p)) (option_map (ByName rva) (hint_name false bytes p)) (map-kept (ByName rva) (hint_name true bytes p) (hint_name false bytes p) (hint_name-kept bytes p)) xs e
-
-kept_by_test : {A : Type 0} (test : Bool) (own x y : Option A) → Keeps x y → Keeps (cond test own x) (cond test own y)
-kept_by_test true own x y kept z e = e
-kept_by_test false own x y kept z e = kept z e
-
-kept_entry-kept : (offset_of : ℕ → Option ℕ) (bytes : List ℕ) (entry : EntryValue) → Keeps (kept_entry true offset_of bytes entry) (kept_entry false offset_of bytes entry)
-unfolding kept_entry
-kept_entry-kept offset_of bytes entry =
-    kept_by_test entry.is_ordinal _ (kept_name true bytes entry.rva (offset_of entry.rva)) (kept_name false bytes entry.rva (offset_of entry.rva)) (kept_name-kept bytes entry.rva (offset_of entry.rva))
-
-pub lookup_table-kept : (format : Format EntryValue) (offset_of : ℕ → Option ℕ) (bytes : List ℕ) (o : ℕ) → Keeps (lookup_table true format offset_of bytes o) (lookup_table false format offset_of bytes o)
-lookup_table-kept format offset_of bytes o = slot_table-kept (entry_slots format) (kept_entry true offset_of bytes) (kept_entry false offset_of bytes) bytes o (kept_entry-kept offset_of bytes)
-
 -- ---- import data
-
-lookup_table_if-kept : (format : Format EntryValue) (offset_of : ℕ → Option ℕ) (bytes : List ℕ) (place : Option ℕ) → Keeps (lookup_table_if true format offset_of bytes place) (lookup_table_if false format offset_of bytes place)
-lookup_table_if-kept format offset_of bytes None table e = e
-lookup_table_if-kept format offset_of bytes (Some o) table e = map-kept (λ t. Some t) (lookup_table true format offset_of bytes o) (lookup_table false format offset_of bytes o) (lookup_table-kept format offset_of bytes o) table e
-
-lookup_slots_if-kept : (format : Format EntryValue) (offset_of : ℕ → Option ℕ) (bytes : List ℕ) (place : Option ℕ) (table : Option (List LookupEntry)) → lookup_table_if true format offset_of bytes place ≡ Some table → lookup_slots_if true format offset_of bytes place ≡ lookup_slots_if false format offset_of bytes place
-lookup_slots_if-kept format offset_of bytes None table e = refl
-lookup_slots_if-kept format offset_of bytes (Some o) table e =
-    let m = mapped (lookup_table true format offset_of bytes o) (λ t. Some t) table e in
-    kept_slots-kept (entry_slots format) (kept_entry true offset_of bytes) (kept_entry false offset_of bytes) bytes o m.value (kept_entry-kept offset_of bytes) m.is
-
-library_of-kept : (format : Format EntryValue) (offset_of : ℕ → Option ℕ) (bytes : List ℕ) (r : ImportDirectoryEntry) → Keeps (library_of true format offset_of bytes r) (library_of false format offset_of bytes r)
-unfolding library_of
-library_of-kept format offset_of bytes r =
-    let name = name_at offset_of bytes r.name_rva in
-    let place = lookup_offset offset_of r in
-    then-kept (name_or_none true name) (name_or_none false name) _ _ (name_or_none-kept name)
-    (λ own. then-kept_by (lookup_table_if true format offset_of bytes place) (lookup_table_if false format offset_of bytes place) _ _ (lookup_table_if-kept format offset_of bytes place)
-    (λ lookup is library same. rw (← lookup_slots_if-kept format offset_of bytes place lookup is) same))
-
-libraries_at-kept : (format : Format EntryValue) (offset_of : ℕ → Option ℕ) (bytes : List ℕ) (o : ℕ) → Keeps (libraries_at true format offset_of bytes o) (libraries_at false format offset_of bytes o)
-libraries_at-kept format offset_of bytes o =
-    slot_table-kept import_slots (λ r. or_left_out true (library_of true format offset_of bytes r)) (λ r. or_left_out false (library_of false format offset_of bytes r)) bytes o
-    (λ r. or_left_out-kept (library_of true format offset_of bytes r) (library_of false format offset_of bytes r) (library_of-kept format offset_of bytes r))
 
 by_place : {A : Type 0} (front : Bool) (value : Option (List A)) (xs : List A) → value ≡ Some xs → cond front (Some []) value ≡ Some (cond front [] xs)
 by_place true value xs e = refl
@@ -116,7 +59,7 @@ by_place false value xs e = e
 module _ (format : Format EntryValue) (offset_of : ℕ → Option ℕ) (bytes : List ℕ) where
   by_offset : (place : Option ℕ) (xs : List ImportedLibrary) → libraries_if true format offset_of bytes place ≡ Some xs → libraries_if false format offset_of bytes place ≡ Some (unless_front place xs)
   by_offset None xs e = absurd cc
-  by_offset (Some o) xs e = by_place (nat_eq o 0) (libraries_at false format offset_of bytes o) xs (libraries_at-kept format offset_of bytes o xs e)
+  by_offset (Some o) xs e = by_place (nat_eq o 0) (libraries_at false format offset_of bytes o) xs (libraries_at-kept offset_of format bytes o xs e)
 
 -- import data of a directory that is not at the front of the file
 pub import_data-kept : (format : Format EntryValue) (offset_of : ℕ → Option ℕ) (bytes : List ℕ) (rva : ℕ) (xs : List ImportedLibrary) → import_data true format offset_of bytes rva ≡ Some xs → import_data false format offset_of bytes rva ≡ Some (unless_front (offset_of rva) xs)

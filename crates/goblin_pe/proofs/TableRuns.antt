@@ -15,7 +15,8 @@ use Rattle.goblin_pe_tables.specs.ImportDirectory.{import_data}
 use Rattle.goblin_pe_tables.specs.ImportLookup.{EntryValue, entry_view, lookup_table}
 use Rattle.goblin_pe.specs.Modes.{unless_front}
 use Rattle.goblin_pe.specs.TableRuns.{AreAlike, AreRepeated, AreTables}
-use Rattle.goblin_pe.proofs.PermissiveReads.{import_data-kept, lookup_table-kept, repeats, repeats_or_memory}
+use Rattle.goblin_pe_tables.proofs.ImportRepeats.{lookup_table-kept}
+use Rattle.goblin_pe.proofs.PermissiveReads.{import_data-kept, repeats, repeats_or_memory}
 
 module _ {D Y : Type 0} (format : Format EntryValue) (plain : D → Y) (value_of : Endian → List ℕ → Option (Y × ℕ)) (refusal : Endian → List ℕ → ErrorOf → Type 0) (bytes : List ℕ) (request : Request) (first second : TablesOf D) where
   -- the answers under maps that are the same
@@ -36,7 +37,7 @@ module _ {D Y : Type 0} (format : Format EntryValue) (plain : D → Y) (value_of
       → AreRepeated plain (offset_of request.imports.virtual_address) first second
   are_repeated offset_of one two =
       record {
-        lookup = repeats_or_memory (map entry_view) (λ x. x) _ _ _ _ _ _ one.lookup two.lookup (lookup_table-kept format offset_of bytes request.lookup);
+        lookup = repeats_or_memory (map entry_view) (λ x. x) _ _ _ _ _ _ one.lookup two.lookup (lookup_table-kept offset_of format bytes request.lookup);
         imports = repeats_or_memory (λ x. x) (unless_front (offset_of request.imports.virtual_address)) _ _ _ _ _ _ one.imports two.imports (import_data-kept format offset_of bytes request.imports.virtual_address);
         exports = repeats_or_memory export_read_view (λ x. x) _ _ _ _ _ _ one.exports two.exports (λ value same. same);
         relocations = repeats relocation_bytes (λ x. x) _ _ _ _ _ _ one.relocations two.relocations (λ value same. same);

@@ -7,8 +7,9 @@ pub mod Growths
 pub mod ImportBound
 pub mod ImportDirectoryRoundTrip
 pub mod ImportFootprints
+pub mod ImportReadings
+pub mod ImportRepeats
 pub mod Imports
 pub mod LookupSlots
 pub mod Modes
-pub mod RangesInFile
 mod SomeRanges

@@ -7,4 +7,5 @@ pub mod ImportBound
 pub mod ImportDirectory
 pub mod ImportFootprints
 pub mod ImportLookup
+pub mod ImportReadings
 pub mod Imports

@@ -1,0 +1,96 @@
+-- What strict mode reads of imports, permissive mode reads, too.
+use Rattle.std.proofs.Common.{◌≡◌, ◌+◌, ℕ, true, false, List, [], ◌∷◌, Option, None, Some, sym, ◌∙◌}
+use Rattle.goblin_base.specs.Reading.{Repeats}
+use Rattle.goblin_base.specs.Tables.{Format}
+use Rattle.goblin_base.proofs.Kept.{Keeps}
+use Rattle.readings.specs.Reads.{given, text_at}
+use Rattle.readings.proofs.Modes.{repeats-beside, repeats-mapped, repeats-or_else}
+use Rattle.readings.proofs.Modes.{repeats-or_left_out, repeats-pick, repeats-same, repeats-table}
+use Rattle.readings.proofs.Modes.{repeats-table_with_slots}
+use Rattle.goblin_pe_tables.specs.ImportDirectory as directory
+use Rattle.goblin_pe_tables.specs.ImportDirectory.{address_table_rva, import_slots, lookup_offset}
+use Rattle.goblin_pe_tables.specs.ImportLookup as lookup
+use Rattle.goblin_pe_tables.specs.ImportLookup.{EntryValue, entry_slots}
+use Rattle.goblin_pe_tables.specs.ImportLookup.LookupEntry.{ByOrdinal}
+use Rattle.goblin_pe_tables.specs.ImportReadings.{address_table, at_address, hint_name, kept_entry}
+use Rattle.goblin_pe_tables.specs.ImportReadings.{kept_library, kept_name, libraries_at}
+use Rattle.goblin_pe_tables.specs.ImportReadings.{library_of, lookup_entry_at, lookup_if}
+use Rattle.goblin_pe_tables.specs.ImportReadings.{lookup_table, lookup_with_slots, name_at}
+use Rattle.goblin_pe_tables.specs.ImportReadings.{record_here}
+use Rattle.goblin_pe_tables.specs.declared.import.directory_entry.ImportDirectoryEntry.{ImportDirectoryEntry}
+use Rattle.goblin_pe_tables.proofs.ImportReadings.{value-libraries_at, value-lookup_table}
+
+hint_repeats : (p : ℕ) → Repeats (hint_name true p) (hint_name false p)
+unfolding hint_name
+hint_repeats p =
+    repeats-mapped _ _ _
+    (repeats-beside _ _ _ _ (repeats-same _)
+    (repeats-or_else [] _ _ (repeats-same (text_at (p + 2)))))
+
+name_repeats : (rva : ℕ) (place : Option ℕ)
+    → Repeats (kept_name true rva place) (kept_name false rva place)
+unfolding kept_name
+name_repeats rva None = repeats-same _
+name_repeats rva (Some p) = repeats-or_left_out _ _ (repeats-mapped _ _ _ (hint_repeats p))
+
+module _ (offset_of : ℕ → Option ℕ) where
+  entry_repeats : (entry : EntryValue)
+      → Repeats (kept_entry true offset_of entry) (kept_entry false offset_of entry)
+  unfolding kept_entry
+  entry_repeats entry =
+      repeats-pick entry.is_ordinal _ _ _ _ (repeats-same (given (ByOrdinal entry.ordinal ∷ [])))
+      (name_repeats entry.rva (offset_of entry.rva))
+
+  module _ (format : Format EntryValue) where
+    lookup_repeats : (o : ℕ)
+        → Repeats (lookup_table true format offset_of o) (lookup_table false format offset_of o)
+    lookup_repeats o =
+        repeats-table (entry_slots format) (lookup_entry_at format) (lookup_entry_at format) _ _ o
+        entry_repeats
+
+    with_slots_repeat : (o : ℕ)
+        → Repeats (lookup_with_slots true format offset_of o)
+        (lookup_with_slots false format offset_of o)
+    with_slots_repeat o =
+        repeats-table_with_slots (entry_slots format) (lookup_entry_at format)
+        (lookup_entry_at format) _ _ o entry_repeats
+
+    lookup_if_repeats : (place : Option ℕ)
+        → Repeats (lookup_if true format offset_of place) (lookup_if false format offset_of place)
+    unfolding lookup_if
+    lookup_if_repeats None = repeats-same _
+    lookup_if_repeats (Some o) = repeats-mapped _ _ _ (with_slots_repeat o)
+
+    library_repeats : (r : ImportDirectoryEntry)
+        → Repeats (library_of true format offset_of r) (library_of false format offset_of r)
+    unfolding library_of
+    library_repeats r =
+        repeats-mapped _ _ _
+        (repeats-beside _ _ _ _
+        (repeats-beside _ _ _ _
+        (repeats-or_else [] _ _ (repeats-same (name_at offset_of r.name_rva)))
+        (lookup_if_repeats (lookup_offset offset_of r)))
+        (repeats-same (at_address offset_of (address_table_rva r) (address_table format))))
+
+    libraries_repeat : (o : ℕ)
+        → Repeats (libraries_at true format offset_of o) (libraries_at false format offset_of o)
+    libraries_repeat o =
+        repeats-table import_slots record_here record_here (kept_library true format offset_of)
+        (kept_library false format offset_of) o
+        (λ r. repeats-or_left_out _ _ (library_repeats r))
+
+    -- the same of the values, as contracts say them
+    pub lookup_table-kept : (bytes : List ℕ) (o : ℕ)
+        → Keeps (lookup.lookup_table true format offset_of bytes o)
+        (lookup.lookup_table false format offset_of bytes o)
+    lookup_table-kept bytes o table is =
+        sym (value-lookup_table false offset_of bytes format o)
+        ∙ (lookup_repeats o).kept bytes table (value-lookup_table true offset_of bytes format o ∙ is)
+
+    pub libraries_at-kept : (bytes : List ℕ) (o : ℕ)
+        → Keeps (directory.libraries_at true format offset_of bytes o)
+        (directory.libraries_at false format offset_of bytes o)
+    libraries_at-kept bytes o libraries is =
+        sym (value-libraries_at false format offset_of bytes o)
+        ∙ (libraries_repeat o).kept bytes libraries
+        (value-libraries_at true format offset_of bytes o ∙ is)
