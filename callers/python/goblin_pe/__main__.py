@@ -1,10 +1,11 @@
 """Lists a file as pe_list does. With --symbols it lists the symbols of an object, and with --te the header of a Terse
 Executable, as pe_replay shows them."""
 import argparse
+import os
 import sys
 from typing import Iterator, List, Sequence
 
-from . import ObjectFile, Pe, Refused, Te, options
+from . import Export, ObjectFile, Pe, Refused, Te, options
 
 
 def shown(text: bytes) -> str:
@@ -15,6 +16,17 @@ def shown(text: bytes) -> str:
 def heading(label: str, state: str, entries: Sequence[object]) -> str:
     """How a table stands."""
     return "%s %s" % (label, len(entries) if state == "read" else state)
+
+
+def export(x: Export) -> str:
+    """The line of an export."""
+    line = "export rva=%#x" % x.rva
+    if x.offset is not None:
+        line += " offset=%#x" % x.offset
+    if x.forwarder:
+        lib, what = x.forwarder
+        line += " forward=%s.%s" % (shown(lib), "#%d" % what if isinstance(what, int) else shown(what))
+    return line + (" name=" + shown(x.name) if x.name is not None else "")
 
 
 def image(data: bytes, is_permissive: bool = False) -> Iterator[str]:
@@ -33,14 +45,7 @@ def image(data: bytes, is_permissive: bool = False) -> Iterator[str]:
         yield "import offset=%#x ordinal=%d rva=%#x size=%d slot=%d dll=%s name=%s" % (
             x.offset, x.ordinal, x.rva, x.size, x.slot, shown(x.dll), name)
     yield heading("exports", pe.export_table, pe.exports)
-    for x in pe.exports:
-        line = "export rva=%#x" % x.rva
-        if x.offset is not None:
-            line += " offset=%#x" % x.offset
-        if x.forwarder:
-            lib, what = x.forwarder
-            line += " forward=%s.%s" % (shown(lib), "#%d" % what if isinstance(what, int) else shown(what))
-        yield line + (" name=" + shown(x.name) if x.name is not None else "")
+    yield from map(export, pe.exports)
     yield heading("relocations", pe.relocation_table, pe.blocks)
     for b in pe.blocks:
         yield "block rva=%#x size=%#x words=%d" % (b.rva, b.size, len(b.words))
@@ -51,9 +56,9 @@ def image(data: bytes, is_permissive: bool = False) -> Iterator[str]:
 def symbols(data: bytes) -> Iterator[str]:
     """The lines of an object."""
     found = ObjectFile(data)
-    for s in found.symbols:
+    for it in found.symbols:
         yield "symbol %d value=%d section=%d class=%d aux=%d name=%s" % (
-            s.index, s.value, s.section_number, s.storage_class, s.number_of_aux_symbols, shown(s.name or b""))
+            it.index, it.value, it.section_number, it.storage_class, it.number_of_aux_symbols, shown(it.name or b""))
     for s in found.sections:
         if s.number_of_relocations:
             yield "relocations %s %d" % (shown(s.name), s.number_of_relocations)
@@ -89,11 +94,21 @@ def main(words: List[str]) -> int:
     asked = parser.parse_args(words)
     try:
         with open(asked.file, "rb") as file:
-            print("\n".join(asked.lines(file.read())))
+            listing = "\n".join(asked.lines(file.read()))
     except (OSError, Refused) as error:
-        print("%s: %s" % ("refused" if isinstance(error, Refused) else "read failed", error), file=sys.stderr)
-        return 1
+        return complain("refused" if isinstance(error, Refused) else "read failed", error)
+    try:
+        print(listing, flush=True)
+    except OSError as error:
+        os.dup2(os.open(os.devnull, os.O_WRONLY), sys.stdout.fileno())  # Python writes what is left as it ends
+        return complain("write failed", error)
     return 0
+
+
+def complain(what: str, error: Exception) -> int:
+    """A line on standard error, and the status of the program."""
+    print("%s: %s" % (what, error), file=sys.stderr)
+    return 1
 
 
 if __name__ == "__main__":

@@ -2,7 +2,7 @@
 import contextlib
 import ctypes as c
 import os
-from typing import Any, Iterator, Tuple
+from typing import Any, Iterator, List, Tuple
 
 from .records import (NOWHERE, Directory, Fault, File, Object, OptionalHeader, Options, Ranges, Section, Symbol, Tables,
                       TeHeader)
@@ -23,7 +23,7 @@ def _path() -> str:
     raise ImportError("there is no %s: run callers/build, or say by the variable GOBLIN_PE_SO where it is" % places[-1])
 
 
-def _counted(*kinds: Any) -> list:
+def _counted(*kinds: Any) -> List[Any]:
     # a pointer and a count for each kind of record
     return [it for kind in kinds for it in (c.POINTER(kind), c.c_size_t)]
 

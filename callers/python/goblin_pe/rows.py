@@ -23,8 +23,8 @@ class Section(NamedTuple):
 
 
 class Import(NamedTuple):
-    """An import. One by ordinal has the name None; of one by name the ordinal is the hint. The offset is the address of its
-    entry in the address table."""
+    """An import. One by ordinal has the name None; of one by name the ordinal is the hint. The dll is empty where permissive
+    mode could not read it. The offset is the address (not the file offset) of its own entry in the address table."""
 
     dll: bytes
     name: Optional[bytes]
@@ -56,7 +56,7 @@ class Block(NamedTuple):
 class Symbol(NamedTuple):
     """A symbol of an object. A name that can't be read is None."""
 
-    index: int
+    index: int  # type: ignore[assignment]  # (it takes the place of the method of that name)
     name: Optional[bytes]
     value: int
     section_number: int
@@ -96,7 +96,8 @@ class Rows:
 
     def exported(self, x: records.Export) -> Export:
         """The row of an export."""
-        forwarder = (self.text(x.lib), self.text(x.export_name) if x.forwards == Forwards.NAME else x.ordinal) if x.forwards else None
+        what: Union[bytes, int] = self.text(x.export_name) if x.forwards == Forwards.NAME else x.ordinal
+        forwarder = (self.text(x.lib), what) if x.forwards else None
         return Export(self.text(x.name) if x.has_name else None, x.rva, x.offset if x.has_offset else None, forwarder)
 
     def block(self, b: records.Block) -> Block:
