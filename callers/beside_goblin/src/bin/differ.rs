@@ -1,10 +1,11 @@
 //! Reads changed samples by this library and by goblin in one process, and compares what the two say of sections,
 //! imports and exports: differ COUNT FILE..
 //!
-//! goblin is Debian's, 0.2.1. Its rules are older than those of 0.10.7, after which this library is made, and it
-//! has no reader of base relocations; so the two are compared where they speak of the same. Each file has one
-//! table, that of its imports or that of its exports. All else that differs is counted by the name of what is known
-//! to differ ([`Known`]), and what has no name is shown: then the status is 1.
+//! goblin is Debian's, 0.2.1. Its rules are older than those of 0.10.7, after which this library is made, so the two
+//! are compared where they speak of the same. It has no reader of base relocations: callers/beside_objdump.py
+//! compares those with objdump's. Each file has one table, that of its imports or that of its exports. All else that
+//! differs is counted by the name of what is known to differ ([`Known`]), and what has no name is shown: then the
+//! status is 1.
 use goblin::pe::export::{ExportDirectoryTable, Reexport};
 use goblin::pe::{PE, header::Header, utils};
 use goblin_pe::{Cause, DirectoryType, Forwarder, Options, Pe};
