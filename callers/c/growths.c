@@ -1,6 +1,6 @@
 /* Reads a file with its first growth of memory refused, then its second, and so on, until a read meets no
-   refusal: growths image|object|te FILE. The status is 0 where each refused growth is answered as such, changes
-   no record and leaves no block behind. It stands before malloc, realloc and free of glibc. */
+   refusal: growths image|object|te|footprint FILE. The status is 0 where each refused growth is answered as such,
+   changes no record and leaves no block behind. It stands before malloc, realloc and free of glibc. */
 #include "goblin_pe.h"
 
 #include <stdio.h>
@@ -51,15 +51,26 @@ struct records {
     struct goblin_pe_tables tables;
     struct goblin_pe_object object;
     struct goblin_pe_te_header te_header;
+    struct goblin_pe_ranges ranges;
 };
+
+static const struct goblin_pe_options options = GOBLIN_PE_DEFAULT_OPTIONS;
+
+static struct goblin_pe_fault opened(size_t length, struct records *r)
+{
+    return goblin_pe_open(bytes, length, &options, &r->file, r->directories, 16, &r->tables);
+}
 
 static struct goblin_pe_fault read_by(const char *kind, size_t length, struct records *r)
 {
-    static const struct goblin_pe_options options = GOBLIN_PE_DEFAULT_OPTIONS;
     static struct goblin_pe_section no_section;
     static struct goblin_pe_symbol no_symbol;
     if (!strcmp(kind, "image"))
-        return goblin_pe_open(bytes, length, &options, &r->file, r->directories, 16, &r->tables);
+        return opened(length, r);
+    if (!strcmp(kind, "footprint"))
+        return goblin_pe_footprint_imports(bytes, length, &options, &r->file.optional_header,
+                                           &r->directories[GOBLIN_PE_DIRECTORY_IMPORT_TABLE],
+                                           r->tables.sections, r->tables.section_count, &r->ranges);
     if (!strcmp(kind, "object"))
         return goblin_pe_read_object(bytes, length, &options, &r->object, &no_section, 0, &no_symbol, 0);
     return goblin_pe_read_te(bytes, length, &r->te_header, &no_section, 0);
@@ -69,12 +80,14 @@ int main(int argc, char **argv)
 {
     static struct records new;
     struct records old = { .file.sections = 7, .directories[15].size = 7, .tables = GOBLIN_PE_NO_TABLES,
-                           .object.sections = 7, .te_header.machine = 7 };
+                           .object.sections = 7, .te_header.machine = 7, .ranges = GOBLIN_PE_NO_RANGES };
     FILE *from = argc == 3 ? fopen(argv[2], "rb") : NULL;
     if (!from)
         return 3;
     size_t length = fread(bytes, 1, sizeof bytes, from);
     fclose(from);
+    if (!strcmp(argv[1], "footprint") && opened(length, &old).status != GOBLIN_PE_OK)
+        return 2;
     for (size_t growth = 1;; growth++) {
         memcpy(&new, &old, sizeof new);
         left = growth;
@@ -84,6 +97,7 @@ int main(int argc, char **argv)
         is_reading = false;
         if (!was_refused) {
             goblin_pe_free(&new.tables);
+            goblin_pe_free_ranges(&new.ranges);
             return fault.status == GOBLIN_PE_OK && growth > 1 ? 0 : 1;
         }
         if (fault.status != GOBLIN_PE_NO_MEMORY || memcmp(&new, &old, sizeof new) || blocks)
