@@ -7,6 +7,7 @@ use std::process::Command;
 fn main() {
     println!("cargo::rerun-if-env-changed=GOBLIN_PE_LIB");
     println!("cargo::rerun-if-env-changed=PKG_CONFIG_PATH");
+    println!("cargo::rerun-if-env-changed=PKG_CONFIG_LIBDIR");
     let folder = match env::var_os("GOBLIN_PE_LIB") {
         Some(named) => Some(PathBuf::from(named)),
         None => beside().or_else(installed),

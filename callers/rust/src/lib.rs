@@ -2,8 +2,9 @@
 //! relocations, objects with their symbols, and Terse Executables.
 //!
 //! The reader is the proved library `goblin_pe_c`; this crate declares it and gives its records types.
-//! All names and texts borrow from the bytes. Addresses (`rva`) are relative to the image's base, and
-//! offsets are file offsets, both in bytes, but for that of an import, which is an address.
+//! Names and texts borrow from the bytes, those of sections from what was read. Addresses (`rva`) are
+//! relative to the image's base, and offsets are file offsets, both in bytes, but for that of an import,
+//! which is an address.
 //!
 //! What was read can be kept and handed to other threads as long as the bytes live. A file may ask for
 //! much memory: where it is refused, so is the read, by [`ErrorKind::Memory`].
@@ -19,6 +20,17 @@
 //! for import in pe.imports() {
 //!     println!("{} from {}", import.name, import.dll);
 //! }
+//! # Ok::<(), goblin_pe::Error>(())
+//! ```
+//!
+//! What was read can't outlive the bytes, so this is no program:
+//!
+//! ```compile_fail
+//! use goblin_pe::{Options, Pe};
+//! let bytes = std::fs::read("some.dll").unwrap();
+//! let pe = Pe::read(&bytes, &Options::default())?;
+//! drop(bytes);
+//! println!("{pe:?}");
 //! # Ok::<(), goblin_pe::Error>(())
 //! ```
 #![deny(unsafe_code)]
