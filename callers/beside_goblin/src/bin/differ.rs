@@ -25,6 +25,9 @@ enum Known {
     /// goblin ends an import directory at a record of zeros, 0.10.7 and this library at one that lacks its name or
     /// its address table.
     LastRecord,
+    /// goblin 0.2.1 refuses a section whose name leads past the string table, 0.10.7 and this library give it no
+    /// other name.
+    SectionName,
     /// goblin would end the process: a growth that finds no memory.
     Growth,
     /// goblin ends the process: a sum that wraps, an index past the end.
@@ -95,10 +98,16 @@ fn changed(random: &mut Random, image: &[u8], places: &[usize], table: Directory
     let mut file = image.to_vec();
     for _ in 0..random.below(8) {
         let at = places[random.below(places.len())];
-        match random.below(4) {
+        match random.below(5) {
             0 => file[at] = random.below(256) as u8,
             1 => file[at] ^= 1 << random.below(8),
             2 => file[at] = file[at].wrapping_add(1),
+            // a number in decimal, as forwarders have it
+            3 => {
+                let text = format!("{}\0", random.below(100_000));
+                let end = file.len().min(at + text.len());
+                file[at..end].copy_from_slice(&text.as_bytes()[..end - at]);
+            }
             _ => {
                 let from = places[random.below(places.len())] & !3;
                 let word = file[from..from + 4].to_vec();
@@ -312,6 +321,12 @@ fn ends_before_zeros(file: &[u8], mut at: usize) -> bool {
     false
 }
 
+/// Whether this library says of some section that its name begins with a slash: it leads to no text.
+fn has_lost_name(said: &Said) -> bool {
+    let slash = format!("section [{}, ", b'/');
+    said.iter().any(|line| line.starts_with(&slash))
+}
+
 /// Why goblin reads a file that this library refuses.
 fn known_refusal(error: &goblin_pe::Error) -> Option<Known> {
     match error.named_cause()? {
@@ -342,6 +357,7 @@ fn verdict(file: &[u8]) -> Verdict {
         (_, Err(known)) => Verdict::Known(known),
         (Ok((ours, _)), Ok(Ok(theirs))) if ours == theirs => Verdict::BothRead,
         (Err(_), Ok(Err(_))) => Verdict::BothRefused,
+        (Ok((ours, _)), Ok(Err(_))) if has_lost_name(&ours) => Verdict::Known(Known::SectionName),
         (ours, Ok(theirs)) => {
             match known.or_else(|| has_other_windows(file)?.then_some(Known::Window)) {
                 Some(known) => Verdict::Known(known),
