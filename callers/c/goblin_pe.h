@@ -679,7 +679,8 @@ struct goblin_pe_ranges {
    no directories) and its sections. A file of the same length with the same bytes in these ranges, and
    with the same header, directory and sections, has the same imports. The ranges come in no order and
    may overlap; none passes the file. Whether imports are asked for makes no difference. The ranges that
-   stood there before are not freed. Refused is memory alone, and then nothing is to be freed. */
+   stood there before are not freed. Refused is memory alone, and only where there is a directory;
+   nothing is to be freed then. */
 struct goblin_pe_fault goblin_pe_footprint_imports(
     const uint8_t *bytes, size_t length, const struct goblin_pe_options *options,
     const struct goblin_pe_optional_header *optional_header,

@@ -1,15 +1,16 @@
 -- A header is never refused for want of memory, so want of memory tells that it is there.
 use Rattle.std.proofs.Common.{◌≡◌, ◌<◌, ◌≤◌, List, ℕ, arith, length}
-use Rattle.std.specs.Prelude.{◌/◌, codes, IfSome, IsSome, IsSomeAnd, Option, None, Some}
+use Rattle.std.specs.Prelude.{◌/◌, IfSome, IsSome, IsSomeAnd, Option, None, Some}
 use Rattle.goblin_base.specs.declared.endian.Endian.TheVariants.{Little}
 use Rattle.goblin_base.specs.declared.error.ErrorOf.{ErrorOf}
 use Rattle.goblin_base.specs.declared.error.ErrorOf.TheVariants.{Memory}
-use Rattle.goblin_base.specs.Answers.{FirstFault, IsMemory, IsSliceFault, IsTooShort}
+use Rattle.goblin_base.specs.Answers.{FirstFault, IsMemory, IsSliceFault}
 use Rattle.goblin_pe_head.specs.declared.header.coff.CoffHeader.{CoffHeader}
 use Rattle.goblin_pe_head.specs.declared.header.te.TeHeader.{TeHeader}
 use Rattle.goblin_pe_head.specs.CoffHeader.{IsTooManySections}
 use Rattle.goblin_pe_head.specs.PeHeader.{PeHeader}
-use Rattle.goblin_pe_c.specs.Opened.{HasRoom}
+use Rattle.goblin_pe.specs.SectionRoom.{HasRoom}
+use Rattle.goblin_pe.proofs.SectionRoom.{sections_take as takes}
 use Rattle.goblin_pe_c.specs.Te.{TakesMemory as TeTakesMemory}
 use Rattle.goblin_base.specs.Record.{record_at}
 use Rattle.goblin_base.specs.RecordLaws.{slice_fault-no_memory}
@@ -32,29 +33,14 @@ te-none bytes e h fault = h
 pub te_header_there : (bytes : List ℕ) (e : ErrorOf) → (te_header bytes 0 ≡ None) × IsTeFault bytes 0 e → IsMemory e → IsSomeAnd (te_header bytes 0) (TeTakesMemory bytes)
 te_header_there bytes e refused memory = absurd (te-none bytes e memory refused.1)
 
-short-none : (n room : ℕ) (kind : List ℕ) (e : ErrorOf) → IsMemory e → IsTooShort n kind room e → ⊥
-short-none n room kind (Memory m) h fault = fault
-short-none n room kind e h fault = h
-
-has_room : (n : ℕ) (bytes : List ℕ) (e : ErrorOf) → (length bytes / 40 < n → IsTooManySections n bytes e) → IsMemory e → n ≤ length bytes / 40
-has_room n bytes e first memory =
-    let enough : ¬ (length bytes / 40 < n) = λ h. short-none n (length bytes / 40) (codes "sections") e memory (first h) in
-    omega arith
-
 pub sections_take : (bytes : List ℕ) (h : CoffHeader) (e : ErrorOf) → (length bytes / 40 < h.number_of_sections → IsTooManySections h.number_of_sections bytes e)
     → (IsMemory e → 0 < h.number_of_sections) → IsMemory e → TakesMemory bytes h
-sections_take bytes h e first grown memory = (grown memory, has_room h.number_of_sections bytes e first memory)
+sections_take bytes h e first grown memory = takes h.number_of_sections bytes e first grown memory
 
 pub te_sections_take : (bytes : List ℕ) (h : TeHeader) (e : ErrorOf) → te_header bytes 0 ≡ Some h
     → (length bytes / 40 < h.number_of_sections → IsTooManySections h.number_of_sections bytes e)
     → (IsMemory e → 0 < h.number_of_sections) → IsMemory e → IsSomeAnd (te_header bytes 0) (TeTakesMemory bytes)
-te_sections_take bytes h e is first grown memory = rw is (grown memory, has_room h.number_of_sections bytes e first memory)
-
-pub whole_takes : (header : Option PeHeader) (bytes : List ℕ) (e : ErrorOf)
-    → IfSome header (λ h. length bytes / 40 < h.coff_header.number_of_sections → IsTooManySections h.coff_header.number_of_sections bytes e)
-    → (IsMemory e → IsSome header) → IsMemory e → IsSomeAnd header (HasRoom bytes)
-whole_takes None bytes e first grown memory = absurd (cc (grown memory))
-whole_takes (Some h) bytes e first grown memory = has_room h.coff_header.number_of_sections bytes e first memory
+te_sections_take bytes h e is first grown memory = rw is (takes h.number_of_sections bytes e first grown memory)
 
 -- a file that was read has room for its sections
 pub room-there : (header : Option PeHeader) (bytes : List ℕ)

@@ -1,5 +1,5 @@
 -- Which bytes of a file its imports depend on, as a call tells them.
-use Rattle.std.specs.Prelude.{◌≡◌, ℕ, ◌-◌, if◌then◌else◌, List, [], map, Result, Ok, Err}
+use Rattle.std.specs.Prelude.{◌≡◌, ℕ, ◌-◌, ◌<◌, ◌⊎◌, if◌then◌else◌, IsTrue, List, [], length, map, Result, Ok, Err}
 use Rattle.goblin_base.specs.declared.error.ErrorOf.{ErrorOf}
 use Rattle.goblin_base.specs.Answers.{IsMemory}
 use Rattle.goblin_base.specs.Footprints.{Range}
@@ -7,6 +7,7 @@ use Rattle.goblin_pe_sect.specs.declared.options.ParseOptions.{ParseOptions}
 use Rattle.goblin_pe_sect.specs.Mapping.{file_offset}
 use Rattle.goblin_pe_sect.specs.Options.{is_strict}
 use Rattle.goblin_pe_sect.specs.SectionTable.{Section}
+use Rattle.goblin_pe_sect.specs.WindowIndex.{HasPieces}
 use Rattle.goblin_pe.specs.ImportFootprints.{import_footprint}
 use Rattle.goblin_pe.specs.Whole.{entry_format}
 use Rattle.goblin_pe_c.specs.declared.directory.PeDirectory.{PeDirectory}
@@ -29,7 +30,12 @@ footprint_by opts header directory sections bytes =
     then import_footprint (is_strict opts.parse_mode) (entry_format header.magic) (file_offset opts sections header.file_alignment) bytes directory.virtual_address
     else []
 
--- A call lists the ranges of a footprint, or memory was refused, and all is left as it was.
-abbrev pub Lists : List Range → PeRanges → PeRanges → Result Unit ErrorOf → Type 0
-Lists footprint old new (Ok x) = map range_view new.ranges.now ≡ map range_said footprint
-Lists footprint old new (Err e) = IsMemory e × (new ≡ old)
+-- memory is taken where there is a directory, with a section or an index that has pieces; and where there is a range to list
+abbrev pub TakesMemory : ParseOptions → PeOptionalHeader → PeDirectory → ℕ → List Range → Type 0
+TakesMemory opts header directory sections footprint =
+    (IsTrue directory.is_present × ((0 < sections) ⊎ HasPieces opts header.file_alignment)) ⊎ (0 < length footprint)
+
+-- A call lists the ranges of a footprint; or memory was refused, where it may be asked for, and all is left as it was.
+abbrev pub Lists : List Range → Type 0 → PeRanges → PeRanges → Result Unit ErrorOf → Type 0
+Lists footprint MayGrow old new (Ok x) = map range_view new.ranges.now ≡ map range_said footprint
+Lists footprint MayGrow old new (Err e) = IsMemory e × MayGrow × (new ≡ old)

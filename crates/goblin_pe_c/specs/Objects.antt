@@ -1,5 +1,5 @@
 -- What a call says of an object.
-use Rattle.std.specs.Prelude.{◌≡◌, ℕ, ◌+◌, ◌/◌, ◌<◌, ◌≤◌, Bool, List, [], length, map, Option, None, Some}
+use Rattle.std.specs.Prelude.{◌≡◌, ℕ, ◌+◌, Bool, List, [], length, map, Option, None, Some}
 use Rattle.goblin_base.specs.declared.endian.Endian.TheVariants.{Little}
 use Rattle.goblin_base.specs.declared.error.ErrorOf.{ErrorOf}
 use Rattle.goblin_base.specs.Answers.{◌>>=◌, FirstFault, IsSliceFault}
@@ -8,6 +8,7 @@ use Rattle.goblin_pe_sect.specs.SectionTable.{Section}
 use Rattle.goblin_pe_sect.specs.Symbols.{symbols_in}
 use Rattle.goblin_pe_head.specs.declared.header.coff.CoffHeader.{CoffHeader}
 use Rattle.goblin_pe_head.specs.CoffHeader.{coff_header, sections_at, symbols_end, strings_of, symbols_of, IsNoStrings, IsNoSymbols, IsSectionsFault}
+use Rattle.goblin_pe.specs.SectionRoom.{TakesSections}
 use Rattle.goblin_pe_c.specs.declared.file.PeTable.{PeTable}
 use Rattle.goblin_pe_c.specs.declared.object.PeObject.{PeObject}
 use Rattle.goblin_pe_c.specs.declared.section.PeSection.{PeSection}
@@ -38,7 +39,7 @@ object_header bytes = record_at 20 (coff_header Little) bytes 0
 
 -- memory is taken for sections alone, and only where the file has room for as many
 abbrev pub TakesMemory : List ℕ → CoffHeader → Type 0
-TakesMemory bytes h = (0 < h.number_of_sections) × (h.number_of_sections ≤ length bytes / 40)
+TakesMemory bytes h = TakesSections h.number_of_sections bytes
 
 -- the header stands at the front of the file
 unfoldable pub object_file : Bool → List ℕ → Option ObjectFile

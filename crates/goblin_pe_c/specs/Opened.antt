@@ -1,6 +1,5 @@
 -- What the tables of a whole file say that stand in memory of their own.
-use Rattle.std.specs.Prelude.{◌≡◌, ◌≤◌, ◌/◌, List, ℕ, length, map}
-use Rattle.goblin_pe_head.specs.PeHeader.{PeHeader}
+use Rattle.std.specs.Prelude.{◌≡◌, List, map}
 use Rattle.goblin_pe.specs.Whole.{WholeFile}
 use Rattle.goblin_pe_c.specs.declared.directory.PeDirectory.{PeDirectory}
 use Rattle.goblin_pe_c.specs.declared.file.PeFile.{PeFile}
@@ -13,10 +12,6 @@ use Rattle.goblin_pe_c.specs.Filled.{Filled, alone}
 use Rattle.goblin_pe_c.specs.Imports.{import_view}
 use Rattle.goblin_pe_c.specs.RichHeaders.{entries_in, entry_view}
 use Rattle.goblin_pe_c.specs.Sections.{section_said}
-
--- the file has room for as many sections as its header says
-abbrev pub HasRoom : List ℕ → PeHeader → Type 0
-HasRoom bytes h = h.coff_header.number_of_sections ≤ length bytes / 40
 
 -- what a caller hands in to be filled
 pub record Opened : Type 0 where

@@ -1,10 +1,11 @@
 -- What a call says of a Terse Executable.
-use Rattle.std.specs.Prelude.{◌≡◌, ℕ, ◌/◌, ◌<◌, ◌≤◌, List, length, map, Option, Some}
+use Rattle.std.specs.Prelude.{◌≡◌, ℕ, List, map, Option, Some}
 use Rattle.goblin_base.specs.declared.error.ErrorOf.{ErrorOf}
 use Rattle.goblin_base.specs.Answers.{◌>>=◌, FirstFault}
 use Rattle.goblin_pe_sect.specs.SectionTable.{Section}
 use Rattle.goblin_pe_head.specs.declared.header.te.TeHeader.{TeHeader}
 use Rattle.goblin_pe_head.specs.TeHeader.{te_header, te_sections_at, IsTeFault, IsTeSectionsFault}
+use Rattle.goblin_pe.specs.SectionRoom.{TakesSections}
 use Rattle.goblin_pe_c.specs.declared.section.PeSection.{PeSection}
 use Rattle.goblin_pe_c.specs.declared.te.PeTeHeader.{PeTeHeader}
 use Rattle.goblin_pe_c.specs.Filled.{Filled, alone}
@@ -24,7 +25,7 @@ te_image bytes = do
 
 -- memory is taken for sections alone, and only where the file has room for as many
 abbrev pub TakesMemory : List ℕ → TeHeader → Type 0
-TakesMemory bytes h = (0 < h.number_of_sections) × (h.number_of_sections ≤ length bytes / 40)
+TakesMemory bytes h = TakesSections h.number_of_sections bytes
 
 -- which cause is true of an image that is refused: that of the first part that is not there
 unfoldable pub IsImageFault : List ℕ → ErrorOf → Type 0

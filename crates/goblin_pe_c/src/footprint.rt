@@ -1,13 +1,14 @@
 //! The call that tells on which bytes of a file its imports depend.
 
-ghost use Rattle.std.specs.Prelude.{◌≡◌, IfErr, IfOk, map};
+ghost use Rattle.std.specs.Prelude.{◌≡◌, ◌<◌, ◌⊎◌, IfErr, IfOk, OnErr, length, map};
 ghost use Rattle.goblin_base.specs.Answers.{GivesOrMemory, IsMemory};
 ghost use Rattle.goblin_pe_sect.specs.Mapping.{file_offset};
 ghost use Rattle.goblin_pe_sect.specs.Options.{is_strict};
+ghost use Rattle.goblin_pe_sect.specs.WindowIndex.{HasPieces};
 ghost use Rattle.goblin_pe.specs.ImportFootprints.{import_footprint};
 ghost use Rattle.goblin_pe.specs.Whole.{entry_format};
 ghost use Rattle.goblin_pe_c.specs.Calls.{Reported};
-ghost use Rattle.goblin_pe_c.specs.Footprints.{Lists, footprint_by, range_said, range_view};
+ghost use Rattle.goblin_pe_c.specs.Footprints.{Lists, TakesMemory, footprint_by, range_said, range_view};
 ghost use Rattle.goblin_pe_c.specs.Options.{options_of};
 ghost use Rattle.goblin_pe_c.specs.Sections.{section_view, unnamed};
 
@@ -55,7 +56,8 @@ fn range_record(range: &(usize, usize)) -> PeRange
 
 // The records of ranges, in memory of their own.
 fn range_records(alloc: Global, ranges: &[(usize, usize)]) -> Result<Vec<PeRange>>
-    ensures { GivesOrMemory (λ v. map range_view v.items) result (map range_said ranges.now) }
+    ensures made { GivesOrMemory (λ v. map range_view v.items) result (map range_said ranges.now) }
+    ensures grown { OnErr result (0 < length ranges.now) }
 {
     let count = ranges.len();
     let mut records = Vec::with_capacity(alloc, count)?;
@@ -67,7 +69,8 @@ fn range_records(alloc: Global, ranges: &[(usize, usize)]) -> Result<Vec<PeRange
 
 // The sections of records, without their names from the string table, which no mapping asks for.
 fn sections_of(alloc: Global, records: &[PeSection]) -> Result<Vec<SectionTable>>
-    ensures { GivesOrMemory (λ v. v.items) result (map (λ s. unnamed (section_view s)) records.now) }
+    ensures made { GivesOrMemory (λ v. v.items) result (map (λ s. unnamed (section_view s)) records.now) }
+    ensures grown { OnErr result (0 < length records.now) }
 {
     let count = records.len();
     let mut sections = Vec::with_capacity(alloc, count)?;
@@ -89,6 +92,8 @@ fn footprint_at(
 ) -> Result<Vec<(usize, usize)>>
     ensures ranges { IfOk result (λ v. v.items ≡ import_footprint (is_strict opts.now.parse_mode) (entry_format header.now.magic) (file_offset opts.now sections.now header.now.file_alignment) bytes.now rva) }
     ensures refused { IfErr result IsMemory }
+    ensures grown { let footprint = import_footprint (is_strict opts.now.parse_mode) (entry_format header.now.magic) (file_offset opts.now sections.now header.now.file_alignment) bytes.now rva in
+        OnErr result ((0 < length footprint) ⊎ HasPieces opts.now header.now.file_alignment) }
 {
     let directory = DataDirectory {
         virtual_address: rva,
@@ -127,6 +132,8 @@ fn footprint_of(
 ) -> Result<Vec<(usize, usize)>>
     ensures ranges { IfOk result (λ v. v.items ≡ footprint_by opts.now header.now directory.now (map section_view sections.now) bytes.now) }
     ensures refused { IfErr result IsMemory }
+    ensures grown { let footprint = footprint_by opts.now header.now directory.now (map section_view sections.now) bytes.now in
+        OnErr result (TakesMemory opts.now header.now directory.now (length sections.now) footprint) }
 {
     if !directory.is_present {
         return Ok(Vec::new(alloc));
@@ -152,7 +159,8 @@ fn list<'a>(
     opts: &ParseOptions,
     ranges: &mut PeRanges<'a>,
 ) -> Result<()>
-    ensures { Lists (footprint_by opts.now header.now directory.now (map section_view sections.now) bytes.now) ranges.old ranges.new result }
+    ensures { let footprint = footprint_by opts.now header.now directory.now (map section_view sections.now) bytes.now in
+        Lists footprint (TakesMemory opts.now header.now directory.now (length sections.now) footprint) ranges.old ranges.new result }
 {
     let footprint = footprint_of(alloc, bytes, header, directory, sections, opts)?;
     let records = range_records(alloc, &footprint)?;
@@ -166,7 +174,8 @@ fn list<'a>(
 /// of its import directory and the records of its sections: two files of one length with the same bytes
 /// in these ranges, and with the same header, entry and sections, have the same imports. The ranges come
 /// in no order and may overlap; none is empty, and none passes the file. They are a block of memory that
-/// the caller frees, if there is one. Refused is memory alone (the status 5), and then nothing is changed.
+/// the caller frees, if there is one. Refused is memory alone (the status 5), and then nothing is changed;
+/// it is asked for only where there is a directory.
 #[unsafe(no_mangle)]
 pub extern "C" fn goblin_pe_footprint_imports<'a>(
     alloc: Global,
@@ -177,8 +186,9 @@ pub extern "C" fn goblin_pe_footprint_imports<'a>(
     sections: &[PeSection],
     ranges: &mut PeRanges<'a>,
 ) -> PeFault
-    ensures { let footprint = footprint_by (options_of options.now) optional_header.now directory.now (map section_view sections.now) bytes.now in
-        Reported result (Lists footprint ranges.old ranges.new) }
+    ensures { let opts = options_of options.now in
+        let footprint = footprint_by opts optional_header.now directory.now (map section_view sections.now) bytes.now in
+        Reported result (Lists footprint (TakesMemory opts optional_header.now directory.now (length sections.now) footprint) ranges.old ranges.new) }
 {
     let opts = options_of(options);
     match list(

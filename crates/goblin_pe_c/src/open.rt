@@ -4,6 +4,7 @@ ghost use Rattle.std.specs.Prelude.{◌≡◌, IfErr, IfOk, Some, map};
 ghost use Rattle.goblin_base.specs.Answers.{IsMemory};
 ghost use Rattle.goblin_pe_sect.specs.Options.{is_strict};
 ghost use Rattle.goblin_pe_head.specs.PeHeader.{pe_header};
+ghost use Rattle.goblin_pe.specs.SectionRoom.{HasRoom};
 ghost use Rattle.goblin_pe.specs.Whole.{IsWholeFault, items_part, whole_file};
 ghost use Rattle.goblin_pe_c.specs.Blocks.{block_view, blocks_in};
 ghost use Rattle.goblin_pe_c.specs.Calls.{Reads, Reported};
@@ -11,7 +12,7 @@ ghost use Rattle.goblin_pe_c.specs.Exports.{export_said, export_view};
 ghost use Rattle.goblin_pe_c.specs.Files.{entries_of, file_of};
 ghost use Rattle.goblin_pe_c.specs.Filled.{alone};
 ghost use Rattle.goblin_pe_c.specs.Imports.{import_view};
-ghost use Rattle.goblin_pe_c.specs.Opened.{AreTablesOf, HasRoom, Opened, Opens};
+ghost use Rattle.goblin_pe_c.specs.Opened.{AreTablesOf, Opened, Opens};
 ghost use Rattle.goblin_pe_c.specs.Options.{options_of};
 ghost use Rattle.goblin_pe_c.specs.RichHeaders.{entries_in, entry_view};
 ghost use Rattle.goblin_pe_c.specs.Sections.{section_said};
@@ -125,7 +126,7 @@ fn handed_over<'a>(made: Made<'a>) -> PeTables<'a>
 }
 
 // Reads a file and makes its tables.
-#[tactic(auto, using(crate::proofs::Refusals::whole_takes))]
+#[tactic(auto, using(goblin_pe::proofs::SectionRoom::whole_takes))]
 fn open<'a>(
     alloc: Global,
     bytes: &'a [u8],

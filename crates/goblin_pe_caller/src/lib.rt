@@ -1,14 +1,15 @@
 //! A caller of `goblin_pe` alone: neither its code nor its clauses name a crate below.
 #![tactic(auto)]
 
-ghost use Rattle.std.specs.Prelude.{◌≡◌, ◌↔◌, ◌*◌, [], IfOk, IsTrue, drop, length, option_map, slice_get};
+ghost use Rattle.std.specs.Prelude.{◌≡◌, ◌↔◌, ◌*◌, [], IfErr, IfOk, IsSome, IsTrue, drop, false, length, option_map, slice_get};
 ghost use Rattle.std.specs.List.{Contains};
-ghost use Rattle.goblin_pe.specs.Answers.{Answers, AnswersOrMemory, IsSliceFault, Writes};
+ghost use Rattle.goblin_pe.specs.Answers.{Answers, AnswersOrMemory, IsMemory, IsSliceFault, Writes};
 ghost use Rattle.goblin_pe.specs.BaseRelocations.{block_items, relocation_bytes, word_items};
 ghost use Rattle.goblin_pe.specs.CoffHeader.{coff_fields, coff_header};
 ghost use Rattle.goblin_pe.specs.DataDirectories.{present_from};
 ghost use Rattle.goblin_pe.specs.Mapping.{IsDataFault, data_at, file_offset};
 ghost use Rattle.goblin_pe.specs.Options.{default_options};
+ghost use Rattle.goblin_pe.specs.PeHeader.{pe_header};
 ghost use Rattle.goblin_pe.specs.Record.{ReadsBack, encoding, record_over};
 ghost use Rattle.goblin_pe.specs.Relocations.{relocations_left};
 ghost use Rattle.goblin_pe.specs.RichHeader.{IsRichFault, rich_header};
@@ -90,9 +91,10 @@ pub fn count_entries(bytes: &[u8]) -> Result<Option<usize>>
 /// How many functions a file imports, damaged parts passed over; 0 where its imports are refused.
 ///
 /// # Errors
-/// As [`Whole::read`] in permissive mode.
+/// As [`Whole::read`] in permissive mode; memory is wanted only where there is a header.
 pub fn count_imports(alloc: Global, bytes: &[u8]) -> Result<usize>
-    ensures { AnswersOrMemory (λ n. n) result (import_count bytes.now) (IsWholeFault permissive_options bytes.now) }
+    ensures value { AnswersOrMemory (λ n. n) result (import_count bytes.now) (IsWholeFault permissive_options bytes.now) }
+    ensures grown { IfErr result (λ e. IsMemory e → IsSome (pe_header false bytes.now)) }
 {
     let opts = ParseOptions::default().with_parse_mode(ParseMode::Permissive);
     let whole = Whole::read(alloc, bytes, &opts)?;

@@ -12,5 +12,5 @@ records-preserved c =
     let within : c.records.i < length c.args.ranges.now = omega (arith, c.records-test.true) in
     making-next _ _ _ _ _ _ _ _ c.records.invariant within (any-default _ _ _ _ within) c.range_record.ensures c.in_ok-push.ensures.items
 
-pub returns : goal.returns
-returns c = making-end _ _ _ _ _ c.records.invariant (omega (arith, c.records-test.false))
+pub returns-clause-made : goal.returns-clause-made
+returns-clause-made c = making-end _ _ _ _ _ c.records.invariant (omega (arith, c.records-test.false))

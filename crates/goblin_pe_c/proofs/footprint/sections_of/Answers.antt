@@ -14,5 +14,5 @@ sections-preserved c =
     let within : c.sections.i < length c.args.records.now = omega (arith, c.sections-test.true) in
     making-next _ _ _ _ _ _ _ _ c.sections.invariant within (any-default _ _ _ _ within) c.section_of.ensures c.in_ok-push.ensures.items
 
-pub returns : goal.returns
-returns c = making-end _ _ _ _ _ c.sections.invariant (omega (arith, c.sections-test.false)) ∙ map-id _
+pub returns-clause-made : goal.returns-clause-made
+returns-clause-made c = making-end _ _ _ _ _ c.sections.invariant (omega (arith, c.sections-test.false)) ∙ map-id _
