@@ -1,4 +1,4 @@
-use Rattle.std.proofs.Common.{◌<◌, length, map, sym, arith, refl}
+use Rattle.std.proofs.Common.{◌<◌, length, map, arith}
 use Rattle.std.proofs.lemmas.List.{length-map}
 use Rattle.goblin_pe_tables.proofs.Imports.{entry-read, slot-read}
 use Rattle.goblin_pe.specs.ImportLookup.{entry_view}
@@ -8,8 +8,8 @@ use Rattle.goblin_pe_c.proofs.import.push_entries.Goals as goal
 pub entries-init : goal.entries-init
 entries-init c = listing-start _ _ _ _ _ _
 
-pub slot_offset-requires : goal.slot_offset-requires
-slot_offset-requires c =
+pub slot_offset-offset-requires : goal.slot_offset-offset-requires
+slot_offset-offset-requires c =
     let within : c.entries.position < length (map entry_view c.args.entries.now) = omega (arith, length-map c.args.entries.now entry_view, c.entries-test.true) in
     let in_slot = slot-read c.args.slots.now c.entries.position (omega (arith, c.requires.counted, c.entries-test.true)) in
     slot-below _ _ _ _ _ c.entries.position _ c.requires.there within in_slot

@@ -6,13 +6,13 @@ use Rattle.goblin_pe_c.proofs.import.records_of.Goals as goal
 pub libraries-init : goal.libraries-init
 libraries-init c = listed-start _ _ _ c.in_ok-records.ensures.items
 
-pub push_library-requires-counted : goal.push_library-requires-counted
-push_library-requires-counted c =
+pub push_library-requires-clause-counted : goal.push_library-requires-clause-counted
+push_library-requires-clause-counted c =
     let here = slice_get-get_or _ _ _ c.libraries-test.true ∙ ap Some (sym c.library-item.is) in
     (library-there _ _ _ _ c.requires here).counted
 
-pub push_library-requires-there : goal.push_library-requires-there
-push_library-requires-there c =
+pub push_library-requires-clause-there : goal.push_library-requires-clause-there
+push_library-requires-clause-there c =
     let here = slice_get-get_or _ _ _ c.libraries-test.true ∙ ap Some (sym c.library-item.is) in
     (library-there _ _ _ _ c.requires here).there
 

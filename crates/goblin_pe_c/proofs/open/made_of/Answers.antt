@@ -22,9 +22,10 @@ import_records-requires c =
     let listed = subst (λ (w : WholeFile). HasImports c.args.opts.now w) (sym c.whole.view_is) c.requires.listed in
     part-there c.args.opts.now _ _ listed
 
-pub file_of-requires-imports : goal.file_of-requires-imports
-file_of-requires-imports c =
-    rw (← c.whole.view_is) (counted _ _ (sym c.in_ok-imports.ensures ∙ ap (map alone) (part-listed _ _)))
+pub file_of-requires-clause-imports : goal.file_of-requires-clause-imports
+file_of-requires-clause-imports c =
+    let same = counted _ _ (sym c.in_ok-imports.ensures ∙ ap (map alone) (part-listed _ c.whole.inside.import_data)) in
+    rw (← c.whole.view_is) (c.len.ensures ∙ c.in_ok-imports.imports.ok.0 ∙ same)
 
 pub returns-clause-imports : goal.returns-clause-imports
 returns-clause-imports c = rw (← c.whole.view_is) (sym c.in_ok-imports.ensures ∙ ap (map alone) (part-listed _ _))
