@@ -1,3 +1,5 @@
+pub mod HeaderThere
+pub mod ListedImports
 pub mod Parts
 pub mod PermissiveReads
 pub mod SectionRoom

@@ -1,5 +1,5 @@
 -- A whole file: its header, its sections, and the tables to which its directories lead.
-use Rattle.std.specs.Prelude.{◌≡◌, ℕ, ◌+◌, ◌==◌, Bool, true, false, if◌then◌else◌, List, Option, Some, None, Result, Ok, Err, Vec}
+use Rattle.std.specs.Prelude.{◌≡◌, ℕ, ◌+◌, ◌==◌, Bool, true, false, if◌then◌else◌, List, [], Option, Some, None, Result, Ok, Err, Vec, unwrap_or}
 use Rattle.std.specs.Global.{Global}
 use Rattle.goblin_base.specs.declared.error.ErrorOf.{ErrorOf}
 use Rattle.goblin_base.specs.declared.error.ErrorOf.TheVariants.{Memory}
@@ -226,3 +226,21 @@ IsWholeFault opts bytes =
 -- a list that a part owns, as its items
 abbrev pub items_part : {A : Type 0} → Part (Vec A Global) → Part (List A)
 items_part part = part_map (λ v. v.items) part
+
+-- the imports of import data of which a list can be made
+unfoldable pub listed_imports : ℕ → Part (List ImportedLibrary) → Part (List ImportValue)
+listed_imports magic libraries = part_map (λ l. unwrap_or (imports_of (entry_format magic).width l) []) libraries
+
+-- tables of which no list of imports was made, with the list that their import data has
+abbrev pub with_list : ℕ → FileTables → FileTables
+with_list magic t = record t { imports = listed_imports magic t.import_data }
+
+-- the same of a file
+abbrev pub with_imports : WholeFile → WholeFile
+with_imports w = record w { imports = listed_imports (places_in w.header.optional_header).magic w.import_data }
+
+-- a list of imports can be made of a file's import data
+abbrev pub HasImports : ParseOptions → WholeFile → Type 0
+HasImports opts w =
+    let places = places_in w.header.optional_header in
+    imports_part opts places w.import_data ≡ Some (listed_imports places.magic w.import_data)

@@ -1,6 +1,6 @@
 //! A whole file: its header, its sections, and the tables to which its directories lead.
 
-ghost use Rattle.std.specs.Prelude.{◌+◌, ◌≡◌, ◌<◌, ◌/◌, IfErr, IfSome, IsErrAnd, IsSome, length};
+ghost use Rattle.std.specs.Prelude.{◌+◌, ◌≡◌, ◌<◌, ◌/◌, IfErr, IfOk, IfSome, IsErrAnd, IsSome, Some, length};
 ghost use Rattle.goblin_base.specs.Answers.{Answers, AnswersOrMemory, GivesOrMemory, IsMemory};
 ghost use Rattle.goblin_pe_sect.specs.BaseRelocations.{relocation_bytes};
 ghost use Rattle.goblin_pe_sect.specs.Mapping.{IsNameAtFault, name_at};
@@ -10,7 +10,7 @@ ghost use Rattle.goblin_pe_head.specs.CoffHeader.{IsTooManySections};
 ghost use Rattle.goblin_pe_tables.specs.ImportDirectory.{IsImportDataFault, import_data};
 ghost use Rattle.goblin_pe_tables.specs.Imports.{IsImportsFault, imports_of};
 ghost use Rattle.goblin_pe_tables.specs.Addresses.{offset_of, reads_strictly};
-ghost use Rattle.goblin_pe.specs.Whole.{BecomesPart, IsExportPartFault, IsFileSectionsFault, IsImportPartFault, IsPartThenFault, IsRelocationsPartFault, IsTablesFault, IsWholeFault, entry_format, export_data_part, exports_part, file_sections, import_data_part, imports_part, items_part, offset_by, part_map, places_by, relocations_part, table_places, tables_of, places_in, whole_file};
+ghost use Rattle.goblin_pe.specs.Whole.{BecomesPart, HasImports, IsExportPartFault, IsFileSectionsFault, IsImportPartFault, IsPartThenFault, IsRelocationsPartFault, IsTablesFault, IsWholeFault, entry_format, export_data_part, exports_part, file_sections, import_data_part, imports_part, items_part, listed_imports, offset_by, part_map, places_by, relocations_part, table_places, tables_of, places_in, whole_file, with_imports, with_list};
 
 use crate::export::{Export, ExportData};
 use crate::import::{Import, ImportData};
@@ -170,6 +170,23 @@ impl Tables {
         }
     }
 
+    // The import data, of which a list of imports can be made.
+    fn listed_data<'a>(
+        &self,
+        alloc: Global,
+        bytes: &'a [u8],
+        address_map: &AddressMap,
+    ) -> Result<Part<ImportData<'a>>>
+        ensures value { let o = address_map.now.opts in
+            let s = address_map.now.sections in
+            let places = places_by address_map.now self.now in
+            AnswersOrMemory (λ x. x) result (import_data_part o s bytes.now places) (IsImportPartFault o s bytes.now places) }
+        ensures listed { let places = places_by address_map.now self.now in
+            IfOk result (λ p. imports_part address_map.now.opts places p ≡ Some (listed_imports self.now.magic p)) }
+    {
+        self.import_data(alloc, bytes, address_map)
+    }
+
     // The imports of import data.
     #[tactic(auto, unfolding(crate::specs::Whole::entry_format))]
     fn imports_of<'a>(
@@ -272,7 +289,8 @@ impl Tables {
         )
     }
 
-    // All tables, and the lists that are made from them; refused for the first of them that refuses all.
+    // All tables, and the list of exports; refused for the first of them that refuses all. The list of
+    // imports is never the first.
     #[tactic(auto, unfolding(crate::specs::Whole::tables_of, crate::specs::Whole::IsTablesFault))]
     fn read<'a>(
         &self,
@@ -281,19 +299,18 @@ impl Tables {
         sections: &[SectionTable],
         opts: &ParseOptions,
     ) -> Result<FileTables<'a>>
-        ensures { let places = table_places self.now in
-            AnswersOrMemory (λ x. x) result (tables_of opts.now sections.now bytes.now places) (IsTablesFault opts.now sections.now bytes.now places) }
+        ensures value { let places = table_places self.now in
+            AnswersOrMemory (with_list self.now.magic) result (tables_of opts.now sections.now bytes.now places) (IsTablesFault opts.now sections.now bytes.now places) }
+        ensures listed { IfOk result (λ t. imports_part opts.now (table_places self.now) t.import_data ≡ Some (listed_imports self.now.magic t.import_data)) }
     {
         let address_map = AddressMap::prepare(alloc, sections, self.file_alignment, opts)?;
-        let import_data = self.import_data(alloc, bytes, &address_map)?;
-        let imports = self.imports(alloc, bytes, &import_data, sections, opts)?;
+        let import_data = self.listed_data(alloc, bytes, &address_map)?;
         let export_data = self.export_data(alloc, bytes, &address_map)?;
         let exports = self.exports(alloc, bytes, &export_data, &address_map)?;
         let relocations = self.relocations(bytes, sections, opts)?;
         drop(address_map);
         Ok(FileTables {
             import_data,
-            imports,
             export_data,
             exports,
             relocations,
@@ -301,10 +318,9 @@ impl Tables {
     }
 }
 
-// The tables of a file, and the lists that are made from them.
+// The tables of a file, and the list of exports.
 struct FileTables<'a> {
     import_data: Part<ImportData<'a>>,
-    imports: Part<Vec<Import<'a>>>,
     export_data: Part<ExportData<'a>>,
     exports: Part<Vec<Export<'a>>>,
     relocations: Part<RelocationData<'a>>,
@@ -313,12 +329,13 @@ struct FileTables<'a> {
 impl<'a> Model for FileTables<'a> {
     ghost use Rattle.goblin_pe_sect.specs.BaseRelocations.{relocation_bytes};
     ghost use Rattle.goblin_pe.specs.Whole.{FileTables, items_part, part_map};
+    ghost use Rattle.goblin_pe.specs.declared.whole.Part.TheVariants.{Absent};
 
     ghost Value = { FileTables };
 
     ghost view = { λ x. record {
       import_data = x.import_data;
-      imports = items_part x.imports;
+      imports = Absent;
       export_data = x.export_data;
       exports = items_part x.exports;
       relocations = part_map relocation_bytes x.relocations;
@@ -369,9 +386,29 @@ impl<'a> Whole<'a> {
     /// [`CoffHeader::sections_with_opts`](goblin_pe_head::CoffHeader::sections_with_opts); in strict
     /// mode as the readers of the tables; [`Error::Memory`] where memory is refused, in both modes, and
     /// never of a file whose header is refused.
-    #[tactic(auto, unfolding(crate::specs::Whole::whole_file, crate::specs::Whole::IsWholeFault), using(goblin_pe_head::proofs::HeaderFaults::header_there))]
     pub fn read(alloc: Global, bytes: &'a [u8], opts: &ParseOptions) -> Result<Whole<'a>>
         ensures value { AnswersOrMemory (λ x. x) result (whole_file opts.now bytes.now) (IsWholeFault opts.now bytes.now) }
+        ensures first { IfSome (pe_header (is_strict opts.now.parse_mode) bytes.now) (λ header.
+            let count = header.coff_header.number_of_sections in
+            length bytes.now / 40 < count → IsErrAnd result (IsTooManySections count bytes.now)) }
+        ensures grown { IfErr result (λ e. IsMemory e → IsSome (pe_header (is_strict opts.now.parse_mode) bytes.now)) }
+    {
+        let mut whole = Whole::read_data(alloc, bytes, opts)?;
+        let tables = Tables::of(&whole.header.optional_header);
+        whole.imports = tables.imports(alloc, bytes, &whole.import_data, &whole.sections, opts)?;
+        Ok(whole)
+    }
+
+    /// Reads a whole file as [`Whole::read`] does, and makes no list of imports: `imports` is
+    /// [`Part::Absent`]. The import data has all that the list would have, and the file is refused
+    /// where [`Whole::read`] would refuse it for another cause than memory.
+    ///
+    /// # Errors
+    /// As [`Whole::read`].
+    #[tactic(auto, unfolding(crate::specs::Whole::whole_file, crate::specs::Whole::IsWholeFault), using(goblin_pe_head::proofs::HeaderFaults::header_there))]
+    pub fn read_data(alloc: Global, bytes: &'a [u8], opts: &ParseOptions) -> Result<Whole<'a>>
+        ensures value { AnswersOrMemory with_imports result (whole_file opts.now bytes.now) (IsWholeFault opts.now bytes.now) }
+        ensures listed { IfOk result (HasImports opts.now) }
         ensures first { IfSome (pe_header (is_strict opts.now.parse_mode) bytes.now) (λ header.
             let count = header.coff_header.number_of_sections in
             length bytes.now / 40 < count → IsErrAnd result (IsTooManySections count bytes.now)) }
@@ -382,7 +419,6 @@ impl<'a> Whole<'a> {
         let tables = Tables::of(&header.optional_header);
         let FileTables {
             import_data,
-            imports,
             export_data,
             exports,
             relocations,
@@ -391,7 +427,7 @@ impl<'a> Whole<'a> {
             header,
             sections,
             import_data,
-            imports,
+            imports: Part::Absent,
             export_data,
             exports,
             relocations,

@@ -12,7 +12,7 @@ use Rattle.goblin_pe_sect.specs.SectionName.{name_value, real_name_at}
 use Rattle.goblin_pe_sect.specs.SectionTable.{Section, section_at, section_record}
 use Rattle.goblin_pe_head.specs.PeHeader.{pe_header}
 use Rattle.goblin_pe_head.specs.CoffHeader.{symbols_end}
-use Rattle.goblin_pe.specs.Whole.{FileTables, TablePlaces, WholeFile, export_data_part, exports_part, file_sections, import_data_part, imports_part, places_in, relocations_part, section_table_offset, tables_of, whole_file}
+use Rattle.goblin_pe.specs.Whole.{WholeFile, file_sections, places_in, section_table_offset, tables_of, whole_file}
 use Rattle.goblin_pe_c.specs.Sections.{named_in, real_name_in}
 
 named-made : (strict : Bool) (table : ℕ) (bytes : List ℕ) (s : Section) (value : Option ℕ) → name_value strict s.name ≡ Some value → real_name_in strict bytes table s.name ≡ real_name_at bytes table value
@@ -41,23 +41,8 @@ all-kept {A} f value (suc len) start xs keeps h =
     let kept : map f (first.value ∷ rest.value) ≡ first.value ∷ rest.value = rw (keeps start first.value first.is, all-kept f value len (start + 1) rest.value keeps rest.is) refl in
     subst (λ (ys : List A). map f ys ≡ ys) (same_value (first.value ∷ rest.value) xs rest.then) kept
 
--- where the imports of a file's tables come from
-tables-from : (opts : ParseOptions) (sections : List Section) (bytes : List ℕ) (places : TablePlaces) (t : FileTables) → tables_of opts sections bytes places ≡ Some t → imports_part opts places t.import_data ≡ Some t.imports
-unfolding tables_of
-tables-from opts sections bytes places t h =
-    let s1 = step (import_data_part opts sections bytes places) _ t h in
-    let s2 = step (imports_part opts places s1.value) _ t s1.then in
-    let s3 = step (export_data_part opts sections bytes places) _ t s2.then in
-    let s4 = step (relocations_part opts sections bytes places) _ t s3.then in
-    let tables : FileTables = record { import_data = s1.value; imports = s2.value; export_data = s3.value; exports = exports_part opts sections bytes places s3.value; relocations = s4.value } in
-    subst (λ (x : FileTables). imports_part opts places x.import_data ≡ Some x.imports) (same_value tables t s4.then) s2.is
-
--- where the sections and the imports of a file come from
-pub record IsRead (opts : ParseOptions) (bytes : List ℕ) (w : WholeFile) : Type 0 where
-  pub sections : file_sections (is_strict opts.parse_mode) bytes w.header ≡ Some w.sections
-  pub imports : imports_part opts (places_in w.header.optional_header) w.import_data ≡ Some w.imports
-
-pub read-from : (opts : ParseOptions) (bytes : List ℕ) (w : WholeFile) → whole_file opts bytes ≡ Some w → IsRead opts bytes w
+-- where the sections of a file come from
+pub read-from : (opts : ParseOptions) (bytes : List ℕ) (w : WholeFile) → whole_file opts bytes ≡ Some w → file_sections (is_strict opts.parse_mode) bytes w.header ≡ Some w.sections
 unfolding whole_file
 read-from opts bytes w h =
     let s1 = step (pe_header (is_strict opts.parse_mode) bytes) _ w h in
@@ -65,8 +50,7 @@ read-from opts bytes w h =
     let s3 = step (tables_of opts s2.value bytes (places_in s1.value.optional_header)) _ w s2.then in
     let t = s3.value in
     let whole : WholeFile = record { header = s1.value; sections = s2.value; import_data = t.import_data; imports = t.imports; export_data = t.export_data; exports = t.exports; relocations = t.relocations } in
-    let parts : IsRead opts bytes whole = record { sections = s2.is; imports = tables-from opts s2.value bytes (places_in s1.value.optional_header) t s3.is } in
-    subst (IsRead opts bytes) (same_value whole w s3.then) parts
+    subst (λ (x : WholeFile). file_sections (is_strict opts.parse_mode) bytes x.header ≡ Some x.sections) (same_value whole w s3.then) s2.is
 
 -- the sections of a file
 pub sections-named : (opts : ParseOptions) (bytes : List ℕ) (w : WholeFile) → whole_file opts bytes ≡ Some w → map (named_in (is_strict opts.parse_mode) bytes (symbols_end w.header.coff_header)) w.sections ≡ w.sections
@@ -76,4 +60,4 @@ sections-named opts bytes w h =
     let table = symbols_end w.header.coff_header in
     all-kept (named_in strict bytes table) (λ i. section_at strict table bytes (section_table_offset w.header + 40 * i)) w.header.coff_header.number_of_sections 0 w.sections
     (λ i s is. section-named strict table bytes (section_table_offset w.header + 40 * i) s is)
-    (read-from opts bytes w h).sections
+    (read-from opts bytes w h)

@@ -1,11 +1,8 @@
 -- What the records of imports say.
-use Rattle.std.specs.Prelude.{ℕ, List, [], if◌then◌else◌}
-use Rattle.goblin_pe.specs.Imports.{ImportValue, ordinal_name}
+use Rattle.std.specs.Prelude.{ℕ, List, [], Option, if◌then◌else◌, unwrap_or}
+use Rattle.goblin_pe.specs.ImportDirectory.{ImportedLibrary}
+use Rattle.goblin_pe.specs.Imports.{ImportValue, imports_by, imports_of, kept_entries, ordinal_name}
 use Rattle.goblin_pe_c.specs.declared.import.PeImport.{PeImport}
-
--- an import, of which a record by ordinal has no text
-abbrev pub with_ordinal_name : ImportValue → ImportValue
-with_ordinal_name x = record x { name = if x.is_borrowed then x.name else ordinal_name x.ordinal }
 
 -- what a record says of an import, and what stands in place of a name where the import is by ordinal
 abbrev pub import_view : PeImport → ImportValue × List ℕ
@@ -22,3 +19,15 @@ import_view x = (
   },
   if x.is_by_name then [] else x.name.now,
 )
+
+-- a list that is there
+abbrev pub table_entries : {A : Type 0} → Option (List A) → List A
+table_entries table = unwrap_or table []
+
+-- the imports of a library, of which each entry has a slot
+abbrev pub own_imports : ℕ → ImportedLibrary → Option (List ImportValue)
+own_imports size library = imports_by size library.name library.import_directory_entry.import_address_table_rva (kept_entries library) library.import_lookup_slots
+
+-- the imports of libraries, of which there is a list
+abbrev pub listed : ℕ → List ImportedLibrary → List ImportValue
+listed size libraries = table_entries (imports_of size libraries)

@@ -1,14 +1,20 @@
 //! The records of imports.
 
-ghost use Rattle.std.specs.Prelude.{◌≡◌, map};
+ghost use Rattle.std.specs.Prelude.{◌≡◌, ◌<◌, ◌+◌, ◌*◌, ◌++◌, ◌^◌, IsSome, length, map, min, true};
 ghost use Rattle.goblin_base.specs.Answers.{GivesOrMemory};
+ghost use Rattle.goblin_pe.specs.ImportLookup.{entry_view};
+ghost use Rattle.goblin_pe.specs.Imports.{has_slots, import_of, imports_by, imports_of, kept_count, kept_entries};
+ghost use Rattle.goblin_pe.specs.Whole.{entry_format, part_map, places_in};
+ghost use Rattle.goblin_pe_c.specs.Files.{entries_of};
 ghost use Rattle.goblin_pe_c.specs.Filled.{alone};
-ghost use Rattle.goblin_pe_c.specs.Imports.{import_view, with_ordinal_name};
+ghost use Rattle.goblin_pe_c.specs.Imports.{import_view, listed, own_imports, table_entries};
 
-use goblin_pe::Result;
-use goblin_pe::import::Import;
+use goblin_pe::import::{
+    ImportData, SyntheticImportDirectoryEntry, SyntheticImportLookupTableEntry,
+};
+use goblin_pe::optional_header::{MAGIC_32, OptionalHeader};
+use goblin_pe::{Part, Result};
 use std::alloc::Global;
-use std::borrow::CowStr;
 
 /// An import.
 #[repr(C)]
@@ -35,34 +41,167 @@ pub struct PeImport<'a> {
     pub is_by_name: bool,
 }
 
-// The record of an import.
-fn import_record<'a>(import: &Import<'a>) -> PeImport<'a>
-    ensures { import_view result ≡ alone (with_ordinal_name import.now) }
+// The record of an entry that a lookup table keeps.
+#[tactic(auto, unfolding(goblin_pe_tables::specs::Imports::import_of))]
+fn import_record<'a>(
+    entry: &SyntheticImportLookupTableEntry<'a>,
+    dll: &'a str,
+    slot: usize,
+    offset: usize,
+    size: usize,
+) -> PeImport<'a>
+    ensures { import_view result ≡ alone (import_of dll.now slot offset size (entry_view entry.now)) }
 {
-    let (name, is_by_name): (&'a [u8], bool) = match &import.name {
-        CowStr::Borrowed(name) => (name.as_bytes(), true),
-        CowStr::Owned(_) => (&[], false),
-    };
-    PeImport {
-        name,
-        dll: import.dll.as_bytes(),
-        offset: import.offset,
-        rva: import.rva,
-        size: import.size,
-        slot: import.slot,
-        ordinal: import.ordinal,
-        is_by_name,
+    match entry {
+        SyntheticImportLookupTableEntry::OrdinalNumber(ordinal) => PeImport {
+            name: &[],
+            dll: dll.as_bytes(),
+            offset,
+            rva: 0,
+            size,
+            slot,
+            ordinal: *ordinal,
+            is_by_name: false,
+        },
+        SyntheticImportLookupTableEntry::HintNameTableRVA((rva, named)) => PeImport {
+            name: named.name.as_bytes(),
+            dll: dll.as_bytes(),
+            offset,
+            rva: *rva as usize,
+            size,
+            slot,
+            ordinal: named.hint,
+            is_by_name: true,
+        },
     }
 }
 
-/// The records of imports, in memory of their own.
-pub fn import_records<'a>(alloc: Global, imports: &[Import<'a>]) -> Result<Vec<PeImport<'a>>>
-    ensures { GivesOrMemory (λ v. map import_view v.items) result (map (λ x. alone (with_ordinal_name x)) imports.now) }
+// The address of a slot of an address table.
+fn slot_offset(rva: u32, size: usize, slot: usize) -> usize
+    requires { rva + size * slot < 2 ^ 64 }
+    ensures { result ≡ rva + size * slot }
 {
-    let count = imports.len();
-    let mut records = Vec::with_capacity(alloc, count)?;
-    'records: for i in 0..count {
-        records.push(import_record(&imports[i]))?;
+    rva as usize + size * slot
+}
+
+// Appends the records of a table's entries, each in its slot of `size` bytes of the address table at
+// `rva`.
+fn push_entries<'a>(
+    records: &mut Vec<PeImport<'a>>,
+    entries: &[SyntheticImportLookupTableEntry<'a>],
+    slots: &[usize],
+    dll: &'a str,
+    rva: u32,
+    size: usize,
+) -> Result<()>
+    requires counted { length slots.now ≡ length entries.now }
+    requires there { IsSome (imports_by size dll.now rva (map entry_view entries.now) slots.now) }
+    ensures { let made = table_entries (imports_by size dll.now rva (map entry_view entries.now) slots.now) in
+        GivesOrMemory (λ _. map import_view records.new.items) result (map import_view records.old.items ++ map alone made) }
+{
+    'entries: for (position, entry) in entries.iter().enumerate() {
+        let slot = slots[position];
+        let offset = slot_offset(rva, size, slot);
+        records.push(import_record(entry, dll, slot, offset, size))?;
+    }
+    Ok(())
+}
+
+// The entries that a library's lookup table keeps.
+fn kept_entries<'b, 'a>(
+    library: &'b SyntheticImportDirectoryEntry<'a>,
+) -> &'b [SyntheticImportLookupTableEntry<'a>]
+    ensures entries { map entry_view result.now ≡ kept_entries library.now }
+    ensures count { length result.now ≡ length (kept_entries library.now) }
+{
+    match &library.import_lookup_table {
+        Some(table) => table.as_slice(),
+        None => &[],
+    }
+}
+
+// Appends the records of the imports from a library, whose address table has entries of `size` bytes.
+fn push_library<'a>(
+    records: &mut Vec<PeImport<'a>>,
+    library: &SyntheticImportDirectoryEntry<'a>,
+    size: usize,
+) -> Result<()>
+    requires counted { has_slots library.now ≡ true }
+    requires there { IsSome (own_imports size library.now) }
+    ensures { let made = table_entries (own_imports size library.now) in
+        GivesOrMemory (λ _. map import_view records.new.items) result (map import_view records.old.items ++ map alone made) }
+{
+    push_entries(
+        records,
+        kept_entries(library),
+        &library.import_lookup_slots,
+        library.name,
+        library.import_directory_entry.import_address_table_rva,
+        size,
+    )
+}
+
+// How many entries the lookup tables of libraries keep, or the greatest number, for which there is no
+// memory.
+fn count_of(libraries: &[SyntheticImportDirectoryEntry]) -> usize
+    ensures { result ≡ min (kept_count libraries.now) usize.MAX }
+{
+    let mut count = 0usize;
+    'libraries: for library in libraries {
+        count = count.saturating_add(kept_entries(library).len());
+    }
+    count
+}
+
+// The libraries of import data, none where it was not read.
+#[tactic(auto, unfolding(goblin_pe::specs::Whole::part_map))]
+fn libraries_of<'b, 'a>(
+    import_data: &'b Part<ImportData<'a>>,
+) -> &'b [SyntheticImportDirectoryEntry<'a>]
+    ensures { result.now ≡ entries_of import_data.now }
+{
+    match import_data {
+        Part::Read(data) => data.import_data.as_slice(),
+        Part::Absent | Part::Refused => &[],
+    }
+}
+
+// The size of an entry of the import tables, in bytes.
+#[tactic(auto, unfolding(goblin_pe::specs::Whole::entry_format, goblin_pe::specs::Whole::places_in))]
+fn entry_size(header: &Option<OptionalHeader>) -> usize
+    ensures { result ≡ (entry_format (places_in header.now).magic).width }
+{
+    match header {
+        Some(header) if header.standard_fields.magic == MAGIC_32 => 4,
+        _ => 8,
+    }
+}
+
+// The records of the imports from libraries, whose address tables have entries of `size` bytes.
+fn records_of<'a>(
+    alloc: Global,
+    libraries: &[SyntheticImportDirectoryEntry<'a>],
+    size: usize,
+) -> Result<Vec<PeImport<'a>>>
+    requires { IsSome (imports_of size libraries.now) }
+    ensures { GivesOrMemory (λ v. map import_view v.items) result (map alone (listed size libraries.now)) }
+{
+    let mut records = Vec::with_capacity(alloc, count_of(libraries))?;
+    'libraries: for library in libraries {
+        push_library(&mut records, library, size)?;
     }
     Ok(records)
+}
+
+/// The records of the imports of import data, in memory of their own.
+pub fn import_records<'a>(
+    alloc: Global,
+    import_data: &Part<ImportData<'a>>,
+    header: &Option<OptionalHeader>,
+) -> Result<Vec<PeImport<'a>>>
+    requires { IsSome (imports_of (entry_format (places_in header.now).magic).width (entries_of import_data.now)) }
+    ensures { let size = (entry_format (places_in header.now).magic).width in
+        GivesOrMemory (λ v. map import_view v.items) result (map alone (listed size (entries_of import_data.now))) }
+{
+    records_of(alloc, libraries_of(import_data), entry_size(header))
 }

@@ -5,7 +5,7 @@ ghost use Rattle.goblin_base.specs.Answers.{IsMemory};
 ghost use Rattle.goblin_pe_sect.specs.Options.{is_strict};
 ghost use Rattle.goblin_pe_head.specs.PeHeader.{pe_header};
 ghost use Rattle.goblin_pe.specs.SectionRoom.{HasRoom};
-ghost use Rattle.goblin_pe.specs.Whole.{IsWholeFault, items_part, whole_file};
+ghost use Rattle.goblin_pe.specs.Whole.{HasImports, IsWholeFault, items_part, whole_file, with_imports};
 ghost use Rattle.goblin_pe_c.specs.Blocks.{block_view, blocks_in};
 ghost use Rattle.goblin_pe_c.specs.Calls.{Reads, Reported};
 ghost use Rattle.goblin_pe_c.specs.Exports.{export_said, export_view};
@@ -68,30 +68,32 @@ struct Made<'a> {
     blocks: Vec<PeBlock<'a>>,
 }
 
-// The tables of a file that was read.
+// The tables of a file of which no list of imports was made.
 fn made_of<'a>(
     alloc: Global,
     whole: &Whole<'a>,
     bytes: &'a [u8],
     opts: &ParseOptions,
 ) -> Result<Made<'a>>
-    requires { whole_file opts.now bytes.now ≡ Some whole.now }
+    requires read { whole_file opts.now bytes.now ≡ Some (with_imports whole.now) }
+    requires listed { HasImports opts.now whole.now }
     ensures refused { IfErr result IsMemory }
-    ensures file { IfOk result (λ m. m.file ≡ file_of whole.now) }
+    ensures file { IfOk result (λ m. m.file ≡ file_of (with_imports whole.now)) }
     ensures rich_entries { IfOk result (λ m. map entry_view m.rich_entries.items ≡ entries_in whole.now.header.rich_header) }
     ensures sections { IfOk result (λ m. map section_said m.sections.items ≡ map alone whole.now.sections) }
-    ensures imports { IfOk result (λ m. map import_view m.imports.items ≡ map alone (entries_of whole.now.imports)) }
+    ensures imports { IfOk result (λ m. map import_view m.imports.items ≡ map alone (entries_of (with_imports whole.now).imports)) }
     ensures exports { IfOk result (λ m. map export_view m.exports.items ≡ map export_said (entries_of whole.now.exports)) }
     ensures blocks { IfOk result (λ m. map block_view m.blocks.items ≡ blocks_in whole.now.relocations) }
 {
     let table = whole.header.coff_header.symbols_end();
-    let imports = import_records(alloc, entries_of(&whole.imports))?;
+    let header = &whole.header.optional_header;
+    let imports = import_records(alloc, &whole.import_data, header)?;
     let exports = export_records(alloc, entries_of(&whole.exports))?;
     let sections = section_records(alloc, bytes, &whole.sections, table, opts)?;
     let (rich_entries, rich_header) = entry_records(alloc, &whole.header.rich_header)?;
     let (blocks, relocations) = block_records(alloc, &whole.relocations)?;
     Ok(Made {
-        file: file_of(whole, relocations, rich_header),
+        file: file_of(whole, imports.len(), relocations, rich_header),
         rich_entries,
         sections,
         imports,
@@ -139,7 +141,7 @@ fn open<'a>(
         let new : Opened = record { file = file.new; directories = directories.new; tables = tables.new } in
         Reads (pe_header (is_strict opts.now.parse_mode) bytes.now) (HasRoom bytes.now) (whole_file opts.now bytes.now) (IsWholeFault opts.now bytes.now) (λ w. Opens w old new) (new ≡ old) result }
 {
-    let whole = Whole::read(alloc, bytes, opts)?;
+    let whole = Whole::read_data(alloc, bytes, opts)?;
     let made = made_of(alloc, &whole, bytes, opts)?;
     fill_directories(directories, directories_of(&whole.header.optional_header));
     *file = made.file;

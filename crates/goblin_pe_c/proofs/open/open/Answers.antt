@@ -2,7 +2,7 @@ use Rattle.std.proofs.Common.{refl}
 use Rattle.std.proofs.lemmas.Result.{err_from_is_err_and}
 use Rattle.goblin_pe_sect.specs.Options.{is_strict}
 use Rattle.goblin_pe_head.specs.PeHeader.{pe_header}
-use Rattle.goblin_pe_c.proofs.HeaderThere.{header-there}
+use Rattle.goblin_pe.proofs.HeaderThere.{header-there}
 use Rattle.goblin_pe_c.proofs.Refusals.{room-there}
 use Rattle.goblin_pe_c.proofs.open.open.Goals as goal
 
