@@ -12,9 +12,8 @@
    The tables of an image, and the ranges of a footprint, are memory of their own, which goblin_pe_free
    and goblin_pe_free_ranges give back; all else is filled into the caller's records.
 
-   The file offset of a text that has bytes is the difference of two pointers. A text of length 0 may
-   point anywhere: it stands for one that is absent, as its record says, or that permissive mode could
-   not read, and only sometimes for an empty one in the file.
+   The file offset of a text is the difference of two pointers: each lies in the file. One that is absent,
+   as its record says, or that permissive mode could not read, has no bytes and points at the file's first.
 
    What a caller owes, which nothing checks:
    - Pointers are not null, also where there are no bytes or no records: any other will do then.

@@ -66,7 +66,7 @@ module _ (size : ℕ) (dll : List ℕ) (rva : ℕ) (entries : List LookupEntry) 
         made = h.made ++ x ∷ [];
         so_far = all_at-more (import_at size dll rva entries slots) position h.made x h.so_far this;
         said = ap (map import_view) pushed ∙ map-append import_view now (r ∷ []) ∙ ap (λ y. map import_view now ++ y ∷ []) says ∙ ap (λ ys. ys ++ alone x ∷ []) h.said
-        ∙ append_assoc (map import_view old) (map alone h.made) (alone x ∷ []) ∙ ap (λ ys. map import_view old ++ ys) (sym (map-append alone h.made (x ∷ [])));
+            ∙ append_assoc (map import_view old) (map alone h.made) (alone x ∷ []) ∙ ap (λ ys. map import_view old ++ ys) (sym (map-append alone h.made (x ∷ [])));
       }
 
   -- all entries

@@ -37,18 +37,19 @@ pub struct PeExport<'a> {
 }
 
 // The record of an export.
-fn export_record<'a>(export: &Export<'a>) -> PeExport<'a>
+fn export_record<'a>(bytes: &'a [u8], export: &Export<'a>) -> PeExport<'a>
     ensures { export_view result ≡ export_said export.now }
 {
+    let none = &bytes[..0];
     let (forwards, name, ordinal, lib): (u8, &'a [u8], usize, &'a [u8]) = match &export.reexport {
-        None => (0, &[], 0, &[]),
+        None => (0, none, 0, none),
         Some(Reexport::DLLName { export, lib }) => (1, export.as_bytes(), 0, lib.as_bytes()),
-        Some(Reexport::DLLOrdinal { ordinal, lib }) => (2, &[], *ordinal, lib.as_bytes()),
+        Some(Reexport::DLLOrdinal { ordinal, lib }) => (2, none, *ordinal, lib.as_bytes()),
     };
     PeExport {
         name: match export.name {
             Some(name) => name.as_bytes(),
-            None => &[],
+            None => none,
         },
         lib,
         export_name: name,
@@ -63,13 +64,17 @@ fn export_record<'a>(export: &Export<'a>) -> PeExport<'a>
 }
 
 /// The records of exports, in memory of their own.
-pub fn export_records<'a>(alloc: Global, exports: &[Export<'a>]) -> Result<Vec<PeExport<'a>>>
+pub fn export_records<'a>(
+    alloc: Global,
+    bytes: &'a [u8],
+    exports: &[Export<'a>],
+) -> Result<Vec<PeExport<'a>>>
     ensures { GivesOrMemory (λ v. map export_view v.items) result (map export_said exports.now) }
 {
     let count = exports.len();
     let mut records = Vec::with_capacity(alloc, count)?;
     'records: for i in 0..count {
-        records.push(export_record(&exports[i]))?;
+        records.push(export_record(bytes, &exports[i]))?;
     }
     Ok(records)
 }

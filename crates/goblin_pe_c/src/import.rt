@@ -44,6 +44,7 @@ pub struct PeImport<'a> {
 // The record of an entry that a lookup table keeps.
 #[tactic(auto, unfolding(goblin_pe_tables::specs::Imports::import_of))]
 fn import_record<'a>(
+    bytes: &'a [u8],
     entry: &SyntheticImportLookupTableEntry<'a>,
     dll: &'a str,
     slot: usize,
@@ -54,7 +55,7 @@ fn import_record<'a>(
 {
     match entry {
         SyntheticImportLookupTableEntry::OrdinalNumber(ordinal) => PeImport {
-            name: &[],
+            name: &bytes[..0],
             dll: dll.as_bytes(),
             offset,
             rva: 0,
@@ -88,6 +89,7 @@ fn slot_offset(rva: u32, size: usize, slot: usize) -> usize
 // `rva`.
 fn push_entries<'a>(
     records: &mut Vec<PeImport<'a>>,
+    bytes: &'a [u8],
     entries: &[SyntheticImportLookupTableEntry<'a>],
     slots: &[usize],
     dll: &'a str,
@@ -102,7 +104,7 @@ fn push_entries<'a>(
     'entries: for (position, entry) in entries.iter().enumerate() {
         let slot = slots[position];
         let offset = slot_offset(rva, size, slot);
-        records.push(import_record(entry, dll, slot, offset, size))?;
+        records.push(import_record(bytes, entry, dll, slot, offset, size))?;
     }
     Ok(())
 }
@@ -123,6 +125,7 @@ fn kept_entries<'b, 'a>(
 // Appends the records of the imports from a library, whose address table has entries of `size` bytes.
 fn push_library<'a>(
     records: &mut Vec<PeImport<'a>>,
+    bytes: &'a [u8],
     library: &SyntheticImportDirectoryEntry<'a>,
     size: usize,
 ) -> Result<()>
@@ -133,6 +136,7 @@ fn push_library<'a>(
 {
     push_entries(
         records,
+        bytes,
         kept_entries(library),
         &library.import_lookup_slots,
         library.name,
@@ -180,6 +184,7 @@ fn entry_size(header: &Option<OptionalHeader>) -> usize
 // The records of the imports from libraries, whose address tables have entries of `size` bytes.
 fn records_of<'a>(
     alloc: Global,
+    bytes: &'a [u8],
     libraries: &[SyntheticImportDirectoryEntry<'a>],
     size: usize,
 ) -> Result<Vec<PeImport<'a>>>
@@ -188,7 +193,7 @@ fn records_of<'a>(
 {
     let mut records = Vec::with_capacity(alloc, count_of(libraries))?;
     'libraries: for library in libraries {
-        push_library(&mut records, library, size)?;
+        push_library(&mut records, bytes, library, size)?;
     }
     Ok(records)
 }
@@ -196,6 +201,7 @@ fn records_of<'a>(
 /// The records of the imports of import data, in memory of their own.
 pub fn import_records<'a>(
     alloc: Global,
+    bytes: &'a [u8],
     import_data: &Part<ImportData<'a>>,
     header: &Option<OptionalHeader>,
 ) -> Result<Vec<PeImport<'a>>>
@@ -203,5 +209,5 @@ pub fn import_records<'a>(
     ensures { let size = (entry_format (places_in header.now).magic).width in
         GivesOrMemory (λ v. map import_view v.items) result (map alone (listed size (entries_of import_data.now))) }
 {
-    records_of(alloc, libraries_of(import_data), entry_size(header))
+    records_of(alloc, bytes, libraries_of(import_data), entry_size(header))
 }

@@ -108,6 +108,7 @@ impl<'a> Object<'a> {
 // Fills the records of symbols, as far as there is room, and answers how the table stands.
 fn fill_table<'a>(
     records: &mut [PeSymbol<'a>],
+    bytes: &'a [u8],
     symbols: &Option<SymbolTable<'a>>,
     strings: &Option<Strtab<'a>>,
 ) -> PeTable
@@ -116,7 +117,7 @@ fn fill_table<'a>(
 {
     match (symbols, strings) {
         (Some(symbols), Some(strings)) => PeTable {
-            count: fill_symbols(records, symbols, strings),
+            count: fill_symbols(records, bytes, symbols, strings),
             state: 1,
         },
         _ => PeTable { count: 0, state: 0 },
@@ -139,7 +140,7 @@ fn fill<'a>(
 {
     let table = whole.header.symbols_end();
     fill_sections(sections, bytes, &whole.sections, table, opts);
-    let symbols = fill_table(symbols, &whole.symbols, &whole.strings);
+    let symbols = fill_table(symbols, bytes, &whole.symbols, &whole.strings);
     *object = PeObject {
         sections: whole.sections.len(),
         symbols,

@@ -87,8 +87,8 @@ fn made_of<'a>(
 {
     let table = whole.header.coff_header.symbols_end();
     let header = &whole.header.optional_header;
-    let imports = import_records(alloc, &whole.import_data, header)?;
-    let exports = export_records(alloc, entries_of(&whole.exports))?;
+    let imports = import_records(alloc, bytes, &whole.import_data, header)?;
+    let exports = export_records(alloc, bytes, entries_of(&whole.exports))?;
     let sections = section_records(alloc, bytes, &whole.sections, table, opts)?;
     let (rich_entries, rich_header) = entry_records(alloc, &whole.header.rich_header)?;
     let (blocks, relocations) = block_records(alloc, &whole.relocations)?;

@@ -72,7 +72,7 @@ fn section_record<'a>(
     PeSection {
         real_name: match real_name {
             Some(name) => name.as_bytes(),
-            None => &[],
+            None => &bytes[..0],
         },
         name: section.name,
         virtual_size: section.virtual_size,

@@ -52,6 +52,7 @@ fn name_in<'a>(
 
 // The record of a symbol.
 fn symbol_record<'a>(
+    bytes: &'a [u8],
     index: usize,
     inline_name: Option<&'a str>,
     symbol: &Symbol,
@@ -63,7 +64,7 @@ fn symbol_record<'a>(
     PeSymbol {
         name: match name {
             Some(name) => name.as_bytes(),
-            None => &[],
+            None => &bytes[..0],
         },
         index,
         record_name: symbol.name,
@@ -80,6 +81,7 @@ fn symbol_record<'a>(
 /// there is room, and answers how many there are.
 pub fn fill_symbols<'a>(
     records: &mut [PeSymbol<'a>],
+    bytes: &'a [u8],
     symbols: &SymbolTable<'a>,
     strings: &Strtab<'a>,
 ) -> usize
@@ -91,7 +93,7 @@ pub fn fill_symbols<'a>(
         put(
             records,
             count,
-            symbol_record(index, inline_name, &symbol, strings),
+            symbol_record(bytes, index, inline_name, &symbol, strings),
         );
         count += 1;
     }

@@ -13,7 +13,7 @@ use crate::address_map::AddressMap;
 use crate::import::address_table::{ImportAddressTable, address_table};
 use crate::import::bitfield::Bitfield;
 use crate::import::directory_entry::ImportDirectoryEntry;
-use crate::import::lookup_table::{ImportLookupTable, SyntheticImportLookupTableEntry};
+use crate::import::lookup_table::{ImportLookupTable, SyntheticImportLookupTableEntry, no_text};
 use goblin_base::{Cause, Error, ResultOf};
 use goblin_pe_sect::options::ParseOptions;
 use goblin_pe_sect::section_table::SectionTable;
@@ -188,7 +188,9 @@ impl<'a> SyntheticImportDirectoryEntry<'a> {
         ensures grown { IfErr result (λ e. IsMemory e → HasImports (reads_strictly address_map.now) T.format (offset_of address_map.now) bytes.now import_directory_entry) }
     {
         let record = &import_directory_entry;
-        let name = address_map.name_at(bytes, record.name_rva)?.unwrap_or("");
+        let name = address_map
+            .name_at(bytes, record.name_rva)?
+            .unwrap_or(no_text(bytes));
         let lookup_offset = lookup_offset(record, address_map);
         let (import_lookup_table, import_lookup_slots) = lookup_table_if::<T>(
             alloc,

@@ -19,6 +19,16 @@ use goblin_pe_sect::options::ParseOptions;
 use goblin_pe_sect::section_table::SectionTable;
 use std::alloc::Global;
 
+// The empty text, at the front of the bytes, so that it lies in the file as all others do.
+pub(super) fn no_text(bytes: &[u8]) -> &str
+    ensures { result.now ≡ [] }
+{
+    match str::from_utf8(&bytes[..0]) {
+        Ok(text) if text.is_empty() => text,
+        _ => "",
+    }
+}
+
 /// A hint, and the name after it, by which a library exports what is imported.
 ///
 /// Source: PE Format, "Hint/Name Table".
@@ -63,7 +73,7 @@ impl<'a> HintNameTableEntry<'a> {
         };
         let name = match pread_str(bytes, offset + 2) {
             Ok(name) => name,
-            Err(_) if opts.parse_mode.is_permissive() => "",
+            Err(_) if opts.parse_mode.is_permissive() => no_text(bytes),
             Err(error) => return Err(error),
         };
         Ok(HintNameTableEntry { hint, name })
