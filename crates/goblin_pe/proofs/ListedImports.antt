@@ -1,6 +1,6 @@
 -- Of import data that was read a list of imports can be made: each entry that a lookup table keeps has a slot, whose address does not pass 64 bits.
-use Rattle.std.proofs.Common.{◌≡◌, ℕ, zero, suc, ◌+◌, ◌*◌, ◌/◌, ◌-◌, ◌<◌, ◌≤◌, ◌^◌, ◌&&◌, Bool, true, false, cond, not, List, [], ◌∷◌, ◌++◌, length, map, Option, Some, None, IsSome, refl, sym, ap, subst, arith, ◌∙◌}
-use Rattle.std.specs.Prelude.{IfOk, Result, Ok, Err, nat_eq, nat_lt, slice_get, slice_index, slice_range, unwrap_or, get_or}
+use Rattle.std.proofs.Common.{◌≡◌, ℕ, zero, suc, ◌+◌, ◌*◌, ◌-◌, ◌<◌, ◌≤◌, ◌^◌, ◌&&◌, Bool, true, false, cond, not, List, [], ◌∷◌, ◌++◌, length, map, Option, Some, None, IsSome, refl, sym, ap, subst, arith, ◌∙◌}
+use Rattle.std.specs.Prelude.{IfOk, Result, Ok, Err, nat_eq, slice_get, slice_range, unwrap_or, get_or}
 use Rattle.std.specs.List.{All, filter, range_with_len}
 use Rattle.std.specs.Option.{is_some}
 use Rattle.std.proofs.lemmas.Bool.{lt-ltb, eq-eqb}
@@ -10,9 +10,9 @@ use Rattle.std.proofs.lemmas.List.Elements.{filter-append}
 use Rattle.std.proofs.lemmas.Option.{slice_get-get_or}
 use Rattle.goblin_base.specs.declared.endian.Endian.TheVariants.{Little}
 use Rattle.goblin_base.specs.declared.error.ErrorOf.{ErrorOf}
-use Rattle.goblin_base.specs.Answers.{AnswersOrMemory, ◌>>=◌, all_at, all_of}
-use Rattle.goblin_base.specs.Bytes.{IsBytes, number}
-use Rattle.goblin_base.specs.Tables.{Format, SlotFormat, each_below, ends_table, is_kept, kept_slots, least, made_of, or_left_out, slot_at, slot_place, slot_table, stop}
+use Rattle.goblin_base.specs.Answers.{AnswersOrMemory, ◌>>=◌, all_of}
+use Rattle.goblin_base.specs.Bytes.{IsBytes}
+use Rattle.goblin_base.specs.Tables.{Format, each_below, ends_table, is_kept, kept_slots, made_of, or_left_out, slot_at, slot_place, slot_table, stop}
 use Rattle.goblin_base.proofs.Below.{each_below-there, join-parts, least-before}
 use Rattle.goblin_base.proofs.Kept.{without_test}
 use Rattle.goblin_base.proofs.RecordRoundTrip.{IsBytes-slice, number-lt}
@@ -28,7 +28,7 @@ use Rattle.goblin_pe_tables.specs.declared.import.directory_entry.ImportDirector
 use Rattle.goblin_pe_tables.specs.ImportDirectory.{ImportedLibrary, address_table_rva, import_data, import_record, import_slots, libraries_at, libraries_if, library_of, lookup_offset, lookup_slots_if, lookup_table_if}
 use Rattle.goblin_pe_tables.specs.ImportLookup.{EntryValue, LookupEntry, address_table, entry_slots, kept_entry, kept_name, lookup_slots, lookup_table}
 use Rattle.goblin_pe_tables.specs.ImportLookup.LookupEntry.{ByOrdinal}
-use Rattle.goblin_pe_tables.specs.Imports.{ImportValue, has_slots, import_at, import_of, import_offset, imports_by, imports_of, kept_entries, library_imports}
+use Rattle.goblin_pe_tables.specs.Imports.{has_slots, import_at, import_of, import_offset, imports_by, imports_of, kept_entries, library_imports}
 use Rattle.goblin_pe.specs.declared.whole.Part.{Part}
 use Rattle.goblin_pe.specs.declared.whole.Part.TheVariants.{Absent, Refused}
 use Rattle.goblin_pe.specs.declared.whole.Part.TheVariants as part

@@ -1,6 +1,6 @@
 -- Loops that make the records of imports from import data of which a list of imports can be made.
-use Rattle.std.proofs.Common.{◌≡◌, ◌<◌, ◌≤◌, ◌+◌, ◌*◌, ◌^◌, ℕ, Bool, true, false, cond, List, [], ◌∷◌, ◌++◌, length, map, Option, Some, None, IsSome, inl, inr, refl, sym, ap, arith, ◌∙◌, append-nil, append_assoc}
-use Rattle.std.specs.Prelude.{option_map, slice_get, unwrap_or}
+use Rattle.std.proofs.Common.{◌≡◌, ◌<◌, ◌+◌, ◌*◌, ◌^◌, ℕ, Bool, true, false, cond, List, [], ◌∷◌, ◌++◌, length, map, Option, Some, None, IsSome, inl, inr, refl, sym, ap, arith, ◌∙◌, append-nil, append_assoc}
+use Rattle.std.specs.Prelude.{option_map, slice_get}
 use Rattle.std.proofs.lemmas.Bool.{cases_lt, le-ltb, lt-ltb}
 use Rattle.std.proofs.lemmas.List.{length-map, map-append}
 use Rattle.goblin_base.specs.Answers.{all_at}
@@ -12,7 +12,7 @@ use Rattle.goblin_pe.specs.declared.whole.Part.TheVariants.{Absent, Refused}
 use Rattle.goblin_pe.specs.declared.whole.Part.TheVariants as part
 use Rattle.goblin_pe.specs.ImportDirectory.{ImportedLibrary}
 use Rattle.goblin_pe.specs.ImportLookup.{LookupEntry}
-use Rattle.goblin_pe.specs.Imports.{ImportValue, has_slots, import_at, import_of, import_offset, imports_by, imports_of, kept_entries, library_imports}
+use Rattle.goblin_pe.specs.Imports.{ImportValue, has_slots, import_at, import_of, import_offset, imports_by, imports_of, library_imports}
 use Rattle.goblin_pe.specs.Whole.{TablePlaces, entry_format, imports_part, listed_imports, part_map, part_of, part_then}
 use Rattle.goblin_pe_sect.specs.declared.options.ParseOptions.{ParseOptions}
 use Rattle.goblin_pe_sect.specs.Options.{is_strict}
