@@ -24,7 +24,7 @@ use Rattle.goblin_pe_tables.specs.ImportDirectory.{ImportedLibrary, import_data,
 use Rattle.goblin_pe_tables.specs.ImportLookup.{EntryValue}
 use Rattle.goblin_pe_tables.specs.Imports.{ImportValue, imports_of}
 use Rattle.goblin_pe_tables.specs.Exports.{export_data}
-use Rattle.goblin_pe_tables.proofs.ImportRepeats.{libraries_at-kept}
+use Rattle.goblin_pe_tables.proofs.PermissiveReads.{libraries_at-kept}
 use Rattle.goblin_pe.specs.Modes.{Repeats, RepeatsOrMemory, in_mode, in_permissive_mode, is_front, unless_front}
 use Rattle.goblin_pe.specs.Whole.{FileTables, TablePlaces, WholeFile, entry_format, export_data_part, exports_part, file_sections, import_data_part, imports_part, part_at, part_map, part_of, part_then, places_in, relocations_part, section_table_offset, tables_of, whole_file}
 

@@ -11,7 +11,7 @@ use Rattle.goblin_pe.specs.declared.whole.Part.TheVariants.{Absent, Refused}
 use Rattle.goblin_pe.specs.declared.whole.Part.TheVariants as part
 use Rattle.goblin_pe.specs.ImportDirectory.{ImportedLibrary}
 use Rattle.goblin_pe.specs.ImportLookup.{LookupEntry}
-use Rattle.goblin_pe.specs.ImportLookup.LookupEntry.{ByOrdinal, ByName}
+use Rattle.goblin_pe.specs.ImportEntries.LookupEntry.{ByOrdinal, ByName}
 use Rattle.goblin_pe.specs.Imports.{ImportValue, has_slots, import_at, import_of, import_offset, imports_by, imports_of, kept_entries, library_imports}
 use Rattle.goblin_pe.specs.Whole.{TablePlaces, WholeFile, entry_format, imports_part, part_of, part_then, places_in, whole_file}
 use Rattle.goblin_pe_c.specs.Files.{entries_of}

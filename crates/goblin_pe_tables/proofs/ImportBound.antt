@@ -17,8 +17,12 @@ use Rattle.goblin_pe_sect.specs.Mapping.{name_at, name_or_none}
 use Rattle.goblin_pe_tables.specs.declared.import.directory_entry.ImportDirectoryEntry.{ImportDirectoryEntry}
 use Rattle.goblin_pe_tables.specs.ImportBound.{AreFew}
 use Rattle.goblin_pe_tables.specs.ImportDirectory.{ImportedLibrary, import_data, address_table_rva, import_slots, libraries_at, libraries_if, library_of, lookup_offset, lookup_slots_if, lookup_table_if}
-use Rattle.goblin_pe_tables.specs.ImportLookup.{EntryValue, LookupEntry, address_table, entry_slots, kept_entry, kept_name, lookup_table}
-use Rattle.goblin_pe_tables.specs.ImportLookup.LookupEntry.{ByOrdinal}
+use Rattle.goblin_pe_tables.specs.ImportLookup.{address_table, kept_entry, lookup_table}
+use Rattle.goblin_pe_tables.specs.ImportEntries.{EntryValue, LookupEntry, entry_slots}
+use Rattle.goblin_pe_tables.specs.ImportEntries.LookupEntry.{ByOrdinal}
+use Rattle.goblin_pe_tables.specs.LookupReadings as reading
+use Rattle.goblin_base.specs.Reading.{Reading}
+use Rattle.readings.specs.Reads.{given}
 use Rattle.goblin_pe_tables.specs.Imports.{ImportValue, has_slots, import_at, imports_by, imports_of, kept_count, kept_entries, library_imports}
 use Rattle.goblin_base.proofs.Kept.{without_test}
 
@@ -74,18 +78,27 @@ or_left_out-few {A} strict (Some x) xs e = omega (arith, ap length (same_value (
 or_left_out-few true None xs e = absurd cc
 or_left_out-few false None xs e = omega (arith, ap length (same_value [] xs e))
 
-kept_name-few : (strict : Bool) (bytes : List ℕ) (rva : ℕ) (place : Option ℕ) (xs : List LookupEntry) → kept_name strict bytes rva place ≡ Some xs → length xs ≤ 1
+kept_name-few : (strict : Bool) (bytes : List ℕ) (rva : ℕ) (place : Option ℕ)
+    (xs : List LookupEntry) → (reading.kept_name strict rva place).value bytes ≡ Some xs
+    → length xs ≤ 1
+unfolding reading.kept_name
 kept_name-few strict bytes rva None xs e = omega (arith, ap length (same_value [] xs e))
 kept_name-few strict bytes rva (Some p) xs e = or_left_out-few strict _ xs e
 
-one_or : (test : Bool) (x : LookupEntry) (other : Option (List LookupEntry)) (xs : List LookupEntry) → (other ≡ Some xs → length xs ≤ 1) → cond test (Some (x ∷ [])) other ≡ Some xs → length xs ≤ 1
-one_or true x other xs few e = omega (arith, ap length (same_value (x ∷ []) xs e))
-one_or false x other xs few e = few e
+one_or : (test : Bool) (x : LookupEntry) (other : Reading (List LookupEntry)) (bytes : List ℕ)
+    (xs : List LookupEntry) → (other.value bytes ≡ Some xs → length xs ≤ 1)
+    → (cond test (given (x ∷ [])) other).value bytes ≡ Some xs → length xs ≤ 1
+one_or true x other bytes xs few e = omega (arith, ap length (same_value (x ∷ []) xs e))
+one_or false x other bytes xs few e = few e
 
-kept_entry-few : (strict : Bool) (offset_of : ℕ → Option ℕ) (bytes : List ℕ) (entry : EntryValue) (xs : List LookupEntry) → kept_entry strict offset_of bytes entry ≡ Some xs → length xs ≤ 1
-unfolding kept_entry
+kept_entry-few : (strict : Bool) (offset_of : ℕ → Option ℕ) (bytes : List ℕ)
+    (entry : EntryValue) (xs : List LookupEntry)
+    → kept_entry strict offset_of bytes entry ≡ Some xs → length xs ≤ 1
+unfolding reading.kept_entry
 kept_entry-few strict offset_of bytes entry xs e =
-    one_or entry.is_ordinal (ByOrdinal entry.ordinal) (kept_name strict bytes entry.rva (offset_of entry.rva)) xs (kept_name-few strict bytes entry.rva (offset_of entry.rva) xs) e
+    one_or entry.is_ordinal (ByOrdinal entry.ordinal)
+    (reading.kept_name strict entry.rva (offset_of entry.rva)) bytes xs
+    (kept_name-few strict bytes entry.rva (offset_of entry.rva) xs) e
 
 module _ (strict : Bool) (format : Format EntryValue) (offset_of : ℕ → Option ℕ) (bytes : List ℕ) (some : 0 < format.width) where
   -- how many entries fit the file
