@@ -51,5 +51,6 @@ pub use Rattle.goblin_pe_tables.specs.ImportEntries
 pub use Rattle.goblin_pe_tables.specs.ImportFootprints
 pub use Rattle.goblin_pe_tables.specs.ImportLookup
 pub use Rattle.goblin_pe_tables.specs.ImportReadings
+pub use Rattle.goblin_pe_tables.specs.ImportRecords
 pub use Rattle.goblin_pe_tables.specs.Imports
 pub use Rattle.goblin_pe_tables.specs.LookupReadings

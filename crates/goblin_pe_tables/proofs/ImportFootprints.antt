@@ -20,7 +20,6 @@ use Rattle.goblin_pe_tables.specs.ImportLookup.{EntryValue, lookup_table}
 use Rattle.goblin_pe_tables.specs.ImportReadings as reading
 use Rattle.goblin_pe_tables.specs.LookupReadings as lookup
 use Rattle.goblin_pe_tables.proofs.ImportReadings.{reaches-import_data, reaches-lookup_table}
-use Rattle.goblin_pe_tables.proofs.ImportReadings.{value-import_data}
 
 -- ---- two files
 
@@ -48,7 +47,7 @@ module _ (strict : Bool) (format : Format EntryValue) (offset_of : ℕ → Optio
       by_reading (reading.import_data strict format offset_of rva)
       (λ bytes. import_data strict format offset_of bytes rva)
       (import_footprint strict format offset_of a rva) a b
-      (λ bytes. value-import_data strict format offset_of bytes rva)
+      (λ bytes. refl)
       (reaches-import_data strict format offset_of a rva) h
 
 -- ---- one file

@@ -9,6 +9,7 @@ pub mod ImportDirectoryRoundTrip
 pub mod ImportFootprints
 pub mod ImportReadings
 pub mod Imports
+pub mod LibraryNames
 pub mod LookupSlots
 pub mod Modes
 pub mod PermissiveReads

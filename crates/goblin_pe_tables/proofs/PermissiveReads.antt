@@ -17,7 +17,6 @@ use Rattle.goblin_pe_tables.specs.ImportReadings.{library_of, lookup_if, name_at
 use Rattle.goblin_pe_tables.specs.LookupReadings.{address_table, hint_name, kept_entry, kept_name}
 use Rattle.goblin_pe_tables.specs.LookupReadings.{lookup_entry_at, lookup_table, lookup_with_slots}
 use Rattle.goblin_pe_tables.specs.declared.import.directory_entry.ImportDirectoryEntry.{ImportDirectoryEntry}
-use Rattle.goblin_pe_tables.proofs.ImportReadings.{value-libraries_at}
 
 hint_repeats : (p : ℕ) → Repeats (hint_name true p) (hint_name false p)
 unfolding hint_name
@@ -87,7 +86,4 @@ module _ (offset_of : ℕ → Option ℕ) where
     pub libraries_at-kept : (bytes : List ℕ) (o : ℕ)
         → Keeps (directory.libraries_at true format offset_of bytes o)
         (directory.libraries_at false format offset_of bytes o)
-    libraries_at-kept bytes o libraries is =
-        sym (value-libraries_at false format offset_of bytes o)
-        ∙ (libraries_repeat o).kept bytes libraries
-        (value-libraries_at true format offset_of bytes o ∙ is)
+    libraries_at-kept bytes o = (libraries_repeat o).kept bytes

@@ -3,27 +3,56 @@
 -- have the same as three.
 use Rattle.std.specs.Prelude.{ℕ, ◌==◌, Bool, ◌&&◌, not, cond, List, [], Option, Some, None}
 use Rattle.goblin_base.specs.declared.endian.Endian.TheVariants.{Little}
-use Rattle.goblin_base.specs.declared.error.CauseOf.TheVariants.{ImportRecordEnd, NameRead}
-use Rattle.goblin_base.specs.declared.error.CauseOf.TheVariants.{Unmapped}
+use Rattle.goblin_base.specs.declared.error.CauseOf.TheVariants.{ImportRecordEnd}
+use Rattle.goblin_base.specs.declared.error.ErrorOf.{ErrorOf}
+use Rattle.goblin_base.specs.declared.error.ErrorOf.TheVariants.{BadMagic, BufferTooShort}
+use Rattle.goblin_base.specs.declared.error.ErrorOf.TheVariants.{Malformed, Memory, Read}
+use Rattle.goblin_base.specs.Answers.{IsMemory}
 use Rattle.goblin_base.specs.Reading.{Reading}
 use Rattle.goblin_base.specs.Tables.{Format}
-use Rattle.readings.specs.Reads.{◌>>=◌, ◌beside◌, because, given, mapped, needs, or_else}
+use Rattle.readings.specs.Reads.{◌>>=◌, ◌beside◌, because, given, mapped, needs_by, or_else}
 use Rattle.readings.specs.Reads.{or_left_out, record_at, table, text_at}
-use Rattle.goblin_pe_tables.specs.ImportDirectory.{ImportedLibrary, address_table_rva}
-use Rattle.goblin_pe_tables.specs.ImportDirectory.{import_record, import_slots, lookup_offset}
+use Rattle.goblin_pe_sect.specs.Mapping.{IsNameRead, IsUnmapped}
 use Rattle.goblin_pe_tables.specs.ImportEntries.{EntryValue, LookupEntry}
+use Rattle.goblin_pe_tables.specs.ImportRecords.{ImportedLibrary, address_table_rva}
+use Rattle.goblin_pe_tables.specs.ImportRecords.{import_record, import_slots, lookup_offset}
 use Rattle.goblin_pe_tables.specs.LookupReadings.{address_table, lookup_with_slots}
 use Rattle.goblin_pe_tables.specs.declared.import.directory_entry.ImportDirectoryEntry.{ImportDirectoryEntry}
 
 -- ---- at an address
 
+pub unmapped-not_memory : (rva : ℕ) (e : ErrorOf) → IsUnmapped rva e → ¬ IsMemory e
+unmapped-not_memory rva (Memory m) h = absurd h
+unmapped-not_memory rva (Malformed c) h = λ m. m
+unmapped-not_memory rva (BadMagic k) h = λ m. m
+unmapped-not_memory rva (BufferTooShort k what) h = λ m. m
+unmapped-not_memory rva (Read fault) h = λ m. m
+
+pub name_read-not_memory : (p : ℕ) (e : ErrorOf) → IsNameRead p e → ¬ IsMemory e
+name_read-not_memory p (Memory m) h = absurd h
+name_read-not_memory p (Malformed c) h = λ m. m
+name_read-not_memory p (BadMagic k) h = λ m. m
+name_read-not_memory p (BufferTooShort k what) h = λ m. m
+name_read-not_memory p (Read fault) h = λ m. m
+
+-- the offset of an address
+abbrev pub offset_at : (ℕ → Option ℕ) → ℕ → Reading ℕ
+offset_at offset_of rva = needs_by (offset_of rva) (IsUnmapped rva) (unmapped-not_memory rva)
+
 -- what stands at an address, by a reading at its offset
 abbrev pub at_address : {A : Type 0} → (ℕ → Option ℕ) → ℕ → (ℕ → Reading A) → Reading A
-at_address offset_of rva read = needs (offset_of rva) (Unmapped rva) >>= read
+at_address offset_of rva read = offset_at offset_of rva >>= read
+
+-- the text at an offset, as a name
+abbrev pub name_here : ℕ → Reading (List ℕ)
+name_here p = record (text_at p) {
+  IsCause = λ bytes. IsNameRead p;
+  not_memory = λ bytes. name_read-not_memory p;
+}
 
 -- the text at an address
 unfoldable pub name_at : (ℕ → Option ℕ) → ℕ → Reading (List ℕ)
-name_at offset_of rva = at_address offset_of rva (λ p. because (NameRead p) (text_at p))
+name_at offset_of rva = at_address offset_of rva name_here
 
 -- ---- the directory
 
@@ -78,5 +107,5 @@ libraries_past_front strict format offset_of o =
 unfoldable pub import_data : Bool → Format EntryValue → (ℕ → Option ℕ) → ℕ
     → Reading (List ImportedLibrary)
 import_data strict format offset_of rva =
-    or_else strict 0 (needs (offset_of rva) (Unmapped rva))
+    or_else strict 0 (offset_at offset_of rva)
     >>= libraries_past_front strict format offset_of

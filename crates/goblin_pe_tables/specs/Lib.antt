@@ -9,5 +9,6 @@ pub mod ImportEntries
 pub mod ImportFootprints
 pub mod ImportLookup
 pub mod ImportReadings
+pub mod ImportRecords
 pub mod Imports
 pub mod LookupReadings

@@ -187,7 +187,7 @@ impl<'a> SyntheticImportLookupTableEntry<'a> {
     ///
     /// # Errors
     /// As [`SyntheticImportLookupTableEntry::parse_with_opts`].
-    #[tactic(auto, using(crate::proofs::LookupSlots::rising, crate::proofs::LookupSlots::below))]
+    #[tactic(auto, using(crate::proofs::LookupSlots::table, crate::proofs::LookupSlots::rising, crate::proofs::LookupSlots::below))]
     pub fn parse_with_slots<'e, T: Bitfield<'a>>(
         alloc: Global,
         bytes: &'a [u8],
@@ -218,7 +218,7 @@ impl<'a> SyntheticImportLookupTableEntry<'a> {
         offset: usize,
         address_map: &AddressMap,
     ) -> ResultOf<'e, (ImportLookupTable<'a>, Vec<usize>)>
-        ensures value { ReadsOrMemory (λ both. map entry_view both.0) result (reading.lookup_table (reads_strictly address_map.now) T.format (offset_of address_map.now) offset) bytes.now }
+        ensures value { ReadsOrMemory (λ both. (map entry_view both.0, both.1.items)) result (reading.lookup_with_slots (reads_strictly address_map.now) T.format (offset_of address_map.now) offset) bytes.now }
         ensures grown { IfErr result (λ e. IsMemory e → KeepsEntries (reads_strictly address_map.now) T.format (offset_of address_map.now) bytes.now offset) }
         ensures slots { IfOk result (λ both. both.1.items ≡ lookup_slots (reads_strictly address_map.now) T.format (offset_of address_map.now) bytes.now offset) }
         ensures counted { IfOk result (λ both. length both.0 ≡ length both.1.items) }

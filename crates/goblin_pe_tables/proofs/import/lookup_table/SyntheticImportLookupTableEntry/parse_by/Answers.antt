@@ -4,8 +4,8 @@ use Rattle.std.proofs.lemmas.Result.{err_from_is_err_and}
 use Rattle.goblin_base.specs.declared.error.ErrorOf.TheVariants.{Malformed}
 use Rattle.goblin_base.specs.declared.error.CauseOf.TheVariants.{LookupEnd}
 use Rattle.goblin_base.proofs.SlotTables.{kept-all}
-use Rattle.readings.proofs.Loops.{read-end, read-last, read-missing, read-refused}
-use Rattle.readings.proofs.Loops.{slot-kept, slot-next, slot-start}
+use Rattle.readings.proofs.Loops.{slot-end, slot-kept, slot-last, slot-missing, slot-next}
+use Rattle.readings.proofs.Loops.{slot-refused, slot-start}
 use Rattle.goblin_pe_tables.specs.Addresses.{offset_of, reads_strictly}
 use Rattle.goblin_pe_tables.specs.ImportLookup.{entry_view}
 use Rattle.goblin_pe_tables.specs.LookupReadings.{kept_entry, lookup_entry_at}
@@ -21,13 +21,13 @@ slots-init g c =
 pub returns-in_default-clause-value : goal.returns-in_default-clause-value
 returns-in_default-clause-value g c = λ _.
     let mode = strict _ _ c.is_permissive.ensures c.if-is_permissive.false in
-    read-missing _ _ _ _ _ _ c.slots.invariant.0.read _ (lookup_entry_at g.T.Bitfield.format) (Malformed (LookupEnd c.slots.place)) c.in_default.ensures.0 mode refl
+    slot-missing _ _ _ _ _ _ _ _ c.slots.invariant.0 _ (lookup_entry_at g.T.Bitfield.format) (Malformed (LookupEnd c.slots.place)) c.in_default.ensures.0 mode refl
 
 pub returns-in_err-kept-clause-value : goal.returns-in_err-kept-clause-value
 returns-in_err-kept-clause-value g c =
     let e = err_from_is_err_and c.from_residual.result c.from_residual.ensures.1 in
     let going = sym c.is_zero.ensures ∙ c.if-is_zero.false in
-    rw (e.1, e.2) (λ _. read-refused _ _ _ _ _ _ c.slots.invariant.0.read _ (lookup_entry_at g.T.Bitfield.format) _ _ c.in-Ok.ensures going c.in_err-kept.ensures)
+    rw (e.1, e.2) (λ _. slot-refused _ _ _ _ _ _ _ _ c.slots.invariant.0 _ (lookup_entry_at g.T.Bitfield.format) _ _ c.in-Ok.ensures going c.in_err-kept.ensures)
 
 pub returns-in_err-kept-clause-grown : goal.returns-in_err-kept-clause-grown
 returns-in_err-kept-clause-grown g c =
@@ -48,9 +48,9 @@ returns-clause-value g c =
     elim c.match-read_entry.branch [
       | in_default+then-is_permissive w ↦
           let mode = permissive _ _ w.is_permissive.ensures w.if-is_permissive.true in
-          rw c.from.ensures (read-end _ _ _ _ _ _ c.slots.invariant.0.read _ (lookup_entry_at g.T.Bitfield.format) w.in_default.ensures.0 mode)
+          rw c.from.ensures (slot-end _ _ _ _ _ _ _ _ c.slots.invariant.0 _ (lookup_entry_at g.T.Bitfield.format) w.in_default.ensures.0 mode)
       | in-Ok+then-is_zero w ↦
-          rw c.from.ensures (read-last _ _ _ _ _ _ c.slots.invariant.0.read _ (lookup_entry_at g.T.Bitfield.format) _ w.in-Ok.ensures (sym w.is_zero.ensures ∙ w.if-is_zero.true))
+          rw c.from.ensures (slot-last _ _ _ _ _ _ _ _ c.slots.invariant.0 _ (lookup_entry_at g.T.Bitfield.format) _ w.in-Ok.ensures (sym w.is_zero.ensures ∙ w.if-is_zero.true))
     ]
 
 pub returns-clause-slots : goal.returns-clause-slots
