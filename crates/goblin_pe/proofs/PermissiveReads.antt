@@ -65,10 +65,10 @@ past_front false r bytes xs is = is
 front_or_not : (format : Format EntryValue) (offset_of : ℕ → Option ℕ) (bytes : List ℕ)
     (place : Option ℕ) (xs : List ImportedLibrary)
     → (in_its_place true 0 place
-      >>= λ o. (libraries_past_front true format offset_of o).value bytes) ≡ Some xs
+    >>= λ o. (libraries_past_front true format offset_of o).value bytes) ≡ Some xs
     → (in_its_place false 0 place
-      >>= λ o. (libraries_past_front false format offset_of o).value bytes)
-      ≡ Some (unless_front place xs)
+    >>= λ o. (libraries_past_front false format offset_of o).value bytes)
+    ≡ Some (unless_front place xs)
 unfolding libraries_past_front
 front_or_not format offset_of bytes None xs is = absurd cc
 front_or_not format offset_of bytes (Some o) xs is =

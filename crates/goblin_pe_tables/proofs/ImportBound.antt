@@ -132,8 +132,8 @@ module _ (strict : Bool) (format : Format EntryValue) (offset_of : ℕ → Optio
       omega (arith, few)
 
   lookup_if-few : (place : Option ℕ) (both : Option (List LookupEntry) × List ℕ)
-    → (directory.lookup_if strict format offset_of place).value bytes ≡ Some both
-    → length (unwrap_or both.0 []) ≤ entries
+      → (directory.lookup_if strict format offset_of place).value bytes ≡ Some both
+      → length (unwrap_or both.0 []) ≤ entries
   unfolding directory.lookup_if
   lookup_if-few None both e =
       subst (λ (t : Option (List LookupEntry) × List ℕ). length (unwrap_or t.0 []) ≤ entries)
@@ -145,8 +145,8 @@ module _ (strict : Bool) (format : Format EntryValue) (offset_of : ℕ → Optio
       m.made (lookup_table-few o m.value.0 table)
 
   library_of-few : (r : ImportDirectoryEntry) (library : ImportedLibrary)
-    → library_of strict format offset_of bytes r ≡ Some library
-    → length (kept_entries library) ≤ entries
+      → library_of strict format offset_of bytes r ≡ Some library
+      → length (kept_entries library) ≤ entries
   unfolding directory.library_of
   library_of-few r library e =
       let place = lookup_offset offset_of r in
@@ -176,15 +176,15 @@ module _ (strict : Bool) (format : Format EntryValue) (offset_of : ℕ → Optio
   none_kept xs e = subst (λ (ls : List ImportedLibrary). kept_count ls ≤ length bytes / 20 * entries) (same_value [] xs e) (omega arith)
 
   by_test : (test : Bool) (r : Reading (List ImportedLibrary)) (xs : List ImportedLibrary)
-    → (r.value bytes ≡ Some xs → kept_count xs ≤ length bytes / 20 * entries)
-    → (cond test (given []) r).value bytes ≡ Some xs
-    → kept_count xs ≤ length bytes / 20 * entries
+      → (r.value bytes ≡ Some xs → kept_count xs ≤ length bytes / 20 * entries)
+      → (cond test (given []) r).value bytes ≡ Some xs
+      → kept_count xs ≤ length bytes / 20 * entries
   by_test true r xs few e = none_kept xs e
   by_test false r xs few e = few e
 
   past_front-few : (o : ℕ) (xs : List ImportedLibrary)
-    → (directory.libraries_past_front strict format offset_of o).value bytes ≡ Some xs
-    → kept_count xs ≤ length bytes / 20 * entries
+      → (directory.libraries_past_front strict format offset_of o).value bytes ≡ Some xs
+      → kept_count xs ≤ length bytes / 20 * entries
   unfolding directory.libraries_past_front
   past_front-few o xs e =
       by_test (not strict && nat_eq o 0) (directory.libraries_at strict format offset_of o) xs
@@ -192,8 +192,8 @@ module _ (strict : Bool) (format : Format EntryValue) (offset_of : ℕ → Optio
 
   -- the entries that the lookup tables of import data keep
   pub import_data-few : (rva : ℕ) (libraries : List ImportedLibrary)
-    → import_data strict format offset_of bytes rva ≡ Some libraries
-    → kept_count libraries ≤ length bytes / 20 * entries
+      → import_data strict format offset_of bytes rva ≡ Some libraries
+      → kept_count libraries ≤ length bytes / 20 * entries
   unfolding directory.import_data
   import_data-few rva libraries e =
       let s = step (in_its_place strict 0 (offset_of rva)) _ libraries e in

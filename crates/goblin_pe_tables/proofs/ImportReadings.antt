@@ -94,7 +94,7 @@ reaches_place false format offset_of bytes None = refl
 pub reaches-import_data : (strict : Bool) (format : Format EntryValue) (offset_of : ℕ → Option ℕ)
     (bytes : List ℕ) (rva : ℕ)
     → (directory.import_data strict format offset_of rva).reaches bytes
-      ≡ import_footprint strict format offset_of bytes rva
+    ≡ import_footprint strict format offset_of bytes rva
 unfolding directory.import_data
 reaches-import_data strict format offset_of bytes rva =
     ap (led_to (in_its_place strict 0 (offset_of rva)))
