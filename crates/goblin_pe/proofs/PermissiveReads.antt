@@ -20,11 +20,15 @@ use Rattle.goblin_pe_head.proofs.PermissiveReads.{header-kept, sections_at-kept}
 use Rattle.goblin_pe.specs.declared.whole.Part.{Part}
 use Rattle.goblin_pe.specs.declared.whole.Part.TheVariants.{Absent, Refused}
 use Rattle.goblin_pe.specs.declared.whole.Part.TheVariants as part
-use Rattle.goblin_pe_tables.specs.ImportDirectory.{ImportedLibrary, import_data, libraries_at, libraries_if}
+use Rattle.goblin_pe_tables.specs.ImportDirectory.{ImportedLibrary, import_data}
+use Rattle.goblin_pe_tables.specs.ImportReadings as reading
+use Rattle.goblin_pe_tables.specs.ImportReadings.{libraries_past_front}
+use Rattle.goblin_base.specs.Reading.{Reading}
+use Rattle.readings.specs.Reads.{given, in_its_place}
 use Rattle.goblin_pe_tables.specs.ImportLookup.{EntryValue}
 use Rattle.goblin_pe_tables.specs.Imports.{ImportValue, imports_of}
 use Rattle.goblin_pe_tables.specs.Exports.{export_data}
-use Rattle.goblin_pe_tables.proofs.ImportRepeats.{libraries_at-kept}
+use Rattle.goblin_pe_tables.proofs.PermissiveReads.{libraries_at-kept}
 use Rattle.goblin_pe.specs.Modes.{Repeats, RepeatsOrMemory, in_mode, in_permissive_mode, is_front, unless_front}
 use Rattle.goblin_pe.specs.Whole.{FileTables, TablePlaces, WholeFile, entry_format, export_data_part, exports_part, file_sections, import_data_part, imports_part, part_at, part_map, part_of, part_then, places_in, relocations_part, section_table_offset, tables_of, whole_file}
 
@@ -52,18 +56,32 @@ repeats view becomes (Err d) second value again IsCause IsOther one two kept = t
 
 -- ---- import data
 
-by_place : {A : Type 0} (front : Bool) (value : Option (List A)) (xs : List A) → value ≡ Some xs → cond front (Some []) value ≡ Some (cond front [] xs)
-by_place true value xs e = refl
-by_place false value xs e = e
+past_front : (test : Bool) (r : Reading (List ImportedLibrary)) (bytes : List ℕ)
+    (xs : List ImportedLibrary) → r.value bytes ≡ Some xs
+    → (cond test (given []) r).value bytes ≡ Some (cond test [] xs)
+past_front true r bytes xs is = refl
+past_front false r bytes xs is = is
 
-module _ (format : Format EntryValue) (offset_of : ℕ → Option ℕ) (bytes : List ℕ) where
-  by_offset : (place : Option ℕ) (xs : List ImportedLibrary) → libraries_if true format offset_of bytes place ≡ Some xs → libraries_if false format offset_of bytes place ≡ Some (unless_front place xs)
-  by_offset None xs e = absurd cc
-  by_offset (Some o) xs e = by_place (nat_eq o 0) (libraries_at false format offset_of bytes o) xs (libraries_at-kept offset_of format bytes o xs e)
+front_or_not : (format : Format EntryValue) (offset_of : ℕ → Option ℕ) (bytes : List ℕ)
+    (place : Option ℕ) (xs : List ImportedLibrary)
+    → (in_its_place true 0 place
+    >>= λ o. (libraries_past_front true format offset_of o).value bytes) ≡ Some xs
+    → (in_its_place false 0 place
+    >>= λ o. (libraries_past_front false format offset_of o).value bytes)
+    ≡ Some (unless_front place xs)
+unfolding libraries_past_front
+front_or_not format offset_of bytes None xs is = absurd cc
+front_or_not format offset_of bytes (Some o) xs is =
+    past_front (nat_eq o 0) (reading.libraries_at false format offset_of o) bytes xs
+    (libraries_at-kept offset_of format bytes o xs is)
 
 -- import data of a directory that is not at the front of the file
-pub import_data-kept : (format : Format EntryValue) (offset_of : ℕ → Option ℕ) (bytes : List ℕ) (rva : ℕ) (xs : List ImportedLibrary) → import_data true format offset_of bytes rva ≡ Some xs → import_data false format offset_of bytes rva ≡ Some (unless_front (offset_of rva) xs)
-import_data-kept format offset_of bytes rva xs e = by_offset format offset_of bytes (offset_of rva) xs e
+pub import_data-kept : (format : Format EntryValue) (offset_of : ℕ → Option ℕ) (bytes : List ℕ)
+    (rva : ℕ) (xs : List ImportedLibrary) → import_data true format offset_of bytes rva ≡ Some xs
+    → import_data false format offset_of bytes rva ≡ Some (unless_front (offset_of rva) xs)
+unfolding reading.import_data
+import_data-kept format offset_of bytes rva xs is =
+    front_or_not format offset_of bytes (offset_of rva) xs is
 
 -- ---- parts
 

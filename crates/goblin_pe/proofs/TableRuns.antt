@@ -15,7 +15,7 @@ use Rattle.goblin_pe_tables.specs.ImportDirectory.{import_data}
 use Rattle.goblin_pe_tables.specs.ImportLookup.{EntryValue, entry_view, lookup_table}
 use Rattle.goblin_pe.specs.Modes.{unless_front}
 use Rattle.goblin_pe.specs.TableRuns.{AreAlike, AreRepeated, AreTables}
-use Rattle.goblin_pe_tables.proofs.ImportRepeats.{lookup_table-kept}
+use Rattle.goblin_pe_tables.proofs.PermissiveReads.{lookup_table-kept}
 use Rattle.goblin_pe.proofs.PermissiveReads.{import_data-kept, repeats, repeats_or_memory}
 
 module _ {D Y : Type 0} (format : Format EntryValue) (plain : D → Y) (value_of : Endian → List ℕ → Option (Y × ℕ)) (refusal : Endian → List ℕ → ErrorOf → Type 0) (bytes : List ℕ) (request : Request) (first second : TablesOf D) where

@@ -15,6 +15,7 @@ pub use Rattle.goblin_base.specs.RecordLaws
 pub use Rattle.goblin_base.specs.Strtab
 pub use Rattle.goblin_base.specs.Tables
 pub use Rattle.goblin_base.specs.Values
+pub use Rattle.readings.specs.Reads
 pub use Rattle.goblin_pe_sect.specs.AuxiliarySymbols
 pub use Rattle.goblin_pe_sect.specs.BaseRelocations
 pub use Rattle.goblin_pe_sect.specs.DataDirectories
@@ -47,6 +48,10 @@ pub use Rattle.goblin_pe_tables.specs.ForwarderLaws
 pub use Rattle.goblin_pe_tables.specs.Forwarders
 pub use Rattle.goblin_pe_tables.specs.ImportBound
 pub use Rattle.goblin_pe_tables.specs.ImportDirectory
+pub use Rattle.goblin_pe_tables.specs.ImportEntries
 pub use Rattle.goblin_pe_tables.specs.ImportFootprints
 pub use Rattle.goblin_pe_tables.specs.ImportLookup
+pub use Rattle.goblin_pe_tables.specs.ImportReadings
+pub use Rattle.goblin_pe_tables.specs.ImportRecords
 pub use Rattle.goblin_pe_tables.specs.Imports
+pub use Rattle.goblin_pe_tables.specs.LookupReadings

@@ -13,12 +13,17 @@ use Rattle.goblin_base.specs.Tables.{Format, SlotFormat, each_below, ends_table,
 use Rattle.goblin_base.proofs.Below.{join-parts, least-before}
 use Rattle.goblin_base.proofs.Records.{record_at-some}
 use Rattle.goblin_base.proofs.Steps.{mapped, same_value, step}
-use Rattle.goblin_pe_sect.specs.Mapping.{name_at, name_or_none}
 use Rattle.goblin_pe_tables.specs.declared.import.directory_entry.ImportDirectoryEntry.{ImportDirectoryEntry}
 use Rattle.goblin_pe_tables.specs.ImportBound.{AreFew}
-use Rattle.goblin_pe_tables.specs.ImportDirectory.{ImportedLibrary, import_data, address_table_rva, import_slots, libraries_at, libraries_if, library_of, lookup_offset, lookup_slots_if, lookup_table_if}
-use Rattle.goblin_pe_tables.specs.ImportLookup.{EntryValue, LookupEntry, address_table, entry_slots, kept_entry, kept_name, lookup_table}
-use Rattle.goblin_pe_tables.specs.ImportLookup.LookupEntry.{ByOrdinal}
+use Rattle.goblin_pe_tables.specs.ImportDirectory.{import_data, libraries_at, library_of}
+use Rattle.goblin_pe_tables.specs.ImportReadings as directory
+use Rattle.goblin_pe_tables.specs.ImportRecords.{ImportedLibrary, import_slots, lookup_offset}
+use Rattle.goblin_pe_tables.specs.ImportLookup.{address_table, kept_entry, lookup_table}
+use Rattle.goblin_pe_tables.specs.ImportEntries.{EntryValue, LookupEntry, entry_slots}
+use Rattle.goblin_pe_tables.specs.ImportEntries.LookupEntry.{ByOrdinal}
+use Rattle.goblin_pe_tables.specs.LookupReadings as reading
+use Rattle.goblin_base.specs.Reading.{Reading}
+use Rattle.readings.specs.Reads.{given, in_its_place, pair_of, with_slots}
 use Rattle.goblin_pe_tables.specs.Imports.{ImportValue, has_slots, import_at, imports_by, imports_of, kept_count, kept_entries, library_imports}
 use Rattle.goblin_base.proofs.Kept.{without_test}
 
@@ -74,18 +79,47 @@ or_left_out-few {A} strict (Some x) xs e = omega (arith, ap length (same_value (
 or_left_out-few true None xs e = absurd cc
 or_left_out-few false None xs e = omega (arith, ap length (same_value [] xs e))
 
-kept_name-few : (strict : Bool) (bytes : List ℕ) (rva : ℕ) (place : Option ℕ) (xs : List LookupEntry) → kept_name strict bytes rva place ≡ Some xs → length xs ≤ 1
+kept_name-few : (strict : Bool) (bytes : List ℕ) (rva : ℕ) (place : Option ℕ)
+    (xs : List LookupEntry) → (reading.kept_name strict rva place).value bytes ≡ Some xs
+    → length xs ≤ 1
+unfolding reading.kept_name
 kept_name-few strict bytes rva None xs e = omega (arith, ap length (same_value [] xs e))
 kept_name-few strict bytes rva (Some p) xs e = or_left_out-few strict _ xs e
 
-one_or : (test : Bool) (x : LookupEntry) (other : Option (List LookupEntry)) (xs : List LookupEntry) → (other ≡ Some xs → length xs ≤ 1) → cond test (Some (x ∷ [])) other ≡ Some xs → length xs ≤ 1
-one_or true x other xs few e = omega (arith, ap length (same_value (x ∷ []) xs e))
-one_or false x other xs few e = few e
+one_or : (test : Bool) (x : LookupEntry) (other : Reading (List LookupEntry)) (bytes : List ℕ)
+    (xs : List LookupEntry) → (other.value bytes ≡ Some xs → length xs ≤ 1)
+    → (cond test (given (x ∷ [])) other).value bytes ≡ Some xs → length xs ≤ 1
+one_or true x other bytes xs few e = omega (arith, ap length (same_value (x ∷ []) xs e))
+one_or false x other bytes xs few e = few e
 
-kept_entry-few : (strict : Bool) (offset_of : ℕ → Option ℕ) (bytes : List ℕ) (entry : EntryValue) (xs : List LookupEntry) → kept_entry strict offset_of bytes entry ≡ Some xs → length xs ≤ 1
-unfolding kept_entry
+kept_entry-few : (strict : Bool) (offset_of : ℕ → Option ℕ) (bytes : List ℕ)
+    (entry : EntryValue) (xs : List LookupEntry)
+    → kept_entry strict offset_of bytes entry ≡ Some xs → length xs ≤ 1
+unfolding reading.kept_entry
 kept_entry-few strict offset_of bytes entry xs e =
-    one_or entry.is_ordinal (ByOrdinal entry.ordinal) (kept_name strict bytes entry.rva (offset_of entry.rva)) xs (kept_name-few strict bytes entry.rva (offset_of entry.rva) xs) e
+    one_or entry.is_ordinal (ByOrdinal entry.ordinal)
+    (reading.kept_name strict entry.rva (offset_of entry.rva)) bytes xs
+    (kept_name-few strict bytes entry.rva (offset_of entry.rva) xs) e
+
+with_slots-value : {A : Type 0} (kept : List ℕ) (made : Option A) (both : A × List ℕ)
+    → with_slots kept made ≡ Some both → made ≡ Some both.0
+with_slots-value kept None both e = absurd cc
+with_slots-value {A} kept (Some x) both e =
+    ap (λ (p : A × List ℕ). Some p.0) (same_value (x, kept) both e)
+
+pair_of-left : {A B : Type 0} (x : Option A) (y : Option B) (both : A × B)
+    → pair_of x y ≡ Some both → x ≡ Some both.0
+pair_of-left None y both e = absurd cc
+pair_of-left (Some v) None both e = absurd cc
+pair_of-left {A} {B} (Some v) (Some w) both e =
+    ap (λ (p : A × B). Some p.0) (same_value (v, w) both e)
+
+pair_of-right : {A B : Type 0} (x : Option A) (y : Option B) (both : A × B)
+    → pair_of x y ≡ Some both → y ≡ Some both.1
+pair_of-right None y both e = absurd cc
+pair_of-right (Some v) None both e = absurd cc
+pair_of-right {A} {B} (Some v) (Some w) both e =
+    ap (λ (p : A × B). Some p.1) (same_value (v, w) both e)
 
 module _ (strict : Bool) (format : Format EntryValue) (offset_of : ℕ → Option ℕ) (bytes : List ℕ) (some : 0 < format.width) where
   -- how many entries fit the file
@@ -97,21 +131,31 @@ module _ (strict : Bool) (format : Format EntryValue) (offset_of : ℕ → Optio
       let few = slot_table-count length refl length-append (entry_slots format) strict (kept_entry strict offset_of bytes) bytes o 1 some (kept_entry-few strict offset_of bytes) xs e in
       omega (arith, few)
 
-  lookup_table_if-few : (place : Option ℕ) (table : Option (List LookupEntry)) → lookup_table_if strict format offset_of bytes place ≡ Some table → length (unwrap_or table []) ≤ entries
-  lookup_table_if-few None table e = subst (λ (t : Option (List LookupEntry)). length (unwrap_or t []) ≤ entries) (same_value None table e) (omega arith)
-  lookup_table_if-few (Some o) table e =
-      let m = mapped (lookup_table strict format offset_of bytes o) (λ t. Some t) table e in
-      subst (λ (t : Option (List LookupEntry)). length (unwrap_or t []) ≤ entries) m.made (lookup_table-few o m.value m.is)
+  lookup_if-few : (place : Option ℕ) (both : Option (List LookupEntry) × List ℕ)
+      → (directory.lookup_if strict format offset_of place).value bytes ≡ Some both
+      → length (unwrap_or both.0 []) ≤ entries
+  unfolding directory.lookup_if
+  lookup_if-few None both e =
+      subst (λ (t : Option (List LookupEntry) × List ℕ). length (unwrap_or t.0 []) ≤ entries)
+      (same_value (None, []) both e) (omega arith)
+  lookup_if-few (Some o) both e =
+      let m = mapped ((reading.lookup_with_slots strict format offset_of o).value bytes) _ both e in
+      let table = with_slots-value _ (lookup_table strict format offset_of bytes o) m.value m.is in
+      subst (λ (t : Option (List LookupEntry) × List ℕ). length (unwrap_or t.0 []) ≤ entries)
+      m.made (lookup_table-few o m.value.0 table)
 
-  library_of-few : (r : ImportDirectoryEntry) (library : ImportedLibrary) → library_of strict format offset_of bytes r ≡ Some library → length (kept_entries library) ≤ entries
-  unfolding library_of
+  library_of-few : (r : ImportDirectoryEntry) (library : ImportedLibrary)
+      → library_of strict format offset_of bytes r ≡ Some library
+      → length (kept_entries library) ≤ entries
+  unfolding directory.library_of
   library_of-few r library e =
-      let s1 = step (name_or_none strict (name_at offset_of bytes r.name_rva)) _ library e in
-      let s2 = step (lookup_table_if strict format offset_of bytes (lookup_offset offset_of r)) _ library s1.then in
-      let s3 = step (offset_of (address_table_rva r)) _ library s2.then in
-      let s4 = step (address_table format bytes s3.value) _ library s3.then in
-      let made : ImportedLibrary = record { import_directory_entry = r; name = unwrap_or s1.value []; import_lookup_table = s2.value; import_lookup_slots = lookup_slots_if strict format offset_of bytes (lookup_offset offset_of r); import_address_table = s4.value } in
-      subst (λ (l : ImportedLibrary). length (kept_entries l) ≤ entries) (same_value made library s4.then) (lookup_table_if-few (lookup_offset offset_of r) s2.value s2.is)
+      let place = lookup_offset offset_of r in
+      let name = in_its_place strict [] ((directory.name_at offset_of r.name_rva).value bytes) in
+      let look = (directory.lookup_if strict format offset_of place).value bytes in
+      let m = mapped (pair_of (pair_of name look) _) _ library e in
+      let there = pair_of-right name look m.value.0 (pair_of-left (pair_of name look) _ m.value m.is) in
+      subst (λ (l : ImportedLibrary). length (kept_entries l) ≤ entries) m.made
+      (lookup_if-few place m.value.0.1 there)
 
   kept-few : (library : Option ImportedLibrary) (xs : List ImportedLibrary) → ((l : ImportedLibrary) → library ≡ Some l → length (kept_entries l) ≤ entries) → or_left_out strict library ≡ Some xs → kept_count xs ≤ entries
   kept-few library xs few e = by_item strict library xs few e
@@ -131,17 +175,29 @@ module _ (strict : Bool) (format : Format EntryValue) (offset_of : ℕ → Optio
   none_kept : (xs : List ImportedLibrary) → Some [] ≡ Some xs → kept_count xs ≤ length bytes / 20 * entries
   none_kept xs e = subst (λ (ls : List ImportedLibrary). kept_count ls ≤ length bytes / 20 * entries) (same_value [] xs e) (omega arith)
 
-  by_test : (test : Bool) (value : Option (List ImportedLibrary)) (xs : List ImportedLibrary) → (value ≡ Some xs → kept_count xs ≤ length bytes / 20 * entries) → cond test (Some []) value ≡ Some xs → kept_count xs ≤ length bytes / 20 * entries
-  by_test true value xs few e = none_kept xs e
-  by_test false value xs few e = few e
+  by_test : (test : Bool) (r : Reading (List ImportedLibrary)) (xs : List ImportedLibrary)
+      → (r.value bytes ≡ Some xs → kept_count xs ≤ length bytes / 20 * entries)
+      → (cond test (given []) r).value bytes ≡ Some xs
+      → kept_count xs ≤ length bytes / 20 * entries
+  by_test true r xs few e = none_kept xs e
+  by_test false r xs few e = few e
 
-  by_place : (place : Option ℕ) (xs : List ImportedLibrary) → libraries_if strict format offset_of bytes place ≡ Some xs → kept_count xs ≤ length bytes / 20 * entries
-  by_place None xs e = none_kept xs (without_test strict (Some []) xs e)
-  by_place (Some o) xs e = by_test (not strict && nat_eq o 0) (libraries_at strict format offset_of bytes o) xs (libraries_at-few o xs) e
+  past_front-few : (o : ℕ) (xs : List ImportedLibrary)
+      → (directory.libraries_past_front strict format offset_of o).value bytes ≡ Some xs
+      → kept_count xs ≤ length bytes / 20 * entries
+  unfolding directory.libraries_past_front
+  past_front-few o xs e =
+      by_test (not strict && nat_eq o 0) (directory.libraries_at strict format offset_of o) xs
+      (libraries_at-few o xs) e
 
   -- the entries that the lookup tables of import data keep
-  pub import_data-few : (rva : ℕ) (libraries : List ImportedLibrary) → import_data strict format offset_of bytes rva ≡ Some libraries → kept_count libraries ≤ length bytes / 20 * entries
-  import_data-few rva libraries e = by_place (offset_of rva) libraries e
+  pub import_data-few : (rva : ℕ) (libraries : List ImportedLibrary)
+      → import_data strict format offset_of bytes rva ≡ Some libraries
+      → kept_count libraries ≤ length bytes / 20 * entries
+  unfolding directory.import_data
+  import_data-few rva libraries e =
+      let s = step (in_its_place strict 0 (offset_of rva)) _ libraries e in
+      past_front-few s.value libraries s.then
 
 -- ---- the imports
 

@@ -18,8 +18,8 @@ use Rattle.goblin_pe_tables.specs.ImportFootprints.{hint_footprint, import_footp
 use Rattle.goblin_pe_tables.specs.ImportFootprints.{lookup_footprint}
 use Rattle.goblin_pe_tables.specs.ImportLookup.{EntryValue, lookup_table}
 use Rattle.goblin_pe_tables.specs.ImportReadings as reading
+use Rattle.goblin_pe_tables.specs.LookupReadings as lookup
 use Rattle.goblin_pe_tables.proofs.ImportReadings.{reaches-import_data, reaches-lookup_table}
-use Rattle.goblin_pe_tables.proofs.ImportReadings.{value-import_data, value-lookup_table}
 
 -- ---- two files
 
@@ -30,14 +30,15 @@ by_reading : {A : Type 0} (r : Reading A) (value : List ℕ → Option A) (reach
 by_reading r value reach a b own reached h =
     sym (own a) ∙ r.is_local a b (subst (λ ranges. Agree ranges a b) (sym reached) h) ∙ own b
 
-module _ (strict : Bool) (format : Format EntryValue) (offset_of : ℕ → Option ℕ) (a b : List ℕ) where
+module _ (strict : Bool) (format : Format EntryValue) (offset_of : ℕ → Option ℕ)
+    (a b : List ℕ) where
   pub same-lookup_table : (o : ℕ) → Agree (lookup_footprint format offset_of a o) a b
       → lookup_table strict format offset_of a o ≡ lookup_table strict format offset_of b o
   same-lookup_table o h =
-      by_reading (reading.lookup_table strict format offset_of o)
+      by_reading (lookup.lookup_table strict format offset_of o)
       (λ bytes. lookup_table strict format offset_of bytes o)
       (lookup_footprint format offset_of a o) a b
-      (λ bytes. value-lookup_table strict offset_of bytes format o)
+      (λ bytes. refl)
       (reaches-lookup_table strict offset_of a format o) h
 
   pub same-import_data : (rva : ℕ) → Agree (import_footprint strict format offset_of a rva) a b
@@ -46,7 +47,7 @@ module _ (strict : Bool) (format : Format EntryValue) (offset_of : ℕ → Optio
       by_reading (reading.import_data strict format offset_of rva)
       (λ bytes. import_data strict format offset_of bytes rva)
       (import_footprint strict format offset_of a rva) a b
-      (λ bytes. value-import_data strict format offset_of bytes rva)
+      (λ bytes. refl)
       (reaches-import_data strict format offset_of a rva) h
 
 -- ---- one file

@@ -8,8 +8,9 @@ pub mod ImportBound
 pub mod ImportDirectoryRoundTrip
 pub mod ImportFootprints
 pub mod ImportReadings
-pub mod ImportRepeats
 pub mod Imports
+pub mod LibraryNames
 pub mod LookupSlots
 pub mod Modes
+pub mod PermissiveReads
 mod SomeRanges

@@ -1,83 +1,58 @@
--- The imports of a file by readings: the value, the cause and the footprint of each read in one
--- definition, over a map of addresses to file offsets. `ImportLookup`, `ImportDirectory` and
--- `ImportFootprints` have the same as three.
-use Rattle.std.specs.Prelude.{ℕ, ◌+◌, ◌==◌, Bool, true, cond, ◌&&◌, not, List, [], ◌∷◌}
-use Rattle.std.specs.Prelude.{Option, Some, None}
+-- The import directory by readings: the value, the cause and the footprint of each read in one
+-- definition, over a map of addresses to file offsets. `ImportDirectory` and `ImportFootprints`
+-- have the same as three.
+use Rattle.std.specs.Prelude.{ℕ, ◌==◌, Bool, ◌&&◌, not, cond, List, [], Option, Some, None}
 use Rattle.goblin_base.specs.declared.endian.Endian.TheVariants.{Little}
-use Rattle.goblin_base.specs.declared.error.CauseOf.TheVariants.{HintEntry, ImportRecordEnd}
-use Rattle.goblin_base.specs.declared.error.CauseOf.TheVariants.{LookupEnd, NameRead, Unmapped}
+use Rattle.goblin_base.specs.declared.error.CauseOf.TheVariants.{ImportRecordEnd}
+use Rattle.goblin_base.specs.declared.error.ErrorOf.{ErrorOf}
+use Rattle.goblin_base.specs.declared.error.ErrorOf.TheVariants.{BadMagic, BufferTooShort}
+use Rattle.goblin_base.specs.declared.error.ErrorOf.TheVariants.{Malformed, Memory, Read}
+use Rattle.goblin_base.specs.Answers.{IsMemory}
 use Rattle.goblin_base.specs.Reading.{Reading}
 use Rattle.goblin_base.specs.Tables.{Format}
-use Rattle.readings.specs.Reads.{◌>>=◌, ◌beside◌, because, given, mapped, needs, number_at}
-use Rattle.readings.specs.Reads.{or_else, or_left_out, record_at, table, table_with_slots, text_at}
-use Rattle.goblin_pe_tables.specs.ImportDirectory.{ImportedLibrary, address_table_rva}
-use Rattle.goblin_pe_tables.specs.ImportDirectory.{import_record, import_slots, lookup_offset}
-use Rattle.goblin_pe_tables.specs.ImportLookup.{EntryValue, HintName, LookupEntry, entry_slots}
-use Rattle.goblin_pe_tables.specs.ImportLookup.LookupEntry.{ByName, ByOrdinal}
+use Rattle.readings.specs.Reads.{◌>>=◌, ◌beside◌, because, given, mapped, needs_by, or_else}
+use Rattle.readings.specs.Reads.{or_left_out, record_at, table, text_at}
+use Rattle.goblin_pe_sect.specs.Mapping.{IsNameRead, IsUnmapped}
+use Rattle.goblin_pe_tables.specs.ImportEntries.{EntryValue, LookupEntry}
+use Rattle.goblin_pe_tables.specs.ImportRecords.{ImportedLibrary, address_table_rva}
+use Rattle.goblin_pe_tables.specs.ImportRecords.{import_record, import_slots, lookup_offset}
+use Rattle.goblin_pe_tables.specs.LookupReadings.{address_table, lookup_with_slots}
 use Rattle.goblin_pe_tables.specs.declared.import.directory_entry.ImportDirectoryEntry.{ImportDirectoryEntry}
 
 -- ---- at an address
 
+pub unmapped-not_memory : (rva : ℕ) (e : ErrorOf) → IsUnmapped rva e → ¬ IsMemory e
+unmapped-not_memory rva (Memory m) h = absurd h
+unmapped-not_memory rva (Malformed c) h = λ m. m
+unmapped-not_memory rva (BadMagic k) h = λ m. m
+unmapped-not_memory rva (BufferTooShort k what) h = λ m. m
+unmapped-not_memory rva (Read fault) h = λ m. m
+
+pub name_read-not_memory : (p : ℕ) (e : ErrorOf) → IsNameRead p e → ¬ IsMemory e
+name_read-not_memory p (Memory m) h = absurd h
+name_read-not_memory p (Malformed c) h = λ m. m
+name_read-not_memory p (BadMagic k) h = λ m. m
+name_read-not_memory p (BufferTooShort k what) h = λ m. m
+name_read-not_memory p (Read fault) h = λ m. m
+
+-- the offset of an address
+abbrev pub offset_at : (ℕ → Option ℕ) → ℕ → Reading ℕ
+offset_at offset_of rva = needs_by (offset_of rva) (IsUnmapped rva) (unmapped-not_memory rva)
+
 -- what stands at an address, by a reading at its offset
 abbrev pub at_address : {A : Type 0} → (ℕ → Option ℕ) → ℕ → (ℕ → Reading A) → Reading A
-at_address offset_of rva read = needs (offset_of rva) (Unmapped rva) >>= read
+at_address offset_of rva read = offset_at offset_of rva >>= read
+
+-- the text at an offset, as a name
+abbrev pub name_here : ℕ → Reading (List ℕ)
+name_here p = record (text_at p) {
+  IsCause = λ bytes. IsNameRead p;
+  not_memory = λ bytes. name_read-not_memory p;
+}
 
 -- the text at an address
 unfoldable pub name_at : (ℕ → Option ℕ) → ℕ → Reading (List ℕ)
-name_at offset_of rva = at_address offset_of rva (λ p. because (NameRead p) (text_at p))
-
--- ---- lookup tables and address tables
-
--- the entry at an offset
-abbrev pub entry_at : Format EntryValue → ℕ → Reading EntryValue
-entry_at format p = record_at format.width format.value_of p
-
--- The hint at an offset, and the name after it. Permissive mode takes the empty name where no text
--- follows the hint.
-unfoldable pub hint_name : Bool → ℕ → Reading HintName
-hint_name strict p =
-    mapped (λ both. record { hint = both.0; name = both.1 })
-    (because (HintEntry p) (number_at Little 2 p) beside or_else strict [] (text_at (p + 2)))
-
--- What is kept of an entry whose address has this offset: the hint and the name there. Nothing is
--- kept where the address has none.
-unfoldable pub kept_name : Bool → ℕ → Option ℕ → Reading (List LookupEntry)
-kept_name strict rva None = given []
-kept_name strict rva (Some p) = or_left_out strict (mapped (ByName rva) (hint_name strict p))
-
--- what is kept of an entry: one entry, or nothing
-unfoldable pub kept_entry : Bool → (ℕ → Option ℕ) → EntryValue → Reading (List LookupEntry)
-kept_entry strict offset_of entry =
-    cond entry.is_ordinal (given (ByOrdinal entry.ordinal ∷ []))
-    (kept_name strict entry.rva (offset_of entry.rva))
-
--- the entry of a lookup table at an offset
-abbrev pub lookup_entry_at : Format EntryValue → ℕ → Reading EntryValue
-lookup_entry_at format p = because (LookupEnd p) (entry_at format p)
-
--- The lookup table at an offset: what is kept of the entries before the first slot that is not in
--- the file or has number 0. Strict mode needs that slot. With it come the indexes of the slots
--- whose entries are kept.
-abbrev pub lookup_with_slots : Bool → Format EntryValue → (ℕ → Option ℕ) → ℕ
-    → Reading (List LookupEntry × List ℕ)
-lookup_with_slots strict format offset_of o =
-    table_with_slots (entry_slots format) strict (lookup_entry_at format)
-    (kept_entry strict offset_of) o
-
--- the same without the indexes
-abbrev pub lookup_table : Bool → Format EntryValue → (ℕ → Option ℕ) → ℕ
-    → Reading (List LookupEntry)
-lookup_table strict format offset_of o =
-    table (entry_slots format) strict (lookup_entry_at format) (kept_entry strict offset_of) o
-
--- an entry's number, which an address table always keeps
-abbrev pub entry_number : EntryValue → Reading (List ℕ)
-entry_number entry = given (entry.number ∷ [])
-
--- The address table at an offset: the numbers before the first slot that is not in the file or has
--- number 0. That slot is needed in both modes.
-abbrev pub address_table : Format EntryValue → ℕ → Reading (List ℕ)
-address_table format o = table (entry_slots format) true (entry_at format) entry_number o
+name_at offset_of rva = at_address offset_of rva name_here
 
 -- ---- the directory
 
@@ -132,5 +107,5 @@ libraries_past_front strict format offset_of o =
 unfoldable pub import_data : Bool → Format EntryValue → (ℕ → Option ℕ) → ℕ
     → Reading (List ImportedLibrary)
 import_data strict format offset_of rva =
-    or_else strict 0 (needs (offset_of rva) (Unmapped rva))
+    or_else strict 0 (offset_at offset_of rva)
     >>= libraries_past_front strict format offset_of

@@ -8,7 +8,7 @@ use Rattle.goblin_base.specs.declared.error.CauseOf.TheVariants.{Overflow, SlotC
 use Rattle.goblin_base.specs.Tables.{each_below}
 use Rattle.goblin_base.specs.Answers.{◌>>=◌, all_at}
 use Rattle.goblin_pe_tables.specs.ImportLookup.{LookupEntry}
-use Rattle.goblin_pe_tables.specs.ImportLookup.LookupEntry.{ByOrdinal, ByName}
+use Rattle.goblin_pe_tables.specs.ImportEntries.LookupEntry.{ByOrdinal, ByName}
 use Rattle.goblin_pe_tables.specs.ImportDirectory.{ImportedLibrary}
 
 -- Source: PE Format, "The .idata Section".

@@ -5,7 +5,10 @@ pub mod ForwarderLaws
 pub mod Forwarders
 pub mod ImportBound
 pub mod ImportDirectory
+pub mod ImportEntries
 pub mod ImportFootprints
 pub mod ImportLookup
 pub mod ImportReadings
+pub mod ImportRecords
 pub mod Imports
+pub mod LookupReadings

@@ -6,12 +6,13 @@
 
 ghost use Rattle.std.specs.Prelude.{◌≡◌, ◌⊎◌, IfErr, IsSomeAnd, false, option_to_list, true};
 ghost use Rattle.goblin_base.specs.Answers.{AnswersOrMemory, IsMemory};
-ghost use Rattle.goblin_base.specs.Tables.{or_left_out};
+ghost use Rattle.goblin_base.specs.Reading.{ReadsOrMemory};
 ghost use Rattle.goblin_pe_sect.specs.Mapping.{file_offset};
 ghost use Rattle.goblin_pe_sect.specs.Options.{default_options, is_strict};
 ghost use Rattle.goblin_pe_sect.specs.WindowIndex.{HasPieces};
 ghost use Rattle.goblin_pe_tables.specs.Addresses.{offset_of, reads_strictly};
-ghost use Rattle.goblin_pe_tables.specs.ImportDirectory.{HasRecords, IsImportDataFault, IsLibrariesFault, IsLibraryFault, import_data, libraries_at, library_of};
+ghost use Rattle.goblin_pe_tables.specs.ImportDirectory.{HasRecords, IsImportDataFault, import_data};
+ghost use Rattle.goblin_pe_tables.specs.ImportReadings as reading;
 
 use crate::address_map::AddressMap;
 use goblin_base::{Cause, Endian, Error, Record, ResultOf, is_passed_over};
@@ -64,9 +65,7 @@ fn kept_library<'a, 'e, T: Bitfield<'a>>(
     entry: ImportDirectoryEntry,
     address_map: &AddressMap,
 ) -> ResultOf<'e, Option<SyntheticImportDirectoryEntry<'a>>>
-    ensures { let m = offset_of address_map.now in
-        let strict = reads_strictly address_map.now in
-        AnswersOrMemory option_to_list result (or_left_out strict (library_of strict T.format m bytes.now entry)) (IsLibraryFault strict T.format m bytes.now entry) }
+    ensures { ReadsOrMemory option_to_list result (reading.kept_library (reads_strictly address_map.now) T.format (offset_of address_map.now) entry) bytes.now }
 {
     match SyntheticImportDirectoryEntry::parse_by::<T>(alloc, bytes, entry, address_map) {
         Ok(library) => Ok(Some(library)),
@@ -82,9 +81,7 @@ fn libraries<'a, 'e, T: Bitfield<'a>>(
     offset: usize,
     address_map: &AddressMap,
 ) -> ResultOf<'e, ImportData<'a>>
-    ensures value { let m = offset_of address_map.now in
-        let strict = reads_strictly address_map.now in
-        AnswersOrMemory (λ x. x) result (libraries_at strict T.format m bytes.now offset) (IsLibrariesFault strict T.format m bytes.now offset) }
+    ensures value { ReadsOrMemory (λ x. x) result (reading.libraries_at (reads_strictly address_map.now) T.format (offset_of address_map.now) offset) bytes.now }
     ensures grown { IfErr result (λ e. IsMemory e → HasRecords bytes.now offset) }
 {
     let mut import_data = Vec::new(alloc);
@@ -169,28 +166,28 @@ impl<'a> ImportData<'a> {
     ///
     /// # Errors
     /// As [`ImportData::parse_with_opts`].
+    #[tactic(auto, unfolding(crate::specs::ImportReadings::import_data, crate::specs::ImportReadings::libraries_past_front))]
     pub fn parse_by<'e, T: Bitfield<'a>>(
         alloc: Global,
         bytes: &'a [u8],
         directory: DataDirectory,
         address_map: &AddressMap,
     ) -> ResultOf<'e, ImportData<'a>>
-        ensures value { let m = offset_of address_map.now in
-            let strict = reads_strictly address_map.now in
-            let rva = directory.virtual_address in
-            AnswersOrMemory (λ x. x) result (import_data strict T.format m bytes.now rva) (IsImportDataFault strict T.format m bytes.now rva) }
+        ensures value { ReadsOrMemory (λ x. x) result (reading.import_data (reads_strictly address_map.now) T.format (offset_of address_map.now) directory.virtual_address) bytes.now }
         ensures permissive { reads_strictly address_map.now ≡ false → IfErr result IsMemory }
         ensures grown { IfErr result (λ e. IsMemory e → IsSomeAnd (offset_of address_map.now directory.virtual_address) (HasRecords bytes.now)) }
     {
         let rva = directory.virtual_address;
         let is_permissive = address_map.is_permissive();
-        match address_map.offset_of(rva) {
-            Some(0) | None if is_permissive => {
-                let import_data = Vec::new(alloc);
-                Ok(ImportData { import_data })
-            }
-            Some(offset) => libraries::<T>(alloc, bytes, offset, address_map),
-            None => Err(Error::Malformed(Cause::Unmapped(rva as usize))),
+        let offset = match address_map.offset_of(rva) {
+            Some(offset) => offset,
+            None if is_permissive => 0,
+            None => return Err(Error::Malformed(Cause::Unmapped(rva as usize))),
+        };
+        if is_permissive && offset == 0 {
+            let import_data = Vec::new(alloc);
+            return Ok(ImportData { import_data });
         }
+        libraries::<T>(alloc, bytes, offset, address_map)
     }
 }

@@ -1,8 +1,10 @@
 //! Import address tables: the numbers where addresses stand once an image is bound.
 
 ghost use Rattle.std.specs.Prelude.{IfErr};
-ghost use Rattle.goblin_base.specs.Answers.{AnswersOrMemory, IsMemory};
-ghost use Rattle.goblin_pe_tables.specs.ImportLookup.{HasAddresses, IsAddressTableFault, address_table};
+ghost use Rattle.goblin_base.specs.Answers.{IsMemory};
+ghost use Rattle.goblin_base.specs.Reading.{ReadsOrMemory};
+ghost use Rattle.goblin_pe_tables.specs.ImportLookup.{HasAddresses};
+ghost use Rattle.goblin_pe_tables.specs.LookupReadings.{address_table};
 
 use crate::import::bitfield::{Bitfield, read_entry};
 use crate::table::Table;
@@ -21,7 +23,7 @@ pub(super) fn address_table<'a, 'e, T: Bitfield<'a>>(
     bytes: &'a [u8],
     offset: usize,
 ) -> ResultOf<'e, ImportAddressTable>
-    ensures value { AnswersOrMemory (λ t. t) result (address_table T.format bytes.now offset) (IsAddressTableFault T.format bytes.now offset) }
+    ensures value { ReadsOrMemory (λ t. t) result (address_table T.format offset) bytes.now }
     ensures grown { IfErr result (λ e. IsMemory e → HasAddresses T.format bytes.now offset) }
 {
     let size = T::size_of();

@@ -3,7 +3,7 @@
 ghost use Rattle.std.specs.Prelude.{◌≡◌, ◌==◌, ◌&&◌, not, IfOk, length};
 ghost use Rattle.goblin_base.specs.Answers.{IsSliceFault, Writes};
 ghost use Rattle.goblin_base.specs.Record.{ReadsBack, WritesBack, encoding, record_over};
-ghost use Rattle.goblin_pe_tables.specs.ImportDirectory.{import_fields, import_record, is_last_record};
+ghost use Rattle.goblin_pe_tables.specs.ImportRecords.{import_fields, import_record, is_last_record};
 ghost use Rattle.goblin_pe_tables.specs.declared.import.directory_entry.ImportDirectoryEntry.{ImportDirectoryEntry};
 
 use goblin_base::{Endian, Field, Record, Result, field_u32, put_fields};
@@ -45,7 +45,7 @@ impl Record for ImportDirectoryEntry {
         SIZEOF_IMPORT_DIRECTORY_ENTRY
     }
 
-    #[tactic(auto, unfolding(crate::specs::ImportDirectory::import_record))]
+    #[tactic(auto, unfolding(crate::specs::ImportRecords::import_record))]
     fn in_record(bytes: &[u8], endian: Endian) -> ImportDirectoryEntry {
         ImportDirectoryEntry {
             import_lookup_table_rva: field_u32(bytes, 0, endian),
@@ -56,7 +56,7 @@ impl Record for ImportDirectoryEntry {
         }
     }
 
-    #[tactic(auto, unfolding(crate::specs::ImportDirectory::import_fields), using(crate::proofs::ImportDirectoryRoundTrip::import_record_back, crate::proofs::ImportDirectoryRoundTrip::record_again))]
+    #[tactic(auto, unfolding(crate::specs::ImportRecords::import_fields), using(crate::proofs::ImportDirectoryRoundTrip::import_record_back, crate::proofs::ImportDirectoryRoundTrip::record_again))]
     fn put(self, bytes: &mut [u8], endian: Endian) {
         let fields = [
             Field::U32(self.import_lookup_table_rva),

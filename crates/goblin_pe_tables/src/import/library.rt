@@ -1,20 +1,24 @@
 //! The libraries from which an image imports.
 
-ghost use Rattle.std.specs.Prelude.{◌≡◌, ◌⊎◌, IfErr, IfOk, IsSomeAnd, map, option_map, true};
+ghost use Rattle.std.specs.Prelude.{◌≡◌, ◌⊎◌, [], IfErr, IsSomeAnd, map, option_map, true};
 ghost use Rattle.goblin_base.specs.Answers.{AnswersOrMemory, IsMemory};
+ghost use Rattle.goblin_base.specs.Reading.{Reads, ReadsOrMemory};
+ghost use Rattle.readings.specs.Reads.{or_else};
 ghost use Rattle.goblin_pe_sect.specs.Mapping.{file_offset};
 ghost use Rattle.goblin_pe_sect.specs.Options.{default_options, is_strict};
 ghost use Rattle.goblin_pe_sect.specs.WindowIndex.{HasPieces};
 ghost use Rattle.goblin_pe_tables.specs.Addresses.{offset_of, reads_strictly};
-ghost use Rattle.goblin_pe_tables.specs.ImportDirectory.{HasImports, IsLibraryFault, IsLookupIfFault, address_table_rva, library_of, lookup_offset, lookup_slots_if, lookup_table_if};
+ghost use Rattle.goblin_pe_tables.specs.ImportDirectory.{HasImports, IsLibraryFault, address_table_rva, library_of, lookup_offset};
 ghost use Rattle.goblin_pe_tables.specs.ImportLookup.{KeepsEntries, entry_view};
+ghost use Rattle.goblin_pe_tables.specs.ImportReadings as reading;
+ghost use Rattle.goblin_pe_tables.specs.ImportReadings.{lookup_if, name_at};
 
 use crate::address_map::AddressMap;
 use crate::import::address_table::{ImportAddressTable, address_table};
 use crate::import::bitfield::Bitfield;
 use crate::import::directory_entry::ImportDirectoryEntry;
 use crate::import::lookup_table::{ImportLookupTable, SyntheticImportLookupTableEntry, no_text};
-use goblin_base::{Cause, Error, ResultOf};
+use goblin_base::{Cause, Error, Result, ResultOf};
 use goblin_pe_sect::options::ParseOptions;
 use goblin_pe_sect::section_table::SectionTable;
 use std::alloc::Global;
@@ -58,18 +62,15 @@ impl<'a> Model for SyntheticImportDirectoryEntry<'a> {
 }
 
 // The lookup table at an offset with the slots of its entries, and nothing where there is no offset.
+#[tactic(auto, unfolding(crate::specs::ImportReadings::lookup_if))]
 fn lookup_table_if<'a, 'e, T: Bitfield<'a>>(
     alloc: Global,
     bytes: &'a [u8],
     offset: Option<usize>,
     address_map: &AddressMap,
 ) -> ResultOf<'e, (Option<ImportLookupTable<'a>>, Vec<usize>)>
-    ensures value { let m = offset_of address_map.now in
-        let strict = reads_strictly address_map.now in
-        let view = option_map (map entry_view) in
-        AnswersOrMemory (λ both. view both.0) result (lookup_table_if strict T.format m bytes.now offset) (IsLookupIfFault strict T.format m bytes.now offset) }
+    ensures value { ReadsOrMemory (λ both. (option_map (map entry_view) both.0, both.1.items)) result (lookup_if (reads_strictly address_map.now) T.format (offset_of address_map.now) offset) bytes.now }
     ensures grown { IfErr result (λ e. IsMemory e → IsSomeAnd offset (KeepsEntries (reads_strictly address_map.now) T.format (offset_of address_map.now) bytes.now)) }
-    ensures slots { IfOk result (λ both. both.1.items ≡ lookup_slots_if (reads_strictly address_map.now) T.format (offset_of address_map.now) bytes.now offset) }
 {
     let Some(offset) = offset else {
         return Ok((None, Vec::new(alloc)));
@@ -81,6 +82,15 @@ fn lookup_table_if<'a, 'e, T: Bitfield<'a>>(
         address_map,
     )?;
     Ok((Some(table), slots))
+}
+
+// The name of a library; in permissive mode the empty one where none can be read.
+#[tactic(auto, unfolding(crate::specs::ImportReadings::name_at), using(crate::proofs::LibraryNames::taken, crate::proofs::LibraryNames::missing))]
+fn library_name<'a>(bytes: &'a [u8], rva: u32, address_map: &AddressMap) -> Result<&'a str>
+    ensures { Reads (λ s. s.now) result (or_else (reads_strictly address_map.now) [] (name_at (offset_of address_map.now) rva)) bytes.now }
+{
+    let name = address_map.name_at(bytes, rva)?;
+    Ok(name.unwrap_or(no_text(bytes)))
 }
 
 // Where a record's lookup table stands: at its own address, or at that of the address table.
@@ -175,22 +185,18 @@ impl<'a> SyntheticImportDirectoryEntry<'a> {
     }
 
     // What a record leads to.
-    #[tactic(auto, unfolding(crate::specs::ImportDirectory::library_of))]
+    #[tactic(auto, unfolding(crate::specs::ImportReadings::library_of))]
     pub(super) fn parse_by<'e, T: Bitfield<'a>>(
         alloc: Global,
         bytes: &'a [u8],
         import_directory_entry: ImportDirectoryEntry,
         address_map: &AddressMap,
     ) -> ResultOf<'e, SyntheticImportDirectoryEntry<'a>>
-        ensures value { let m = offset_of address_map.now in
-            let strict = reads_strictly address_map.now in
-            AnswersOrMemory (λ x. x) result (library_of strict T.format m bytes.now import_directory_entry) (IsLibraryFault strict T.format m bytes.now import_directory_entry) }
+        ensures value { ReadsOrMemory (λ x. x) result (reading.library_of (reads_strictly address_map.now) T.format (offset_of address_map.now) import_directory_entry) bytes.now }
         ensures grown { IfErr result (λ e. IsMemory e → HasImports (reads_strictly address_map.now) T.format (offset_of address_map.now) bytes.now import_directory_entry) }
     {
         let record = &import_directory_entry;
-        let name = address_map
-            .name_at(bytes, record.name_rva)?
-            .unwrap_or(no_text(bytes));
+        let name = library_name(bytes, record.name_rva, address_map)?;
         let lookup_offset = lookup_offset(record, address_map);
         let (import_lookup_table, import_lookup_slots) = lookup_table_if::<T>(
             alloc,

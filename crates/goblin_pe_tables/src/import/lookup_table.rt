@@ -3,13 +3,15 @@
 ghost use Rattle.std.specs.Prelude.{◌≡◌, ◌<◌, ◌++◌, ◌∷◌, [], ◌⊎◌, IfErr, IfOk, OnErr, OnOk, Some, if◌then◌else◌, length, map, option_to_list, true};
 ghost use Rattle.std.specs.List.{All};
 ghost use Rattle.std.specs.List.Sorted.{IsStrictlyIncreasing};
-ghost use Rattle.goblin_base.specs.Answers.{Answers, AnswersOrMemory, IsMemory};
+ghost use Rattle.goblin_base.specs.Answers.{AnswersOrMemory, IsMemory};
+ghost use Rattle.goblin_base.specs.Reading.{Reads, ReadsOrMemory};
 ghost use Rattle.goblin_base.specs.Tables.{is_kept, stop};
 ghost use Rattle.goblin_pe_sect.specs.Mapping.{file_offset};
 ghost use Rattle.goblin_pe_sect.specs.Options.{default_options, is_strict};
 ghost use Rattle.goblin_pe_sect.specs.WindowIndex.{HasPieces};
 ghost use Rattle.goblin_pe_tables.specs.Addresses.{offset_of, reads_strictly};
-ghost use Rattle.goblin_pe_tables.specs.ImportLookup.{IsHintNameFault, IsKeptEntryFault, IsLookupTableFault, KeepsEntries, entry_slots, hint_name, kept_entry, lookup_slots, lookup_table, entry_view, hint_name_view, kept_view};
+ghost use Rattle.goblin_pe_tables.specs.ImportLookup.{IsLookupTableFault, KeepsEntries, entry_slots, lookup_slots, lookup_table, entry_view, hint_name_view, kept_view};
+ghost use Rattle.goblin_pe_tables.specs.LookupReadings as reading;
 
 use crate::address_map::AddressMap;
 use crate::import::bitfield::{Bitfield, read_entry};
@@ -48,7 +50,7 @@ impl<'a> HintNameTableEntry<'a> {
     /// # Errors
     /// As [`HintNameTableEntry::parse_with_opts`] in strict mode.
     pub fn parse(bytes: &'a [u8], offset: usize) -> Result<HintNameTableEntry<'a>>
-        ensures { Answers hint_name_view result (hint_name true bytes.now offset) (IsHintNameFault bytes.now offset) }
+        ensures { Reads hint_name_view result (reading.hint_name true offset) bytes.now }
     {
         HintNameTableEntry::parse_with_opts(bytes, offset, &ParseOptions::default())
     }
@@ -60,13 +62,13 @@ impl<'a> HintNameTableEntry<'a> {
     /// [`Error::Malformed`] with [`Cause::HintEntry`] where the hint passes the end of the file.
     /// [`Error::Read`] where no text follows it, in strict mode; in permissive mode the name is
     /// then empty.
-    #[tactic(auto, unfolding(crate::specs::ImportLookup::hint_name))]
+    #[tactic(auto, unfolding(crate::specs::LookupReadings::hint_name))]
     pub fn parse_with_opts(
         bytes: &'a [u8],
         offset: usize,
         opts: &ParseOptions,
     ) -> Result<HintNameTableEntry<'a>>
-        ensures { Answers hint_name_view result (hint_name (is_strict opts.now.parse_mode) bytes.now offset) (IsHintNameFault bytes.now offset) }
+        ensures { Reads hint_name_view result (reading.hint_name (is_strict opts.now.parse_mode) offset) bytes.now }
     {
         let Ok(hint) = pread_u16(bytes, offset, Endian::Little) else {
             return Err(Error::Malformed(Cause::HintEntry(offset)));
@@ -93,14 +95,13 @@ pub enum SyntheticImportLookupTableEntry<'a> {
 
 impl<'a> SyntheticImportLookupTableEntry<'a> {
     // What a table keeps of an entry: `None` where it leads nowhere, or in permissive mode to no hint.
-    #[tactic(auto, unfolding(crate::specs::ImportLookup::kept_entry))]
+    #[tactic(auto, unfolding(crate::specs::LookupReadings::kept_entry, crate::specs::LookupReadings::kept_name))]
     fn kept<'e, T: Bitfield<'a>>(
         entry: &T,
         bytes: &'a [u8],
         address_map: &AddressMap,
     ) -> ResultOf<'e, Option<SyntheticImportLookupTableEntry<'a>>>
-        ensures { let m = offset_of address_map.now in
-            Answers kept_view result (kept_entry (reads_strictly address_map.now) m bytes.now (T.value entry.now)) (IsKeptEntryFault m bytes.now (T.value entry.now)) }
+        ensures { Reads kept_view result (reading.kept_entry (reads_strictly address_map.now) (offset_of address_map.now) (T.value entry.now)) bytes.now }
     {
         if entry.is_ordinal() {
             let ordinal = entry.to_ordinal();
@@ -196,7 +197,7 @@ impl<'a> SyntheticImportLookupTableEntry<'a> {
     ///
     /// # Errors
     /// As [`SyntheticImportLookupTableEntry::parse_with_opts`].
-    #[tactic(auto, using(crate::proofs::LookupSlots::rising, crate::proofs::LookupSlots::below))]
+    #[tactic(auto, using(crate::proofs::LookupSlots::table, crate::proofs::LookupSlots::rising, crate::proofs::LookupSlots::below))]
     pub fn parse_with_slots<'e, T: Bitfield<'a>>(
         alloc: Global,
         bytes: &'a [u8],
@@ -227,9 +228,7 @@ impl<'a> SyntheticImportLookupTableEntry<'a> {
         offset: usize,
         address_map: &AddressMap,
     ) -> ResultOf<'e, (ImportLookupTable<'a>, Vec<usize>)>
-        ensures value { let m = offset_of address_map.now in
-            let strict = reads_strictly address_map.now in
-            AnswersOrMemory (λ both. map entry_view both.0) result (lookup_table strict T.format m bytes.now offset) (IsLookupTableFault strict T.format m bytes.now offset) }
+        ensures value { ReadsOrMemory (λ both. (map entry_view both.0, both.1.items)) result (reading.lookup_with_slots (reads_strictly address_map.now) T.format (offset_of address_map.now) offset) bytes.now }
         ensures grown { IfErr result (λ e. IsMemory e → KeepsEntries (reads_strictly address_map.now) T.format (offset_of address_map.now) bytes.now offset) }
         ensures slots { IfOk result (λ both. both.1.items ≡ lookup_slots (reads_strictly address_map.now) T.format (offset_of address_map.now) bytes.now offset) }
         ensures counted { IfOk result (λ both. length both.0 ≡ length both.1.items) }

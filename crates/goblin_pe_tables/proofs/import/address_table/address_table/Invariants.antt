@@ -1,10 +1,13 @@
 use Rattle.std.proofs.Common.{length, ◌-◌}
-use Rattle.goblin_base.proofs.SlotTables.{AtSlot}
-use Rattle.goblin_pe_tables.specs.ImportLookup.{entry_slots, kept_number}
+use Rattle.readings.proofs.Loops.{AtRead}
+use Rattle.goblin_pe_tables.specs.ImportEntries.{entry_slots}
+use Rattle.goblin_pe_tables.specs.LookupReadings.{entry_number}
 use Rattle.goblin_pe_tables.proofs.import.address_table.address_table.Given as goal
 
 abbrev pub invariant-slots : goal.invariant-slots
-invariant-slots g l = AtSlot (entry_slots g.T.Bitfield.format) kept_number l.fn.bytes l.fn.offset l.place l.addresses.items
+invariant-slots g l =
+    AtRead (entry_slots g.T.Bitfield.format) entry_number l.fn.bytes l.fn.offset l.place
+    l.addresses.items
 
 abbrev pub decreases-slots : goal.decreases-slots
 decreases-slots g l = length l.fn.bytes - l.place

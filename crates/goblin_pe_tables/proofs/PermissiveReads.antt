@@ -11,14 +11,12 @@ use Rattle.goblin_pe_tables.specs.ImportDirectory as directory
 use Rattle.goblin_pe_tables.specs.ImportDirectory.{address_table_rva, import_slots, lookup_offset}
 use Rattle.goblin_pe_tables.specs.ImportLookup as lookup
 use Rattle.goblin_pe_tables.specs.ImportLookup.{EntryValue, entry_slots}
-use Rattle.goblin_pe_tables.specs.ImportLookup.LookupEntry.{ByOrdinal}
-use Rattle.goblin_pe_tables.specs.ImportReadings.{address_table, at_address, hint_name, kept_entry}
-use Rattle.goblin_pe_tables.specs.ImportReadings.{kept_library, kept_name, libraries_at}
-use Rattle.goblin_pe_tables.specs.ImportReadings.{library_of, lookup_entry_at, lookup_if}
-use Rattle.goblin_pe_tables.specs.ImportReadings.{lookup_table, lookup_with_slots, name_at}
-use Rattle.goblin_pe_tables.specs.ImportReadings.{record_here}
+use Rattle.goblin_pe_tables.specs.ImportEntries.LookupEntry.{ByOrdinal}
+use Rattle.goblin_pe_tables.specs.ImportReadings.{at_address, kept_library, libraries_at}
+use Rattle.goblin_pe_tables.specs.ImportReadings.{library_of, lookup_if, name_at, record_here}
+use Rattle.goblin_pe_tables.specs.LookupReadings.{address_table, hint_name, kept_entry, kept_name}
+use Rattle.goblin_pe_tables.specs.LookupReadings.{lookup_entry_at, lookup_table, lookup_with_slots}
 use Rattle.goblin_pe_tables.specs.declared.import.directory_entry.ImportDirectoryEntry.{ImportDirectoryEntry}
-use Rattle.goblin_pe_tables.proofs.ImportReadings.{value-libraries_at, value-lookup_table}
 
 hint_repeats : (p : ℕ) → Repeats (hint_name true p) (hint_name false p)
 unfolding hint_name
@@ -83,14 +81,9 @@ module _ (offset_of : ℕ → Option ℕ) where
     pub lookup_table-kept : (bytes : List ℕ) (o : ℕ)
         → Keeps (lookup.lookup_table true format offset_of bytes o)
         (lookup.lookup_table false format offset_of bytes o)
-    lookup_table-kept bytes o table is =
-        sym (value-lookup_table false offset_of bytes format o)
-        ∙ (lookup_repeats o).kept bytes table (value-lookup_table true offset_of bytes format o ∙ is)
+    lookup_table-kept bytes o = (lookup_repeats o).kept bytes
 
     pub libraries_at-kept : (bytes : List ℕ) (o : ℕ)
         → Keeps (directory.libraries_at true format offset_of bytes o)
         (directory.libraries_at false format offset_of bytes o)
-    libraries_at-kept bytes o libraries is =
-        sym (value-libraries_at false format offset_of bytes o)
-        ∙ (libraries_repeat o).kept bytes libraries
-        (value-libraries_at true format offset_of bytes o ∙ is)
+    libraries_at-kept bytes o = (libraries_repeat o).kept bytes

@@ -1,0 +1,51 @@
+-- The entries of lookup tables and of address tables, and what a lookup table keeps of them.
+use Rattle.std.specs.Prelude.{ℕ, ◌%◌, ◌^◌, ◌==◌, nat_le, Bool, List}
+use Rattle.goblin_base.specs.declared.endian.Endian.TheVariants.{Little}
+use Rattle.goblin_base.specs.Bytes.{number}
+use Rattle.goblin_base.specs.Tables.{Format, SlotFormat}
+
+-- Source: PE Format, "Import Lookup Table", "Hint/Name Table" and "Import Address Table".
+
+-- What an entry says: its number; whether it imports by ordinal; the ordinal; and the address of a
+-- hint and a name.
+pub record EntryValue : Type 0 where
+  pub number : ℕ
+  pub is_ordinal : Bool
+  pub ordinal : ℕ
+  pub rva : ℕ
+
+-- the entry of a number that imports by ordinal from `first` on
+abbrev pub entry_value : ℕ → ℕ → EntryValue
+entry_value first n = record {
+  number = n;
+  is_ordinal = nat_le first n;
+  ordinal = n % 2 ^ 16;
+  rva = n % 2 ^ 31;
+}
+
+-- entries of 32 bits, which import by ordinal where the highest bit is set; and entries of 64 bits
+abbrev pub entries_32 : Format EntryValue
+entries_32 = record {
+  width = 4;
+  value_of = λ bytes. entry_value (2 ^ 31) (number Little 4 bytes 0);
+}
+
+abbrev pub entries_64 : Format EntryValue
+entries_64 = record {
+  width = 8;
+  value_of = λ bytes. entry_value (2 ^ 63) (number Little 8 bytes 0);
+}
+
+-- tables of such entries, up to one of number 0
+abbrev pub entry_slots : Format EntryValue → SlotFormat EntryValue
+entry_slots format = record { entry = format; is_last = λ entry. entry.number == 0 }
+
+-- a hint, and the name after it
+pub record HintName : Type 0 where
+  pub hint : ℕ
+  pub name : List ℕ
+
+-- an entry that a table keeps: an ordinal, or an address with the hint and the name there
+pub data LookupEntry : Type 0 where
+  ByOrdinal : ℕ → LookupEntry
+  ByName : ℕ → HintName → LookupEntry
