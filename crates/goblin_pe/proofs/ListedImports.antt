@@ -21,13 +21,19 @@ use Rattle.goblin_base.proofs.SlotTables.{kept-below}
 use Rattle.goblin_base.proofs.Steps.{mapped, same_value, step}
 use Rattle.goblin_pe_sect.specs.declared.data_directories.DataDirectory.{DataDirectory}
 use Rattle.goblin_pe_sect.specs.declared.options.ParseOptions.{ParseOptions}
-use Rattle.goblin_pe_sect.specs.Mapping.{name_at, name_or_none}
 use Rattle.goblin_pe_sect.specs.Options.{is_strict}
 use Rattle.goblin_pe_sect.specs.SectionTable.{Section}
 use Rattle.goblin_pe_tables.specs.declared.import.directory_entry.ImportDirectoryEntry.{ImportDirectoryEntry}
-use Rattle.goblin_pe_tables.specs.ImportDirectory.{ImportedLibrary, address_table_rva, import_data, import_record, import_slots, libraries_at, libraries_if, library_of, lookup_offset, lookup_slots_if, lookup_table_if}
-use Rattle.goblin_pe_tables.specs.ImportLookup.{EntryValue, LookupEntry, address_table, entry_slots, kept_entry, kept_name, lookup_slots, lookup_table}
-use Rattle.goblin_pe_tables.specs.ImportLookup.LookupEntry.{ByOrdinal}
+use Rattle.goblin_base.specs.Reading.{Reading}
+use Rattle.readings.specs.Reads.{given, in_its_place, pair_of}
+use Rattle.goblin_pe_tables.specs.ImportDirectory.{import_data, libraries_at, library_of}
+use Rattle.goblin_pe_tables.specs.ImportEntries.{EntryValue, LookupEntry, entry_slots}
+use Rattle.goblin_pe_tables.specs.ImportEntries.LookupEntry.{ByOrdinal}
+use Rattle.goblin_pe_tables.specs.ImportLookup.{kept_entry, lookup_slots, lookup_table}
+use Rattle.goblin_pe_tables.specs.ImportReadings as directory
+use Rattle.goblin_pe_tables.specs.ImportRecords.{ImportedLibrary, import_record, import_slots, lookup_offset}
+use Rattle.goblin_pe_tables.specs.LookupReadings as reading
+use Rattle.goblin_pe_tables.proofs.ImportBound.{kept_entry-few, pair_of-left, pair_of-right, with_slots-kept, with_slots-value}
 use Rattle.goblin_pe_tables.specs.Imports.{has_slots, import_at, import_of, import_offset, imports_by, imports_of, kept_entries, library_imports}
 use Rattle.goblin_pe.specs.declared.whole.Part.{Part}
 use Rattle.goblin_pe.specs.declared.whole.Part.TheVariants.{Absent, Refused}
@@ -73,24 +79,6 @@ all_of-there value (suc len) start there =
     (all_of-there value len (start + 1) (λ i low high. there i (omega (arith, low)) (omega (arith, high))))
 
 -- ---- a table keeps as many entries as slots
-
-or_left_out-few : {A : Type 0} (strict : Bool) (item : Option A) (xs : List A) → or_left_out strict item ≡ Some xs → length xs ≤ 1
-or_left_out-few {A} strict (Some x) xs e = omega (arith, ap length (same_value (x ∷ []) xs e))
-or_left_out-few true None xs e = absurd cc
-or_left_out-few false None xs e = omega (arith, ap length (same_value [] xs e))
-
-kept_name-few : (strict : Bool) (bytes : List ℕ) (rva : ℕ) (place : Option ℕ) (xs : List LookupEntry) → kept_name strict bytes rva place ≡ Some xs → length xs ≤ 1
-kept_name-few strict bytes rva None xs e = omega (arith, ap length (same_value [] xs e))
-kept_name-few strict bytes rva (Some p) xs e = or_left_out-few strict _ xs e
-
-one_or : (test : Bool) (x : LookupEntry) (other : Option (List LookupEntry)) (xs : List LookupEntry) → (other ≡ Some xs → length xs ≤ 1) → cond test (Some (x ∷ [])) other ≡ Some xs → length xs ≤ 1
-one_or true x other xs few e = omega (arith, ap length (same_value (x ∷ []) xs e))
-one_or false x other xs few e = few e
-
-kept_entry-few : (strict : Bool) (offset_of : ℕ → Option ℕ) (bytes : List ℕ) (entry : EntryValue) (xs : List LookupEntry) → kept_entry strict offset_of bytes entry ≡ Some xs → length xs ≤ 1
-unfolding kept_entry
-kept_entry-few strict offset_of bytes entry xs e =
-    one_or entry.is_ordinal (ByOrdinal entry.ordinal) (kept_name strict bytes entry.rva (offset_of entry.rva)) xs (kept_name-few strict bytes entry.rva (offset_of entry.rva) xs) e
 
 one-counted : (i : ℕ) (xs : List LookupEntry) → length xs ≤ 1 → length (cond (is_kept (Some xs)) (i ∷ []) []) ≡ length xs
 one-counted i [] few = refl
@@ -155,25 +143,31 @@ module _ (strict : Bool) (format : Format EntryValue) (offset_of : ℕ → Optio
   abbrev HaveSlots : Option (List LookupEntry) → List ℕ → Type 0
   HaveSlots table slots = (length (unwrap_or table []) ≡ length slots) × AreSlots slots
 
-  table_if-slots : (place : Option ℕ) (table : Option (List LookupEntry)) → lookup_table_if strict format offset_of file place ≡ Some table → HaveSlots table (lookup_slots_if strict format offset_of file place)
-  table_if-slots None table e = subst (λ (t : Option (List LookupEntry)). HaveSlots t []) (same_value None table e) (refl, λ k d within. absurd (omega (arith, within)))
-  table_if-slots (Some o) table e =
-      let m = mapped (lookup_table strict format offset_of file o) (λ t. Some t) table e in
-      subst (λ (t : Option (List LookupEntry)). HaveSlots t (lookup_slots strict format offset_of file o)) m.made (table-counted o m.value m.is, table-slots o)
+  table_if-slots : (place : Option ℕ) (both : Option (List LookupEntry) × List ℕ) → (directory.lookup_if strict format offset_of place).value file ≡ Some both → HaveSlots both.0 both.1
+  unfolding directory.lookup_if
+  table_if-slots None both e =
+      subst (λ (t : Option (List LookupEntry) × List ℕ). HaveSlots t.0 t.1) (same_value (None, []) both e) (refl, λ k d within. absurd (omega (arith, within)))
+  table_if-slots (Some o) both e =
+      let made = lookup_table strict format offset_of file o in
+      let m = mapped ((reading.lookup_with_slots strict format offset_of o).value file) _ both e in
+      let table = with_slots-value _ made m.value m.is in
+      let kept = with_slots-kept _ made m.value m.is in
+      let have : HaveSlots (Some m.value.0) m.value.1 = subst (λ (slots : List ℕ). HaveSlots (Some m.value.0) slots) kept (table-counted o m.value.0 table, table-slots o) in
+      subst (λ (t : Option (List LookupEntry) × List ℕ). HaveSlots t.0 t.1) m.made have
 
   -- a library has a slot for each entry, in the file, and its address table an address of 32 bits
   abbrev IsListed : ImportedLibrary → Type 0
   IsListed library = HaveSlots library.import_lookup_table library.import_lookup_slots × (library.import_directory_entry.import_address_table_rva < 2 ^ 32)
 
   library-listed : (r : ImportDirectoryEntry) (library : ImportedLibrary) → r.import_address_table_rva < 2 ^ 32 → library_of strict format offset_of file r ≡ Some library → IsListed library
-  unfolding library_of
+  unfolding directory.library_of
   library-listed r library low e =
-      let s1 = step (name_or_none strict (name_at offset_of file r.name_rva)) _ library e in
-      let s2 = step (lookup_table_if strict format offset_of file (lookup_offset offset_of r)) _ library s1.then in
-      let s3 = step (offset_of (address_table_rva r)) _ library s2.then in
-      let s4 = step (address_table format file s3.value) _ library s3.then in
-      let made : ImportedLibrary = record { import_directory_entry = r; name = unwrap_or s1.value []; import_lookup_table = s2.value; import_lookup_slots = lookup_slots_if strict format offset_of file (lookup_offset offset_of r); import_address_table = s4.value } in
-      subst IsListed (same_value made library s4.then) (table_if-slots (lookup_offset offset_of r) s2.value s2.is, low)
+      let place = lookup_offset offset_of r in
+      let name = in_its_place strict [] ((directory.name_at offset_of r.name_rva).value file) in
+      let look = (directory.lookup_if strict format offset_of place).value file in
+      let m = mapped (pair_of (pair_of name look) _) _ library e in
+      let there = pair_of-right name look m.value.0 (pair_of-left (pair_of name look) _ m.value m.is) in
+      subst IsListed m.made (table_if-slots place m.value.0.1 there, low)
 
   kept-listed : (strictly : Bool) (library : Option ImportedLibrary) (xs : List ImportedLibrary) → ((l : ImportedLibrary) → library ≡ Some l → IsListed l) → or_left_out strictly library ≡ Some xs → Each IsListed xs
   kept-listed strictly (Some l) xs listed e = subst (Each IsListed) (same_value (l ∷ []) xs e) (listed l refl, tt)
@@ -199,13 +193,19 @@ module _ (strict : Bool) (format : Format EntryValue) (offset_of : ℕ → Optio
         kept-listed strict (library_of strict format offset_of file s.value) ys (λ l. library-listed s.value l low) s.then)
         xs made
 
-    by_test : (test : Bool) (value : Option (List ImportedLibrary)) (xs : List ImportedLibrary) → (value ≡ Some xs → Each IsListed xs) → cond test (Some []) value ≡ Some xs → Each IsListed xs
-    by_test true value xs listed e = subst (Each IsListed) (same_value [] xs e) tt
-    by_test false value xs listed e = listed e
+    by_test : (test : Bool) (r : Reading (List ImportedLibrary)) (xs : List ImportedLibrary) → (r.value file ≡ Some xs → Each IsListed xs) → (cond test (given []) r).value file ≡ Some xs → Each IsListed xs
+    by_test true r xs listed e = subst (Each IsListed) (same_value [] xs e) tt
+    by_test false r xs listed e = listed e
 
-    by_place : (place : Option ℕ) (xs : List ImportedLibrary) → libraries_if strict format offset_of file place ≡ Some xs → Each IsListed xs
-    by_place None xs e = subst (Each IsListed) (same_value [] xs (without_test strict (Some []) xs e)) tt
-    by_place (Some o) xs e = by_test (not strict && nat_eq o 0) (libraries_at strict format offset_of file o) xs (libraries_at-listed o xs) e
+    past_front : (o : ℕ) (xs : List ImportedLibrary) → (directory.libraries_past_front strict format offset_of o).value file ≡ Some xs → Each IsListed xs
+    unfolding directory.libraries_past_front
+    past_front o xs e = by_test (not strict && nat_eq o 0) (directory.libraries_at strict format offset_of o) xs (libraries_at-listed o xs) e
+
+    imported : (rva : ℕ) (xs : List ImportedLibrary) → import_data strict format offset_of file rva ≡ Some xs → Each IsListed xs
+    unfolding directory.import_data
+    imported rva xs e =
+        let s = step (in_its_place strict 0 (offset_of rva)) _ xs e in
+        past_front s.value xs s.then
 
   -- ---- the imports of a library that has its slots
 
@@ -251,7 +251,7 @@ module _ (strict : Bool) (format : Format EntryValue) (offset_of : ℕ → Optio
 
     -- the imports of import data that was read
     pub imports_of-there : IsBytes file → (rva : ℕ) (libraries : List ImportedLibrary) → import_data strict format offset_of file rva ≡ Some libraries → IsSome (imports_of format.width libraries)
-    imports_of-there bytes rva libraries e = imports-there libraries (by_place bytes (offset_of rva) libraries e)
+    imports_of-there bytes rva libraries e = imports-there libraries (imported bytes rva libraries e)
 
 -- ---- the part of a file
 

@@ -74,7 +74,7 @@ module _ {V A : Type 0} (count : List A → ℕ) (none : count [] ≡ 0) (adds :
 
 -- ---- what a table keeps
 
-or_left_out-few : {A : Type 0} (strict : Bool) (item : Option A) (xs : List A) → or_left_out strict item ≡ Some xs → length xs ≤ 1
+pub or_left_out-few : {A : Type 0} (strict : Bool) (item : Option A) (xs : List A) → or_left_out strict item ≡ Some xs → length xs ≤ 1
 or_left_out-few {A} strict (Some x) xs e = omega (arith, ap length (same_value (x ∷ []) xs e))
 or_left_out-few true None xs e = absurd cc
 or_left_out-few false None xs e = omega (arith, ap length (same_value [] xs e))
@@ -92,7 +92,7 @@ one_or : (test : Bool) (x : LookupEntry) (other : Reading (List LookupEntry)) (b
 one_or true x other bytes xs few e = omega (arith, ap length (same_value (x ∷ []) xs e))
 one_or false x other bytes xs few e = few e
 
-kept_entry-few : (strict : Bool) (offset_of : ℕ → Option ℕ) (bytes : List ℕ)
+pub kept_entry-few : (strict : Bool) (offset_of : ℕ → Option ℕ) (bytes : List ℕ)
     (entry : EntryValue) (xs : List LookupEntry)
     → kept_entry strict offset_of bytes entry ≡ Some xs → length xs ≤ 1
 unfolding reading.kept_entry
@@ -101,20 +101,26 @@ kept_entry-few strict offset_of bytes entry xs e =
     (reading.kept_name strict entry.rva (offset_of entry.rva)) bytes xs
     (kept_name-few strict bytes entry.rva (offset_of entry.rva) xs) e
 
-with_slots-value : {A : Type 0} (kept : List ℕ) (made : Option A) (both : A × List ℕ)
+pub with_slots-value : {A : Type 0} (kept : List ℕ) (made : Option A) (both : A × List ℕ)
     → with_slots kept made ≡ Some both → made ≡ Some both.0
 with_slots-value kept None both e = absurd cc
 with_slots-value {A} kept (Some x) both e =
     ap (λ (p : A × List ℕ). Some p.0) (same_value (x, kept) both e)
 
-pair_of-left : {A B : Type 0} (x : Option A) (y : Option B) (both : A × B)
+pub with_slots-kept : {A : Type 0} (kept : List ℕ) (made : Option A) (both : A × List ℕ)
+    → with_slots kept made ≡ Some both → kept ≡ both.1
+with_slots-kept kept None both e = absurd cc
+with_slots-kept {A} kept (Some x) both e =
+    ap (λ (p : A × List ℕ). p.1) (same_value (x, kept) both e)
+
+pub pair_of-left : {A B : Type 0} (x : Option A) (y : Option B) (both : A × B)
     → pair_of x y ≡ Some both → x ≡ Some both.0
 pair_of-left None y both e = absurd cc
 pair_of-left (Some v) None both e = absurd cc
 pair_of-left {A} {B} (Some v) (Some w) both e =
     ap (λ (p : A × B). Some p.0) (same_value (v, w) both e)
 
-pair_of-right : {A B : Type 0} (x : Option A) (y : Option B) (both : A × B)
+pub pair_of-right : {A B : Type 0} (x : Option A) (y : Option B) (both : A × B)
     → pair_of x y ≡ Some both → y ≡ Some both.1
 pair_of-right None y both e = absurd cc
 pair_of-right (Some v) None both e = absurd cc
