@@ -12,6 +12,7 @@ import struct
 import tempfile
 import tracemalloc
 import unittest
+import unittest.mock
 
 import goblin_pe
 from goblin_pe import Cause, DirectoryType, ObjectFile, Pe, ReadFault, Refused, Status, Te, options
@@ -60,7 +61,6 @@ class Refusals(unittest.TestCase):
             self.assert_no_image(tasks[2].exception(timeout=60))
             self.assertEqual([task.result(timeout=60) for task in tasks[:2]], [1, 0])
 
-
     def test_what_was_read_comes_from_a_pool(self):
         with multiprocessing.Pool(2) as pool:
             read = pool.map_async(Pe, self.FILES[:2]).get(timeout=60)
@@ -72,6 +72,41 @@ class Refusals(unittest.TestCase):
             rva = pe.sections[0].virtual_address
             self.assertEqual(pe.find_offset(rva), wanted.find_offset(rva))
             self.assertRaises(ValueError, pe.import_footprint)  # the bytes stay where they were
+
+
+class Texts(unittest.TestCase):
+    """Each text of a record lies in the file; one that is absent, or could not be read, at its first byte."""
+
+    TEXTS = {"sections": ["real_name"], "imports": ["dll", "name"], "exports": ["name", "lib", "export_name"]}
+
+    def begins(self, data):
+        """Where the texts begin, by their length."""
+        begins, take_tables = [], Pe._take_tables
+
+        def take(pe, file, tables, rows):
+            for table, fields in self.TEXTS.items():
+                texts = [getattr(record, field) for record in tables.records(table) for field in fields]
+                begins.extend((rows._begin(text), text.length) for text in texts)
+            take_tables(pe, file, tables, rows)
+
+        with unittest.mock.patch.object(Pe, "_take_tables", take):
+            Pe(data, options(is_permissive=True))
+        return begins
+
+    def test_each_text_lies_in_the_file(self):
+        for name in os.listdir(SAMPLES):
+            if name.endswith((".dll", ".exe", ".efi")):
+                data = sample(name)
+                for begin, length in self.begins(data):
+                    self.assertTrue(0 <= begin <= begin + length <= len(data), (name, begin, length))
+
+    def test_a_library_without_a_name_is_at_the_front(self):
+        data = bytearray(sample("imports_by_name_x64.dll"))
+        pe = Pe(data)
+        record = pe.find_offset(pe.data_directories[DirectoryType.IMPORT_TABLE].virtual_address)
+        struct.pack_into("<I", data, record + 12, 0x7FFFFFFF)
+        self.assertEqual(Pe(data, options(is_permissive=True)).imports[0].dll, b"")
+        self.assertIn((0, 0), self.begins(data))
 
 
 class Buffers(unittest.TestCase):

@@ -82,7 +82,7 @@ class Rows:
         return text.bytes - self._address
 
     def text(self, text: records.Text) -> bytes:
-        """A text, copied; one of no bytes may point anywhere."""
+        """A text, copied."""
         return self._data[self._begin(text): self._begin(text) + text.length].tobytes() if text.length else b""
 
     def section(self, s: records.Section) -> Section:
