@@ -13,6 +13,25 @@ use std::collections::BTreeMap;
 use std::error::Error;
 use std::panic::{AssertUnwindSafe, catch_unwind};
 
+/// The line of a section: its name, and the fields that both libraries name alike.
+macro_rules! section_line {
+    ($name:expr, $section:expr) => {
+        format!(
+            "section {:?} {:x} {:x} {:x} {:x} {:x} {:x} {} {} {:x}",
+            $name,
+            $section.virtual_size,
+            $section.virtual_address,
+            $section.size_of_raw_data,
+            $section.pointer_to_raw_data,
+            $section.pointer_to_relocations,
+            $section.pointer_to_linenumbers,
+            $section.number_of_relocations,
+            $section.number_of_linenumbers,
+            $section.characteristics
+        )
+    };
+}
+
 /// What is known to differ, and where docs/DIFFERENCES.md or the version of goblin says so.
 #[derive(Clone, Copy, Debug, PartialEq, Eq, PartialOrd, Ord)]
 enum Known {
@@ -135,24 +154,7 @@ fn ours(file: &[u8]) -> Result<(Said, Option<usize>), goblin_pe::Error> {
         ..Options::default()
     };
     let pe = Pe::read(file, &options)?;
-    let mut said: Said = pe
-        .sections()
-        .map(|s| {
-            format!(
-                "section {:?} {:x} {:x} {:x} {:x} {:x} {:x} {} {} {:x}",
-                s.name.0,
-                s.virtual_size,
-                s.virtual_address,
-                s.size_of_raw_data,
-                s.pointer_to_raw_data,
-                s.pointer_to_relocations,
-                s.pointer_to_linenumbers,
-                s.number_of_relocations,
-                s.number_of_linenumbers,
-                s.characteristics
-            )
-        })
-        .collect();
+    let mut said: Said = pe.sections().map(|s| section_line!(s.name.0, s)).collect();
     // goblin counts the entries that were kept, this library those of the file
     let (mut library, mut slot, mut kept) = (None, 0, 0);
     for x in pe.imports() {
@@ -223,19 +225,7 @@ fn goblins(file: &[u8]) -> Result<Result<Said, String>, Known> {
             .map(|s| {
                 let short = s.name.split(|&byte| byte == 0).next().unwrap_or_default();
                 let name = s.real_name.as_ref().map_or(short, |it| it.as_bytes());
-                format!(
-                    "section {:?} {:x} {:x} {:x} {:x} {:x} {:x} {} {} {:x}",
-                    name,
-                    s.virtual_size,
-                    s.virtual_address,
-                    s.size_of_raw_data,
-                    s.pointer_to_raw_data,
-                    s.pointer_to_relocations,
-                    s.pointer_to_linenumbers,
-                    s.number_of_relocations,
-                    s.number_of_linenumbers,
-                    s.characteristics
-                )
+                section_line!(name, s)
             })
             .collect();
         let text = |it: &str| goblin_pe::Text(it.as_bytes()).to_string();
