@@ -4,4 +4,5 @@ use Rattle.goblin_pe_tables.specs.ImportLookup.{EntryValue}
 
 -- the entry of a number: by ordinal from 2^15 on; the lower bits are the ordinal or the address
 abbrev pub short_value : ℕ → EntryValue
-short_value n = record { number = n; is_ordinal = nat_le (2 ^ 15) n; ordinal = n % 2 ^ 15; rva = n % 2 ^ 15 }
+short_value n =
+    record { number = n; is_ordinal = nat_le (2 ^ 15) n; ordinal = n % 2 ^ 15; rva = n % 2 ^ 15 }

@@ -20,7 +20,10 @@ pub struct Short {
 }
 
 impl<'a> Bitfield<'a> for Short {
-    ghost format = { record { width = 2; value_of = λ bytes. short_value (number Little 2 bytes 0) } };
+    ghost format = { record {
+      width = 2;
+      value_of = λ bytes. short_value (number Little 2 bytes 0);
+    } };
 
     ghost value = { λ entry. short_value entry.number };
 

@@ -1,4 +1,5 @@
-//! What the tests of tables share: the imports and exports of the sample file, and an entry type of two bytes.
+//! What the tests of tables share: the imports and exports of the sample file, and an entry type of
+//! two bytes.
 #![tactic(auto)]
 
 pub mod exports;

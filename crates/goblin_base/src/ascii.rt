@@ -8,8 +8,10 @@ use std::simd::prelude::*;
 fn run_in_lanes(bytes: &[u8], at: usize) -> usize
     requires { at + 16 ≤ length bytes.now }
     ensures within { result ≤ 16 }
-    ensures plain { (k : ℕ) → at ≤ k → k < at + result → (0 < slice_index bytes.now k) × (slice_index bytes.now k < 128) }
-    ensures stops { result < 16 → (slice_index bytes.now (at + result) ≡ 0) ⊎ (128 ≤ slice_index bytes.now (at + result)) }
+    ensures plain { (k : ℕ) → at ≤ k → k < at + result
+        → (0 < slice_index bytes.now k) × (slice_index bytes.now k < 128) }
+    ensures stops { result < 16
+        → (slice_index bytes.now (at + result) ≡ 0) ⊎ (128 ≤ slice_index bytes.now (at + result)) }
 {
     let marks = (u8x16::from_slice(&bytes[at..]) - u8x16::splat(1))
         .simd_ge(u8x16::splat(127))
@@ -32,8 +34,10 @@ fn is_plain(byte: u8) -> bool
 // How many bytes stand before the first that is a NUL or not ASCII.
 pub(crate) fn plain_run(bytes: &[u8]) -> usize
     ensures within { result ≤ length bytes.now }
-    ensures plain { (k : ℕ) → k < result → (0 < slice_index bytes.now k) × (slice_index bytes.now k < 128) }
-    ensures stops { result < length bytes.now → (slice_index bytes.now result ≡ 0) ⊎ (128 ≤ slice_index bytes.now result) }
+    ensures plain { (k : ℕ) → k < result
+        → (0 < slice_index bytes.now k) × (slice_index bytes.now k < 128) }
+    ensures stops { result < length bytes.now
+        → (slice_index bytes.now result ≡ 0) ⊎ (128 ≤ slice_index bytes.now result) }
 {
     let mut at = 0;
     'lanes: while 16 <= bytes.len() - at {

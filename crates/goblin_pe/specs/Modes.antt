@@ -1,5 +1,7 @@
--- One reader in both modes: where strict mode has a value, permissive mode has the same, but that imports whose directory stands at the front of the file are none.
-use Rattle.std.specs.Prelude.{◌≡◌, ⊤, ℕ, ◌==◌, Bool, false, if◌then◌else◌, List, [], Option, None, Some, Result, Ok, Err, IsOkAnd}
+-- One reader in both modes: where strict mode has a value, permissive mode has the same, but that
+-- imports whose directory stands at the front of the file are none.
+use Rattle.std.specs.Prelude.{◌≡◌, ⊤, ℕ, ◌==◌, Bool, false, if◌then◌else◌, List, [], Option, None}
+use Rattle.std.specs.Prelude.{Some, Result, Ok, Err, IsOkAnd}
 use Rattle.goblin_base.specs.declared.error.ErrorOf.{ErrorOf}
 use Rattle.goblin_base.specs.declared.permissive.ParseMode.{ParseMode}
 use Rattle.goblin_base.specs.Answers.{IsMemory, ◌>>=◌}
@@ -11,12 +13,14 @@ abbrev pub in_mode : ParseMode → ParseOptions → ParseOptions
 in_mode mode opts = record opts { parse_mode = mode }
 
 -- Where the first answer is a value, the second is what becomes of it.
-abbrev pub Repeats : {X Y : Type 0} → (X → Y) → (Y → Y) → Result X ErrorOf → Result X ErrorOf → Type 0
+abbrev pub Repeats : {X Y : Type 0} → (X → Y) → (Y → Y) → Result X ErrorOf → Result X ErrorOf
+    → Type 0
 Repeats view becomes (Ok x) second = IsOkAnd second (λ y. view y ≡ becomes (view x))
 Repeats view becomes (Err e) second = ⊤
 
 -- The same of calls that take memory: the second may be refused with Memory.
-abbrev pub RepeatsOrMemory : {X Y : Type 0} → (X → Y) → (Y → Y) → Result X ErrorOf → Result X ErrorOf → Type 0
+abbrev pub RepeatsOrMemory : {X Y : Type 0} → (X → Y) → (Y → Y) → Result X ErrorOf
+    → Result X ErrorOf → Type 0
 RepeatsOrMemory view becomes (Ok x) (Ok y) = view y ≡ becomes (view x)
 RepeatsOrMemory view becomes (Ok x) (Err e) = IsMemory e
 RepeatsOrMemory view becomes (Err e) second = ⊤
@@ -26,7 +30,8 @@ abbrev pub is_front : Option ℕ → Bool
 is_front None = false
 is_front (Some o) = o == 0
 
--- a list made of the directory at an offset; permissive mode takes a directory at the front of the file for an empty one
+-- a list made of the directory at an offset; permissive mode takes a directory at the front of the
+-- file for an empty one
 abbrev pub unless_front : {A : Type 0} → Option ℕ → List A → List A
 unless_front place xs = if is_front place then [] else xs
 
@@ -39,4 +44,7 @@ import_place opts whole =
 -- what permissive mode has of a file of which strict mode has this
 unfoldable pub in_permissive_mode : ParseOptions → WholeFile → WholeFile
 in_permissive_mode opts whole =
-    record whole { import_data = part_map (unless_front (import_place opts whole)) whole.import_data; imports = part_map (unless_front (import_place opts whole)) whole.imports }
+    record whole {
+      import_data = part_map (unless_front (import_place opts whole)) whole.import_data;
+      imports = part_map (unless_front (import_place opts whole)) whole.imports;
+    }

@@ -1,5 +1,6 @@
 -- A whole file: its header, its sections, and the tables to which its directories lead.
-use Rattle.std.specs.Prelude.{◌≡◌, ℕ, ◌+◌, ◌==◌, Bool, true, false, if◌then◌else◌, List, [], Option, Some, None, Result, Ok, Err, Vec, unwrap_or}
+use Rattle.std.specs.Prelude.{◌≡◌, ℕ, ◌+◌, ◌==◌, Bool, true, false, if◌then◌else◌, List, [], Option}
+use Rattle.std.specs.Prelude.{Some, None, Result, Ok, Err, Vec, unwrap_or}
 use Rattle.std.specs.Global.{Global}
 use Rattle.goblin_base.specs.declared.error.ErrorOf.{ErrorOf}
 use Rattle.goblin_base.specs.declared.error.ErrorOf.TheVariants.{Memory}
@@ -19,7 +20,8 @@ use Rattle.goblin_pe.specs.declared.whole.Part.TheVariants.{Absent, Refused}
 use Rattle.goblin_pe.specs.declared.whole.Part.TheVariants as part
 use Rattle.goblin_pe.specs.declared.whole.Tables.{Tables}
 use Rattle.goblin_pe_tables.specs.Addresses.{MapOfAddresses, offset_of}
-use Rattle.goblin_pe_tables.specs.Exports.{ExportRow, ExportTables, IsExportDataFault, export_data, exports}
+use Rattle.goblin_pe_tables.specs.Exports.{ExportRow, ExportTables, IsExportDataFault, export_data}
+use Rattle.goblin_pe_tables.specs.Exports.{exports}
 use Rattle.goblin_pe_tables.specs.ImportDirectory.{ImportedLibrary, IsImportDataFault, import_data}
 use Rattle.goblin_pe_tables.specs.ImportLookup.{EntryValue, entries_32, entries_64}
 use Rattle.goblin_pe_tables.specs.Imports.{ImportValue, IsImportsFault, imports_of}
@@ -33,7 +35,8 @@ part_of true None = None
 part_of false None = Some Refused
 
 -- the table of a directory, if there is one
-unfoldable pub part_at : {A : Type 0} → Bool → (DataDirectory → Option A) → Option DataDirectory → Option (Part A)
+unfoldable pub part_at : {A : Type 0} → Bool → (DataDirectory → Option A) → Option DataDirectory
+    → Option (Part A)
 part_at strict table None = Some Absent
 part_at strict table (Some directory) = part_of strict (table directory)
 
@@ -49,7 +52,8 @@ part_map table Absent = Absent
 part_map table (part.Read from) = part.Read (table from)
 part_map table Refused = Refused
 
--- What becomes of a table that was asked for: it is read; strict mode refuses all where it is refused, permissive mode keeps that it is, and refused memory refuses all in both.
+-- What becomes of a table that was asked for: it is read; strict mode refuses all where it is
+-- refused, permissive mode keeps that it is, and refused memory refuses all in both.
 abbrev pub BecomesPart : {A : Type 0} → Bool → Result A ErrorOf → Result (Part A) ErrorOf → Type 0
 BecomesPart strict (Ok table) result = result ≡ Ok (part.Read table)
 BecomesPart strict (Err (Memory m)) result = result ≡ Err (Memory m)
@@ -57,12 +61,14 @@ BecomesPart true (Err e) result = result ≡ Err e
 BecomesPart false (Err e) result = result ≡ Ok Refused
 
 -- which cause is true of the table of a directory that refuses all
-abbrev pub IsPartAtFault : Bool → (DataDirectory → ErrorOf → Type 0) → Option DataDirectory → ErrorOf → Type 0
+abbrev pub IsPartAtFault : Bool → (DataDirectory → ErrorOf → Type 0) → Option DataDirectory
+    → ErrorOf → Type 0
 IsPartAtFault strict IsFault None e = ⊥
 IsPartAtFault strict IsFault (Some directory) e = (strict ≡ true) × IsFault directory e
 
 -- which cause is true of a table made from another part that refuses all
-abbrev pub IsPartThenFault : {A : Type 0} → Bool → (A → ErrorOf → Type 0) → Part A → ErrorOf → Type 0
+abbrev pub IsPartThenFault : {A : Type 0} → Bool → (A → ErrorOf → Type 0) → Part A → ErrorOf
+    → Type 0
 IsPartThenFault strict IsFault Absent e = ⊥
 IsPartThenFault strict IsFault (part.Read from) e = (strict ≡ true) × IsFault from e
 IsPartThenFault strict IsFault Refused e = ⊥
@@ -79,7 +85,14 @@ pub record TablePlaces : Type 0 where
 
 -- what contracts see of the reader's own struct
 abbrev pub table_places : Tables → TablePlaces
-table_places t = record { magic = t.magic; file_alignment = t.file_alignment; exports = t.exports; imports = t.imports; relocations = t.relocations }
+table_places t =
+    record {
+      magic = t.magic;
+      file_alignment = t.file_alignment;
+      exports = t.exports;
+      imports = t.imports;
+      relocations = t.relocations;
+    }
 
 -- the same, read by the file alignment of a map of addresses
 abbrev pub places_by : MapOfAddresses → Tables → TablePlaces
@@ -87,7 +100,8 @@ places_by m t = record (table_places t) { file_alignment = m.file_alignment }
 
 -- where the tables lie by an optional header; without one there are no tables
 unfoldable pub places_in : Option OptionalHeader → TablePlaces
-places_in None = record { magic = 0; file_alignment = 0; exports = None; imports = None; relocations = None }
+places_in None =
+    record { magic = 0; file_alignment = 0; exports = None; imports = None; relocations = None }
 places_in (Some h) = record {
   magic = h.standard_fields.magic;
   file_alignment = h.windows_fields.file_alignment;
@@ -102,32 +116,46 @@ entry_format magic = if magic == 0x10B then entries_32 else entries_64
 
 -- the file offset of an address
 abbrev pub offset_by : ParseOptions → List Section → TablePlaces → ℕ → Option ℕ
-offset_by opts sections tables = offset_of (record { sections = sections; file_alignment = tables.file_alignment; opts = opts })
+offset_by opts sections tables =
+    offset_of (record { sections = sections; file_alignment = tables.file_alignment; opts = opts })
 
 -- the import data; there is none where imports are not asked for
-unfoldable pub import_data_part : ParseOptions → List Section → List ℕ → TablePlaces → Option (Part (List ImportedLibrary))
+unfoldable pub import_data_part : ParseOptions → List Section → List ℕ → TablePlaces
+    → Option (Part (List ImportedLibrary))
 import_data_part opts sections bytes tables =
     let strict = is_strict opts.parse_mode in
     let m = offset_by opts sections tables in
     if opts.parse_imports
-    then part_at strict (λ d. import_data strict (entry_format tables.magic) m bytes d.virtual_address) tables.imports
+    then part_at strict
+    (λ d. import_data strict (entry_format tables.magic) m bytes d.virtual_address)
+    tables.imports
     else Some Absent
 
 -- the list of imports
-unfoldable pub imports_part : ParseOptions → TablePlaces → Part (List ImportedLibrary) → Option (Part (List ImportValue))
-imports_part opts tables libraries = part_then (is_strict opts.parse_mode) (imports_of (entry_format tables.magic).width) libraries
+unfoldable pub imports_part : ParseOptions → TablePlaces → Part (List ImportedLibrary)
+    → Option (Part (List ImportValue))
+imports_part opts tables libraries =
+    part_then (is_strict opts.parse_mode) (imports_of (entry_format tables.magic).width) libraries
 
 -- the export data
-unfoldable pub export_data_part : ParseOptions → List Section → List ℕ → TablePlaces → Option (Part ExportTables)
-export_data_part opts sections bytes tables = part_at (is_strict opts.parse_mode) (λ d. export_data (offset_by opts sections tables) d bytes) tables.exports
+unfoldable pub export_data_part : ParseOptions → List Section → List ℕ → TablePlaces
+    → Option (Part ExportTables)
+export_data_part opts sections bytes tables =
+    part_at (is_strict opts.parse_mode) (λ d. export_data (offset_by opts sections tables) d bytes)
+    tables.exports
 
 -- the list of exports
-unfoldable pub exports_part : ParseOptions → List Section → List ℕ → TablePlaces → Part ExportTables → Part (List ExportRow)
-exports_part opts sections bytes tables export_data = part_map (exports (offset_by opts sections tables) bytes) export_data
+unfoldable pub exports_part : ParseOptions → List Section → List ℕ → TablePlaces → Part ExportTables
+    → Part (List ExportRow)
+exports_part opts sections bytes tables export_data =
+    part_map (exports (offset_by opts sections tables) bytes) export_data
 
 -- the bytes of the base relocations
-unfoldable pub relocations_part : ParseOptions → List Section → List ℕ → TablePlaces → Option (Part (List ℕ))
-relocations_part opts sections bytes tables = part_at (is_strict opts.parse_mode) (relocation_data (offset_by opts sections tables) bytes) tables.relocations
+unfoldable pub relocations_part : ParseOptions → List Section → List ℕ → TablePlaces
+    → Option (Part (List ℕ))
+relocations_part opts sections bytes tables =
+    part_at (is_strict opts.parse_mode) (relocation_data (offset_by opts sections tables) bytes)
+    tables.relocations
 
 -- ---- the whole file
 
@@ -147,7 +175,9 @@ section_table_offset h = h.dos_header.pe_pointer + 24 + h.coff_header.size_of_op
 
 -- the sections of a file with this header
 unfoldable pub file_sections : Bool → List ℕ → PeHeader → Option (List Section)
-file_sections strict bytes h = sections_at strict (symbols_end h.coff_header) h.coff_header.number_of_sections bytes (section_table_offset h)
+file_sections strict bytes h =
+    sections_at strict (symbols_end h.coff_header) h.coff_header.number_of_sections bytes
+    (section_table_offset h)
 
 -- the tables of a file, and the lists that are made from them
 pub record FileTables : Type 0 where
@@ -193,35 +223,50 @@ abbrev pub IsImportPartFault : ParseOptions → List Section → List ℕ → Ta
 IsImportPartFault opts sections bytes tables =
     let strict = is_strict opts.parse_mode in
     let m = offset_by opts sections tables in
-    IsPartAtFault strict (λ d. IsImportDataFault strict (entry_format tables.magic) m bytes d.virtual_address) tables.imports
+    IsPartAtFault strict
+    (λ d. IsImportDataFault strict (entry_format tables.magic) m bytes d.virtual_address)
+    tables.imports
 
 -- which cause is true of export data that refuses all
 abbrev pub IsExportPartFault : ParseOptions → List Section → List ℕ → TablePlaces → ErrorOf → Type 0
-IsExportPartFault opts sections bytes tables = IsPartAtFault (is_strict opts.parse_mode) (λ d. IsExportDataFault (offset_by opts sections tables) d bytes) tables.exports
+IsExportPartFault opts sections bytes tables =
+    IsPartAtFault (is_strict opts.parse_mode)
+    (λ d. IsExportDataFault (offset_by opts sections tables) d bytes) tables.exports
 
 -- which cause is true of base relocations that refuse all
-abbrev pub IsRelocationsPartFault : ParseOptions → List Section → List ℕ → TablePlaces → ErrorOf → Type 0
+abbrev pub IsRelocationsPartFault : ParseOptions → List Section → List ℕ → TablePlaces → ErrorOf
+    → Type 0
 IsRelocationsPartFault opts sections bytes tables =
-    IsPartAtFault (is_strict opts.parse_mode) (IsRelocationDataFault (offset_by opts sections tables) bytes) tables.relocations
+    IsPartAtFault (is_strict opts.parse_mode)
+    (IsRelocationDataFault (offset_by opts sections tables) bytes) tables.relocations
 
 -- which cause is true of tables that refuse all: that of the first
 unfoldable pub IsTablesFault : ParseOptions → List Section → List ℕ → TablePlaces → ErrorOf → Type 0
 IsTablesFault opts sections bytes places =
-    FirstFault (import_data_part opts sections bytes places) (IsImportPartFault opts sections bytes places) (λ import_data.
-    FirstFault (imports_part opts places import_data) (IsPartThenFault (is_strict opts.parse_mode) IsImportsFault import_data) (λ imports.
-    FirstFault (export_data_part opts sections bytes places) (IsExportPartFault opts sections bytes places) (λ export_data.
-    FirstFault (relocations_part opts sections bytes places) (IsRelocationsPartFault opts sections bytes places) (λ relocations e. ⊥))))
+    FirstFault (import_data_part opts sections bytes places)
+    (IsImportPartFault opts sections bytes places) (λ import_data.
+    FirstFault (imports_part opts places import_data)
+    (IsPartThenFault (is_strict opts.parse_mode) IsImportsFault import_data) (λ imports.
+    FirstFault (export_data_part opts sections bytes places)
+    (IsExportPartFault opts sections bytes places) (λ export_data.
+    FirstFault (relocations_part opts sections bytes places)
+    (IsRelocationsPartFault opts sections bytes places) (λ relocations e. ⊥))))
 
 -- which cause is true of sections that are refused
 abbrev pub IsFileSectionsFault : Bool → List ℕ → PeHeader → ErrorOf → Type 0
-IsFileSectionsFault strict bytes h = IsSectionsFault strict (symbols_end h.coff_header) h.coff_header.number_of_sections bytes (section_table_offset h)
+IsFileSectionsFault strict bytes h =
+    IsSectionsFault strict (symbols_end h.coff_header) h.coff_header.number_of_sections bytes
+    (section_table_offset h)
 
 -- which cause is true of a file that is refused: that of the first part that is not there
 unfoldable pub IsWholeFault : ParseOptions → List ℕ → ErrorOf → Type 0
 IsWholeFault opts bytes =
-    FirstFault (pe_header (is_strict opts.parse_mode) bytes) (IsHeaderFault (is_strict opts.parse_mode) bytes) (λ header.
-    FirstFault (file_sections (is_strict opts.parse_mode) bytes header) (IsFileSectionsFault (is_strict opts.parse_mode) bytes header) (λ sections.
-    FirstFault (tables_of opts sections bytes (places_in header.optional_header)) (IsTablesFault opts sections bytes (places_in header.optional_header)) (λ tables e. ⊥)))
+    FirstFault (pe_header (is_strict opts.parse_mode) bytes)
+    (IsHeaderFault (is_strict opts.parse_mode) bytes) (λ header.
+    FirstFault (file_sections (is_strict opts.parse_mode) bytes header)
+    (IsFileSectionsFault (is_strict opts.parse_mode) bytes header) (λ sections.
+    FirstFault (tables_of opts sections bytes (places_in header.optional_header))
+    (IsTablesFault opts sections bytes (places_in header.optional_header)) (λ tables e. ⊥)))
 
 -- a list that a part owns, as its items
 abbrev pub items_part : {A : Type 0} → Part (Vec A Global) → Part (List A)
@@ -229,7 +274,8 @@ items_part part = part_map (λ v. v.items) part
 
 -- the imports of import data of which a list can be made
 unfoldable pub listed_imports : ℕ → Part (List ImportedLibrary) → Part (List ImportValue)
-listed_imports magic libraries = part_map (λ l. unwrap_or (imports_of (entry_format magic).width l) []) libraries
+listed_imports magic libraries =
+    part_map (λ l. unwrap_or (imports_of (entry_format magic).width l) []) libraries
 
 -- tables of which no list of imports was made, with the list that their import data has
 abbrev pub with_list : ℕ → FileTables → FileTables
@@ -237,7 +283,8 @@ with_list magic t = record t { imports = listed_imports magic t.import_data }
 
 -- the same of a file
 abbrev pub with_imports : WholeFile → WholeFile
-with_imports w = record w { imports = listed_imports (places_in w.header.optional_header).magic w.import_data }
+with_imports w =
+    record w { imports = listed_imports (places_in w.header.optional_header).magic w.import_data }
 
 -- a list of imports can be made of a file's import data
 abbrev pub HasImports : ParseOptions → WholeFile → Type 0

@@ -1,4 +1,5 @@
--- What the reader of a whole file reaches: the header, the sections, and the tables to which the directories lead.
+-- What the reader of a whole file reaches: the header, the sections, and the tables to which the
+-- directories lead.
 use Rattle.std.specs.Prelude.{if◌then◌else◌, ℕ, List, [], ◌++◌}
 use Rattle.goblin_base.specs.Footprints.{Range, led_to}
 use Rattle.goblin_pe_sect.specs.declared.options.ParseOptions.{ParseOptions}
@@ -10,17 +11,24 @@ use Rattle.goblin_pe_head.specs.Footprints.{header_footprint, sections_footprint
 use Rattle.goblin_pe_head.specs.PeHeader.{PeHeader, pe_header}
 use Rattle.goblin_pe_tables.specs.ExportFootprints.{export_footprint}
 use Rattle.goblin_pe_tables.specs.ImportFootprints.{import_footprint}
-use Rattle.goblin_pe.specs.Whole.{TablePlaces, entry_format, file_sections, offset_by, places_in, section_table_offset}
+use Rattle.goblin_pe.specs.Whole.{TablePlaces, entry_format, file_sections, offset_by, places_in}
+use Rattle.goblin_pe.specs.Whole.{section_table_offset}
 
--- the import data, where imports are asked for and there is a directory; the list of imports is made from it
-unfoldable pub import_part_footprint : ParseOptions → List Section → List ℕ → TablePlaces → List Range
+-- the import data, where imports are asked for and there is a directory; the list of imports is
+-- made from it
+unfoldable pub import_part_footprint : ParseOptions → List Section → List ℕ → TablePlaces
+    → List Range
 import_part_footprint opts sections bytes places =
     if opts.parse_imports
-    then led_to places.imports (λ d. import_footprint (is_strict opts.parse_mode) (entry_format places.magic) (offset_by opts sections places) bytes d.virtual_address)
+    then led_to places.imports
+    (λ d.
+    import_footprint (is_strict opts.parse_mode) (entry_format places.magic)
+    (offset_by opts sections places) bytes d.virtual_address)
     else []
 
 -- the tables of a file with these sections, which lie in these places
-unfoldable pub file_tables_footprint : ParseOptions → List Section → List ℕ → TablePlaces → List Range
+unfoldable pub file_tables_footprint : ParseOptions → List Section → List ℕ → TablePlaces
+    → List Range
 file_tables_footprint opts sections bytes places =
     import_part_footprint opts sections bytes places
     ++ led_to places.exports (λ d. export_footprint (offset_by opts sections places) d bytes)
@@ -29,12 +37,15 @@ file_tables_footprint opts sections bytes places =
 -- the sections of a file with this header
 unfoldable pub file_sections_footprint : ParseOptions → List ℕ → PeHeader → List Range
 file_sections_footprint opts bytes h =
-    sections_footprint (is_strict opts.parse_mode) (symbols_end h.coff_header) h.coff_header.number_of_sections bytes (section_table_offset h)
+    sections_footprint (is_strict opts.parse_mode) (symbols_end h.coff_header)
+    h.coff_header.number_of_sections bytes (section_table_offset h)
 
--- A whole file: its header; where that is there, its sections; and where these are there, its tables.
+-- A whole file: its header; where that is there, its sections; and where these are there, its
+-- tables.
 unfoldable pub whole_footprint : ParseOptions → List ℕ → List Range
 whole_footprint opts bytes =
     header_footprint bytes
     ++ led_to (pe_header (is_strict opts.parse_mode) bytes) (λ h.
     file_sections_footprint opts bytes h
-    ++ led_to (file_sections (is_strict opts.parse_mode) bytes h) (λ sections. file_tables_footprint opts sections bytes (places_in h.optional_header)))
+    ++ led_to (file_sections (is_strict opts.parse_mode) bytes h)
+    (λ sections. file_tables_footprint opts sections bytes (places_in h.optional_header)))

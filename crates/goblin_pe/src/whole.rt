@@ -1,6 +1,7 @@
 //! A whole file: its header, its sections, and the tables to which its directories lead.
 
-ghost use Rattle.std.specs.Prelude.{◌+◌, ◌≡◌, ◌<◌, ◌/◌, IfErr, IfOk, IfSome, IsErrAnd, IsSome, Some, length};
+ghost use Rattle.std.specs.Prelude.{◌+◌, ◌≡◌, ◌<◌, ◌/◌, IfErr, IfOk, IfSome, IsErrAnd, IsSome};
+ghost use Rattle.std.specs.Prelude.{Some, length};
 ghost use Rattle.goblin_base.specs.Answers.{Answers, AnswersOrMemory, GivesOrMemory, IsMemory};
 ghost use Rattle.goblin_pe_sect.specs.BaseRelocations.{relocation_bytes};
 ghost use Rattle.goblin_pe_sect.specs.Mapping.{IsNameAtFault, name_at};
@@ -10,7 +11,14 @@ ghost use Rattle.goblin_pe_head.specs.CoffHeader.{IsTooManySections};
 ghost use Rattle.goblin_pe_tables.specs.ImportDirectory.{IsImportDataFault, import_data};
 ghost use Rattle.goblin_pe_tables.specs.Imports.{IsImportsFault, imports_of};
 ghost use Rattle.goblin_pe_tables.specs.Addresses.{offset_of, reads_strictly};
-ghost use Rattle.goblin_pe.specs.Whole.{BecomesPart, HasImports, IsExportPartFault, IsFileSectionsFault, IsImportPartFault, IsPartThenFault, IsRelocationsPartFault, IsTablesFault, IsWholeFault, entry_format, export_data_part, exports_part, file_sections, import_data_part, imports_part, items_part, listed_imports, offset_by, part_map, places_by, relocations_part, table_places, tables_of, places_in, whole_file, with_imports, with_list};
+ghost use Rattle.goblin_pe.specs.Whole.{BecomesPart, HasImports, IsExportPartFault};
+ghost use Rattle.goblin_pe.specs.Whole.{IsFileSectionsFault, IsImportPartFault, IsPartThenFault};
+ghost use Rattle.goblin_pe.specs.Whole.{IsRelocationsPartFault, IsTablesFault, IsWholeFault};
+ghost use Rattle.goblin_pe.specs.Whole.{entry_format, export_data_part, exports_part};
+ghost use Rattle.goblin_pe.specs.Whole.{file_sections, import_data_part, imports_part, items_part};
+ghost use Rattle.goblin_pe.specs.Whole.{listed_imports, offset_by, part_map, places_by};
+ghost use Rattle.goblin_pe.specs.Whole.{relocations_part, table_places, tables_of, places_in};
+ghost use Rattle.goblin_pe.specs.Whole.{whole_file, with_imports, with_list};
 
 use crate::export::{Export, ExportData};
 use crate::import::{Import, ImportData};
@@ -138,7 +146,8 @@ impl Tables {
             let m = offset_of address_map.now in
             let format = entry_format self.now.magic in
             let rva = directory.virtual_address in
-            AnswersOrMemory (λ x. x) result (import_data strict format m bytes.now rva) (IsImportDataFault strict format m bytes.now rva) }
+            AnswersOrMemory (λ x. x) result (import_data strict format m bytes.now rva)
+            (IsImportDataFault strict format m bytes.now rva) }
     {
         if self.magic == MAGIC_32 {
             ImportData::parse_by::<u32>(alloc, bytes, directory, address_map)
@@ -158,7 +167,8 @@ impl Tables {
         ensures { let o = address_map.now.opts in
             let s = address_map.now.sections in
             let places = places_by address_map.now self.now in
-            AnswersOrMemory (λ x. x) result (import_data_part o s bytes.now places) (IsImportPartFault o s bytes.now places) }
+            AnswersOrMemory (λ x. x) result (import_data_part o s bytes.now places)
+            (IsImportPartFault o s bytes.now places) }
     {
         let opts = address_map.opts();
         match self.imports {
@@ -180,9 +190,13 @@ impl Tables {
         ensures value { let o = address_map.now.opts in
             let s = address_map.now.sections in
             let places = places_by address_map.now self.now in
-            AnswersOrMemory (λ x. x) result (import_data_part o s bytes.now places) (IsImportPartFault o s bytes.now places) }
+            AnswersOrMemory (λ x. x) result (import_data_part o s bytes.now places)
+            (IsImportPartFault o s bytes.now places) }
         ensures listed { let places = places_by address_map.now self.now in
-            IfOk result (λ p. imports_part address_map.now.opts places p ≡ Some (listed_imports self.now.magic p)) }
+            IfOk result
+            (λ p.
+            imports_part address_map.now.opts places p
+            ≡ Some (listed_imports self.now.magic p)) }
     {
         self.import_data(alloc, bytes, address_map)
     }
@@ -196,7 +210,9 @@ impl Tables {
         libraries: &ImportData<'a>,
         sections: &[SectionTable],
     ) -> Result<Vec<Import<'a>>>
-        ensures { AnswersOrMemory (λ v. v.items) result (imports_of (entry_format self.now.magic).width libraries.now) (IsImportsFault libraries.now) }
+        ensures { AnswersOrMemory (λ v. v.items) result
+            (imports_of (entry_format self.now.magic).width libraries.now)
+            (IsImportsFault libraries.now) }
     {
         if self.magic == MAGIC_32 {
             Import::parse::<u32>(alloc, bytes, libraries, sections)
@@ -216,7 +232,9 @@ impl Tables {
         opts: &ParseOptions,
     ) -> Result<Part<Vec<Import<'a>>>>
         ensures { let strict = is_strict opts.now.parse_mode in
-            AnswersOrMemory items_part result (imports_part opts.now (table_places self.now) import_data.now) (IsPartThenFault strict IsImportsFault import_data.now) }
+            AnswersOrMemory items_part result
+            (imports_part opts.now (table_places self.now) import_data.now)
+            (IsPartThenFault strict IsImportsFault import_data.now) }
     {
         match import_data {
             Part::Absent => Ok(Part::Absent),
@@ -236,7 +254,8 @@ impl Tables {
         ensures { let o = address_map.now.opts in
             let s = address_map.now.sections in
             let places = places_by address_map.now self.now in
-            AnswersOrMemory (λ x. x) result (export_data_part o s bytes.now places) (IsExportPartFault o s bytes.now places) }
+            AnswersOrMemory (λ x. x) result (export_data_part o s bytes.now places)
+            (IsExportPartFault o s bytes.now places) }
     {
         let Some(directory) = self.exports else {
             return Ok(Part::Absent);
@@ -256,7 +275,9 @@ impl Tables {
         export_data: &Part<ExportData<'a>>,
         address_map: &AddressMap,
     ) -> Result<Part<Vec<Export<'a>>>>
-        ensures { GivesOrMemory items_part result (exports_part address_map.now.opts address_map.now.sections bytes.now (places_by address_map.now self.now) export_data.now) }
+        ensures { GivesOrMemory items_part result
+            (exports_part address_map.now.opts address_map.now.sections bytes.now
+            (places_by address_map.now self.now) export_data.now) }
     {
         match export_data {
             Part::Absent => Ok(Part::Absent),
@@ -277,7 +298,9 @@ impl Tables {
         opts: &ParseOptions,
     ) -> Result<Part<RelocationData<'a>>>
         ensures { let places = table_places self.now in
-            Answers (part_map relocation_bytes) result (relocations_part opts.now sections.now bytes.now places) (IsRelocationsPartFault opts.now sections.now bytes.now places) }
+            Answers (part_map relocation_bytes) result
+            (relocations_part opts.now sections.now bytes.now places)
+            (IsRelocationsPartFault opts.now sections.now bytes.now places) }
     {
         let Some(directory) = self.relocations else {
             return Ok(Part::Absent);
@@ -289,8 +312,8 @@ impl Tables {
         )
     }
 
-    // All tables, and the list of exports; refused for the first of them that refuses all. The list of
-    // imports is never the first.
+    // All tables, and the list of exports; refused for the first of them that refuses all. The list
+    // of imports is never the first.
     #[tactic(auto, unfolding(crate::specs::Whole::tables_of, crate::specs::Whole::IsTablesFault))]
     fn read<'a>(
         &self,
@@ -300,8 +323,13 @@ impl Tables {
         opts: &ParseOptions,
     ) -> Result<FileTables<'a>>
         ensures value { let places = table_places self.now in
-            AnswersOrMemory (with_list self.now.magic) result (tables_of opts.now sections.now bytes.now places) (IsTablesFault opts.now sections.now bytes.now places) }
-        ensures listed { IfOk result (λ t. imports_part opts.now (table_places self.now) t.import_data ≡ Some (listed_imports self.now.magic t.import_data)) }
+            AnswersOrMemory (with_list self.now.magic) result
+            (tables_of opts.now sections.now bytes.now places)
+            (IsTablesFault opts.now sections.now bytes.now places) }
+        ensures listed { IfOk result
+            (λ t.
+            imports_part opts.now (table_places self.now) t.import_data
+            ≡ Some (listed_imports self.now.magic t.import_data)) }
     {
         let address_map = AddressMap::prepare(alloc, sections, self.file_alignment, opts)?;
         let import_data = self.listed_data(alloc, bytes, &address_map)?;
@@ -359,7 +387,8 @@ fn sections_of(
 ) -> Result<Vec<SectionTable>>
     ensures value { let strict = is_strict opts.now.parse_mode in
         let h = header_value header.now in
-        AnswersOrMemory (λ v. v.items) result (file_sections strict bytes.now h) (IsFileSectionsFault strict bytes.now h) }
+        AnswersOrMemory (λ v. v.items) result (file_sections strict bytes.now h)
+        (IsFileSectionsFault strict bytes.now h) }
     ensures first { let count = header.now.coff_header.number_of_sections in
         length bytes.now / 40 < count → IsErrAnd result (IsTooManySections count bytes.now) }
 {
@@ -383,15 +412,17 @@ impl<'a> Whole<'a> {
     ///
     /// # Errors
     /// As [`Header::parse_with_opts`]; as
-    /// [`CoffHeader::sections_with_opts`](goblin_pe_head::CoffHeader::sections_with_opts); in strict
-    /// mode as the readers of the tables; [`Error::Memory`] where memory is refused, in both modes, and
-    /// never of a file whose header is refused.
+    /// [`CoffHeader::sections_with_opts`](goblin_pe_head::CoffHeader::sections_with_opts); in
+    /// strict mode as the readers of the tables; [`Error::Memory`] where memory is refused, in both
+    /// modes, and never of a file whose header is refused.
     pub fn read(alloc: Global, bytes: &'a [u8], opts: &ParseOptions) -> Result<Whole<'a>>
-        ensures value { AnswersOrMemory (λ x. x) result (whole_file opts.now bytes.now) (IsWholeFault opts.now bytes.now) }
+        ensures value { AnswersOrMemory (λ x. x) result (whole_file opts.now bytes.now)
+            (IsWholeFault opts.now bytes.now) }
         ensures first { IfSome (pe_header (is_strict opts.now.parse_mode) bytes.now) (λ header.
             let count = header.coff_header.number_of_sections in
             length bytes.now / 40 < count → IsErrAnd result (IsTooManySections count bytes.now)) }
-        ensures grown { IfErr result (λ e. IsMemory e → IsSome (pe_header (is_strict opts.now.parse_mode) bytes.now)) }
+        ensures grown { IfErr result
+            (λ e. IsMemory e → IsSome (pe_header (is_strict opts.now.parse_mode) bytes.now)) }
     {
         let mut whole = Whole::read_data(alloc, bytes, opts)?;
         let tables = Tables::of(&whole.header.optional_header);
@@ -407,12 +438,14 @@ impl<'a> Whole<'a> {
     /// As [`Whole::read`].
     #[tactic(auto, unfolding(crate::specs::Whole::whole_file, crate::specs::Whole::IsWholeFault), using(goblin_pe_head::proofs::HeaderFaults::header_there))]
     pub fn read_data(alloc: Global, bytes: &'a [u8], opts: &ParseOptions) -> Result<Whole<'a>>
-        ensures value { AnswersOrMemory with_imports result (whole_file opts.now bytes.now) (IsWholeFault opts.now bytes.now) }
+        ensures value { AnswersOrMemory with_imports result (whole_file opts.now bytes.now)
+            (IsWholeFault opts.now bytes.now) }
         ensures listed { IfOk result (HasImports opts.now) }
         ensures first { IfSome (pe_header (is_strict opts.now.parse_mode) bytes.now) (λ header.
             let count = header.coff_header.number_of_sections in
             length bytes.now / 40 < count → IsErrAnd result (IsTooManySections count bytes.now)) }
-        ensures grown { IfErr result (λ e. IsMemory e → IsSome (pe_header (is_strict opts.now.parse_mode) bytes.now)) }
+        ensures grown { IfErr result
+            (λ e. IsMemory e → IsSome (pe_header (is_strict opts.now.parse_mode) bytes.now)) }
     {
         let header = Header::parse_with_opts(bytes, opts)?;
         let sections = sections_of(alloc, bytes, &header, opts)?;
@@ -434,26 +467,28 @@ impl<'a> Whole<'a> {
         })
     }
 
-    /// The file offset of the address `rva`, as [`find_offset`] gives it by the file's own sections and
-    /// the file alignment of its optional header. Without an optional header no address has one, unless
-    /// `opts` says that addresses are offsets.
+    /// The file offset of the address `rva`, as [`find_offset`] gives it by the file's own sections
+    /// and the file alignment of its optional header. Without an optional header no address has
+    /// one, unless `opts` says that addresses are offsets.
     pub fn find_offset(&self, rva: usize, opts: &ParseOptions) -> Option<usize>
-        ensures { result ≡ offset_by opts.now self.now.sections (places_in self.now.header.optional_header) rva }
+        ensures { result
+            ≡ offset_by opts.now self.now.sections (places_in self.now.header.optional_header) rva }
     {
         let tables = Tables::of(&self.header.optional_header);
         find_offset(rva, &self.sections, tables.file_alignment, opts)
     }
 
-    /// The text at the address `rva` of the file, whose bytes are `bytes`, up to its first NUL or the
-    /// end of the file, as [`try_name`] gives it by the file's own sections and the file alignment of
-    /// its optional header.
+    /// The text at the address `rva` of the file, whose bytes are `bytes`, up to its first NUL or
+    /// the end of the file, as [`try_name`] gives it by the file's own sections and the file
+    /// alignment of its optional header.
     ///
     /// # Errors
     /// In both modes: [`Error::Malformed`](goblin_base::Error::Malformed) with
     /// [`Cause::Unmapped`](goblin_base::Cause::Unmapped) where the address has no file offset, and
     /// [`Error::Read`](goblin_base::Error::Read) where no text stands there.
     pub fn try_name<'b>(&self, bytes: &'b [u8], rva: usize, opts: &ParseOptions) -> Result<&'b str>
-        ensures { let m = offset_by opts.now self.now.sections (places_in self.now.header.optional_header) in
+        ensures { let m = offset_by opts.now self.now.sections
+            (places_in self.now.header.optional_header) in
             Answers (λ s. s.now) result (name_at m bytes.now rva) (IsNameAtFault m bytes.now rva) }
     {
         let tables = Tables::of(&self.header.optional_header);

@@ -22,5 +22,9 @@ blocks_in Refused = []
 -- what is said of base relocations as a whole
 abbrev pub relocations_of : Part (List ℕ) → PeRelocations
 relocations_of Absent = record { blocks = record { count = 0; state = 0 }; rest = no_fault }
-relocations_of (part.Read directory) = record { blocks = record { count = length (values_of (block_items directory 0)); state = 1 }; rest = rest_of (block_items directory 0) }
+relocations_of (part.Read directory) =
+    record {
+      blocks = record { count = length (values_of (block_items directory 0)); state = 1 };
+      rest = rest_of (block_items directory 0);
+    }
 relocations_of Refused = record { blocks = record { count = 0; state = 2 }; rest = no_fault }

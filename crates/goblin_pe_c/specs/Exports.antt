@@ -28,8 +28,10 @@ pub record ForwarderSaid : Type 0 where
 
 abbrev pub forwarder_said : Option Forwarder → ForwarderSaid
 forwarder_said None = record { kind = 0; export = []; ordinal = 0; lib = [] }
-forwarder_said (Some (ByName export lib)) = record { kind = 1; export = export; ordinal = 0; lib = lib }
-forwarder_said (Some (ByOrdinal ordinal lib)) = record { kind = 2; export = []; ordinal = ordinal; lib = lib }
+forwarder_said (Some (ByName export lib)) =
+    record { kind = 1; export = export; ordinal = 0; lib = lib }
+forwarder_said (Some (ByOrdinal ordinal lib)) =
+    record { kind = 2; export = []; ordinal = ordinal; lib = lib }
 
 -- what the record of an export says: what the export does not have is nothing, or 0
 abbrev pub export_said : ExportRow → ExportSaid

@@ -1,17 +1,35 @@
 -- Refusals as numbers.
-use Rattle.std.specs.Prelude.{◌≡◌, ◌⊎◌, ℕ, ◌-◌, ◌%◌, ◌^◌, ◌==◌, nat_lt, List, [], ◌∷◌, codes, if◌then◌else◌, Option, Some, None, Result, Ok, Err, slice_get, option_map, ⊤}
+use Rattle.std.specs.Prelude.{◌≡◌, ◌⊎◌, ℕ, ◌-◌, ◌%◌, ◌^◌, ◌==◌, nat_lt, List, [], ◌∷◌, codes}
+use Rattle.std.specs.Prelude.{if◌then◌else◌, Option, Some, None, Result, Ok, Err, slice_get}
+use Rattle.std.specs.Prelude.{option_map, ⊤}
 use Rattle.std.specs.Str.{bytes_eq}
 use Rattle.goblin_base.specs.ErrorText.{cause_text, fault_text, magic_text, memory_text, short_text}
 use Rattle.goblin_base.specs.declared.error.CauseOf.{CauseOf}
 use Rattle.goblin_base.specs.declared.error.ReadFault.{ReadFault}
 use Rattle.goblin_base.specs.declared.error.ErrorOf.{ErrorOf}
-use Rattle.goblin_base.specs.declared.error.ErrorOf.TheVariants.{Malformed, BadMagic, BufferTooShort, Read, Memory}
+use Rattle.goblin_base.specs.declared.error.ErrorOf.TheVariants.{Malformed, BadMagic}
+use Rattle.goblin_base.specs.declared.error.ErrorOf.TheVariants.{BufferTooShort, Read, Memory}
 use Rattle.goblin_base.specs.declared.error.ReadFault.TheVariants.{BadOffset, TooBig, BadInput}
-use Rattle.goblin_base.specs.declared.error.CauseOf.TheVariants.{Message, NoDosSignature, DosMagic, NoPePointer, NoPeSignature, PeMagic, StubBeforeStart, StubPastEnd, NoDans, RichBounds, StrippedSize, CoffLength, DirectoryIndex, DirectoryCount, NameText, NameBase64, NameDecimal, NameOffset, SymbolName, StringTable, FieldTooWide, Unmapped, NameRead, HintEntry, LookupEnd, ImportRecordEnd, ExportTable, Forwarder, ForwarderOrdinal, RelocRange, BlockSize, BlockRange, Overflow, SlotCount}
+use Rattle.goblin_base.specs.declared.error.CauseOf.TheVariants.{Message, NoDosSignature, DosMagic}
+use Rattle.goblin_base.specs.declared.error.CauseOf.TheVariants.{NoPePointer, NoPeSignature}
+use Rattle.goblin_base.specs.declared.error.CauseOf.TheVariants.{PeMagic, StubBeforeStart}
+use Rattle.goblin_base.specs.declared.error.CauseOf.TheVariants.{StubPastEnd, NoDans, RichBounds}
+use Rattle.goblin_base.specs.declared.error.CauseOf.TheVariants.{StrippedSize, CoffLength}
+use Rattle.goblin_base.specs.declared.error.CauseOf.TheVariants.{DirectoryIndex, DirectoryCount}
+use Rattle.goblin_base.specs.declared.error.CauseOf.TheVariants.{NameText, NameBase64, NameDecimal}
+use Rattle.goblin_base.specs.declared.error.CauseOf.TheVariants.{NameOffset, SymbolName}
+use Rattle.goblin_base.specs.declared.error.CauseOf.TheVariants.{StringTable, FieldTooWide}
+use Rattle.goblin_base.specs.declared.error.CauseOf.TheVariants.{Unmapped, NameRead, HintEntry}
+use Rattle.goblin_base.specs.declared.error.CauseOf.TheVariants.{LookupEnd, ImportRecordEnd}
+use Rattle.goblin_base.specs.declared.error.CauseOf.TheVariants.{ExportTable, Forwarder}
+use Rattle.goblin_base.specs.declared.error.CauseOf.TheVariants.{ForwarderOrdinal, RelocRange}
+use Rattle.goblin_base.specs.declared.error.CauseOf.TheVariants.{BlockSize, BlockRange, Overflow}
+use Rattle.goblin_base.specs.declared.error.CauseOf.TheVariants.{SlotCount}
 use Rattle.goblin_pe_c.specs.declared.fault.PeFault.{PeFault}
 
 abbrev pub fault : ℕ → ℕ → ℕ → ℕ → PeFault
-fault status cause first second = record { status = status; cause = cause; first = first; second = second }
+fault status cause first second =
+    record { status = status; cause = cause; first = first; second = second }
 
 -- what a file is too short for, by its number
 abbrev pub word_number : List ℕ → ℕ
@@ -73,8 +91,8 @@ abbrev pub status_of : {A : Type 0} → Result A ErrorOf → PeFault
 status_of (Ok x) = no_fault
 status_of (Err e) = fault_of e
 
--- The causes from number 2 on, in the order of their numbers, with these numbers of their own. Number 1 is a message of the
--- caller's, which no numbers say.
+-- The causes from number 2 on, in the order of their numbers, with these numbers of their own.
+-- Number 1 is a message of the caller's, which no numbers say.
 abbrev pub causes : ℕ → ℕ → List CauseOf
 causes first second =
     NoDosSignature
@@ -114,7 +132,10 @@ causes first second =
 
 -- the cause with these numbers
 abbrev pub cause_of : PeFault → Option CauseOf
-cause_of fault = if nat_lt fault.cause 2 then None else slice_get (causes fault.first fault.second) (fault.cause - 2)
+cause_of fault =
+    if nat_lt fault.cause 2
+    then None
+    else slice_get (causes fault.first fault.second) (fault.cause - 2)
 
 -- what a file is too short for, by its number
 abbrev pub word_of : ℕ → Option (List ℕ)
@@ -143,7 +164,8 @@ refusal_text fault =
     else if fault.status == 5 then Some memory_text
     else None
 
--- a refusal of which its numbers say all: no message of the caller's, and no text but those that have a number
+-- a refusal of which its numbers say all: no message of the caller's, and no text but those that
+-- have a number
 abbrev pub IsNumbered : ErrorOf → Type 0
 IsNumbered (Malformed (Message text)) = ⊥
 IsNumbered (BufferTooShort count what) = word_of (word_number what.now) ≡ Some what.now

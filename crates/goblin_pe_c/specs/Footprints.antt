@@ -1,5 +1,6 @@
 -- Which bytes of a file its imports depend on, as a call tells them.
-use Rattle.std.specs.Prelude.{◌≡◌, ℕ, ◌-◌, ◌<◌, ◌⊎◌, if◌then◌else◌, IsTrue, List, [], length, map, Result, Ok, Err}
+use Rattle.std.specs.Prelude.{◌≡◌, ℕ, ◌-◌, ◌<◌, ◌⊎◌, if◌then◌else◌, IsTrue, List, [], length, map}
+use Rattle.std.specs.Prelude.{Result, Ok, Err}
 use Rattle.goblin_base.specs.declared.error.ErrorOf.{ErrorOf}
 use Rattle.goblin_base.specs.Answers.{IsMemory}
 use Rattle.goblin_base.specs.Footprints.{Range}
@@ -23,19 +24,25 @@ range_view r = (r.offset, r.length)
 abbrev pub range_said : Range → ℕ × ℕ
 range_said range = (range.0, range.1 - range.0)
 
--- the footprint of the imports to which a directory leads, if there is one, in a file with this optional header and these sections
-unfoldable pub footprint_by : ParseOptions → PeOptionalHeader → PeDirectory → List Section → List ℕ → List Range
+-- the footprint of the imports to which a directory leads, if there is one, in a file with this
+-- optional header and these sections
+unfoldable pub footprint_by : ParseOptions → PeOptionalHeader → PeDirectory → List Section → List ℕ
+    → List Range
 footprint_by opts header directory sections bytes =
     if directory.is_present
-    then import_footprint (is_strict opts.parse_mode) (entry_format header.magic) (file_offset opts sections header.file_alignment) bytes directory.virtual_address
+    then import_footprint (is_strict opts.parse_mode) (entry_format header.magic)
+    (file_offset opts sections header.file_alignment) bytes directory.virtual_address
     else []
 
--- memory is taken where there is a directory, with a section or an index that has pieces; and where there is a range to list
+-- memory is taken where there is a directory, with a section or an index that has pieces; and where
+-- there is a range to list
 abbrev pub TakesMemory : ParseOptions → PeOptionalHeader → PeDirectory → ℕ → List Range → Type 0
 TakesMemory opts header directory sections footprint =
-    (IsTrue directory.is_present × ((0 < sections) ⊎ HasPieces opts header.file_alignment)) ⊎ (0 < length footprint)
+    (IsTrue directory.is_present × ((0 < sections) ⊎ HasPieces opts header.file_alignment))
+    ⊎ (0 < length footprint)
 
--- A call lists the ranges of a footprint; or memory was refused, where it may be asked for, and all is left as it was.
+-- A call lists the ranges of a footprint; or memory was refused, where it may be asked for, and all
+-- is left as it was.
 abbrev pub Lists : List Range → Type 0 → PeRanges → PeRanges → Result Unit ErrorOf → Type 0
 Lists footprint MayGrow old new (Ok x) = map range_view new.ranges.now ≡ map range_said footprint
 Lists footprint MayGrow old new (Err e) = IsMemory e × MayGrow × (new ≡ old)

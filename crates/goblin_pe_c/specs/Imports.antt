@@ -4,7 +4,8 @@ use Rattle.goblin_pe.specs.ImportDirectory.{ImportedLibrary}
 use Rattle.goblin_pe.specs.Imports.{ImportValue, imports_by, imports_of, kept_entries, ordinal_name}
 use Rattle.goblin_pe_c.specs.declared.import.PeImport.{PeImport}
 
--- what a record says of an import, and what stands in place of a name where the import is by ordinal
+-- what a record says of an import, and what stands in place of a name where the import is by
+-- ordinal
 abbrev pub import_view : PeImport → ImportValue × List ℕ
 import_view x = (
   record {
@@ -26,7 +27,9 @@ table_entries table = unwrap_or table []
 
 -- the imports of a library, of which each entry has a slot
 abbrev pub own_imports : ℕ → ImportedLibrary → Option (List ImportValue)
-own_imports size library = imports_by size library.name library.import_directory_entry.import_address_table_rva (kept_entries library) library.import_lookup_slots
+own_imports size library =
+    imports_by size library.name library.import_directory_entry.import_address_table_rva
+    (kept_entries library) library.import_lookup_slots
 
 -- the imports of libraries, of which there is a list
 abbrev pub listed : ℕ → List ImportedLibrary → List ImportValue

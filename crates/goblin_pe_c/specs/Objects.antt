@@ -7,7 +7,8 @@ use Rattle.goblin_base.specs.Record.{record_at}
 use Rattle.goblin_pe_sect.specs.SectionTable.{Section}
 use Rattle.goblin_pe_sect.specs.Symbols.{symbols_in}
 use Rattle.goblin_pe_head.specs.declared.header.coff.CoffHeader.{CoffHeader}
-use Rattle.goblin_pe_head.specs.CoffHeader.{coff_header, sections_at, symbols_end, strings_of, symbols_of, IsNoStrings, IsNoSymbols, IsSectionsFault}
+use Rattle.goblin_pe_head.specs.CoffHeader.{coff_header, sections_at, symbols_end, strings_of}
+use Rattle.goblin_pe_head.specs.CoffHeader.{symbols_of, IsNoStrings, IsNoSymbols, IsSectionsFault}
 use Rattle.goblin_pe.specs.SectionRoom.{TakesSections}
 use Rattle.goblin_pe_c.specs.declared.file.PeTable.{PeTable}
 use Rattle.goblin_pe_c.specs.declared.object.PeObject.{PeObject}
@@ -27,11 +28,14 @@ pub record ObjectFile : Type 0 where
 
 -- the sections of an object, which follow the header and what it says of an optional header
 abbrev pub object_sections : Bool → List ℕ → CoffHeader → Option (List Section)
-object_sections strict bytes h = sections_at strict (symbols_end h) h.number_of_sections bytes (20 + h.size_of_optional_header)
+object_sections strict bytes h =
+    sections_at strict (symbols_end h) h.number_of_sections bytes (20 + h.size_of_optional_header)
 
 -- which cause is true of sections that are refused
 abbrev pub IsObjectSectionsFault : Bool → List ℕ → CoffHeader → ErrorOf → Type 0
-IsObjectSectionsFault strict bytes h = IsSectionsFault strict (symbols_end h) h.number_of_sections bytes (20 + h.size_of_optional_header)
+IsObjectSectionsFault strict bytes h =
+    IsSectionsFault strict (symbols_end h) h.number_of_sections bytes
+    (20 + h.size_of_optional_header)
 
 -- the header at the front of a file
 abbrev pub object_header : List ℕ → Option CoffHeader
@@ -54,7 +58,8 @@ object_file strict bytes = do
 unfoldable pub IsObjectFault : Bool → List ℕ → ErrorOf → Type 0
 IsObjectFault strict bytes =
     FirstFault (object_header bytes) (IsSliceFault bytes 0 20) (λ header.
-    FirstFault (object_sections strict bytes header) (IsObjectSectionsFault strict bytes header) (λ sections.
+    FirstFault (object_sections strict bytes header) (IsObjectSectionsFault strict bytes header) (λ
+    sections.
     FirstFault (symbols_of header bytes) (IsNoSymbols header bytes) (λ symbols.
     FirstFault (strings_of header bytes) (IsNoStrings header bytes) (λ strings e. ⊥))))
 
@@ -66,12 +71,18 @@ symbol_rows None strings = []
 
 -- how the table stands: it was read (1), or there is none (0)
 abbrev pub symbols_table : Option (List ℕ) → Option (List ℕ) → PeTable
-symbols_table (Some table) (Some strings) = record { count = length (map (symbol_row strings) (symbols_in table)); state = 1 }
+symbols_table (Some table) (Some strings) =
+    record { count = length (map (symbol_row strings) (symbols_in table)); state = 1 }
 symbols_table (Some table) None = record { count = 0; state = 0 }
 symbols_table None strings = record { count = 0; state = 0 }
 
 abbrev pub object_record : ObjectFile → PeObject
-object_record x = record { sections = length x.sections; symbols = symbols_table x.symbols x.strings; coff_header = coff_record x.header }
+object_record x =
+    record {
+      sections = length x.sections;
+      symbols = symbols_table x.symbols x.strings;
+      coff_header = coff_record x.header;
+    }
 
 -- what a caller hands in to be filled
 pub record ObjectRecords : Type 0 where

@@ -28,9 +28,11 @@ AreTablesOf w t =
     × (map export_view t.exports.now ≡ map export_said (entries_of w.exports))
     × (map block_view t.blocks.now ≡ blocks_in w.relocations)
 
--- what a call says of a file whose tables it keeps: the directories as far as there is room, all else whole
+-- what a call says of a file whose tables it keeps: the directories as far as there is room, all
+-- else whole
 abbrev pub Opens : WholeFile → Opened → Opened → Type 0
 Opens w old new =
     (new.file ≡ file_of w)
-    × (Filled (λ d. d) (map directory_record (directories_of w.header.optional_header)) old.directories new.directories)
+    × (Filled (λ d. d) (map directory_record (directories_of w.header.optional_header))
+    old.directories new.directories)
     × AreTablesOf w new.tables

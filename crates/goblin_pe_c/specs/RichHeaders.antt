@@ -24,7 +24,16 @@ entries_in (Some r) = values_of (entry_items r)
 
 -- what is said of the Rich header as a whole
 abbrev pub rich_of : Option Rich → PeRichHeader
-rich_of None = record { entries = 0; padding_size = 0; rest = no_fault; key = 0; start_offset = 0; end_offset = 0; is_present = false }
+rich_of None =
+    record {
+      entries = 0;
+      padding_size = 0;
+      rest = no_fault;
+      key = 0;
+      start_offset = 0;
+      end_offset = 0;
+      is_present = false;
+    }
 rich_of (Some r) = record {
   entries = length (values_of (entry_items r));
   padding_size = r.padding_size;

@@ -6,7 +6,8 @@ use Rattle.goblin_pe_c.specs.declared.section.PeSection.{PeSection}
 
 -- the name that the eight bytes of a name lead to in the string table
 unfoldable pub real_name_in : Bool → List ℕ → ℕ → List ℕ → Option (List ℕ)
-real_name_in strict bytes table name = option_and_then (λ value. real_name_at bytes table value) (name_value strict name)
+real_name_in strict bytes table name =
+    option_and_then (λ value. real_name_at bytes table value) (name_value strict name)
 
 -- a section with its name from the string table at `table`
 abbrev pub named_in : Bool → List ℕ → ℕ → Section → Section

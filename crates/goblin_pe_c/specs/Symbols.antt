@@ -13,13 +13,18 @@ pub record SymbolRow : Type 0 where
   pub name : Option (List ℕ)
   pub symbol : Symbol
 
--- the name: where a number stands in its place, what the string table has at the offset that it says, and else the one that stands in the record
+-- the name: where a number stands in its place, what the string table has at the offset that it
+-- says, and else the one that stands in the record
 abbrev pub name_in : List ℕ → Option (List ℕ) → Symbol → Option (List ℕ)
-name_in strings inline_name symbol = if slice_index symbol.name 0 == 0 then (name_offset_of symbol.name >>= rest_at strings) else inline_name
+name_in strings inline_name symbol =
+    if slice_index symbol.name 0 == 0
+    then (name_offset_of symbol.name >>= rest_at strings)
+    else inline_name
 
 -- a symbol of a table with its name
 abbrev pub symbol_row : List ℕ → SymbolItem → SymbolRow × List ℕ
-symbol_row strings item = alone (record { index = item.0; name = name_in strings item.1 item.2; symbol = item.2 })
+symbol_row strings item =
+    alone (record { index = item.0; name = name_in strings item.1 item.2; symbol = item.2 })
 
 -- what a record says of a symbol, and what stands in place of a name where there is none
 abbrev pub symbol_view : PeSymbol → SymbolRow × List ℕ

@@ -31,7 +31,8 @@ TakesMemory bytes h = TakesSections h.number_of_sections bytes
 unfoldable pub IsImageFault : List ℕ → ErrorOf → Type 0
 IsImageFault bytes =
     FirstFault (te_header bytes 0) (IsTeFault bytes 0) (λ header.
-    FirstFault (te_sections_at header bytes 40) (IsTeSectionsFault header bytes 40) (λ sections e. ⊥))
+    FirstFault (te_sections_at header bytes 40) (IsTeSectionsFault header bytes 40)
+    (λ sections e. ⊥))
 
 abbrev pub te_header_record : TeHeader → PeTeHeader
 te_header_record h = record {
@@ -54,4 +55,6 @@ pub record TeRecords : Type 0 where
 
 -- the records say what an image has, the sections as far as there is room
 abbrev pub SaysImage : TeImage → TeRecords → TeRecords → Type 0
-SaysImage x old new = (new.header ≡ te_header_record x.header) × (Filled section_said (map alone x.sections) old.sections new.sections)
+SaysImage x old new =
+    (new.header ≡ te_header_record x.header)
+    × (Filled section_said (map alone x.sections) old.sections new.sections)

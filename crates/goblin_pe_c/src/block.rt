@@ -53,8 +53,12 @@ fn item_records<'a>(
     relocations: &RelocationData<'a>,
 ) -> Result<(Vec<PeBlock<'a>>, PeFault)>
     ensures refused { IfErr result IsMemory }
-    ensures values { IfOk result (λ made. map block_view made.0.items ≡ values_of (block_items (relocation_bytes relocations.now) 0)) }
-    ensures rest { IfOk result (λ made. made.1 ≡ rest_of (block_items (relocation_bytes relocations.now) 0)) }
+    ensures values { IfOk result
+        (λ made.
+        map block_view made.0.items
+        ≡ values_of (block_items (relocation_bytes relocations.now) 0)) }
+    ensures rest { IfOk result
+        (λ made. made.1 ≡ rest_of (block_items (relocation_bytes relocations.now) 0)) }
 {
     let mut records = Vec::new(alloc);
     'blocks: for block in relocations.blocks() {
@@ -66,15 +70,19 @@ fn item_records<'a>(
     Ok((records, no_fault()))
 }
 
-/// The records of base relocation blocks, in memory of their own, and what is said of them as a whole.
+/// The records of base relocation blocks, in memory of their own, and what is said of them as a
+/// whole.
 #[tactic(auto, unfolding(goblin_pe::specs::Whole::part_map))]
 pub fn block_records<'a>(
     alloc: Global,
     relocations: &Part<RelocationData<'a>>,
 ) -> Result<(Vec<PeBlock<'a>>, PeRelocations)>
     ensures refused { IfErr result IsMemory }
-    ensures values { IfOk result (λ made. map block_view made.0.items ≡ blocks_in (part_map relocation_bytes relocations.now)) }
-    ensures said { IfOk result (λ made. made.1 ≡ relocations_of (part_map relocation_bytes relocations.now)) }
+    ensures values { IfOk result
+        (λ made.
+        map block_view made.0.items ≡ blocks_in (part_map relocation_bytes relocations.now)) }
+    ensures said { IfOk result
+        (λ made. made.1 ≡ relocations_of (part_map relocation_bytes relocations.now)) }
 {
     let (records, state, rest) = match relocations {
         Part::Absent => (Vec::new(alloc), 0, no_fault()),

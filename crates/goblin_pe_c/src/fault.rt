@@ -3,7 +3,9 @@
 ghost use Rattle.std.specs.Prelude.{◌≡◌, List, ℕ, Some, length, option_map};
 ghost use Rattle.std.specs.Fmt.InlineText.{inline_text};
 ghost use Rattle.goblin_base.specs.ErrorText.{error_text};
-ghost use Rattle.goblin_pe_c.specs.Faults.{IsNumbered, IsTextOf, cause_of, causes, fault_of, no_fault, read_fault_of, refusal_text, word_number, word_of};
+ghost use Rattle.goblin_pe_c.specs.Faults.{IsNumbered, IsTextOf, cause_of, causes, fault_of};
+ghost use Rattle.goblin_pe_c.specs.Faults.{no_fault, read_fault_of, refusal_text, word_number};
+ghost use Rattle.goblin_pe_c.specs.Faults.{word_of};
 ghost use Rattle.goblin_pe_c.specs.Filled.{Filled};
 
 use goblin_pe::{Cause, Error, ReadFault};
@@ -121,8 +123,8 @@ pub fn fault_of(error: &Error) -> PeFault
     }
 }
 
-// The causes from the second on, in the order of their numbers, with these numbers of their own. The
-// first is a message of the caller's, which no numbers say.
+// The causes from the second on, in the order of their numbers, with these numbers of their own.
+// The first is a message of the caller's, which no numbers say.
 fn causes(first: u64, second: u64) -> [Cause; CAUSES]
     ensures { result ≡ causes first second }
 {
@@ -243,7 +245,8 @@ fn put_text(text: &mut [u8], whole: &[u8]) -> usize
 /// the whole text is; 0 where the numbers are of no refusal. It takes no memory.
 #[unsafe(no_mangle)]
 pub extern "C" fn goblin_pe_fault_text(fault: &PeFault, text: &mut [u8]) -> usize
-    ensures { (whole : List ℕ) × IsTextOf fault.now whole × (result ≡ length whole) × Filled (λ b. b) whole text.old text.new }
+    ensures { (whole : List ℕ) × IsTextOf fault.now whole × (result ≡ length whole)
+        × Filled (λ b. b) whole text.old text.new }
 {
     let whole = text_of(fault);
     put_text(text, whole.as_str().as_bytes())

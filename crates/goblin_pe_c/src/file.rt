@@ -70,7 +70,8 @@ fn table_of<T>(part: &Part<Vec<T>>) -> PeTable
 // How the imports of import data stand, of which there are `count`.
 #[tactic(auto, unfolding(goblin_pe::specs::Whole::part_map))]
 fn imports_table(import_data: &Part<ImportData>, count: usize) -> PeTable
-    ensures { (imports : List ImportedLibrary → List ImportValue) → count ≡ length (entries_of (part_map imports import_data.now))
+    ensures { (imports : List ImportedLibrary → List ImportValue)
+        → count ≡ length (entries_of (part_map imports import_data.now))
         → result ≡ table_of (part_map imports import_data.now) }
 {
     match import_data {
@@ -80,7 +81,8 @@ fn imports_table(import_data: &Part<ImportData>, count: usize) -> PeTable
     }
 }
 
-/// What is said of a file as a whole, of which no list of imports was made: with their number, what is said of its base relocations and its Rich header.
+/// What is said of a file as a whole, of which no list of imports was made: with their number, what
+/// is said of its base relocations and its Rich header.
 #[tactic(auto, unfolding(goblin_pe::specs::Whole::listed_imports))]
 pub fn file_of(
     whole: &Whole,

@@ -8,7 +8,8 @@ ghost use Rattle.goblin_pe_sect.specs.WindowIndex.{HasPieces};
 ghost use Rattle.goblin_pe.specs.ImportFootprints.{import_footprint};
 ghost use Rattle.goblin_pe.specs.Whole.{entry_format};
 ghost use Rattle.goblin_pe_c.specs.Calls.{Reported};
-ghost use Rattle.goblin_pe_c.specs.Footprints.{Lists, TakesMemory, footprint_by, range_said, range_view};
+ghost use Rattle.goblin_pe_c.specs.Footprints.{Lists, TakesMemory, footprint_by, range_said};
+ghost use Rattle.goblin_pe_c.specs.Footprints.{range_view};
 ghost use Rattle.goblin_pe_c.specs.Options.{options_of};
 ghost use Rattle.goblin_pe_c.specs.Sections.{section_view, unnamed};
 
@@ -69,7 +70,8 @@ fn range_records(alloc: Global, ranges: &[(usize, usize)]) -> Result<Vec<PeRange
 
 // The sections of records, without their names from the string table, which no mapping asks for.
 fn sections_of(alloc: Global, records: &[PeSection]) -> Result<Vec<SectionTable>>
-    ensures made { GivesOrMemory (λ v. v.items) result (map (λ s. unnamed (section_view s)) records.now) }
+    ensures made { GivesOrMemory (λ v. v.items) result
+        (map (λ s. unnamed (section_view s)) records.now) }
     ensures grown { OnErr result (0 < length records.now) }
 {
     let count = records.len();
@@ -90,9 +92,15 @@ fn footprint_at(
     sections: &[SectionTable],
     opts: &ParseOptions,
 ) -> Result<Vec<(usize, usize)>>
-    ensures ranges { IfOk result (λ v. v.items ≡ import_footprint (is_strict opts.now.parse_mode) (entry_format header.now.magic) (file_offset opts.now sections.now header.now.file_alignment) bytes.now rva) }
+    ensures ranges { IfOk result
+        (λ v.
+        v.items
+        ≡ import_footprint (is_strict opts.now.parse_mode) (entry_format header.now.magic)
+        (file_offset opts.now sections.now header.now.file_alignment) bytes.now rva) }
     ensures refused { IfErr result IsMemory }
-    ensures grown { let footprint = import_footprint (is_strict opts.now.parse_mode) (entry_format header.now.magic) (file_offset opts.now sections.now header.now.file_alignment) bytes.now rva in
+    ensures grown { let footprint = import_footprint (is_strict opts.now.parse_mode)
+        (entry_format header.now.magic)
+        (file_offset opts.now sections.now header.now.file_alignment) bytes.now rva in
         OnErr result ((0 < length footprint) ⊎ HasPieces opts.now header.now.file_alignment) }
 {
     let directory = DataDirectory {
@@ -130,10 +138,16 @@ fn footprint_of(
     sections: &[PeSection],
     opts: &ParseOptions,
 ) -> Result<Vec<(usize, usize)>>
-    ensures ranges { IfOk result (λ v. v.items ≡ footprint_by opts.now header.now directory.now (map section_view sections.now) bytes.now) }
+    ensures ranges { IfOk result
+        (λ v.
+        v.items
+        ≡ footprint_by opts.now header.now directory.now (map section_view sections.now)
+        bytes.now) }
     ensures refused { IfErr result IsMemory }
-    ensures grown { let footprint = footprint_by opts.now header.now directory.now (map section_view sections.now) bytes.now in
-        OnErr result (TakesMemory opts.now header.now directory.now (length sections.now) footprint) }
+    ensures grown { let footprint = footprint_by opts.now header.now directory.now
+        (map section_view sections.now) bytes.now in
+        OnErr result
+        (TakesMemory opts.now header.now directory.now (length sections.now) footprint) }
 {
     if !directory.is_present {
         return Ok(Vec::new(alloc));
@@ -159,8 +173,11 @@ fn list<'a>(
     opts: &ParseOptions,
     ranges: &mut PeRanges<'a>,
 ) -> Result<()>
-    ensures { let footprint = footprint_by opts.now header.now directory.now (map section_view sections.now) bytes.now in
-        Lists footprint (TakesMemory opts.now header.now directory.now (length sections.now) footprint) ranges.old ranges.new result }
+    ensures { let footprint = footprint_by opts.now header.now directory.now
+        (map section_view sections.now) bytes.now in
+        Lists footprint
+        (TakesMemory opts.now header.now directory.now (length sections.now) footprint)
+        ranges.old ranges.new result }
 {
     let footprint = footprint_of(alloc, bytes, header, directory, sections, opts)?;
     let records = range_records(alloc, &footprint)?;
@@ -170,12 +187,12 @@ fn list<'a>(
     Ok(())
 }
 
-/// Puts into `ranges` the bytes of a file on which its imports depend, by its optional header, the entry
-/// of its import directory and the records of its sections: two files of one length with the same bytes
-/// in these ranges, and with the same header, entry and sections, have the same imports. The ranges come
-/// in no order and may overlap; none is empty, and none passes the file. They are a block of memory that
-/// the caller frees, if there is one. Refused is memory alone (the status 5), and then nothing is changed;
-/// it is asked for only where there is a directory.
+/// Puts into `ranges` the bytes of a file on which its imports depend, by its optional header, the
+/// entry of its import directory and the records of its sections: two files of one length with the
+/// same bytes in these ranges, and with the same header, entry and sections, have the same imports.
+/// The ranges come in no order and may overlap; none is empty, and none passes the file. They are a
+/// block of memory that the caller frees, if there is one. Refused is memory alone (the status 5),
+/// and then nothing is changed; it is asked for only where there is a directory.
 #[unsafe(no_mangle)]
 pub extern "C" fn goblin_pe_footprint_imports<'a>(
     alloc: Global,
@@ -187,8 +204,12 @@ pub extern "C" fn goblin_pe_footprint_imports<'a>(
     ranges: &mut PeRanges<'a>,
 ) -> PeFault
     ensures { let opts = options_of options.now in
-        let footprint = footprint_by opts optional_header.now directory.now (map section_view sections.now) bytes.now in
-        Reported result (Lists footprint (TakesMemory opts optional_header.now directory.now (length sections.now) footprint) ranges.old ranges.new) }
+        let footprint = footprint_by opts optional_header.now directory.now
+        (map section_view sections.now) bytes.now in
+        Reported result
+        (Lists footprint
+        (TakesMemory opts optional_header.now directory.now (length sections.now) footprint)
+        ranges.old ranges.new) }
 {
     let opts = options_of(options);
     match list(

@@ -98,7 +98,8 @@ pub struct PeOptionalHeader {
     /// The address of the entry point, relative to the image's base; 0 where there is none, as in
     /// some libraries. The loader starts there, in whatever section it lies.
     pub address_of_entry_point: u32,
-    /// The address at which the data begins, relative to the image's base; 0 in an image for 64 bits.
+    /// The address at which the data begins, relative to the image's base; 0 in an image for 64
+    /// bits.
     pub base_of_data: u32,
     /// The alignment of sections in memory, in bytes: at least the file alignment, mostly a page.
     pub section_alignment: u32,
@@ -110,8 +111,8 @@ pub struct PeOptionalHeader {
     /// The size of the image in memory with all headers, in bytes: how much the loader reserves, a
     /// multiple of the section alignment.
     pub size_of_image: u32,
-    /// The size of all headers together, in bytes, rounded up to the file alignment. The loader maps
-    /// this much of the file's front at the image's base.
+    /// The size of all headers together, in bytes, rounded up to the file alignment. The loader
+    /// maps this much of the file's front at the image's base.
     pub size_of_headers: u32,
     /// The image's checksum. The loader tests that of drivers and of what is loaded at boot; no
     /// reader does.

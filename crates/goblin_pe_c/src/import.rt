@@ -3,7 +3,8 @@
 ghost use Rattle.std.specs.Prelude.{◌≡◌, ◌<◌, ◌+◌, ◌*◌, ◌++◌, ◌^◌, IsSome, length, map, min, true};
 ghost use Rattle.goblin_base.specs.Answers.{GivesOrMemory};
 ghost use Rattle.goblin_pe.specs.ImportLookup.{entry_view};
-ghost use Rattle.goblin_pe.specs.Imports.{has_slots, import_of, imports_by, imports_of, kept_count, kept_entries};
+ghost use Rattle.goblin_pe.specs.Imports.{has_slots, import_of, imports_by, imports_of, kept_count};
+ghost use Rattle.goblin_pe.specs.Imports.{kept_entries};
 ghost use Rattle.goblin_pe.specs.Whole.{entry_format, part_map, places_in};
 ghost use Rattle.goblin_pe_c.specs.Files.{entries_of};
 ghost use Rattle.goblin_pe_c.specs.Filled.{alone};
@@ -51,7 +52,8 @@ fn import_record<'a>(
     offset: usize,
     size: usize,
 ) -> PeImport<'a>
-    ensures { import_view result ≡ alone (import_of dll.now slot offset size (entry_view entry.now)) }
+    ensures { import_view result
+        ≡ alone (import_of dll.now slot offset size (entry_view entry.now)) }
 {
     match entry {
         SyntheticImportLookupTableEntry::OrdinalNumber(ordinal) => PeImport {
@@ -85,8 +87,8 @@ fn slot_offset(rva: u32, size: usize, slot: usize) -> usize
     rva as usize + size * slot
 }
 
-// Appends the records of a table's entries, each in its slot of `size` bytes of the address table at
-// `rva`.
+// Appends the records of a table's entries, each in its slot of `size` bytes of the address table
+// at `rva`.
 fn push_entries<'a>(
     records: &mut Vec<PeImport<'a>>,
     bytes: &'a [u8],
@@ -98,8 +100,10 @@ fn push_entries<'a>(
 ) -> Result<()>
     requires counted { length slots.now ≡ length entries.now }
     requires there { IsSome (imports_by size dll.now rva (map entry_view entries.now) slots.now) }
-    ensures { let made = table_entries (imports_by size dll.now rva (map entry_view entries.now) slots.now) in
-        GivesOrMemory (λ _. map import_view records.new.items) result (map import_view records.old.items ++ map alone made) }
+    ensures { let made = table_entries
+        (imports_by size dll.now rva (map entry_view entries.now) slots.now) in
+        GivesOrMemory (λ _. map import_view records.new.items) result
+        (map import_view records.old.items ++ map alone made) }
 {
     'entries: for (position, entry) in entries.iter().enumerate() {
         let slot = slots[position];
@@ -122,7 +126,8 @@ fn kept_entries<'b, 'a>(
     }
 }
 
-// Appends the records of the imports from a library, whose address table has entries of `size` bytes.
+// Appends the records of the imports from a library, whose address table has entries of `size`
+// bytes.
 fn push_library<'a>(
     records: &mut Vec<PeImport<'a>>,
     bytes: &'a [u8],
@@ -132,7 +137,8 @@ fn push_library<'a>(
     requires counted { has_slots library.now ≡ true }
     requires there { IsSome (own_imports size library.now) }
     ensures { let made = table_entries (own_imports size library.now) in
-        GivesOrMemory (λ _. map import_view records.new.items) result (map import_view records.old.items ++ map alone made) }
+        GivesOrMemory (λ _. map import_view records.new.items) result
+        (map import_view records.old.items ++ map alone made) }
 {
     push_entries(
         records,
@@ -145,8 +151,8 @@ fn push_library<'a>(
     )
 }
 
-// How many entries the lookup tables of libraries keep, or the greatest number, for which there is no
-// memory.
+// How many entries the lookup tables of libraries keep, or the greatest number, for which there is
+// no memory.
 fn count_of(libraries: &[SyntheticImportDirectoryEntry]) -> usize
     ensures { result ≡ min (kept_count libraries.now) usize.MAX }
 {
@@ -189,7 +195,8 @@ fn records_of<'a>(
     size: usize,
 ) -> Result<Vec<PeImport<'a>>>
     requires { IsSome (imports_of size libraries.now) }
-    ensures { GivesOrMemory (λ v. map import_view v.items) result (map alone (listed size libraries.now)) }
+    ensures { GivesOrMemory (λ v. map import_view v.items) result
+        (map alone (listed size libraries.now)) }
 {
     let mut records = Vec::with_capacity(alloc, count_of(libraries))?;
     'libraries: for library in libraries {
@@ -205,9 +212,12 @@ pub fn import_records<'a>(
     import_data: &Part<ImportData<'a>>,
     header: &Option<OptionalHeader>,
 ) -> Result<Vec<PeImport<'a>>>
-    requires { IsSome (imports_of (entry_format (places_in header.now).magic).width (entries_of import_data.now)) }
+    requires { IsSome
+        (imports_of (entry_format (places_in header.now).magic).width
+        (entries_of import_data.now)) }
     ensures { let size = (entry_format (places_in header.now).magic).width in
-        GivesOrMemory (λ v. map import_view v.items) result (map alone (listed size (entries_of import_data.now))) }
+        GivesOrMemory (λ v. map import_view v.items) result
+        (map alone (listed size (entries_of import_data.now))) }
 {
     records_of(alloc, bytes, libraries_of(import_data), entry_size(header))
 }

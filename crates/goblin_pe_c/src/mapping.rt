@@ -48,10 +48,10 @@ fn offset_by(
     find_offset(rva, &[], file_alignment, opts)
 }
 
-/// The file offset of the address `rva`, by the records of a file's sections and its file alignment, as
-/// the file's readers map it: there is none where no section maps it or the alignment is no power of
-/// two; where the options say that addresses are offsets, it is `rva` itself. It is put into `offset`,
-/// and whether there is one is the answer; where there is none, `offset` stays.
+/// The file offset of the address `rva`, by the records of a file's sections and its file
+/// alignment, as the file's readers map it: there is none where no section maps it or the alignment
+/// is no power of two; where the options say that addresses are offsets, it is `rva` itself. It is
+/// put into `offset`, and whether there is one is the answer; where there is none, `offset` stays.
 #[unsafe(no_mangle)]
 pub extern "C" fn goblin_pe_find_offset(
     rva: usize,
@@ -60,7 +60,8 @@ pub extern "C" fn goblin_pe_find_offset(
     options: &PeOptions,
     offset: &mut usize,
 ) -> bool
-    ensures answer { (if result then Some offset.new else None) ≡ file_offset (options_of options.now) (map section_view sections.now) file_alignment rva }
+    ensures answer { (if result then Some offset.new else None)
+        ≡ file_offset (options_of options.now) (map section_view sections.now) file_alignment rva }
     ensures left { (if result then offset.old else offset.new) ≡ offset.old }
 {
     match offset_by(rva, sections, file_alignment, &options_of(options)) {

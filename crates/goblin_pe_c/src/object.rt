@@ -6,7 +6,10 @@ ghost use Rattle.goblin_pe_sect.specs.Options.{is_strict};
 ghost use Rattle.goblin_pe_sect.specs.Symbols.{table_bytes};
 ghost use Rattle.goblin_pe_c.specs.Calls.{Reads, Reported};
 ghost use Rattle.goblin_pe_c.specs.Filled.{Filled, alone};
-ghost use Rattle.goblin_pe_c.specs.Objects.{IsObjectFault, IsObjectSectionsFault, ObjectRecords, SaysObject, TakesMemory, object_file, object_header, object_record, object_sections, symbols_table, symbol_rows};
+ghost use Rattle.goblin_pe_c.specs.Objects.{IsObjectFault, IsObjectSectionsFault, ObjectRecords};
+ghost use Rattle.goblin_pe_c.specs.Objects.{SaysObject, TakesMemory, object_file, object_header};
+ghost use Rattle.goblin_pe_c.specs.Objects.{object_record, object_sections, symbols_table};
+ghost use Rattle.goblin_pe_c.specs.Objects.{symbol_rows};
 ghost use Rattle.goblin_pe_c.specs.Options.{options_of};
 ghost use Rattle.goblin_pe_c.specs.Sections.{section_said};
 ghost use Rattle.goblin_pe_c.specs.Symbols.{symbol_view};
@@ -70,7 +73,8 @@ fn sections_of(
     opts: &ParseOptions,
 ) -> Result<Vec<SectionTable>>
     ensures value { let strict = is_strict opts.now.parse_mode in
-        AnswersOrMemory (λ v. v.items) result (object_sections strict bytes.now header.now) (IsObjectSectionsFault strict bytes.now header.now) }
+        AnswersOrMemory (λ v. v.items) result (object_sections strict bytes.now header.now)
+        (IsObjectSectionsFault strict bytes.now header.now) }
     ensures grown { IfErr result (λ e. IsMemory e → TakesMemory bytes.now header.now) }
 {
     let mut offset = after_optional_header(header.size_of_optional_header);
@@ -89,8 +93,10 @@ impl<'a> Object<'a> {
     #[tactic(auto, unfolding(crate::specs::Objects::object_file, crate::specs::Objects::IsObjectFault), using(crate::proofs::Refusals::header_there))]
     fn read(alloc: Global, bytes: &'a [u8], opts: &ParseOptions) -> Result<Object<'a>>
         ensures value { let strict = is_strict opts.now.parse_mode in
-            AnswersOrMemory (λ x. x) result (object_file strict bytes.now) (IsObjectFault strict bytes.now) }
-        ensures grown { IfErr result (λ e. IsMemory e → IsSomeAnd (object_header bytes.now) (TakesMemory bytes.now)) }
+            AnswersOrMemory (λ x. x) result (object_file strict bytes.now)
+            (IsObjectFault strict bytes.now) }
+        ensures grown { IfErr result
+            (λ e. IsMemory e → IsSomeAnd (object_header bytes.now) (TakesMemory bytes.now)) }
     {
         let header = CoffHeader::parse(bytes, &mut 0)?;
         let sections = sections_of(alloc, bytes, &header, opts)?;
@@ -112,7 +118,8 @@ fn fill_table<'a>(
     symbols: &Option<SymbolTable<'a>>,
     strings: &Option<Strtab<'a>>,
 ) -> PeTable
-    ensures filled { Filled symbol_view (symbol_rows (option_map table_bytes symbols.now) strings.now) records.old records.new }
+    ensures filled { Filled symbol_view
+        (symbol_rows (option_map table_bytes symbols.now) strings.now) records.old records.new }
     ensures value { result ≡ symbols_table (option_map table_bytes symbols.now) strings.now }
 {
     match (symbols, strings) {
@@ -135,8 +142,10 @@ fn fill<'a>(
 )
     requires { object_file (is_strict opts.now.parse_mode) bytes.now ≡ Some whole.now }
     ensures object { object.new ≡ object_record whole.now }
-    ensures sections { Filled section_said (map alone whole.now.sections) sections.old sections.new }
-    ensures symbols { Filled symbol_view (symbol_rows whole.now.symbols whole.now.strings) symbols.old symbols.new }
+    ensures sections { Filled section_said (map alone whole.now.sections) sections.old
+        sections.new }
+    ensures symbols { Filled symbol_view (symbol_rows whole.now.symbols whole.now.strings)
+        symbols.old symbols.new }
 {
     let table = whole.header.symbols_end();
     fill_sections(sections, bytes, &whole.sections, table, opts);
@@ -157,20 +166,23 @@ fn read<'a>(
     sections: &mut [PeSection<'a>],
     symbols: &mut [PeSymbol<'a>],
 ) -> Result<()>
-    ensures { let old : ObjectRecords = record { object = object.old; sections = sections.old; symbols = symbols.old } in
-        let new : ObjectRecords = record { object = object.new; sections = sections.new; symbols = symbols.new } in
+    ensures { let old : ObjectRecords =
+        record { object = object.old; sections = sections.old; symbols = symbols.old } in
+        let new : ObjectRecords =
+        record { object = object.new; sections = sections.new; symbols = symbols.new } in
         let strict = is_strict opts.now.parse_mode in
-        Reads (object_header bytes.now) (TakesMemory bytes.now) (object_file strict bytes.now) (IsObjectFault strict bytes.now) (λ x. SaysObject x old new) (new ≡ old) result }
+        Reads (object_header bytes.now) (TakesMemory bytes.now) (object_file strict bytes.now)
+        (IsObjectFault strict bytes.now) (λ x. SaysObject x old new) (new ≡ old) result }
 {
     let whole = Object::read(alloc, bytes, opts)?;
     fill(&whole, bytes, opts, object, sections, symbols);
     Ok(())
 }
 
-/// Reads an object, which begins with a COFF header: says in `object` what it is, and fills the records
-/// of its sections and symbols as far as there is room. After a refusal nothing is changed; memory is
-/// refused (the status 5) only where the header says that there are sections, and the file has room for
-/// as many.
+/// Reads an object, which begins with a COFF header: says in `object` what it is, and fills the
+/// records of its sections and symbols as far as there is room. After a refusal nothing is changed;
+/// memory is refused (the status 5) only where the header says that there are sections, and the
+/// file has room for as many.
 #[unsafe(no_mangle)]
 pub extern "C" fn goblin_pe_read_object<'a>(
     alloc: Global,
@@ -180,10 +192,14 @@ pub extern "C" fn goblin_pe_read_object<'a>(
     sections: &mut [PeSection<'a>],
     symbols: &mut [PeSymbol<'a>],
 ) -> PeFault
-    ensures { let old : ObjectRecords = record { object = object.old; sections = sections.old; symbols = symbols.old } in
-        let new : ObjectRecords = record { object = object.new; sections = sections.new; symbols = symbols.new } in
+    ensures { let old : ObjectRecords =
+        record { object = object.old; sections = sections.old; symbols = symbols.old } in
+        let new : ObjectRecords =
+        record { object = object.new; sections = sections.new; symbols = symbols.new } in
         let strict = is_strict (options_of options.now).parse_mode in
-        Reported result (Reads (object_header bytes.now) (TakesMemory bytes.now) (object_file strict bytes.now) (IsObjectFault strict bytes.now) (λ x. SaysObject x old new) (new ≡ old)) }
+        Reported result
+        (Reads (object_header bytes.now) (TakesMemory bytes.now) (object_file strict bytes.now)
+        (IsObjectFault strict bytes.now) (λ x. SaysObject x old new) (new ≡ old)) }
 {
     let opts = options_of(options);
     match read(alloc, bytes, &opts, object, sections, symbols) {

@@ -5,7 +5,8 @@ ghost use Rattle.goblin_base.specs.Answers.{IsMemory};
 ghost use Rattle.goblin_pe_sect.specs.Options.{is_strict};
 ghost use Rattle.goblin_pe_head.specs.PeHeader.{pe_header};
 ghost use Rattle.goblin_pe.specs.SectionRoom.{HasRoom};
-ghost use Rattle.goblin_pe.specs.Whole.{HasImports, IsWholeFault, items_part, whole_file, with_imports};
+ghost use Rattle.goblin_pe.specs.Whole.{HasImports, IsWholeFault, items_part, whole_file};
+ghost use Rattle.goblin_pe.specs.Whole.{with_imports};
 ghost use Rattle.goblin_pe_c.specs.Blocks.{block_view, blocks_in};
 ghost use Rattle.goblin_pe_c.specs.Calls.{Reads, Reported};
 ghost use Rattle.goblin_pe_c.specs.Exports.{export_said, export_view};
@@ -79,11 +80,18 @@ fn made_of<'a>(
     requires listed { HasImports opts.now whole.now }
     ensures refused { IfErr result IsMemory }
     ensures file { IfOk result (λ m. m.file ≡ file_of (with_imports whole.now)) }
-    ensures rich_entries { IfOk result (λ m. map entry_view m.rich_entries.items ≡ entries_in whole.now.header.rich_header) }
-    ensures sections { IfOk result (λ m. map section_said m.sections.items ≡ map alone whole.now.sections) }
-    ensures imports { IfOk result (λ m. map import_view m.imports.items ≡ map alone (entries_of (with_imports whole.now).imports)) }
-    ensures exports { IfOk result (λ m. map export_view m.exports.items ≡ map export_said (entries_of whole.now.exports)) }
-    ensures blocks { IfOk result (λ m. map block_view m.blocks.items ≡ blocks_in whole.now.relocations) }
+    ensures rich_entries { IfOk result
+        (λ m. map entry_view m.rich_entries.items ≡ entries_in whole.now.header.rich_header) }
+    ensures sections { IfOk result
+        (λ m. map section_said m.sections.items ≡ map alone whole.now.sections) }
+    ensures imports { IfOk result
+        (λ m.
+        map import_view m.imports.items
+        ≡ map alone (entries_of (with_imports whole.now).imports)) }
+    ensures exports { IfOk result
+        (λ m. map export_view m.exports.items ≡ map export_said (entries_of whole.now.exports)) }
+    ensures blocks { IfOk result
+        (λ m. map block_view m.blocks.items ≡ blocks_in whole.now.relocations) }
 {
     let table = whole.header.coff_header.symbols_end();
     let header = &whole.header.optional_header;
@@ -137,9 +145,13 @@ fn open<'a>(
     directories: &mut [PeDirectory],
     tables: &mut PeTables<'a>,
 ) -> Result<()>
-    ensures { let old : Opened = record { file = file.old; directories = directories.old; tables = tables.old } in
-        let new : Opened = record { file = file.new; directories = directories.new; tables = tables.new } in
-        Reads (pe_header (is_strict opts.now.parse_mode) bytes.now) (HasRoom bytes.now) (whole_file opts.now bytes.now) (IsWholeFault opts.now bytes.now) (λ w. Opens w old new) (new ≡ old) result }
+    ensures { let old : Opened =
+        record { file = file.old; directories = directories.old; tables = tables.old } in
+        let new : Opened =
+        record { file = file.new; directories = directories.new; tables = tables.new } in
+        Reads (pe_header (is_strict opts.now.parse_mode) bytes.now) (HasRoom bytes.now)
+        (whole_file opts.now bytes.now) (IsWholeFault opts.now bytes.now) (λ w. Opens w old new)
+        (new ≡ old) result }
 {
     let whole = Whole::read_data(alloc, bytes, opts)?;
     let made = made_of(alloc, &whole, bytes, opts)?;
@@ -149,11 +161,12 @@ fn open<'a>(
     Ok(())
 }
 
-/// Reads a whole file once: says in `file` what it is, fills the records of its data directories as far
-/// as there is room, and puts into `tables` its Rich header's entries, sections, imports, exports and
-/// base relocation blocks, all of them. Each table that is not empty is a block of memory that the
-/// caller frees. After a refusal nothing is changed, and nothing is to be freed; memory is refused (the
-/// status 5) only where the file has a header, and room for as many sections as that says.
+/// Reads a whole file once: says in `file` what it is, fills the records of its data directories as
+/// far as there is room, and puts into `tables` its Rich header's entries, sections, imports,
+/// exports and base relocation blocks, all of them. Each table that is not empty is a block of
+/// memory that the caller frees. After a refusal nothing is changed, and nothing is to be freed;
+/// memory is refused (the status 5) only where the file has a header, and room for as many sections
+/// as that says.
 #[unsafe(no_mangle)]
 pub extern "C" fn goblin_pe_open<'a>(
     alloc: Global,
@@ -163,10 +176,15 @@ pub extern "C" fn goblin_pe_open<'a>(
     directories: &mut [PeDirectory],
     tables: &mut PeTables<'a>,
 ) -> PeFault
-    ensures { let old : Opened = record { file = file.old; directories = directories.old; tables = tables.old } in
-        let new : Opened = record { file = file.new; directories = directories.new; tables = tables.new } in
+    ensures { let old : Opened =
+        record { file = file.old; directories = directories.old; tables = tables.old } in
+        let new : Opened =
+        record { file = file.new; directories = directories.new; tables = tables.new } in
         let opts = options_of options.now in
-        Reported result (Reads (pe_header (is_strict opts.parse_mode) bytes.now) (HasRoom bytes.now) (whole_file opts bytes.now) (IsWholeFault opts bytes.now) (λ w. Opens w old new) (new ≡ old)) }
+        Reported result
+        (Reads (pe_header (is_strict opts.parse_mode) bytes.now) (HasRoom bytes.now)
+        (whole_file opts bytes.now) (IsWholeFault opts bytes.now) (λ w. Opens w old new)
+        (new ≡ old)) }
 {
     let opts = options_of(options);
     match open(alloc, bytes, &opts, file, directories, tables) {

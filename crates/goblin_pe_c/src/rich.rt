@@ -58,7 +58,8 @@ fn entry_record(entry: &RichMetadata) -> PeRichEntry
 // The records of the entries, and why a rest is none.
 fn item_records(alloc: Global, rich: &RichHeader) -> Result<(Vec<PeRichEntry>, PeFault)>
     ensures refused { IfErr result IsMemory }
-    ensures values { IfOk result (λ made. map entry_view made.0.items ≡ values_of (entry_items (rich_value rich.now))) }
+    ensures values { IfOk result
+        (λ made. map entry_view made.0.items ≡ values_of (entry_items (rich_value rich.now))) }
     ensures rest { IfOk result (λ made. made.1 ≡ rest_of (entry_items (rich_value rich.now))) }
 {
     let mut records = Vec::new(alloc);
@@ -75,13 +76,15 @@ fn item_records(alloc: Global, rich: &RichHeader) -> Result<(Vec<PeRichEntry>, P
     Ok((records, no_fault()))
 }
 
-/// The records of the entries, in memory of their own, and what is said of the Rich header as a whole.
+/// The records of the entries, in memory of their own, and what is said of the Rich header as a
+/// whole.
 pub fn entry_records(
     alloc: Global,
     rich: &Option<RichHeader>,
 ) -> Result<(Vec<PeRichEntry>, PeRichHeader)>
     ensures refused { IfErr result IsMemory }
-    ensures values { IfOk result (λ made. map entry_view made.0.items ≡ entries_in (option_map rich_value rich.now)) }
+    ensures values { IfOk result
+        (λ made. map entry_view made.0.items ≡ entries_in (option_map rich_value rich.now)) }
     ensures said { IfOk result (λ made. made.1 ≡ rich_of (option_map rich_value rich.now)) }
 {
     match rich {

@@ -53,7 +53,8 @@ fn real_name<'a>(
     table: usize,
     opts: &ParseOptions,
 ) -> Option<&'a str>
-    ensures { option_map (λ s. s.now) result ≡ real_name_in (is_strict opts.now.parse_mode) bytes.now table section.now.name }
+    ensures { option_map (λ s. s.now) result
+        ≡ real_name_in (is_strict opts.now.parse_mode) bytes.now table section.now.name }
 {
     let offset = section.name_offset_with_opts(opts).ok()??;
     pread_str(bytes, table.checked_add(offset)?).ok()
@@ -66,7 +67,8 @@ fn section_record<'a>(
     table: usize,
     opts: &ParseOptions,
 ) -> PeSection<'a>
-    ensures { section_said result ≡ alone (named_in (is_strict opts.now.parse_mode) bytes.now table section.now) }
+    ensures { section_said result
+        ≡ alone (named_in (is_strict opts.now.parse_mode) bytes.now table section.now) }
 {
     let real_name = real_name(bytes, section, table, opts);
     PeSection {
@@ -96,7 +98,9 @@ pub fn fill_sections<'a>(
     table: usize,
     opts: &ParseOptions,
 )
-    ensures { Filled section_said (map (λ s. alone (named_in (is_strict opts.now.parse_mode) bytes.now table s)) sections.now) records.old records.new }
+    ensures { Filled section_said
+        (map (λ s. alone (named_in (is_strict opts.now.parse_mode) bytes.now table s)) sections.now)
+        records.old records.new }
 {
     let count = sections.len().min(records.len());
     'records: for i in 0..count {
@@ -112,7 +116,9 @@ pub fn section_records<'a>(
     table: usize,
     opts: &ParseOptions,
 ) -> Result<Vec<PeSection<'a>>>
-    ensures { GivesOrMemory (λ v. map section_said v.items) result (map (λ s. alone (named_in (is_strict opts.now.parse_mode) bytes.now table s)) sections.now) }
+    ensures { GivesOrMemory (λ v. map section_said v.items) result
+        (map (λ s. alone (named_in (is_strict opts.now.parse_mode) bytes.now table s))
+        sections.now) }
 {
     let count = sections.len();
     let mut records = Vec::with_capacity(alloc, count)?;

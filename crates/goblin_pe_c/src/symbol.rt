@@ -41,7 +41,8 @@ fn name_in<'a>(
     symbol: &Symbol,
     strings: &Strtab<'a>,
 ) -> Option<&'a str>
-    ensures { option_map (λ s. s.now) result ≡ name_in strings.now (option_map (λ s. s.now) inline_name.entry) symbol.now }
+    ensures { option_map (λ s. s.now) result
+        ≡ name_in strings.now (option_map (λ s. s.now) inline_name.entry) symbol.now }
 {
     if symbol.name[0] == 0 {
         strings.get_at(symbol.name_offset()? as usize)
@@ -58,7 +59,8 @@ fn symbol_record<'a>(
     symbol: &Symbol,
     strings: &Strtab<'a>,
 ) -> PeSymbol<'a>
-    ensures { symbol_view result ≡ symbol_row strings.now (symbol_item (index, inline_name.entry, symbol.now)) }
+    ensures { symbol_view result
+        ≡ symbol_row strings.now (symbol_item (index, inline_name.entry, symbol.now)) }
 {
     let name = name_in(inline_name, symbol, strings);
     PeSymbol {
@@ -77,16 +79,19 @@ fn symbol_record<'a>(
     }
 }
 
-/// Fills the records of the symbols of a table, whose longer names stand in a string table, as far as
-/// there is room, and answers how many there are.
+/// Fills the records of the symbols of a table, whose longer names stand in a string table, as far
+/// as there is room, and answers how many there are.
 pub fn fill_symbols<'a>(
     records: &mut [PeSymbol<'a>],
     bytes: &'a [u8],
     symbols: &SymbolTable<'a>,
     strings: &Strtab<'a>,
 ) -> usize
-    ensures filled { Filled symbol_view (map (symbol_row strings.now) (symbols_in (table_bytes symbols.now))) records.old records.new }
-    ensures count { result ≡ length (map (symbol_row strings.now) (symbols_in (table_bytes symbols.now))) }
+    ensures filled { Filled symbol_view
+        (map (symbol_row strings.now) (symbols_in (table_bytes symbols.now))) records.old
+        records.new }
+    ensures count { result
+        ≡ length (map (symbol_row strings.now) (symbols_in (table_bytes symbols.now))) }
 {
     let mut count = 0usize;
     'symbols: for (index, inline_name, symbol) in symbols.iter() {

@@ -6,7 +6,8 @@ ghost use Rattle.goblin_pe_head.specs.TeHeader.{te_header};
 ghost use Rattle.goblin_pe_c.specs.Calls.{Reads, Reported};
 ghost use Rattle.goblin_pe_c.specs.Filled.{Filled, alone};
 ghost use Rattle.goblin_pe_c.specs.Sections.{section_said};
-ghost use Rattle.goblin_pe_c.specs.Te.{IsImageFault, SaysImage, TakesMemory, TeRecords, te_header_record, te_image};
+ghost use Rattle.goblin_pe_c.specs.Te.{IsImageFault, SaysImage, TakesMemory, TeRecords};
+ghost use Rattle.goblin_pe_c.specs.Te.{te_header_record, te_image};
 
 use crate::fault::{PeFault, fault_of, no_fault};
 use crate::section::{PeSection, fill_sections};
@@ -73,8 +74,10 @@ impl Image {
     // Reads the header at the front of a file, and the sections that follow it.
     #[tactic(auto, unfolding(crate::specs::Te::te_image, crate::specs::Te::IsImageFault), using(crate::proofs::Refusals::te_header_there, crate::proofs::Refusals::te_sections_take))]
     fn read(alloc: Global, bytes: &[u8]) -> Result<Image>
-        ensures value { AnswersOrMemory (λ x. x) result (te_image bytes.now) (IsImageFault bytes.now) }
-        ensures grown { IfErr result (λ e. IsMemory e → IsSomeAnd (te_header bytes.now 0) (TakesMemory bytes.now)) }
+        ensures value { AnswersOrMemory (λ x. x) result (te_image bytes.now)
+            (IsImageFault bytes.now) }
+        ensures grown { IfErr result
+            (λ e. IsMemory e → IsSomeAnd (te_header bytes.now 0) (TakesMemory bytes.now)) }
     {
         let mut offset = 0;
         let header = TeHeader::parse(bytes, &mut offset)?;
@@ -85,7 +88,8 @@ impl Image {
 
 // The record of a directory.
 fn directory_record(directory: &DataDirectory) -> PeDataDirectory
-    ensures { result ≡ record { virtual_address = directory.now.virtual_address; size = directory.now.size } }
+    ensures { result
+        ≡ record { virtual_address = directory.now.virtual_address; size = directory.now.size } }
 {
     PeDataDirectory {
         virtual_address: directory.virtual_address,
@@ -115,7 +119,8 @@ fn te_header_record(header: &TeHeader) -> PeTeHeader
 fn fill<'a>(image: &Image, bytes: &'a [u8], header: &mut PeTeHeader, sections: &mut [PeSection<'a>])
     requires { te_image bytes.now ≡ Some image.now }
     ensures header { header.new ≡ te_header_record image.now.header }
-    ensures sections { Filled section_said (map alone image.now.sections) sections.old sections.new }
+    ensures sections { Filled section_said (map alone image.now.sections) sections.old
+        sections.new }
 {
     *header = te_header_record(&image.header);
     fill_sections(
@@ -136,17 +141,18 @@ fn read<'a>(
 ) -> Result<()>
     ensures { let old : TeRecords = record { header = header.old; sections = sections.old } in
         let new : TeRecords = record { header = header.new; sections = sections.new } in
-        Reads (te_header bytes.now 0) (TakesMemory bytes.now) (te_image bytes.now) (IsImageFault bytes.now) (λ x. SaysImage x old new) (new ≡ old) result }
+        Reads (te_header bytes.now 0) (TakesMemory bytes.now) (te_image bytes.now)
+        (IsImageFault bytes.now) (λ x. SaysImage x old new) (new ≡ old) result }
 {
     let image = Image::read(alloc, bytes)?;
     fill(&image, bytes, header, sections);
     Ok(())
 }
 
-/// Reads the header at the front of a Terse Executable and the sections that follow it, and fills the
-/// records of sections as far as there is room; `header` says how many there are. The signature is not
-/// looked at. After a refusal nothing is changed; memory is refused (the status 5) only where the header
-/// says that there are sections, and the file has room for as many.
+/// Reads the header at the front of a Terse Executable and the sections that follow it, and fills
+/// the records of sections as far as there is room; `header` says how many there are. The signature
+/// is not looked at. After a refusal nothing is changed; memory is refused (the status 5) only
+/// where the header says that there are sections, and the file has room for as many.
 #[unsafe(no_mangle)]
 pub extern "C" fn goblin_pe_read_te<'a>(
     alloc: Global,
@@ -156,7 +162,9 @@ pub extern "C" fn goblin_pe_read_te<'a>(
 ) -> PeFault
     ensures { let old : TeRecords = record { header = header.old; sections = sections.old } in
         let new : TeRecords = record { header = header.new; sections = sections.new } in
-        Reported result (Reads (te_header bytes.now 0) (TakesMemory bytes.now) (te_image bytes.now) (IsImageFault bytes.now) (λ x. SaysImage x old new) (new ≡ old)) }
+        Reported result
+        (Reads (te_header bytes.now 0) (TakesMemory bytes.now) (te_image bytes.now)
+        (IsImageFault bytes.now) (λ x. SaysImage x old new) (new ≡ old)) }
 {
     match read(alloc, bytes, header, sections) {
         Ok(()) => no_fault(),

@@ -2,7 +2,8 @@
 use Rattle.std.specs.Prelude.{ℕ, suc, List, [], ◌∷◌, Option, length}
 use Rattle.std.specs.Option.{option_map}
 use Rattle.goblin_pe.specs.declared.export.ExportAddressTableEntry.{ExportAddressTableEntry}
-use Rattle.goblin_pe.specs.declared.export.ExportAddressTableEntry.TheVariants.{ExportRVA, ForwarderRVA}
+use Rattle.goblin_pe.specs.declared.export.ExportAddressTableEntry.TheVariants.{ExportRVA}
+use Rattle.goblin_pe.specs.declared.export.ExportAddressTableEntry.TheVariants.{ForwarderRVA}
 use Rattle.goblin_pe.specs.declared.whole.Part.{Part}
 use Rattle.goblin_pe.specs.declared.whole.Part.TheVariants as part
 use Rattle.goblin_pe.specs.declared.options.ParseMode.TheVariants.{Permissive}
@@ -22,7 +23,8 @@ entry_count part.Refused = 0
 
 -- how many functions a file imports, damaged parts passed over
 abbrev pub import_count : List ℕ → Option ℕ
-import_count bytes = option_map (λ whole. entry_count whole.imports) (whole_file permissive_options bytes)
+import_count bytes =
+    option_map (λ whole. entry_count whole.imports) (whole_file permissive_options bytes)
 
 -- how many entries of an address table lead to a forwarder
 abbrev pub forwarder_count : List ExportAddressTableEntry → ℕ

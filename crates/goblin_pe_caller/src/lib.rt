@@ -1,7 +1,8 @@
 //! A caller of `goblin_pe` alone: neither its code nor its clauses name a crate below.
 #![tactic(auto)]
 
-ghost use Rattle.std.specs.Prelude.{◌≡◌, ◌↔◌, ◌*◌, [], IfErr, IfOk, IsSome, IsTrue, drop, false, length, option_map, slice_get};
+ghost use Rattle.std.specs.Prelude.{◌≡◌, ◌↔◌, ◌*◌, [], IfErr, IfOk, IsSome, IsTrue, drop, false};
+ghost use Rattle.std.specs.Prelude.{length, option_map, slice_get};
 ghost use Rattle.std.specs.List.{Contains};
 ghost use Rattle.goblin_pe.specs.Answers.{Answers, AnswersOrMemory, IsMemory, IsSliceFault, Writes};
 ghost use Rattle.goblin_pe.specs.BaseRelocations.{block_items, relocation_bytes, word_items};
@@ -19,7 +20,8 @@ ghost use Rattle.goblin_pe.specs.Whole.{IsWholeFault};
 ghost use Rattle.goblin_pe.specs.declared.endian.Endian.{Endian};
 ghost use Rattle.goblin_pe.specs.declared.error.CauseOf.TheVariants.{Message};
 ghost use Rattle.goblin_pe.specs.declared.error.ErrorOf.TheVariants.{Malformed};
-ghost use Rattle.goblin_pe_caller.specs.Counts.{entry_count, forwarder_count, import_count, permissive_options};
+ghost use Rattle.goblin_pe_caller.specs.Counts.{entry_count, forwarder_count, import_count};
+ghost use Rattle.goblin_pe_caller.specs.Counts.{permissive_options};
 
 use goblin_pe::data_directories::{DataDirectories, DataDirectory};
 use goblin_pe::export::{
@@ -73,13 +75,15 @@ pub fn count_directories(directories: &DataDirectories) -> usize
     directories.dirs().count()
 }
 
-/// How many entries a file's Rich header has, with the error where a rest is left; `None` where there
-/// is no Rich header.
+/// How many entries a file's Rich header has, with the error where a rest is left; `None` where
+/// there is no Rich header.
 ///
 /// # Errors
 /// As [`RichHeader::parse`].
 pub fn count_entries(bytes: &[u8]) -> Result<Option<usize>>
-    ensures { let count = option_map (option_map (λ r. length (metadata_items r.key (drop r.padding_size r.bytes)))) (rich_header bytes.now) in
+    ensures { let count = option_map
+        (option_map (λ r. length (metadata_items r.key (drop r.padding_size r.bytes))))
+        (rich_header bytes.now) in
         Answers (λ n. n) result count (IsRichFault bytes.now) }
 {
     match RichHeader::parse(bytes)? {
@@ -93,7 +97,8 @@ pub fn count_entries(bytes: &[u8]) -> Result<Option<usize>>
 /// # Errors
 /// As [`Whole::read`] in permissive mode; memory is wanted only where there is a header.
 pub fn count_imports(alloc: Global, bytes: &[u8]) -> Result<usize>
-    ensures value { AnswersOrMemory (λ n. n) result (import_count bytes.now) (IsWholeFault permissive_options bytes.now) }
+    ensures value { AnswersOrMemory (λ n. n) result (import_count bytes.now)
+        (IsWholeFault permissive_options bytes.now) }
     ensures grown { IfErr result (λ e. IsMemory e → IsSome (pe_header false bytes.now)) }
 {
     let opts = ParseOptions::default().with_parse_mode(ParseMode::Permissive);
@@ -119,7 +124,8 @@ pub fn refusal(text: &'static str) -> Error
     Error::Malformed(Cause::Message(text))
 }
 
-/// The value at an address, of any type that is read from bytes, where sections lie at multiples of 512.
+/// The value at an address, of any type that is read from bytes, where sections lie at multiples of
+/// 512.
 ///
 /// # Errors
 /// As [`get_data`].
@@ -129,7 +135,8 @@ pub fn value_at<'a, 'e, T: TryFromCtx<'a>>(
     virtual_address: u32,
 ) -> ResultOf<'e, T>
     ensures { let m = file_offset default_options sections.now 0x200 in
-        Answers T.plain result (data_at m T.value_of bytes.now virtual_address) (IsDataFault m T.refusal bytes.now virtual_address) }
+        Answers T.plain result (data_at m T.value_of bytes.now virtual_address)
+        (IsDataFault m T.refusal bytes.now virtual_address) }
 {
     let directory = DataDirectory {
         virtual_address,
@@ -145,7 +152,8 @@ pub fn value_at<'a, 'e, T: TryFromCtx<'a>>(
 /// As [`CoffHeader::try_into_ctx`].
 pub fn write_header(header: CoffHeader, bytes: &mut [u8]) -> Result<usize>
     ensures size { IfOk result (λ n. n ≡ 20) }
-    ensures written { let after = record_over 20 (encoding Endian.Little (coff_fields header)) bytes.old in
+    ensures written { let after = record_over 20 (encoding Endian.Little (coff_fields header))
+        bytes.old in
         Writes result after bytes.old bytes.new (IsSliceFault bytes.old 0 20) }
     ensures again { IfOk result (λ n. ReadsBack 20 coff_header coff_fields header) }
 {

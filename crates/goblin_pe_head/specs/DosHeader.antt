@@ -1,17 +1,21 @@
 -- The DOS header: its record, and where it stands in a file.
-use Rattle.std.specs.Prelude.{◌≡◌, ◌≢◌, ◌<◌, ◌+◌, ℕ, ◌==◌, if◌then◌else◌, ◌&&◌, List, [], ◌∷◌, ◌++◌, length, map, slice_index, Option, Some, None}
+use Rattle.std.specs.Prelude.{◌≡◌, ◌≢◌, ◌<◌, ◌+◌, ℕ, ◌==◌, if◌then◌else◌, ◌&&◌, List, [], ◌∷◌, ◌++◌}
+use Rattle.std.specs.Prelude.{length, map, slice_index, Option, Some, None}
 use Rattle.std.specs.List.{range_with_len}
 use Rattle.goblin_base.specs.declared.endian.Endian.{Endian}
 use Rattle.goblin_base.specs.declared.endian.Endian.TheVariants.{Little}
 use Rattle.goblin_base.specs.declared.error.ErrorOf.{ErrorOf}
 use Rattle.goblin_base.specs.declared.error.ErrorOf.TheVariants.{Malformed}
-use Rattle.goblin_base.specs.declared.error.CauseOf.TheVariants.{NoDosSignature, DosMagic, NoPePointer, NoPeSignature, PeMagic}
+use Rattle.goblin_base.specs.declared.error.CauseOf.TheVariants.{NoDosSignature, DosMagic}
+use Rattle.goblin_base.specs.declared.error.CauseOf.TheVariants.{NoPePointer, NoPeSignature}
+use Rattle.goblin_base.specs.declared.error.CauseOf.TheVariants.{PeMagic}
 use Rattle.goblin_base.specs.Bytes.{number, number_at}
 use Rattle.goblin_base.specs.Record.{FieldValue, uint, numbers, record_at}
 use Rattle.goblin_base.specs.Answers.{◌>>=◌, FirstFault}
 use Rattle.goblin_pe_head.specs.declared.header.dos.DosHeader.{DosHeader}
 
--- Source: PE Format, "MS-DOS Stub (Image Only)" and "Signature (Image Only)"; the fields are those of a DOS executable.
+-- Source: PE Format, "MS-DOS Stub (Image Only)" and "Signature (Image Only)"; the fields are those
+-- of a DOS executable.
 
 -- the DOS header in a record's 64 bytes
 unfoldable pub dos_record : Endian → List ℕ → DosHeader
@@ -46,12 +50,15 @@ unfoldable pub dos_fields : DosHeader → List FieldValue
 dos_fields h =
     uint 2 h.signature ∷ uint 2 h.bytes_on_last_page ∷ uint 2 h.pages_in_file ∷ uint 2 h.relocations
     ∷ uint 2 h.size_of_header_in_paragraphs ∷ uint 2 h.minimum_extra_paragraphs_needed
-    ∷ uint 2 h.maximum_extra_paragraphs_needed ∷ uint 2 h.initial_relative_ss ∷ uint 2 h.initial_sp ∷ uint 2 h.checksum
+    ∷ uint 2 h.maximum_extra_paragraphs_needed ∷ uint 2 h.initial_relative_ss ∷ uint 2 h.initial_sp
+    ∷ uint 2 h.checksum
     ∷ uint 2 h.initial_ip ∷ uint 2 h.initial_relative_cs ∷ uint 2 h.file_address_of_relocation_table
     ∷ uint 2 h.overlay_number
-    ∷ array_fields 4 h.reserved ++ uint 2 h.oem_id ∷ uint 2 h.oem_info ∷ array_fields 10 h.reserved2 ++ uint 4 h.pe_pointer ∷ []
+    ∷ array_fields 4 h.reserved ++ uint 2 h.oem_id ∷ uint 2 h.oem_info ∷ array_fields 10 h.reserved2
+    ++ uint 4 h.pe_pointer ∷ []
 
--- the DOS header of a file: its record at 0, with the DOS signature there and the PE signature where the record points
+-- the DOS header of a file: its record at 0, with the DOS signature there and the PE signature
+-- where the record points
 unfoldable pub dos_header : List ℕ → Option DosHeader
 dos_header bytes = do
   magic ← number_at Little 2 bytes 0
@@ -94,4 +101,5 @@ IsDosFault bytes =
     FirstFault (number_at Little 2 bytes 0) (IsNoDosSignature bytes) (λ magic.
     FirstFault (that_is 0x5A4D magic) (IsDosMagic magic) (λ _.
     FirstFault (record_at 64 (dos_record Little) bytes 0) (IsNoPePointer bytes) (λ header.
-    FirstFault (number_at Little 4 bytes header.pe_pointer) (IsNoSignature bytes header.pe_pointer) IsPeMagic)))
+    FirstFault (number_at Little 4 bytes header.pe_pointer) (IsNoSignature bytes header.pe_pointer)
+    IsPeMagic)))

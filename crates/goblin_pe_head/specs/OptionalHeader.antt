@@ -1,6 +1,7 @@
 -- The optional header: standard fields and Windows fields by its magic, and then the directories.
 use Rattle.std.specs.List.{concat}
-use Rattle.std.specs.Prelude.{◌≡◌, ◌≢◌, ◌⊎◌, ℕ, ◌+◌, ◌*◌, ◌%◌, ◌^◌, ◌==◌, if◌then◌else◌, List, [], ◌∷◌, nat_lt, Option, Some, None, Result, option_map}
+use Rattle.std.specs.Prelude.{◌≡◌, ◌≢◌, ◌⊎◌, ℕ, ◌+◌, ◌*◌, ◌%◌, ◌^◌, ◌==◌, if◌then◌else◌, List, []}
+use Rattle.std.specs.Prelude.{◌∷◌, nat_lt, Option, Some, None, Result, option_map}
 use Rattle.goblin_base.specs.declared.endian.Endian.{Endian}
 use Rattle.goblin_base.specs.declared.endian.Endian.TheVariants.{Little}
 use Rattle.goblin_base.specs.declared.error.ErrorOf.{ErrorOf}
@@ -21,7 +22,8 @@ use Rattle.goblin_pe_head.specs.declared.optional_header.windows_fields.WindowsF
 use Rattle.goblin_pe_head.specs.declared.optional_header.FixedFields.{FixedFields}
 use Rattle.goblin_pe_head.specs.declared.optional_header.OptionalHeader.{OptionalHeader}
 use Rattle.goblin_pe_head.specs.declared.optional_header.WrittenHeader.{WrittenHeader}
-use Rattle.goblin_pe_head.specs.declared.optional_header.WrittenHeader.TheVariants.{Absent, Narrow, Wide}
+use Rattle.goblin_pe_head.specs.declared.optional_header.WrittenHeader.TheVariants.{Absent, Narrow}
+use Rattle.goblin_pe_head.specs.declared.optional_header.WrittenHeader.TheVariants.{Wide}
 
 -- Source: PE Format, "Optional Header (Image Only)".
 
@@ -42,8 +44,10 @@ standard_32_record endian bytes = record {
 -- their fields, in order
 unfoldable pub standard_32_fields : StandardFields32 → List FieldValue
 standard_32_fields f =
-    uint 2 f.magic ∷ uint 1 f.major_linker_version ∷ uint 1 f.minor_linker_version ∷ uint 4 f.size_of_code
-    ∷ uint 4 f.size_of_initialized_data ∷ uint 4 f.size_of_uninitialized_data ∷ uint 4 f.address_of_entry_point
+    uint 2 f.magic ∷ uint 1 f.major_linker_version ∷ uint 1 f.minor_linker_version
+    ∷ uint 4 f.size_of_code
+    ∷ uint 4 f.size_of_initialized_data ∷ uint 4 f.size_of_uninitialized_data
+    ∷ uint 4 f.address_of_entry_point
     ∷ uint 4 f.base_of_code ∷ uint 4 f.base_of_data ∷ []
 
 -- the standard fields for 64 bits in a record's 24 bytes
@@ -62,8 +66,10 @@ standard_64_record endian bytes = record {
 -- their fields, in order
 unfoldable pub standard_64_fields : StandardFields64 → List FieldValue
 standard_64_fields f =
-    uint 2 f.magic ∷ uint 1 f.major_linker_version ∷ uint 1 f.minor_linker_version ∷ uint 4 f.size_of_code
-    ∷ uint 4 f.size_of_initialized_data ∷ uint 4 f.size_of_uninitialized_data ∷ uint 4 f.address_of_entry_point
+    uint 2 f.magic ∷ uint 1 f.major_linker_version ∷ uint 1 f.minor_linker_version
+    ∷ uint 4 f.size_of_code
+    ∷ uint 4 f.size_of_initialized_data ∷ uint 4 f.size_of_uninitialized_data
+    ∷ uint 4 f.address_of_entry_point
     ∷ uint 4 f.base_of_code ∷ []
 
 -- the Windows fields for 32 bits in a record's 68 bytes
@@ -95,9 +101,12 @@ windows_32_record endian bytes = record {
 -- their fields, in order
 unfoldable pub windows_32_fields : WindowsFields32 → List FieldValue
 windows_32_fields f =
-    uint 4 f.image_base ∷ uint 4 f.section_alignment ∷ uint 4 f.file_alignment ∷ uint 2 f.major_operating_system_version
-    ∷ uint 2 f.minor_operating_system_version ∷ uint 2 f.major_image_version ∷ uint 2 f.minor_image_version
-    ∷ uint 2 f.major_subsystem_version ∷ uint 2 f.minor_subsystem_version ∷ uint 4 f.win32_version_value
+    uint 4 f.image_base ∷ uint 4 f.section_alignment ∷ uint 4 f.file_alignment
+    ∷ uint 2 f.major_operating_system_version
+    ∷ uint 2 f.minor_operating_system_version ∷ uint 2 f.major_image_version
+    ∷ uint 2 f.minor_image_version
+    ∷ uint 2 f.major_subsystem_version ∷ uint 2 f.minor_subsystem_version
+    ∷ uint 4 f.win32_version_value
     ∷ uint 4 f.size_of_image ∷ uint 4 f.size_of_headers ∷ uint 4 f.check_sum ∷ uint 2 f.subsystem
     ∷ uint 2 f.dll_characteristics ∷ uint 4 f.size_of_stack_reserve ∷ uint 4 f.size_of_stack_commit
     ∷ uint 4 f.size_of_heap_reserve ∷ uint 4 f.size_of_heap_commit ∷ uint 4 f.loader_flags
@@ -132,9 +141,12 @@ windows_64_record endian bytes = record {
 -- their fields, in order
 unfoldable pub windows_64_fields : WindowsFields64 → List FieldValue
 windows_64_fields f =
-    uint 8 f.image_base ∷ uint 4 f.section_alignment ∷ uint 4 f.file_alignment ∷ uint 2 f.major_operating_system_version
-    ∷ uint 2 f.minor_operating_system_version ∷ uint 2 f.major_image_version ∷ uint 2 f.minor_image_version
-    ∷ uint 2 f.major_subsystem_version ∷ uint 2 f.minor_subsystem_version ∷ uint 4 f.win32_version_value
+    uint 8 f.image_base ∷ uint 4 f.section_alignment ∷ uint 4 f.file_alignment
+    ∷ uint 2 f.major_operating_system_version
+    ∷ uint 2 f.minor_operating_system_version ∷ uint 2 f.major_image_version
+    ∷ uint 2 f.minor_image_version
+    ∷ uint 2 f.major_subsystem_version ∷ uint 2 f.minor_subsystem_version
+    ∷ uint 4 f.win32_version_value
     ∷ uint 4 f.size_of_image ∷ uint 4 f.size_of_headers ∷ uint 4 f.check_sum ∷ uint 2 f.subsystem
     ∷ uint 2 f.dll_characteristics ∷ uint 8 f.size_of_stack_reserve ∷ uint 8 f.size_of_stack_commit
     ∷ uint 8 f.size_of_heap_reserve ∷ uint 8 f.size_of_heap_commit ∷ uint 4 f.loader_flags
@@ -271,19 +283,29 @@ abbrev pub fields_32 : List ℕ → Option FixedFields
 fields_32 bytes = do
   standard ← record_at 28 (standard_32_record Little) bytes 0
   windows ← record_at 68 (windows_32_record Little) bytes 28
-  Some (record { standard_fields = standard_from_32 standard; windows_fields = windows_from_32 windows; size = 96 })
+  Some (record {
+    standard_fields = standard_from_32 standard;
+    windows_fields = windows_from_32 windows;
+    size = 96;
+  })
 
 abbrev pub fields_64 : List ℕ → Option FixedFields
 fields_64 bytes = do
   standard ← record_at 24 (standard_64_record Little) bytes 0
   windows ← record_at 88 (windows_64_record Little) bytes 24
-  Some (record { standard_fields = standard_from_64 standard; windows_fields = windows; size = 112 })
+  Some (record {
+    standard_fields = standard_from_64 standard;
+    windows_fields = windows;
+    size = 112;
+  })
 
 -- the fields that the magic asks for; another magic has none
 unfoldable pub fixed_fields : ℕ → List ℕ → Option FixedFields
-fixed_fields magic bytes = if magic == 0x10B then fields_32 bytes else if magic == 0x20B then fields_64 bytes else None
+fixed_fields magic bytes =
+    if magic == 0x10B then fields_32 bytes else if magic == 0x20B then fields_64 bytes else None
 
--- the optional header at the front of bytes, which is little-endian always, and how many bytes it takes
+-- the optional header at the front of bytes, which is little-endian always, and how many bytes it
+-- takes
 unfoldable pub optional_header : List ℕ → Option (OptionalHeader × ℕ)
 optional_header bytes = do
   magic ← number_at Little 2 bytes 0
@@ -302,31 +324,43 @@ IsBadMagic magic e = ⊥
 -- which cause is true of fields that have no value, by their width
 abbrev pub IsFieldsFault_32 : List ℕ → ErrorOf → Type 0
 IsFieldsFault_32 bytes =
-    FirstFault (record_at 28 (standard_32_record Little) bytes 0) (IsSliceFault bytes 0 28) (λ standard.
-    FirstFault (record_at 68 (windows_32_record Little) bytes 28) (IsSliceFault bytes 28 68) (λ windows e. ⊥))
+    FirstFault (record_at 28 (standard_32_record Little) bytes 0) (IsSliceFault bytes 0 28) (λ
+    standard.
+    FirstFault (record_at 68 (windows_32_record Little) bytes 28) (IsSliceFault bytes 28 68)
+    (λ windows e. ⊥))
 
 abbrev pub IsFieldsFault_64 : List ℕ → ErrorOf → Type 0
 IsFieldsFault_64 bytes =
-    FirstFault (record_at 24 (standard_64_record Little) bytes 0) (IsSliceFault bytes 0 24) (λ standard.
-    FirstFault (record_at 88 (windows_64_record Little) bytes 24) (IsSliceFault bytes 24 88) (λ windows e. ⊥))
+    FirstFault (record_at 24 (standard_64_record Little) bytes 0) (IsSliceFault bytes 0 24) (λ
+    standard.
+    FirstFault (record_at 88 (windows_64_record Little) bytes 24) (IsSliceFault bytes 24 88)
+    (λ windows e. ⊥))
 
 -- which cause is true where the fields that the magic asks for are refused
 unfoldable pub IsFixedFault : ℕ → List ℕ → ErrorOf → Type 0
-IsFixedFault magic bytes e = IsBadMagic magic e ⊎ ((magic ≡ 0x10B) × IsFieldsFault_32 bytes e) ⊎ ((magic ≡ 0x20B) × IsFieldsFault_64 bytes e)
+IsFixedFault magic bytes e =
+    IsBadMagic magic e ⊎ ((magic ≡ 0x10B) × IsFieldsFault_32 bytes e)
+    ⊎ ((magic ≡ 0x20B) × IsFieldsFault_64 bytes e)
 
--- which cause is true of bytes at whose front there is no optional header: that of the first part that is not there
+-- which cause is true of bytes at whose front there is no optional header: that of the first part
+-- that is not there
 unfoldable pub IsOptionalFault : List ℕ → ErrorOf → Type 0
 IsOptionalFault bytes =
     FirstFault (number_at Little 2 bytes 0) (IsSliceFault bytes 0 2) (λ magic.
     FirstFault (fixed_fields magic bytes) (IsFixedFault magic bytes) (λ fields.
     let count = fields.windows_fields.number_of_rva_and_sizes in
-    FirstFault (directories_at count bytes fields.size) (IsDirectoriesFault count bytes fields.size) (λ directories e. ⊥)))
+    FirstFault (directories_at count bytes fields.size) (IsDirectoriesFault count bytes fields.size)
+    (λ directories e. ⊥)))
 
 -- for how many bits the image is, by the magic
 abbrev pub container_of : ℕ → Option Container
-container_of magic = if magic == 0x10B then Some container.Little else if magic == 0x20B then Some container.Big else None
+container_of magic =
+    if magic == 0x10B
+    then Some container.Little
+    else if magic == 0x20B then Some container.Big else None
 
--- What is written of an optional header whose magic asks for 32 bits, where the five wide fields fit: standard fields, Windows fields and sixteen directories.
+-- What is written of an optional header whose magic asks for 32 bits, where the five wide fields
+-- fit: standard fields, Windows fields and sixteen directories.
 abbrev pub bytes_32 : Endian → OptionalHeader → Option (List ℕ)
 bytes_32 endian h =
     option_map (λ windows. concat (
@@ -352,9 +386,12 @@ optional_bytes endian h =
     else if h.standard_fields.magic == 0x20B then Some (bytes_64 endian h)
     else None
 
--- which cause is true of an optional header that has no written form: its magic is unknown, or asks for 32 bits where a wide field does not fit
+-- which cause is true of an optional header that has no written form: its magic is unknown, or asks
+-- for 32 bits where a wide field does not fit
 unfoldable pub IsUnwritten : OptionalHeader → ErrorOf → Type 0
-IsUnwritten h e = IsBadMagic h.standard_fields.magic e ⊎ ((h.standard_fields.magic ≡ 0x10B) × (windows_to_32 h.windows_fields ≡ None) × IsTooWide e)
+IsUnwritten h e =
+    IsBadMagic h.standard_fields.magic e
+    ⊎ ((h.standard_fields.magic ≡ 0x10B) × (windows_to_32 h.windows_fields ≡ None) × IsTooWide e)
 
 -- the bytes that are written, of either width or of none
 abbrev pub written_bytes : WrittenHeader → List ℕ

@@ -1,5 +1,6 @@
 -- The entries of a Rich header, and what is read and written of an entry.
-use Rattle.std.specs.Prelude.{◌≡◌, ◌⊎◌, ◌+◌, ◌*◌, ◌/◌, ◌%◌, ◌++◌, ℕ, map, flat_map, List, [], ◌∷◌, length, Result, Ok}
+use Rattle.std.specs.Prelude.{◌≡◌, ◌⊎◌, ◌+◌, ◌*◌, ◌/◌, ◌%◌, ◌++◌, ℕ, map, flat_map, List, [], ◌∷◌}
+use Rattle.std.specs.Prelude.{length, Result, Ok}
 use Rattle.std.specs.Int.Bits.{bit_xor}
 use Rattle.goblin_base.specs.declared.endian.Endian.{Endian}
 use Rattle.goblin_base.specs.declared.endian.Endian.TheVariants.{Little}
@@ -27,7 +28,8 @@ metadata_fields m = uint 2 m.build ∷ uint 2 m.product ∷ uint 4 m.use_count �
 abbrev pub word_under : ℕ → List ℕ → ℕ → ℕ
 word_under key bytes p = bit_xor (word_at bytes p) key
 
--- the entry at p: of its first word the low half is the build and the high half the product, and its second word is the use count
+-- the entry at p: of its first word the low half is the build and the high half the product, and
+-- its second word is the use count
 abbrev pub metadata_at : ℕ → List ℕ → ℕ → RichMetadata
 metadata_at key bytes p = record {
   build = word_under key bytes p % 65536;
@@ -35,7 +37,8 @@ metadata_at key bytes p = record {
   use_count = word_under key bytes (p + 4);
 }
 
--- the entries of these bytes, one after the other, and one refusal where a rest is left that is no whole entry
+-- the entries of these bytes, one after the other, and one refusal where a rest is left that is no
+-- whole entry
 unfoldable pub metadata_items : ℕ → List ℕ → List (Result RichMetadata ErrorOf)
 metadata_items key bytes = record_items 8 (λ entry. metadata_at key entry 0) bytes
 
@@ -45,10 +48,14 @@ metadata_left it = metadata_items it.key it.bytes.now
 
 -- the bytes of an entry as they are stored: its two words, each under the key
 abbrev pub stored_entry : ℕ → RichMetadata → List ℕ
-stored_entry key m = number_bytes Little 4 (bit_xor (m.product * 65536 + m.build) key) ++ number_bytes Little 4 (bit_xor m.use_count key)
+stored_entry key m =
+    number_bytes Little 4 (bit_xor (m.product * 65536 + m.build) key)
+    ++ number_bytes Little 4 (bit_xor m.use_count key)
 
--- The items are entries that, joined as they are stored, are these bytes up to a rest of none or four, which comes as one refusal after them.
-pub record AreEntriesOf (key : ℕ) (bytes : List ℕ) (items : List (Result RichMetadata ErrorOf)) : Type 0 where
+-- The items are entries that, joined as they are stored, are these bytes up to a rest of none or
+-- four, which comes as one refusal after them.
+pub record AreEntriesOf (key : ℕ) (bytes : List ℕ) (items : List (Result RichMetadata ErrorOf)) :
+    Type 0 where
   pub entries : List RichMetadata
   pub rest : List ℕ
   pub are : items ≡ map Ok entries ++ rest_item (length rest)

@@ -1,5 +1,8 @@
--- The header of a Terse Executable, and its sections. Both still say where things stood before the headers of the PE file were stripped.
-use Rattle.std.specs.Prelude.{◌≡◌, ◌<◌, ◌≤◌, ◌⊎◌, ℕ, ◌+◌, ◌-◌, ◌*◌, ◌/◌, ◌%◌, ◌^◌, ◌==◌, if◌then◌else◌, nat_le, List, [], ◌∷◌, length, Option, Some, None, option_map, true, Bool}
+-- The header of a Terse Executable, and its sections. Both still say where things stood before the
+-- headers of the PE file were stripped.
+use Rattle.std.specs.Prelude.{◌≡◌, ◌<◌, ◌≤◌, ◌⊎◌, ℕ, ◌+◌, ◌-◌, ◌*◌, ◌/◌, ◌%◌, ◌^◌, ◌==◌}
+use Rattle.std.specs.Prelude.{if◌then◌else◌, nat_le, List, [], ◌∷◌, length, Option, Some, None}
+use Rattle.std.specs.Prelude.{option_map, true, Bool}
 use Rattle.goblin_base.specs.declared.endian.Endian.{Endian}
 use Rattle.goblin_base.specs.declared.endian.Endian.TheVariants.{Little}
 use Rattle.goblin_base.specs.declared.error.ErrorOf.{ErrorOf}
@@ -25,18 +28,23 @@ te_record endian bytes = record {
   entry_point = number endian 4 bytes 8;
   base_of_code = number endian 4 bytes 12;
   image_base = number endian 8 bytes 16;
-  reloc_dir = record { virtual_address = number endian 4 bytes 24; size = number endian 4 bytes 28 };
-  debug_dir = record { virtual_address = number endian 4 bytes 32; size = number endian 4 bytes 36 };
+  reloc_dir =
+      record { virtual_address = number endian 4 bytes 24; size = number endian 4 bytes 28 };
+  debug_dir =
+      record { virtual_address = number endian 4 bytes 32; size = number endian 4 bytes 36 };
 }
 
 -- its fields, in order
 unfoldable pub te_fields : TeHeader → List FieldValue
 te_fields h =
-    uint 2 h.signature ∷ uint 2 h.machine ∷ uint 1 h.number_of_sections ∷ uint 1 h.subsystem ∷ uint 2 h.stripped_size
-    ∷ uint 4 h.entry_point ∷ uint 4 h.base_of_code ∷ uint 8 h.image_base ∷ uint 4 h.reloc_dir.virtual_address
+    uint 2 h.signature ∷ uint 2 h.machine ∷ uint 1 h.number_of_sections ∷ uint 1 h.subsystem
+    ∷ uint 2 h.stripped_size
+    ∷ uint 4 h.entry_point ∷ uint 4 h.base_of_code ∷ uint 8 h.image_base
+    ∷ uint 4 h.reloc_dir.virtual_address
     ∷ uint 4 h.reloc_dir.size ∷ uint 4 h.debug_dir.virtual_address ∷ uint 4 h.debug_dir.size ∷ []
 
--- By how much everything moved to the front: what was stripped, less the 40 bytes that stand in its place. There is no such number where less was stripped.
+-- By how much everything moved to the front: what was stripped, less the 40 bytes that stand in its
+-- place. There is no such number where less was stripped.
 abbrev pub displacement : TeHeader → Option ℕ
 displacement h = if nat_le 40 h.stripped_size then Some (h.stripped_size - 40) else None
 
@@ -62,7 +70,8 @@ te_header bytes p = do
 
 -- the refusal is that less was stripped than stands in its place
 abbrev pub IsStrippedFault : TeHeader → ErrorOf → Type 0
-IsStrippedFault h (Malformed (StrippedSize size)) = (size ≡ h.stripped_size) × (h.stripped_size < 40)
+IsStrippedFault h (Malformed (StrippedSize size)) =
+    (size ≡ h.stripped_size) × (h.stripped_size < 40)
 IsStrippedFault h e = ⊥
 
 -- which cause is true of a header that is refused
@@ -89,21 +98,30 @@ abbrev pub section_moved : Option ℕ → Section → Section
 section_moved None = λ s. s
 section_moved (Some d) = section_adjusted d
 
--- n sections, moved so, whose records stand one after the other from p on, with their names from the string table at `table`
+-- n sections, moved so, whose records stand one after the other from p on, with their names from
+-- the string table at `table`
 abbrev pub moved_sections_at : Option ℕ → Bool → ℕ → ℕ → List ℕ → ℕ → Option (List Section)
-moved_sections_at move strict table n bytes p = all_at (λ i. option_map (section_moved move) (section_at strict table bytes (p + 40 * i))) n
+moved_sections_at move strict table n bytes p =
+    all_at (λ i. option_map (section_moved move) (section_at strict table bytes (p + 40 * i))) n
 
--- as many sections as the header says, adjusted; a string table would begin at the front of the file
+-- as many sections as the header says, adjusted; a string table would begin at the front of the
+-- file
 unfoldable pub te_sections_at : TeHeader → List ℕ → ℕ → Option (List Section)
-te_sections_at h bytes p = displacement h >>= λ d. moved_sections_at (Some d) true 0 h.number_of_sections bytes p
+te_sections_at h bytes p =
+    displacement h >>= λ d. moved_sections_at (Some d) true 0 h.number_of_sections bytes p
 
 -- which cause is true of n sections, moved so, where one has no value: that of the first
 abbrev pub IsMovedSectionsFault : Option ℕ → Bool → ℕ → ℕ → List ℕ → ℕ → ErrorOf → Type 0
 IsMovedSectionsFault move strict table n bytes p =
-    IsFirstMissing (λ i. option_map (section_moved move) (section_at strict table bytes (p + 40 * i))) n (λ i. IsSectionFault strict bytes (p + 40 * i))
+    IsFirstMissing
+    (λ i. option_map (section_moved move) (section_at strict table bytes (p + 40 * i))) n
+    (λ i. IsSectionFault strict bytes (p + 40 * i))
 
--- which cause is true of sections that are refused: the file is too short for as many; else less was stripped than stands in its place; and else that of the first that is missing
+-- which cause is true of sections that are refused: the file is too short for as many; else less
+-- was stripped than stands in its place; and else that of the first that is missing
 abbrev pub IsTeSectionsFault : TeHeader → List ℕ → ℕ → ErrorOf → Type 0
 IsTeSectionsFault h bytes p e =
     IsTooManySections h.number_of_sections bytes e
-    ⊎ ((h.number_of_sections ≤ length bytes / 40) × FirstFault (displacement h) (IsStrippedFault h) (λ d. IsMovedSectionsFault (Some d) true 0 h.number_of_sections bytes p) e)
+    ⊎ ((h.number_of_sections ≤ length bytes / 40)
+    × FirstFault (displacement h) (IsStrippedFault h)
+    (λ d. IsMovedSectionsFault (Some d) true 0 h.number_of_sections bytes p) e)

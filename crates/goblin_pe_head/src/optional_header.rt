@@ -1,15 +1,21 @@
 //! The optional header of an image: what a loader needs to know of it.
 //!
-//! Its standard fields and Windows fields have two widths, for images of 32 and of 64 bits; its magic
-//! says which. The data directories follow.
+//! Its standard fields and Windows fields have two widths, for images of 32 and of 64 bits; its
+//! magic says which. The data directories follow.
 
 ghost use Rattle.std.specs.Prelude.{◌≡◌, ◌≤◌, length, IfOk, IsSomeAnd, None, option_and_then};
 ghost use Rattle.goblin_base.specs.Answers.{Answers, Writes, IsSliceFault, FirstFault};
 ghost use Rattle.goblin_base.specs.Bytes.{overwritten};
 ghost use Rattle.goblin_pe_head.specs.declared.optional_header.OptionalHeader.{OptionalHeader};
-ghost use Rattle.goblin_pe_head.specs.OptionalHeader.{bytes_32, bytes_64, container_of, fields_32, fields_64, fixed_fields, optional_bytes, optional_header, windows_to_32, written_bytes, IsBadMagic, IsFieldsFault_32, IsFieldsFault_64, IsFixedFault, IsOptionalFault, IsTooWide, IsUnwritten};
+ghost use Rattle.goblin_pe_head.specs.OptionalHeader.{bytes_32, bytes_64, container_of, fields_32};
+ghost use Rattle.goblin_pe_head.specs.OptionalHeader.{fields_64, fixed_fields, optional_bytes};
+ghost use Rattle.goblin_pe_head.specs.OptionalHeader.{optional_header, windows_to_32};
+ghost use Rattle.goblin_pe_head.specs.OptionalHeader.{written_bytes, IsBadMagic, IsFieldsFault_32};
+ghost use Rattle.goblin_pe_head.specs.OptionalHeader.{IsFieldsFault_64, IsFixedFault};
+ghost use Rattle.goblin_pe_head.specs.OptionalHeader.{IsOptionalFault, IsTooWide, IsUnwritten};
 ghost use Rattle.goblin_pe_head.specs.HeaderLaws.{OptionalWritesBack};
-ghost use Rattle.goblin_pe_head.specs.OptionalHeaderLaws.{optional_header-within, optional_fault-no_memory};
+ghost use Rattle.goblin_pe_head.specs.OptionalHeaderLaws.{optional_header-within};
+ghost use Rattle.goblin_pe_head.specs.OptionalHeaderLaws.{optional_fault-no_memory};
 
 use goblin_base::{
     Container, Endian, Error, Field, Record, Result, TryFromCtx, encode, pread_slice, pread_u16,
@@ -132,7 +138,8 @@ fn fields_64(bytes: &[u8]) -> Result<FixedFields>
 // The fields that the magic asks for.
 #[tactic(auto, unfolding(crate::specs::OptionalHeader::fixed_fields, crate::specs::OptionalHeader::IsFixedFault))]
 fn fixed_fields(magic: u16, bytes: &[u8]) -> Result<FixedFields>
-    ensures { Answers (λ f. f) result (fixed_fields magic bytes.now) (IsFixedFault magic bytes.now) }
+    ensures { Answers (λ f. f) result (fixed_fields magic bytes.now)
+        (IsFixedFault magic bytes.now) }
 {
     match magic {
         MAGIC_32 => fields_32(bytes),
@@ -183,7 +190,8 @@ impl OptionalHeader {
     /// # Errors
     /// [`Error::BadMagic`] of a magic other than [`MAGIC_32`] and [`MAGIC_64`].
     pub fn container(&self) -> Result<Container>
-        ensures { Answers (λ c. c) result (container_of self.now.standard_fields.magic) (IsBadMagic self.now.standard_fields.magic) }
+        ensures { Answers (λ c. c) result (container_of self.now.standard_fields.magic)
+            (IsBadMagic self.now.standard_fields.magic) }
     {
         match self.standard_fields.magic {
             MAGIC_32 => Ok(Container::Little),
@@ -194,7 +202,8 @@ impl OptionalHeader {
 
     // What is written where the magic asks for 32 bits.
     fn bytes_32(&self, endian: Endian) -> Result<[u8; 224]>
-        ensures { Answers (λ bytes. bytes) result (bytes_32 endian self.now) (λ e. (windows_to_32 self.now.windows_fields ≡ None) × IsTooWide e) }
+        ensures { Answers (λ bytes. bytes) result (bytes_32 endian self.now)
+            (λ e. (windows_to_32 self.now.windows_fields ≡ None) × IsTooWide e) }
     {
         let windows = WindowsFields32::try_from(self.windows_fields)?;
         let windows: [u8; SIZEOF_WINDOWS_FIELDS_32] = encode(windows, endian);
@@ -228,11 +237,13 @@ impl OptionalHeader {
     /// The bytes that are written of it.
     ///
     /// # Errors
-    /// [`Error::BadMagic`] of a magic other than [`MAGIC_32`] and [`MAGIC_64`]; [`Error::Malformed`]
-    /// with `FieldTooWide` where the magic is [`MAGIC_32`] and a Windows field does not fit 32 bits.
+    /// [`Error::BadMagic`] of a magic other than [`MAGIC_32`] and [`MAGIC_64`];
+    /// [`Error::Malformed`] with `FieldTooWide` where the magic is [`MAGIC_32`] and a Windows field
+    /// does not fit 32 bits.
     #[tactic(auto, unfolding(crate::specs::OptionalHeader::optional_bytes, crate::specs::OptionalHeader::IsUnwritten))]
     pub(crate) fn to_bytes(&self, endian: Endian) -> Result<WrittenHeader>
-        ensures { Answers written_bytes result (optional_bytes endian self.now) (IsUnwritten self.now) }
+        ensures { Answers written_bytes result (optional_bytes endian self.now)
+            (IsUnwritten self.now) }
     {
         match self.standard_fields.magic {
             MAGIC_32 => Ok(WrittenHeader::Narrow(self.bytes_32(endian)?)),
@@ -241,10 +252,10 @@ impl OptionalHeader {
         }
     }
 
-    /// Writes the optional header to the front of `bytes` and answers how many bytes it takes, 224 or
-    /// 240: the fields that its magic asks for and always sixteen directories, those that are `None`
-    /// as zeros. Standard fields are written modulo 2^32. In little-endian order, a header that was
-    /// read is written as it stood.
+    /// Writes the optional header to the front of `bytes` and answers how many bytes it takes, 224
+    /// or 240: the fields that its magic asks for and always sixteen directories, those that are
+    /// `None` as zeros. Standard fields are written modulo 2^32. In little-endian order, a header
+    /// that was read is written as it stood.
     ///
     /// # Errors
     /// In this order: [`Error::BadMagic`] of a magic other than [`MAGIC_32`] and [`MAGIC_64`];
@@ -252,10 +263,13 @@ impl OptionalHeader {
     /// does not fit 32 bits; [`Error::Read`] where there is no room. `bytes` are then as they were.
     #[tactic(auto, using(crate::proofs::OptionalHeaderRoundTrip::optional_back))]
     pub fn try_into_ctx(self, bytes: &mut [u8], endian: Endian) -> Result<usize>
-        ensures size { IfOk result (λ n. IsSomeAnd (optional_bytes endian self) (λ written. n ≡ length written)) }
+        ensures size { IfOk result
+            (λ n. IsSomeAnd (optional_bytes endian self) (λ written. n ≡ length written)) }
         ensures written { let made = optional_bytes endian self in
-            let IsFault = FirstFault made (IsUnwritten self) (λ written. IsSliceFault bytes.old 0 (length written)) in
-            Writes result (option_and_then (overwritten bytes.old 0) made) bytes.old bytes.new IsFault }
+            let IsFault = FirstFault made (IsUnwritten self)
+            (λ written. IsSliceFault bytes.old 0 (length written)) in
+            Writes result (option_and_then (overwritten bytes.old 0) made) bytes.old bytes.new
+            IsFault }
         ensures back { OptionalWritesBack }
     {
         let written = self.to_bytes(endian)?;

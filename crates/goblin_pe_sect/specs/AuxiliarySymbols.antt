@@ -23,7 +23,9 @@ function_definition_record endian bytes = record {
 
 -- its fields, in order
 unfoldable pub function_definition_fields : AuxFunctionDefinition → List FieldValue
-function_definition_fields r = uint 4 r.tag_index ∷ uint 4 r.total_size ∷ uint 4 r.pointer_to_line_number ∷ uint 4 r.pointer_to_next_function ∷ octets r.unused ∷ []
+function_definition_fields r =
+    uint 4 r.tag_index ∷ uint 4 r.total_size ∷ uint 4 r.pointer_to_line_number
+    ∷ uint 4 r.pointer_to_next_function ∷ octets r.unused ∷ []
 
 -- what follows a symbol of a function's start or end, in a record's 18 bytes
 unfoldable pub begin_and_end_function_record : Endian → List ℕ → AuxBeginAndEndFunction
@@ -37,7 +39,9 @@ begin_and_end_function_record endian bytes = record {
 
 -- its fields, in order
 unfoldable pub begin_and_end_function_fields : AuxBeginAndEndFunction → List FieldValue
-begin_and_end_function_fields r = octets r.unused1 ∷ uint 2 r.line_number ∷ octets r.unused2 ∷ uint 4 r.pointer_to_next_function ∷ octets r.unused3 ∷ []
+begin_and_end_function_fields r =
+    octets r.unused1 ∷ uint 2 r.line_number ∷ octets r.unused2 ∷ uint 4 r.pointer_to_next_function
+    ∷ octets r.unused3 ∷ []
 
 -- what follows a symbol for which another may stand, in a record's 18 bytes
 unfoldable pub weak_external_record : Endian → List ℕ → AuxWeakExternal

@@ -1,5 +1,8 @@
--- The base relocations of an image: the bytes of their directory, its blocks, and the words of a block.
-use Rattle.std.specs.Prelude.{◌≡◌, ◌≤◌, ◌<◌, ℕ, zero, suc, ◌+◌, ◌-◌, min, nat_lt, if◌then◌else◌, List, [], ◌∷◌, ◌++◌, length, map, flat_map, slice_range, Option, Some, None, Result, Ok, Err}
+-- The base relocations of an image: the bytes of their directory, its blocks, and the words of a
+-- block.
+use Rattle.std.specs.Prelude.{◌≡◌, ◌≤◌, ◌<◌, ℕ, zero, suc, ◌+◌, ◌-◌, min, nat_lt, if◌then◌else◌}
+use Rattle.std.specs.Prelude.{List, [], ◌∷◌, ◌++◌, length, map, flat_map, slice_range, Option, Some}
+use Rattle.std.specs.Prelude.{None, Result, Ok, Err}
 use Rattle.goblin_base.specs.declared.endian.Endian.{Endian}
 use Rattle.goblin_base.specs.declared.endian.Endian.TheVariants.{Little}
 use Rattle.goblin_base.specs.declared.error.CauseOf.TheVariants.{BlockRange, BlockSize, RelocRange}
@@ -27,16 +30,20 @@ relocation_bytes relocations = relocations.bytes.now
 
 -- the bytes of a directory: those at its address, by a map of addresses to file offsets
 abbrev pub relocation_data : (ℕ → Option ℕ) → List ℕ → DataDirectory → Option (List ℕ)
-relocation_data offset_of bytes directory = offset_of directory.virtual_address >>= (λ o. slice_at bytes o directory.size)
+relocation_data offset_of bytes directory =
+    offset_of directory.virtual_address >>= (λ o. slice_at bytes o directory.size)
 
 -- the refusal is that the directory would pass the file from this offset on
 abbrev pub IsRelocRange : DataDirectory → ℕ → ErrorOf → Type 0
-IsRelocRange directory o (Malformed (RelocRange offset size)) = (offset ≡ o) × (size ≡ directory.size)
+IsRelocRange directory o (Malformed (RelocRange offset size)) =
+    (offset ≡ o) × (size ≡ directory.size)
 IsRelocRange directory o e = ⊥
 
 -- which cause is true of a directory without bytes: its address is not mapped, or they pass the end
 abbrev pub IsRelocationDataFault : (ℕ → Option ℕ) → List ℕ → DataDirectory → ErrorOf → Type 0
-IsRelocationDataFault offset_of bytes directory = FirstFault (offset_of directory.virtual_address) (IsUnmapped directory.virtual_address) (IsRelocRange directory)
+IsRelocationDataFault offset_of bytes directory =
+    FirstFault (offset_of directory.virtual_address) (IsUnmapped directory.virtual_address)
+    (IsRelocRange directory)
 
 -- ---- blocks
 
@@ -56,28 +63,36 @@ block_item (Err e) = Err e
 
 -- a block of this head, and of these words that begin at p
 abbrev pub with_words : List ℕ → ℕ → Option (List ℕ) → Result Block ErrorOf
-with_words head p (Some words) = Ok (record { rva = number Little 4 head 0; size = number Little 4 head 4; words = words })
+with_words head p (Some words) =
+    Ok (record { rva = number Little 4 head 0; size = number Little 4 head 4; words = words })
 with_words head p None = Err (Malformed (BlockRange p (number Little 4 head 4 - 8)))
 
 -- a block of this head, whose words begin at p
 abbrev pub with_head : List ℕ → ℕ → Option (List ℕ) → Result Block ErrorOf
 with_head directory p (Some head) =
-    if nat_lt (number Little 4 head 4) 8 then Err (Malformed (BlockSize (number Little 4 head 4))) else with_words head p (slice_at directory p (number Little 4 head 4 - 8))
+    if nat_lt (number Little 4 head 4) 8
+    then Err (Malformed (BlockSize (number Little 4 head 4)))
+    else with_words head p (slice_at directory p (number Little 4 head 4 - 8))
 with_head directory p None = Err (Read TooBig)
 
--- the block at p of a directory: a head of eight bytes with its address and size, and then its words up to that size; or what is wrong there
+-- the block at p of a directory: a head of eight bytes with its address and size, and then its
+-- words up to that size; or what is wrong there
 unfoldable pub block_at : List ℕ → ℕ → Result Block ErrorOf
 block_at directory p = with_head directory (p + 8) (slice_at directory p 8)
 
 -- an item, and after a block the items from its end on
-abbrev pub then_items : (ℕ → List (Result Block ErrorOf)) → ℕ → Result Block ErrorOf → List (Result Block ErrorOf)
+abbrev pub then_items : (ℕ → List (Result Block ErrorOf)) → ℕ → Result Block ErrorOf
+    → List (Result Block ErrorOf)
 then_items items p (Ok b) = Ok b ∷ items (p + b.size)
 then_items items p (Err e) = Err e ∷ []
 
 -- the items of a directory from p on, at most n of them: blocks, and one error where a rest is left
 unfoldable pub first_items : ℕ → List ℕ → ℕ → List (Result Block ErrorOf)
 first_items zero directory p = []
-first_items (suc n) directory p = if nat_lt p (length directory) then then_items (first_items n directory) p (block_at directory p) else []
+first_items (suc n) directory p =
+    if nat_lt p (length directory)
+    then then_items (first_items n directory) p (block_at directory p)
+    else []
 
 -- all items of a directory from p on; each takes a byte at least
 abbrev pub block_items : List ℕ → ℕ → List (Result Block ErrorOf)
@@ -89,7 +104,8 @@ blocks_left it = block_items it.bytes.now it.offset
 
 -- ---- the same by the bytes
 
--- this block stands at p of a directory: it has its head at least, all of it is there, and one of size 8 has a byte after it
+-- this block stands at p of a directory: it has its head at least, all of it is there, and one of
+-- size 8 has a byte after it
 pub record IsBlockAt (directory : List ℕ) (p : ℕ) (b : Block) : Type 0 where
   pub large : 8 ≤ b.size
   pub within : p + b.size ≤ length directory
@@ -101,13 +117,16 @@ pub record IsBlockAt (directory : List ℕ) (p : ℕ) (b : Block) : Type 0 where
 -- these blocks stand in a directory one after the other, from p up to `end`
 abbrev pub AreBlocks : List ℕ → ℕ → List Block → ℕ → Type 0
 AreBlocks directory p [] end = end ≡ p
-AreBlocks directory p (b ∷ blocks) end = IsBlockAt directory p b × AreBlocks directory (p + b.size) blocks end
+AreBlocks directory p (b ∷ blocks) end =
+    IsBlockAt directory p b × AreBlocks directory (p + b.size) blocks end
 
 -- the fields of a block, in order
 abbrev pub block_fields : Block → List FieldValue
 block_fields b = uint 4 b.rva ∷ uint 4 b.size ∷ octets b.words ∷ []
 
--- The items are the one longest list of blocks that stand one after the other at the front of the directory, and one error where a rest is left after them. The encodings of the blocks, joined, are that front.
+-- The items are the one longest list of blocks that stand one after the other at the front of the
+-- directory, and one error where a rest is left after them. The encodings of the blocks, joined,
+-- are that front.
 pub record AreBlocksOf (directory : List ℕ) (items : List (Result Block ErrorOf)) : Type 0 where
   pub blocks : List Block
   pub end : ℕ
@@ -115,8 +134,10 @@ pub record AreBlocksOf (directory : List ℕ) (items : List (Result Block ErrorO
   pub are : items ≡ map (λ b. Ok b) blocks ++ map (λ e. Err e) errors
   pub one : length errors ≡ min 1 (length directory - end)
   pub stand : AreBlocks directory 0 blocks end
-  pub longest : (others : List Block) (to : ℕ) → AreBlocks directory 0 others to → (more : List Block) × (blocks ≡ others ++ more)
-  pub encoded : IsBytes directory → flat_map (λ b. encoding Little (block_fields b)) blocks ≡ slice_range directory 0 end
+  pub longest : (others : List Block) (to : ℕ) → AreBlocks directory 0 others to
+      → (more : List Block) × (blocks ≡ others ++ more)
+  pub encoded : IsBytes directory
+      → flat_map (λ b. encoding Little (block_fields b)) blocks ≡ slice_range directory 0 end
 
 -- ---- words
 

@@ -1,5 +1,7 @@
 -- How an address in memory maps to an offset in the file, and what stands at an address.
-use Rattle.std.specs.Prelude.{IsTrue, ℕ, ◌+◌, ◌-◌, ◌==◌, ◌≡◌, ◌<◌, ◌≤◌, min, Bool, ◌&&◌, nat_le, nat_lt, if◌then◌else◌, List, Option, Some, None, find, slice_get, option_map}
+use Rattle.std.specs.Prelude.{IsTrue, ℕ, ◌+◌, ◌-◌, ◌==◌, ◌≡◌, ◌<◌, ◌≤◌, min, Bool, ◌&&◌, nat_le}
+use Rattle.std.specs.Prelude.{nat_lt, if◌then◌else◌, List, Option, Some, None, find, slice_get}
+use Rattle.std.specs.Prelude.{option_map}
 use Rattle.std.specs.Int.{is_power_of_two}
 use Rattle.goblin_base.specs.declared.endian.Endian.{Endian}
 use Rattle.goblin_base.specs.declared.endian.Endian.TheVariants.{Little}
@@ -15,16 +17,25 @@ use Rattle.goblin_pe_sect.specs.declared.options.RawPointerRule.TheVariants.{AsS
 use Rattle.goblin_pe_sect.specs.Multiples.{greatest_multiple, least_multiple}
 use Rattle.goblin_pe_sect.specs.SectionTable.{Section}
 
--- How addresses are mapped, the PE Format leaves to loaders. The windows are defined here, after those of goblin; the rule that rounds raw pointers is that of the Windows loader.
+-- How addresses are mapped, the PE Format leaves to loaders. The windows are defined here, after
+-- those of goblin; the rule that rounds raw pointers is that of the Windows loader.
 
--- how many bytes of a section are read from the file at this file alignment: none where it has no raw data; else those from the
--- greatest multiple of 512 that is at most its raw pointer to the least multiple of the alignment that is at least its raw data's end;
--- at most the raw size in whole pages, and at most the virtual size in whole pages, where that is given
+-- how many bytes of a section are read from the file at this file alignment: none where it has no
+-- raw data; else those from the greatest multiple of 512 that is at most its raw pointer to the
+-- least multiple of the alignment that is at least its raw data's end; at most the raw size in
+-- whole pages, and at most the virtual size in whole pages, where that is given
 unfoldable pub read_size : Section → ℕ → ℕ
 read_size s alignment =
     let raw = s.size_of_raw_data in
-    let stored = min (least_multiple alignment (s.pointer_to_raw_data + raw) - greatest_multiple 512 s.pointer_to_raw_data) (least_multiple 4096 raw) in
-    if raw == 0 then 0 else (if s.virtual_size == 0 then stored else min stored (least_multiple 4096 s.virtual_size))
+    let stored = min
+    (least_multiple alignment (s.pointer_to_raw_data + raw)
+    - greatest_multiple 512 s.pointer_to_raw_data)
+    (least_multiple 4096 raw) in
+    if raw == 0
+    then 0
+    else (if s.virtual_size == 0
+    then stored
+    else min stored (least_multiple 4096 s.virtual_size))
 
 -- the first address after a section's window, which begins at the section's address
 abbrev pub window_end : Section → ℕ → ℕ
@@ -32,7 +43,8 @@ window_end s alignment = s.virtual_address + read_size s alignment
 
 -- the start and the end of a section's window; there is none where the alignment is no power of two
 abbrev pub window_of : Section → ℕ → Option (ℕ × ℕ)
-window_of s alignment = if is_power_of_two alignment then Some (s.virtual_address, window_end s alignment) else None
+window_of s alignment =
+    if is_power_of_two alignment then Some (s.virtual_address, window_end s alignment) else None
 
 -- the window of a section holds this address
 abbrev pub is_in_window : ℕ → ℕ → Section → Bool
@@ -43,20 +55,24 @@ abbrev pub pointer_by : RawPointerRule → ℕ → ℕ
 pointer_by AsStored pointer = pointer
 pointer_by RoundedTo512 pointer = greatest_multiple 512 pointer
 
--- where a section's raw data begins for the mapping of addresses: at its raw pointer by the rule of the options
+-- where a section's raw data begins for the mapping of addresses: at its raw pointer by the rule of
+-- the options
 abbrev pub raw_begin : ParseOptions → Section → ℕ
 raw_begin opts s = pointer_by opts.raw_pointer_rule s.pointer_to_raw_data
 
--- where the file has what stands at an address of a section's window: as far after the raw data's start
+-- where the file has what stands at an address of a section's window: as far after the raw data's
+-- start
 abbrev pub offset_in : ParseOptions → Section → ℕ → ℕ
 offset_in opts s rva = raw_begin opts s + (rva - s.virtual_address)
 
--- the file offset of an address: that of the first section whose window holds it; and the address itself where addresses are
--- not mapped. No address has one where the alignment is no power of two.
+-- the file offset of an address: that of the first section whose window holds it; and the address
+-- itself where addresses are not mapped. No address has one where the alignment is no power of two.
 unfoldable pub file_offset : ParseOptions → List Section → ℕ → ℕ → Option ℕ
 file_offset opts sections alignment rva =
     if opts.resolve_rva
-    then (if is_power_of_two alignment then option_map (λ s. offset_in opts s rva) (find (is_in_window alignment rva) sections) else None)
+    then (if is_power_of_two alignment
+    then option_map (λ s. offset_in opts s rva) (find (is_in_window alignment rva) sections)
+    else None)
     else Some rva
 
 -- ---- the same in words
@@ -70,21 +86,28 @@ pub record IsFirstWindow (sections : List Section) (alignment rva index : ℕ) :
   pub section : Section
   pub is : slice_get sections index ≡ Some section
   pub holds : InWindow alignment rva section
-  pub least : (k : ℕ) (s : Section) → k < index → slice_get sections k ≡ Some s → ¬ InWindow alignment rva s
+  pub least : (k : ℕ) (s : Section) → k < index → slice_get sections k ≡ Some s
+      → ¬ InWindow alignment rva s
 
 -- Different addresses that one section maps have different offsets.
 abbrev pub OffsetsApart : ParseOptions → List Section → ℕ → Type 0
 OffsetsApart opts sections alignment =
-    (first second index : ℕ) → IsTrue (is_power_of_two alignment) → IsFirstWindow sections alignment first index → IsFirstWindow sections alignment second index
-    → file_offset opts sections alignment first ≡ file_offset opts sections alignment second → first ≡ second
+    (first second index : ℕ) → IsTrue (is_power_of_two alignment)
+    → IsFirstWindow sections alignment first index
+    → IsFirstWindow sections alignment second index
+    → file_offset opts sections alignment first ≡ file_offset opts sections alignment second
+    → first ≡ second
 
 -- the offset is that of the section with the least index among those whose windows hold the address
 abbrev pub MapsTo : ParseOptions → List Section → ℕ → ℕ → ℕ → Type 0
-MapsTo opts sections alignment rva offset = (index : ℕ) × (first : IsFirstWindow sections alignment rva index) × (offset ≡ offset_in opts first.section rva)
+MapsTo opts sections alignment rva offset =
+    (index : ℕ) × (first : IsFirstWindow sections alignment rva index)
+    × (offset ≡ offset_in opts first.section rva)
 
 -- no section's window holds the address
 abbrev pub MapsNowhere : List Section → ℕ → ℕ → Type 0
-MapsNowhere sections alignment rva = (k : ℕ) (s : Section) → slice_get sections k ≡ Some s → ¬ InWindow alignment rva s
+MapsNowhere sections alignment rva =
+    (k : ℕ) (s : Section) → slice_get sections k ≡ Some s → ¬ InWindow alignment rva s
 
 -- ---- what stands at an address, over a map of addresses to file offsets
 
@@ -92,13 +115,15 @@ MapsNowhere sections alignment rva = (k : ℕ) (s : Section) → slice_get secti
 abbrev pub name_at : (ℕ → Option ℕ) → List ℕ → ℕ → Option (List ℕ)
 name_at offset_of bytes rva = offset_of rva >>= text_at bytes
 
--- what a reader of a name takes: the text at an address, and where there is none, nothing, unless it reads strictly
+-- what a reader of a name takes: the text at an address, and where there is none, nothing, unless
+-- it reads strictly
 abbrev pub name_or_none : Bool → Option (List ℕ) → Option (Option (List ℕ))
 name_or_none strict (Some name) = Some (Some name)
 name_or_none strict None = if strict then None else Some None
 
 -- the value at an address, little-endian
-abbrev pub data_at : {Y : Type 0} → (ℕ → Option ℕ) → (Endian → List ℕ → Option (Y × ℕ)) → List ℕ → ℕ → Option Y
+abbrev pub data_at : {Y : Type 0} → (ℕ → Option ℕ) → (Endian → List ℕ → Option (Y × ℕ)) → List ℕ → ℕ
+    → Option Y
 data_at offset_of value_of bytes rva = offset_of rva >>= value_at value_of Little bytes
 
 -- ---- causes
@@ -127,5 +152,7 @@ abbrev pub IsSafeNameFault : (ℕ → Option ℕ) → ℕ → ErrorOf → Type 0
 IsSafeNameFault offset_of rva = FirstFault (offset_of rva) (IsUnmapped rva) IsNameRead
 
 -- which cause is true where no value stands at an address
-abbrev pub IsDataFault : (ℕ → Option ℕ) → (Endian → List ℕ → ErrorOf → Type 0) → List ℕ → ℕ → ErrorOf → Type 0
-IsDataFault offset_of refusal bytes rva = FirstFault (offset_of rva) (IsUnmapped rva) (IsValueFault refusal Little bytes)
+abbrev pub IsDataFault : (ℕ → Option ℕ) → (Endian → List ℕ → ErrorOf → Type 0) → List ℕ → ℕ
+    → ErrorOf → Type 0
+IsDataFault offset_of refusal bytes rva =
+    FirstFault (offset_of rva) (IsUnmapped rva) (IsValueFault refusal Little bytes)

@@ -5,7 +5,8 @@ use Rattle.goblin_base.specs.declared.permissive.ParseMode.TheVariants.{Strict, 
 use Rattle.goblin_pe_sect.specs.declared.options.ParseOptions.{ParseOptions}
 use Rattle.goblin_pe_sect.specs.declared.options.RawPointerRule.TheVariants.{AsStored}
 
--- the options of a file on disk: everything is read, strictly, and addresses are mapped by the sections, from their raw pointers as stored
+-- the options of a file on disk: everything is read, strictly, and addresses are mapped by the
+-- sections, from their raw pointers as stored
 abbrev pub default_options : ParseOptions
 default_options = record {
   resolve_rva = true;

@@ -35,10 +35,12 @@ relocations_in bytes = records_in 10 (relocation_record Little) bytes
 abbrev pub relocations_at : List ℕ → ℕ → ℕ → Option (List Relocation)
 relocations_at bytes p n = option_map relocations_in (slice_at bytes p (10 * n))
 
--- which cause is true of bytes without n relocations at p: they pass the end, or their size passes 64 bits
+-- which cause is true of bytes without n relocations at p: they pass the end, or their size passes
+-- 64 bits
 abbrev pub IsRelocationsFault : List ℕ → ℕ → ℕ → ErrorOf → Type 0
 IsRelocationsFault bytes p n (Malformed Overflow) = 2 ^ 64 ≤ 10 * n
-IsRelocationsFault bytes p n (Read fault) = (10 * n < 2 ^ 64) × IsSliceFault bytes p (10 * n) (Read fault)
+IsRelocationsFault bytes p n (Read fault) =
+    (10 * n < 2 ^ 64) × IsSliceFault bytes p (10 * n) (Read fault)
 IsRelocationsFault bytes p n e = ⊥
 
 -- what an iterator over relocations has left

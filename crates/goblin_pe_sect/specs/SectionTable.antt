@@ -1,5 +1,7 @@
 -- What contracts see of a section, and the section record.
-use Rattle.std.specs.Prelude.{◌≡◌, ℕ, ◌+◌, ◌-◌, ◌<◌, ◌++◌, Bool, List, [], ◌∷◌, length, Option, None, Some, if◌then◌else◌, nat_eq, nat_le, option_map, replicate, slice_range}
+use Rattle.std.specs.Prelude.{◌≡◌, ℕ, ◌+◌, ◌-◌, ◌<◌, ◌++◌, Bool, List, [], ◌∷◌, length, Option}
+use Rattle.std.specs.Prelude.{None, Some, if◌then◌else◌, nat_eq, nat_le, option_map, replicate}
+use Rattle.std.specs.Prelude.{slice_range}
 use Rattle.std.specs.Option.{option_eq}
 use Rattle.std.specs.Ordering.{on, eq_of_both}
 use Rattle.std.specs.Cmp.{IsPartialEquivalence, on_per, and_per, partial_equiv_from_equiv}
@@ -49,11 +51,14 @@ section_record endian bytes = record {
 -- the fields of a section record, in order
 unfoldable pub section_fields : Section → List FieldValue
 section_fields s =
-    octets s.name ∷ uint 4 s.virtual_size ∷ uint 4 s.virtual_address ∷ uint 4 s.size_of_raw_data ∷ uint 4 s.pointer_to_raw_data
-    ∷ uint 4 s.pointer_to_relocations ∷ uint 4 s.pointer_to_linenumbers ∷ uint 2 s.number_of_relocations ∷ uint 2 s.number_of_linenumbers
+    octets s.name ∷ uint 4 s.virtual_size ∷ uint 4 s.virtual_address ∷ uint 4 s.size_of_raw_data
+    ∷ uint 4 s.pointer_to_raw_data
+    ∷ uint 4 s.pointer_to_relocations ∷ uint 4 s.pointer_to_linenumbers
+    ∷ uint 2 s.number_of_relocations ∷ uint 2 s.number_of_linenumbers
     ∷ uint 4 s.characteristics ∷ []
 
--- the section of the record at p, with its name from the string table at `table` where its own name is indirect
+-- the section of the record at p, with its name from the string table at `table` where its own name
+-- is indirect
 unfoldable pub section_at : Bool → ℕ → List ℕ → ℕ → Option Section
 section_at strict table bytes p = do
   section ← record_at 40 (section_record Little) bytes p
@@ -63,12 +68,17 @@ section_at strict table bytes p = do
 -- a section that was read has its record's bytes as its encoding
 abbrev pub SectionWritesBack : Type 0
 SectionWritesBack =
-    (strict : Bool) (table : ℕ) (bytes : List ℕ) (p : ℕ) (section : Section) → IsBytes bytes → section_at strict table bytes p ≡ Some section
+    (strict : Bool) (table : ℕ) (bytes : List ℕ) (p : ℕ) (section : Section) → IsBytes bytes
+    → section_at strict table bytes p ≡ Some section
     → slice_at bytes p 40 ≡ Some (encoding Little (section_fields section))
 
--- A section that is written, whatever its fields say, is read again from what was written, in the same order of bytes, without its real name, which is no part of the record.
+-- A section that is written, whatever its fields say, is read again from what was written, in the
+-- same order of bytes, without its real name, which is no part of the record.
 unfoldable pub SectionReadsBack : Section → Type 0
-SectionReadsBack s = (endian : Endian) → record_at 40 (section_record endian) (encoding endian (section_fields s)) 0 ≡ Some (record s { real_name = None })
+SectionReadsBack s =
+    (endian : Endian)
+    → record_at 40 (section_record endian) (encoding endian (section_fields s)) 0
+    ≡ Some (record s { real_name = None })
 
 -- which cause is true of a section that is refused: there is no record, or its name is refused
 unfoldable pub IsSectionFault : Bool → List ℕ → ℕ → ErrorOf → Type 0
@@ -95,11 +105,14 @@ raw_data s bytes =
 
 -- the section's data: its raw data, followed by zeros up to the virtual size
 abbrev pub section_data : Section → List ℕ → Option (List ℕ)
-section_data s bytes = option_map (λ raw. raw ++ replicate (s.virtual_size - s.size_of_raw_data) 0) (raw_data s bytes)
+section_data s bytes =
+    option_map (λ raw. raw ++ replicate (s.virtual_size - s.size_of_raw_data) 0) (raw_data s bytes)
 
 -- the raw data of two sections overlaps: neither ends at or before the other's pointer
 abbrev pub OverlapRawData : Section → Section → Type 0
-OverlapRawData a b = (a.pointer_to_raw_data < b.pointer_to_raw_data + b.size_of_raw_data) × (b.pointer_to_raw_data < a.pointer_to_raw_data + a.size_of_raw_data)
+OverlapRawData a b =
+    (a.pointer_to_raw_data < b.pointer_to_raw_data + b.size_of_raw_data)
+    × (b.pointer_to_raw_data < a.pointer_to_raw_data + a.size_of_raw_data)
 
 -- all fields are the same, texts by their bytes
 abbrev pub section_eq : Section → Section → Bool
@@ -120,13 +133,20 @@ section_eq =
 pub section_per : IsPartialEquivalence section_eq
 section_per =
     and_per (on_per (λ (s : Section). s.name) (partial_equiv_from_equiv nat_list_eq_equiv))
-    (and_per (on_per (λ (s : Section). s.real_name) (partial_equiv_from_equiv (options_equiv nat_list_eq_equiv)))
+    (and_per
+    (on_per (λ (s : Section). s.real_name)
+    (partial_equiv_from_equiv (options_equiv nat_list_eq_equiv)))
     (and_per (on_per (λ (s : Section). s.virtual_size) (partial_equiv_from_equiv nat_eq_equiv))
     (and_per (on_per (λ (s : Section). s.virtual_address) (partial_equiv_from_equiv nat_eq_equiv))
     (and_per (on_per (λ (s : Section). s.size_of_raw_data) (partial_equiv_from_equiv nat_eq_equiv))
-    (and_per (on_per (λ (s : Section). s.pointer_to_raw_data) (partial_equiv_from_equiv nat_eq_equiv))
-    (and_per (on_per (λ (s : Section). s.pointer_to_relocations) (partial_equiv_from_equiv nat_eq_equiv))
-    (and_per (on_per (λ (s : Section). s.pointer_to_linenumbers) (partial_equiv_from_equiv nat_eq_equiv))
-    (and_per (on_per (λ (s : Section). s.number_of_relocations) (partial_equiv_from_equiv nat_eq_equiv))
-    (and_per (on_per (λ (s : Section). s.number_of_linenumbers) (partial_equiv_from_equiv nat_eq_equiv))
+    (and_per
+    (on_per (λ (s : Section). s.pointer_to_raw_data) (partial_equiv_from_equiv nat_eq_equiv))
+    (and_per
+    (on_per (λ (s : Section). s.pointer_to_relocations) (partial_equiv_from_equiv nat_eq_equiv))
+    (and_per
+    (on_per (λ (s : Section). s.pointer_to_linenumbers) (partial_equiv_from_equiv nat_eq_equiv))
+    (and_per
+    (on_per (λ (s : Section). s.number_of_relocations) (partial_equiv_from_equiv nat_eq_equiv))
+    (and_per
+    (on_per (λ (s : Section). s.number_of_linenumbers) (partial_equiv_from_equiv nat_eq_equiv))
     (on_per (λ (s : Section). s.characteristics) (partial_equiv_from_equiv nat_eq_equiv)))))))))))

@@ -1,5 +1,7 @@
 -- Symbols of a COFF file: their records and names, and which records of a table are symbols.
-use Rattle.std.specs.Prelude.{◌≡◌, ◌≢◌, ◌⊎◌, ◌<◌, ◌≤◌, ℕ, zero, suc, ◌+◌, ◌-◌, ◌*◌, ◌/◌, ◌^◌, ◌==◌, nat_le, if◌then◌else◌, List, [], ◌∷◌, ◌++◌, length, replicate, slice_index, slice_range, Option, Some, None, option_map}
+use Rattle.std.specs.Prelude.{◌≡◌, ◌≢◌, ◌⊎◌, ◌<◌, ◌≤◌, ℕ, zero, suc, ◌+◌, ◌-◌, ◌*◌, ◌/◌, ◌^◌, ◌==◌}
+use Rattle.std.specs.Prelude.{nat_le, if◌then◌else◌, List, [], ◌∷◌, ◌++◌, length, replicate}
+use Rattle.std.specs.Prelude.{slice_index, slice_range, Option, Some, None, option_map}
 use Rattle.std.specs.Borrow.{Bor}
 use Rattle.std.specs.Int.{w16, cast_signed, cast_unsigned}
 use Rattle.std.specs.List.{All, AllPairs, Contains}
@@ -50,11 +52,13 @@ named_symbol bytes = (inline_name bytes, symbol_record Little bytes)
 abbrev pub named_value : Option (Bor (List ℕ)) × Symbol → Option (List ℕ) × Symbol
 named_value x = (option_map (λ s. s.now) x.0, x.1)
 
--- the number that stands in place of a name: that of the last four of the eight bytes, where the first is 0
+-- the number that stands in place of a name: that of the last four of the eight bytes, where the
+-- first is 0
 abbrev pub stored_number : List ℕ → Option ℕ
 stored_number name = if slice_index name 0 == 0 then Some (number Little 4 name 4) else None
 
--- the offset in the string table that a stored number says: it counts the four bytes of the table's length, which stand in front
+-- the offset in the string table that a stored number says: it counts the four bytes of the table's
+-- length, which stand in front
 abbrev pub stored_offset : ℕ → Option ℕ
 stored_offset n = if nat_le 4 n then Some (n - 4) else None
 
@@ -66,15 +70,22 @@ name_offset_of name = stored_number name >>= stored_offset
 abbrev pub offset_name : ℕ → List ℕ
 offset_name n = replicate 4 0 ++ number_bytes Little 4 n
 
--- the name of a symbol: where a number stands in its place, what the string table has at the offset that it says, and else the text of the eight bytes
+-- the name of a symbol: where a number stands in its place, what the string table has at the offset
+-- that it says, and else the text of the eight bytes
 abbrev pub symbol_name : List ℕ → List ℕ → Option (List ℕ)
-symbol_name table name = if slice_index name 0 == 0 then (name_offset_of name >>= rest_at table) else bounded_text_at name 0 8
+symbol_name table name =
+    if slice_index name 0 == 0
+    then (name_offset_of name >>= rest_at table)
+    else bounded_text_at name 0 8
 
--- which cause is true of a symbol without a name: its number is below 4, the string table has nothing at its offset, or its eight bytes are no text
+-- which cause is true of a symbol without a name: its number is below 4, the string table has
+-- nothing at its offset, or its eight bytes are no text
 abbrev pub IsNoSymbolName : List ℕ → List ℕ → ErrorOf → Type 0
 IsNoSymbolName table name (Malformed (SymbolName n)) =
-    ((stored_number name ≡ Some n) × (n < 4)) ⊎ ((name_offset_of name ≡ Some n) × (rest_at table n ≡ None))
-IsNoSymbolName table name (Read fault) = (slice_index name 0 ≢ 0) × IsBoundedTextFault name 0 8 (Read fault)
+    ((stored_number name ≡ Some n) × (n < 4))
+    ⊎ ((name_offset_of name ≡ Some n) × (rest_at table n ≡ None))
+IsNoSymbolName table name (Read fault) =
+    (slice_index name 0 ≢ 0) × IsBoundedTextFault name 0 8 (Read fault)
 IsNoSymbolName table name e = ⊥
 
 -- ---- tables
@@ -83,10 +94,12 @@ IsNoSymbolName table name e = ⊥
 abbrev pub table_bytes : SymbolTable → List ℕ
 table_bytes table = table.symbols.now
 
--- which cause is true of bytes without a table of n records at p: they pass the end, or their size passes 64 bits
+-- which cause is true of bytes without a table of n records at p: they pass the end, or their size
+-- passes 64 bits
 abbrev pub IsSymbolsFault : List ℕ → ℕ → ℕ → ErrorOf → Type 0
 IsSymbolsFault bytes p n (Malformed Overflow) = 2 ^ 64 ≤ 18 * n
-IsSymbolsFault bytes p n (Read fault) = (18 * n < 2 ^ 64) × IsSliceFault bytes p (18 * n) (Read fault)
+IsSymbolsFault bytes p n (Read fault) =
+    (18 * n < 2 ^ 64) × IsSliceFault bytes p (18 * n) (Read fault)
 IsSymbolsFault bytes p n e = ⊥
 
 -- the name of a source file in the n records from record i on: their text
@@ -101,7 +114,8 @@ record_of table i = slice_range table (18 * i) (18 * i + 18)
 abbrev pub aux : List ℕ → ℕ → ℕ
 aux table i = (symbol_record Little (record_of table i)).number_of_aux_symbols
 
--- The heads of a table of n records, which are its symbols: the least set that holds 0 where there is a record, and with a head the record after its auxiliary ones where there is one.
+-- The heads of a table of n records, which are its symbols: the least set that holds 0 where there
+-- is a record, and with a head the record after its auxiliary ones where there is one.
 pub data IsHead (table : List ℕ) (n : ℕ) : ℕ → Type 0 where
   first : 0 < n → IsHead table n 0
   next : (h : ℕ) → IsHead table n h → h + 1 + aux table h < n → IsHead table n (h + 1 + aux table h)
@@ -114,7 +128,8 @@ SymbolItem = ℕ × Option (List ℕ) × Symbol
 abbrev pub symbol_of : List ℕ → ℕ → SymbolItem
 symbol_of table i = (i, inline_name (record_of table i), symbol_record Little (record_of table i))
 
--- the symbols among the m records from record i on, of which the first `skipped` are auxiliary ones of a symbol before them
+-- the symbols among the m records from record i on, of which the first `skipped` are auxiliary ones
+-- of a symbol before them
 unfoldable pub symbols_from : ℕ → ℕ → List ℕ → ℕ → List SymbolItem
 symbols_from zero skipped table i = []
 symbols_from (suc m) zero table i = symbol_of table i ∷ symbols_from m (aux table i) table (i + 1)
@@ -133,6 +148,7 @@ symbol_item x = (x.0, option_map (λ s. s.now) x.1, x.2)
 
 -- The items are the heads of the table in order, each with its record.
 pub record AreSymbolsOf (table : List ℕ) (items : List SymbolItem) : Type 0 where
-  pub each : All (λ item. IsHead table (length table / 18) item.0 × (item ≡ symbol_of table item.0)) items
+  pub each : All (λ item. IsHead table (length table / 18) item.0 × (item ≡ symbol_of table item.0))
+      items
   pub all : (h : ℕ) → IsHead table (length table / 18) h → Contains items (symbol_of table h)
   pub order : AllPairs (λ a b. a.0 < b.0) items

@@ -1,5 +1,9 @@
--- The line of addresses, cut into pieces at the windows of sections, and what an index of the pieces answers.
-use Rattle.std.specs.Prelude.{ℕ, zero, suc, ◌+◌, ◌-◌, ◌*◌, ◌/◌, ◌≡◌, ◌<◌, ◌≤◌, ◌^◌, ◌==◌, ◌⊎◌, Bool, false, nat_le, nat_lt, if◌then◌else◌, List, [], Option, Some, None, length, slice_index, slice_index_or, slice_get, Contains, position, IsTrue}
+-- The line of addresses, cut into pieces at the windows of sections, and what an index of the
+-- pieces answers.
+use Rattle.std.specs.Prelude.{ℕ, zero, suc, ◌+◌, ◌-◌, ◌*◌, ◌/◌, ◌≡◌, ◌<◌, ◌≤◌, ◌^◌, ◌==◌, ◌⊎◌, Bool}
+use Rattle.std.specs.Prelude.{false, nat_le, nat_lt, if◌then◌else◌, List, [], Option, Some, None}
+use Rattle.std.specs.Prelude.{length, slice_index, slice_index_or, slice_get, Contains, position}
+use Rattle.std.specs.Prelude.{IsTrue}
 use Rattle.std.specs.List.{prefix_len}
 use Rattle.std.specs.List.Sorted.{IsStrictlyIncreasing}
 use Rattle.std.specs.Int.{is_power_of_two}
@@ -9,7 +13,8 @@ use Rattle.goblin_pe_sect.specs.declared.windows.owners.Owner.{Owner}
 use Rattle.goblin_pe_sect.specs.Mapping.{read_size, window_end, is_in_window, raw_begin}
 use Rattle.goblin_pe_sect.specs.SectionTable.{Section}
 
--- an index: whether it maps addresses at all, where each piece begins, and what is kept of the section that each piece belongs to
+-- an index: whether it maps addresses at all, where each piece begins, and what is kept of the
+-- section that each piece belongs to
 pub record Pieces : Type 0 where
   pub resolves : Bool
   pub begins : List ℕ
@@ -25,9 +30,11 @@ HasPieces opts alignment = IsTrue opts.resolve_rva × IsTrue (is_power_of_two al
 abbrev pub IsBorder : List Section → ℕ → ℕ → Type 0
 IsBorder sections alignment x =
     (x ≡ 0)
-    ⊎ ((k : ℕ) × (s : Section) × (slice_get sections k ≡ Some s) × (0 < read_size s alignment) × ((x ≡ s.virtual_address) ⊎ (x ≡ window_end s alignment)))
+    ⊎ ((k : ℕ) × (s : Section) × (slice_get sections k ≡ Some s) × (0 < read_size s alignment)
+    × ((x ≡ s.virtual_address) ⊎ (x ≡ window_end s alignment)))
 
--- the pieces begin where the line is cut, in rising order: at most two for each section, and the one at 0
+-- the pieces begin where the line is cut, in rising order: at most two for each section, and the
+-- one at 0
 pub record IsCut (sections : List Section) (alignment : ℕ) (begins : List ℕ) : Type 0 where
   pub rising : IsStrictlyIncreasing begins
   pub all : (x : ℕ) → IsBorder sections alignment x → Contains begins x
@@ -36,12 +43,14 @@ pub record IsCut (sections : List Section) (alignment : ℕ) (begins : List ℕ)
 
 -- what an index of windows keeps of a section, by its number in the table
 abbrev pub owner_of_section : ParseOptions → ℕ → Section → Owner
-owner_of_section opts i s = record { index = i; address = s.virtual_address; pointer = raw_begin opts s }
+owner_of_section opts i s =
+    record { index = i; address = s.virtual_address; pointer = raw_begin opts s }
 
 -- what an index keeps of the first section whose window holds an address
 abbrev pub first_owner : ParseOptions → List Section → ℕ → ℕ → Option Owner
 first_owner opts sections alignment rva =
-    option_and_then (λ (i : ℕ). option_map (owner_of_section opts i) (slice_get sections i)) (position (is_in_window alignment rva) sections)
+    option_and_then (λ (i : ℕ). option_map (owner_of_section opts i) (slice_get sections i))
+    (position (is_in_window alignment rva) sections)
 
 -- ---- what an index answers
 
@@ -49,8 +58,8 @@ first_owner opts sections alignment rva =
 abbrev pub reached : List ℕ → ℕ → ℕ
 reached begins rva = prefix_len (λ b. nat_le b rva) begins
 
--- the comparisons that `halvings` counts, up to `most` of them: none among no numbers, else one with the number in the middle, and
--- those among the half that is left
+-- the comparisons that `halvings` counts, up to `most` of them: none among no numbers, else one
+-- with the number in the middle, and those among the half that is left
 unfoldable pub halvings_within : ℕ → ℕ → ℕ → ℕ
 halvings_within zero n k = 0
 halvings_within (suc most) n k =
@@ -58,8 +67,9 @@ halvings_within (suc most) n k =
     else if nat_lt (n / 2) k then 1 + halvings_within most (n - n / 2 - 1) (k - n / 2 - 1)
     else 1 + halvings_within most (n / 2) k
 
--- How many comparisons a search by halving makes until it has found that k of n rising numbers lie at or before the one that it
--- looks for. Each search that splits evenly, the lower half the greater, makes as many; they are never more than n.
+-- How many comparisons a search by halving makes until it has found that k of n rising numbers lie
+-- at or before the one that it looks for. Each search that splits evenly, the lower half the
+-- greater, makes as many; they are never more than n.
 unfoldable pub halvings : ℕ → ℕ → ℕ
 halvings n k = halvings_within n n k
 
@@ -72,20 +82,28 @@ last_owner owners (suc k) = slice_index_or owners k None
 abbrev pub owner_offset : ℕ → Owner → ℕ
 owner_offset rva o = o.pointer + (rva - o.address)
 
--- the file offset that an index gives an address: by the owner of the last piece that begins at or before it
+-- the file offset that an index gives an address: by the owner of the last piece that begins at or
+-- before it
 unfoldable pub located : Pieces → ℕ → Option ℕ
-located w rva = if w.resolves then option_map (owner_offset rva) (last_owner w.owners (reached w.begins rva)) else Some rva
+located w rva =
+    if w.resolves
+    then option_map (owner_offset rva) (last_owner w.owners (reached w.begins rva))
+    else Some rva
 
 -- ---- what is true of every index
 
--- the begins rise, one owner each; a piece with an owner lies after its address, and ends within reach of it; there is no piece where addresses are not mapped
+-- the begins rise, one owner each; a piece with an owner lies after its address, and ends within
+-- reach of it; there is no piece where addresses are not mapped
 pub record IsIndex (resolves : Bool) (begins : List ℕ) (owners : List (Option Owner)) : Type 0 where
   pub rising : IsStrictlyIncreasing begins
   pub one_each : length owners ≡ length begins
-  pub low : (k : ℕ) (o : Owner) → slice_index_or owners k None ≡ Some o → o.address ≤ slice_index begins k
-  pub high : (k : ℕ) (o : Owner) → slice_index_or owners k None ≡ Some o → (k + 1 < length begins) × (slice_index begins (k + 1) ≤ o.address + 2 ^ 33)
+  pub low : (k : ℕ) (o : Owner) → slice_index_or owners k None ≡ Some o
+      → o.address ≤ slice_index begins k
+  pub high : (k : ℕ) (o : Owner) → slice_index_or owners k None ≡ Some o
+      → (k + 1 < length begins) × (slice_index begins (k + 1) ≤ o.address + 2 ^ 33)
   pub unmapped : resolves ≡ false → begins ≡ []
 
 -- every section's window ends within reach of its address
 abbrev pub AreNear : List Section → ℕ → Type 0
-AreNear sections alignment = (k : ℕ) (s : Section) → slice_get sections k ≡ Some s → read_size s alignment ≤ 2 ^ 33
+AreNear sections alignment =
+    (k : ℕ) (s : Section) → slice_get sections k ≡ Some s → read_size s alignment ≤ 2 ^ 33

@@ -10,7 +10,8 @@ use Rattle.goblin_pe_sect.specs.Mapping.{InWindow}
 abbrev pub AreApart : ℕ → Section → Section → Type 0
 AreApart alignment s t = (rva : ℕ) → InWindow alignment rva s → ¬ InWindow alignment rva t
 
--- The second table has the sections of the first in any order, and the windows of any two of them are disjoint. Where the alignment is no power of two there are no windows.
+-- The second table has the sections of the first in any order, and the windows of any two of them
+-- are disjoint. Where the alignment is no power of two there are no windows.
 pub record IsReordering (alignment : ℕ) (first second : List Section) : Type 0 where
   pub moved : IsPermutation first second
   pub apart : IsTrue (is_power_of_two alignment) → AllPairs (AreApart alignment) first

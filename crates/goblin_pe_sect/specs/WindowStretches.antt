@@ -1,5 +1,6 @@
 -- The windows of sections, handed down from a stretch of the line of addresses to its halves.
-use Rattle.std.specs.Prelude.{ℕ, ◌≡◌, ◌≤◌, ◌<◌, Bool, ◌&&◌, nat_le, nat_lt, List, Option, find, map, length, slice_index}
+use Rattle.std.specs.Prelude.{ℕ, ◌≡◌, ◌≤◌, ◌<◌, Bool, ◌&&◌, nat_le, nat_lt, List, Option, find, map}
+use Rattle.std.specs.Prelude.{length, slice_index}
 use Rattle.std.specs.List.{enumerate_from}
 use Rattle.std.specs.Option.{option_map}
 use Rattle.goblin_pe_sect.specs.declared.options.ParseOptions.{ParseOptions}
@@ -24,16 +25,26 @@ window_meets first last w = nat_le w.begin last && nat_lt first w.end
 abbrev pub owner_among : List Window → ℕ → Option Owner
 owner_among windows rva = option_map (λ (w : Window). w.owner) (find (window_holds rva) windows)
 
--- for each address from first to last, the first window that holds it is the same among the fewer windows
+-- for each address from first to last, the first window that holds it is the same among the fewer
+-- windows
 abbrev pub FindTheSame : ℕ → ℕ → List Window → List Window → Type 0
-FindTheSame first last fewer windows = (rva : ℕ) → first ≤ rva → rva ≤ last → find (window_holds rva) fewer ≡ find (window_holds rva) windows
+FindTheSame first last fewer windows =
+    (rva : ℕ) → first ≤ rva → rva ≤ last
+    → find (window_holds rva) fewer ≡ find (window_holds rva) windows
 
--- the window of the section at this index of the table, and those of all sections, in the table's order
+-- the window of the section at this index of the table, and those of all sections, in the table's
+-- order
 abbrev pub section_window_at : ParseOptions → ℕ → ℕ → Section → Window
-section_window_at opts alignment i s = record { begin = s.virtual_address; end = window_end s alignment; owner = owner_of_section opts i s }
+section_window_at opts alignment i s =
+    record {
+      begin = s.virtual_address;
+      end = window_end s alignment;
+      owner = owner_of_section opts i s;
+    }
 
 abbrev pub section_windows : ParseOptions → ℕ → List Section → List Window
-section_windows opts alignment sections = map (λ (r : ℕ × Section). section_window_at opts alignment r.0 r.1) (enumerate_from 0 sections)
+section_windows opts alignment sections =
+    map (λ (r : ℕ × Section). section_window_at opts alignment r.0 r.1) (enumerate_from 0 sections)
 
 -- the numbers do not fall
 abbrev pub IsRising : List ℕ → Type 0

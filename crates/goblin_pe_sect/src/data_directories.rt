@@ -1,13 +1,19 @@
 //! The data directories of an optional header: where the tables of an image lie.
 
-ghost use Rattle.std.specs.Prelude.{◌≡◌, ◌+◌, ◌-◌, ◌*◌, ◌<◌, ◌≤◌, Some, length, slice_get, option_map, IfOk, IfSome, OnOk, OnErr};
+ghost use Rattle.std.specs.Prelude.{◌≡◌, ◌+◌, ◌-◌, ◌*◌, ◌<◌, ◌≤◌, Some, length, slice_get};
+ghost use Rattle.std.specs.Prelude.{option_map, IfOk, IfSome, OnOk, OnErr};
 ghost use Rattle.std.specs.Iterator.{UpTo, YieldsFirst, at_most};
 ghost use Rattle.std.specs.Iterator.SizeHint.{IsWithinCount};
 ghost use Rattle.goblin_base.specs.Answers.{Answers, Writes, IsSliceFault};
 ghost use Rattle.goblin_base.specs.Bytes.{overwritten};
 ghost use Rattle.goblin_base.specs.Record.{encoding, record_at, ReadsBack, WritesBack, record_over};
 ghost use Rattle.goblin_pe_sect.specs.declared.data_directories.DataDirectory.{DataDirectory};
-ghost use Rattle.goblin_pe_sect.specs.DataDirectories.{EntriesWriteBack, IsDirectoriesFault, IsNoKind, dirs_left, directories_at, directory_fields, directory_in, directory_or_zeros, directory_record, entries_fields, entry_ending, kinds, present_from};
+ghost use Rattle.goblin_pe_sect.specs.DataDirectories.{EntriesWriteBack, IsDirectoriesFault};
+ghost use Rattle.goblin_pe_sect.specs.DataDirectories.{IsNoKind, dirs_left, directories_at};
+ghost use Rattle.goblin_pe_sect.specs.DataDirectories.{directory_fields, directory_in};
+ghost use Rattle.goblin_pe_sect.specs.DataDirectories.{directory_or_zeros, directory_record};
+ghost use Rattle.goblin_pe_sect.specs.DataDirectories.{entries_fields, entry_ending, kinds};
+ghost use Rattle.goblin_pe_sect.specs.DataDirectories.{present_from};
 
 use goblin_base::{
     Cause, Endian, Error, Field, Record, Result, encode, field_u32, gread_slice, put_bytes,
@@ -88,7 +94,9 @@ impl DataDirectory {
     /// # Errors
     /// [`Error::Read`] where the 8 bytes pass the end of the file; `offset` then stays.
     pub fn parse(bytes: &[u8], offset: &mut usize) -> Result<DataDirectory>
-        ensures value { Answers (λ d. d) result (record_at 8 (directory_record Endian.Little) bytes.now offset.old) (IsSliceFault bytes.now offset.old 8) }
+        ensures value { Answers (λ d. d) result
+            (record_at 8 (directory_record Endian.Little) bytes.now offset.old)
+            (IsSliceFault bytes.now offset.old 8) }
         ensures ok { OnOk result (offset.new ≡ offset.old + 8) }
         ensures err { OnErr result (offset.new ≡ offset.old) }
     {
@@ -97,13 +105,15 @@ impl DataDirectory {
     }
 
     /// Writes the record to the front of `bytes`, and answers its size, 8. One that was read is
-    /// written as it stood, and any is read again from what was written, by the same order of bytes.
+    /// written as it stood, and any is read again from what was written, by the same order of
+    /// bytes.
     ///
     /// # Errors
     /// [`Error::Read`] where there is no room for 8 bytes; `bytes` are then as they were.
     pub fn try_into_ctx(self, bytes: &mut [u8], endian: Endian) -> Result<usize>
         ensures size { IfOk result (λ n. n ≡ 8) }
-        ensures written { let after = record_over 8 (encoding endian (directory_fields self)) bytes.old in
+        ensures written { let after = record_over 8 (encoding endian (directory_fields self))
+            bytes.old in
             Writes result after bytes.old bytes.new (IsSliceFault bytes.old 0 8) }
         ensures long { IfOk result (λ n. length (encoding endian (directory_fields self)) ≡ 8) }
         ensures back { IfOk result (λ n. WritesBack 8 directory_record directory_fields) }
@@ -221,7 +231,9 @@ impl DataDirectories {
     /// [`Error::Read`] where they pass the end. `offset` then stays.
     #[tactic(auto, using(crate::proofs::Entries::too_many))]
     pub fn parse(bytes: &[u8], count: usize, offset: &mut usize) -> Result<DataDirectories>
-        ensures value { Answers (λ d. d.data_directories) result (directories_at count bytes.now offset.old) (IsDirectoriesFault count bytes.now offset.old) }
+        ensures value { Answers (λ d. d.data_directories) result
+            (directories_at count bytes.now offset.old)
+            (IsDirectoriesFault count bytes.now offset.old) }
         ensures ok { OnOk result (offset.new ≡ offset.old + 8 * count) }
         ensures err { OnErr result (offset.new ≡ offset.old) }
     {
@@ -263,7 +275,9 @@ impl DataDirectories {
     /// [`Error::Read`] where there is no room for 128 bytes; `bytes` are then as they were.
     pub fn try_into_ctx(self, bytes: &mut [u8], endian: Endian) -> Result<usize>
         ensures size { IfOk result (λ n. n ≡ 128) }
-        ensures written { Writes result (overwritten bytes.old 0 (encoding endian (entries_fields self.data_directories))) bytes.old bytes.new (IsSliceFault bytes.old 0 128) }
+        ensures written { Writes result
+            (overwritten bytes.old 0 (encoding endian (entries_fields self.data_directories)))
+            bytes.old bytes.new (IsSliceFault bytes.old 0 128) }
     {
         let table = self.to_bytes(endian);
         pwrite_slice(bytes, 0, &table)?;

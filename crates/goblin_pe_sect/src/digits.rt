@@ -1,7 +1,10 @@
 //! The numbers that section names say, in decimal digits and in those of base 64.
 
-ghost use Rattle.std.specs.Prelude.{◌≡◌, ◌^◌, ◌+◌, ◌-◌, ◌<◌, ◌≤◌, ◌++◌, ◌∷◌, IfNone, IfSome, None, Some, drop, length, map, nat_lt, position, take, ◌==◌};
-ghost use Rattle.goblin_pe_sect.specs.SectionName.{alphabet, decimal_number, decimal_width, digit, digit_byte, indirect_name, last_digits, numeral, radix};
+ghost use Rattle.std.specs.Prelude.{◌≡◌, ◌^◌, ◌+◌, ◌-◌, ◌<◌, ◌≤◌, ◌++◌, ◌∷◌, IfNone, IfSome, None};
+ghost use Rattle.std.specs.Prelude.{Some, drop, length, map, nat_lt, position, take, ◌==◌};
+ghost use Rattle.goblin_pe_sect.specs.SectionName.{alphabet, decimal_number, decimal_width, digit};
+ghost use Rattle.goblin_pe_sect.specs.SectionName.{digit_byte, indirect_name, last_digits, numeral};
+ghost use Rattle.goblin_pe_sect.specs.SectionName.{radix};
 
 const DECIMAL: [u8; 10] = *b"0123456789";
 
@@ -73,7 +76,9 @@ impl Digits {
     // Writes the last `count` digits of a number at `from`.
     fn write(self, name: &mut [u8; 8], from: usize, count: usize, number: usize)
         requires { from + count ≤ 8 }
-        ensures { name.new ≡ take from name.old ++ map (digit_byte self) (last_digits (radix self) count number) ++ drop (from + count) name.old }
+        ensures { name.new
+            ≡ take from name.old ++ map (digit_byte self) (last_digits (radix self) count number)
+            ++ drop (from + count) name.old }
     {
         let mut rest = number;
         let mut at = from + count;

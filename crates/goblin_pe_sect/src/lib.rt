@@ -1,5 +1,5 @@
-//! The sections of a PE file, its data directories, symbols and relocations, and where the file has what
-//! stands at an address.
+//! The sections of a PE file, its data directories, symbols and relocations, and where the file has
+//! what stands at an address.
 #![tactic(auto)]
 
 pub mod data_directories;

@@ -8,8 +8,8 @@ pub use goblin_base::ParseMode;
 /// Where the raw data of a section begins, for the mapping of addresses.
 ///
 /// The Windows loader maps a section from its raw pointer rounded down to 512, goblin from the raw
-/// pointer as it is stored. Where that is a multiple of 512, as the PE/COFF specification asks for the
-/// usual file alignments, both say the same.
+/// pointer as it is stored. Where that is a multiple of 512, as the PE/COFF specification asks for
+/// the usual file alignments, both say the same.
 #[derive(Debug, PartialEq, Copy, Clone)]
 pub enum RawPointerRule {
     /// At the raw pointer, as goblin maps.
@@ -37,17 +37,18 @@ pub struct ParseOptions {
     pub parse_mode: ParseMode,
     /// Whether the reader of a whole file reads the imports, by default so.
     pub parse_imports: bool,
-    /// Where a section's raw data begins for the mapping of addresses: by default at the raw pointer as
-    /// it is stored, as in goblin. The Windows loader rounds it down to 512. Every reader that maps
-    /// addresses follows this; [`SectionTable::data`](crate::SectionTable::data) maps none.
+    /// Where a section's raw data begins for the mapping of addresses: by default at the raw
+    /// pointer as it is stored, as in goblin. The Windows loader rounds it down to 512. Every
+    /// reader that maps addresses follows this; [`SectionTable::data`](crate::SectionTable::data)
+    /// maps none.
     pub raw_pointer_rule: RawPointerRule,
 }
 
 impl Default for ParseOptions {
     ghost is_default = { λ options. options ≡ default_options };
 
-    /// Everything is read, strictly, and addresses are mapped by the sections, from their raw pointers
-    /// as stored.
+    /// Everything is read, strictly, and addresses are mapped by the sections, from their raw
+    /// pointers as stored.
     fn default() -> ParseOptions {
         ParseOptions {
             resolve_rva: true,

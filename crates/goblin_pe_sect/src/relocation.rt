@@ -1,5 +1,5 @@
-//! The relocations of a PE file: those of an object's sections, for linkers, and the base relocations
-//! of an image, for loaders.
+//! The relocations of a PE file: those of an object's sections, for linkers, and the base
+//! relocations of an image, for loaders.
 
 ghost use Rattle.std.specs.Prelude.{◌≡◌, ◌/◌, Some, length, IfSome, IfOk};
 ghost use Rattle.std.specs.Iterator.{UpTo, YieldsFirst, at_most};
@@ -7,7 +7,9 @@ ghost use Rattle.std.specs.Iterator.SizeHint.{IsWithinCount};
 ghost use Rattle.goblin_base.specs.Answers.{Answers, IsSliceFault, Writes};
 ghost use Rattle.goblin_base.specs.Record.{ReadsBack, WritesBack, encoding, record_over};
 ghost use Rattle.goblin_pe_sect.specs.declared.relocation.Relocation.{Relocation};
-ghost use Rattle.goblin_pe_sect.specs.Relocations.{IsRelocationsFault, relocation_fields, relocation_record, relocations_at, relocations_left};
+ghost use Rattle.goblin_pe_sect.specs.Relocations.{IsRelocationsFault, relocation_fields};
+ghost use Rattle.goblin_pe_sect.specs.Relocations.{relocation_record, relocations_at};
+ghost use Rattle.goblin_pe_sect.specs.Relocations.{relocations_left};
 
 use goblin_base::{
     Cause, Endian, Error, Field, Record, Result, field_u16, field_u32, pread_slice, put_fields,
@@ -141,8 +143,8 @@ const _: () = prove!(COFF_RELOCATION_SIZE == 10);
 /// bytes, and `at` says where in it a field stands.
 #[derive(Debug, PartialEq, Copy, Clone, Default)]
 pub struct Relocation {
-    /// Where the bytes that are changed begin, at 0: their offset in the section, in bytes, plus the
-    /// section's own address, which is mostly 0. Of the first relocation of a section with
+    /// Where the bytes that are changed begin, at 0: their offset in the section, in bytes, plus
+    /// the section's own address, which is mostly 0. Of the first relocation of a section with
     /// [`IMAGE_SCN_LNK_NRELOC_OVFL`](crate::section_table::IMAGE_SCN_LNK_NRELOC_OVFL) it is the
     /// number of all.
     pub virtual_address: u32,
@@ -185,13 +187,15 @@ impl Record for Relocation {
 
 impl Relocation {
     /// Writes the record to the front of `bytes`, and answers its size, 10. One that was read is
-    /// written as it stood, and any is read again from what was written, by the same order of bytes.
+    /// written as it stood, and any is read again from what was written, by the same order of
+    /// bytes.
     ///
     /// # Errors
     /// [`Error::Read`] where there is no room for 10 bytes; `bytes` are then as they were.
     pub fn try_into_ctx(self, bytes: &mut [u8], endian: Endian) -> Result<usize>
         ensures size { IfOk result (λ n. n ≡ 10) }
-        ensures written { let after = record_over 10 (encoding endian (relocation_fields self)) bytes.old in
+        ensures written { let after = record_over 10 (encoding endian (relocation_fields self))
+            bytes.old in
             Writes result after bytes.old bytes.new (IsSliceFault bytes.old 0 10) }
         ensures long { IfOk result (λ n. length (encoding endian (relocation_fields self)) ≡ 10) }
         ensures back { IfOk result (λ n. WritesBack 10 relocation_record relocation_fields) }
@@ -224,7 +228,8 @@ impl<'a> Relocations<'a> {
     /// [`Error::Read`] where they pass the end of the file, or begin at it, also where there are
     /// none; [`Error::Malformed`] with [`Cause::Overflow`] where their size passes 64 bits.
     pub fn parse(bytes: &'a [u8], offset: usize, number: usize) -> Result<Relocations<'a>>
-        ensures { Answers relocations_left result (relocations_at bytes.now offset number) (IsRelocationsFault bytes.now offset number) }
+        ensures { Answers relocations_left result (relocations_at bytes.now offset number)
+            (IsRelocationsFault bytes.now offset number) }
     {
         let Some(size) = number.checked_mul(COFF_RELOCATION_SIZE) else {
             return Err(Error::Malformed(Cause::Overflow));
@@ -255,7 +260,8 @@ impl Iterator for Relocations<'_> {
     fn size_hint(&self) -> (usize, Option<usize>)
         ensures lower { IsWithinCount result.0 (at_most (length self.now.relocations.now / 10)) }
         ensures upper { IfSome result.1 (UpTo (at_most (length self.now.relocations.now / 10))) }
-        ensures value { result ≡ (length (relocations_left self.now), Some (length (relocations_left self.now))) }
+        ensures value { result
+            ≡ (length (relocations_left self.now), Some (length (relocations_left self.now))) }
     {
         let count = self.relocations.len() / COFF_RELOCATION_SIZE;
         (count, Some(count))

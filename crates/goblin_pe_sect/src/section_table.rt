@@ -1,18 +1,26 @@
 //! The section records of a PE file.
 
-ghost use Rattle.std.specs.Prelude.{◌≡◌, ◌↔◌, ◌+◌, ◌*◌, ◌<◌, ◌≤◌, Bool, Err, IfErr, IfOk, IfSome, IsSomeAnd, IsTrue, None, Ok, OnErr, OnOk, Some, if◌then◌else◌, length, nat_eq, string_bytes, true};
+ghost use Rattle.std.specs.Prelude.{◌≡◌, ◌↔◌, ◌+◌, ◌*◌, ◌<◌, ◌≤◌, Bool, Err, IfErr, IfOk, IfSome};
+ghost use Rattle.std.specs.Prelude.{IsSomeAnd, IsTrue, None, Ok, OnErr, OnOk, Some, if◌then◌else◌};
+ghost use Rattle.std.specs.Prelude.{length, nat_eq, string_bytes, true};
 ghost use Rattle.std.specs.Cow.{cow_slice_items, IsBorrowedSlice};
 ghost use Rattle.std.specs.Option.{option_eq, option_map};
 ghost use Rattle.std.specs.Cmp.Lexicographic.{pointwise};
 ghost use Rattle.goblin_base.specs.declared.error.ErrorOf.TheVariants.{Malformed};
 ghost use Rattle.goblin_base.specs.declared.error.CauseOf.TheVariants.{NameText};
-ghost use Rattle.goblin_base.specs.Answers.{Answers, AnswersOrMemory, GivesOrMemory, IsMemory, Writes, IsSliceFault};
+ghost use Rattle.goblin_base.specs.Answers.{Answers, AnswersOrMemory, GivesOrMemory, IsMemory};
+ghost use Rattle.goblin_base.specs.Answers.{Writes, IsSliceFault};
 ghost use Rattle.goblin_base.specs.Bytes.{overwritten, replaced};
 ghost use Rattle.goblin_base.specs.Record.{WritesBack, encoding};
 ghost use Rattle.goblin_pe_sect.specs.Options.{is_strict};
 ghost use Rattle.goblin_pe_sect.specs.Relocations.{relocations_at, relocations_left};
-ghost use Rattle.goblin_pe_sect.specs.SectionName.{name_value, IsNameFault, indirect_name, IsNameOffsetFault, real_name_at, HasBytes};
-ghost use Rattle.goblin_pe_sect.specs.SectionTable.{Section, section_eq, section_per, SectionReadsBack, SectionWritesBack, section_record, section_fields, section_at, IsSectionFault, name_of, IsNoName, raw_data, section_data, OverlapRawData};
+ghost use Rattle.goblin_pe_sect.specs.SectionName.{name_value, IsNameFault, indirect_name};
+ghost use Rattle.goblin_pe_sect.specs.SectionName.{IsNameOffsetFault, real_name_at, HasBytes};
+ghost use Rattle.goblin_pe_sect.specs.SectionTable.{Section, section_eq, section_per};
+ghost use Rattle.goblin_pe_sect.specs.SectionTable.{SectionReadsBack, SectionWritesBack};
+ghost use Rattle.goblin_pe_sect.specs.SectionTable.{section_record, section_fields, section_at};
+ghost use Rattle.goblin_pe_sect.specs.SectionTable.{IsSectionFault, name_of, IsNoName, raw_data};
+ghost use Rattle.goblin_pe_sect.specs.SectionTable.{section_data, OverlapRawData};
 
 use crate::digits::{Digits, decimal_number, indirect_name};
 use crate::options::{ParseMode, ParseOptions};
@@ -103,7 +111,9 @@ impl Model for SectionTable {
 
 // Whether two names that stand elsewhere are the same.
 fn same_text(a: &Option<String>, b: &Option<String>) -> bool
-    ensures { result ≡ option_eq (pointwise nat_eq) (option_map string_bytes a.now) (option_map string_bytes b.now) }
+    ensures { result
+        ≡ option_eq (pointwise nat_eq) (option_map string_bytes a.now)
+        (option_map string_bytes b.now) }
 {
     match (a, b) {
         (Some(a), Some(b)) => a.as_bytes() == b.as_bytes(),
@@ -165,8 +175,14 @@ impl SectionTable {
         offset: &mut usize,
         string_table_offset: usize,
     ) -> Result<SectionTable>
-        ensures value { AnswersOrMemory (λ s. s) result (section_at true string_table_offset bytes.now offset.old) (IsSectionFault true bytes.now offset.old) }
-        ensures grown { IfErr result (λ e. IsMemory e → IsSomeAnd (section_at true string_table_offset bytes.now offset.old) (λ s. HasBytes s.real_name)) }
+        ensures value { AnswersOrMemory (λ s. s) result
+            (section_at true string_table_offset bytes.now offset.old)
+            (IsSectionFault true bytes.now offset.old) }
+        ensures grown { IfErr result
+            (λ e.
+            IsMemory e
+            → IsSomeAnd (section_at true string_table_offset bytes.now offset.old)
+            (λ s. HasBytes s.real_name)) }
         ensures ok { OnOk result (offset.new ≡ offset.old + 40) }
         ensures err { OnErr result (offset.new ≡ offset.old) }
     {
@@ -176,8 +192,8 @@ impl SectionTable {
 
     /// Reads the record at the file offset `offset` and moves `offset` past it. Where its name is
     /// indirect, the real name is a copy of the text that it points to in the string table at
-    /// `string_table_offset`, a file offset, if a text stands there; a copy of an empty text takes no
-    /// memory.
+    /// `string_table_offset`, a file offset, if a text stands there; a copy of an empty text takes
+    /// no memory.
     ///
     /// # Errors
     /// [`Error::Read`] where the 40 bytes pass the end of the file; as
@@ -192,8 +208,11 @@ impl SectionTable {
         opts: &ParseOptions,
     ) -> Result<SectionTable>
         ensures value { let strict = is_strict opts.now.parse_mode in
-            AnswersOrMemory (λ s. s) result (section_at strict string_table_offset bytes.now offset.old) (IsSectionFault strict bytes.now offset.old) }
-        ensures grown { let section = section_at (is_strict opts.now.parse_mode) string_table_offset bytes.now offset.old in
+            AnswersOrMemory (λ s. s) result
+            (section_at strict string_table_offset bytes.now offset.old)
+            (IsSectionFault strict bytes.now offset.old) }
+        ensures grown { let section = section_at (is_strict opts.now.parse_mode) string_table_offset
+            bytes.now offset.old in
             IfErr result (λ e. IsMemory e → IsSomeAnd section (λ s. HasBytes s.real_name)) }
         ensures ok { OnOk result (offset.new ≡ offset.old + 40) }
         ensures err { OnErr result (offset.new ≡ offset.old) }
@@ -207,8 +226,8 @@ impl SectionTable {
         Ok(section)
     }
 
-    /// A copy with its own text. One without a real name takes no memory, nor does one whose real name is
-    /// empty.
+    /// A copy with its own text. One without a real name takes no memory, nor does one whose real
+    /// name is empty.
     ///
     /// # Errors
     /// [`Error::Memory`] where memory for the text is refused.
@@ -235,16 +254,17 @@ impl SectionTable {
         })
     }
 
-    /// The section's raw data in the file `bytes`, as many bytes at its raw pointer as its record says,
-    /// without the zeros that [`SectionTable::data`] adds. It stays where it stands in the file, so no
-    /// memory is taken. It may be empty, also at the end of the file.
+    /// The section's raw data in the file `bytes`, as many bytes at its raw pointer as its record
+    /// says, without the zeros that [`SectionTable::data`] adds. It stays where it stands in the
+    /// file, so no memory is taken. It may be empty, also at the end of the file.
     ///
     /// # Errors
-    /// [`Error::Read`] where it passes the file: `BadOffset` where it also begins at or past the end,
-    /// else `TooBig`.
+    /// [`Error::Read`] where it passes the file: `BadOffset` where it also begins at or past the
+    /// end, else `TooBig`.
     pub fn raw_data<'b>(&self, bytes: &'b [u8]) -> Result<&'b [u8]>
         ensures { let pointer = self.now.pointer_to_raw_data in
-            Answers (λ s. s.now) result (raw_data self.now bytes.now) (IsSliceFault bytes.now pointer self.now.size_of_raw_data) }
+            Answers (λ s. s.now) result (raw_data self.now bytes.now)
+            (IsSliceFault bytes.now pointer self.now.size_of_raw_data) }
     {
         let begin = self.pointer_to_raw_data as usize;
         match bytes.get(begin..begin + self.size_of_raw_data as usize) {
@@ -268,10 +288,16 @@ impl SectionTable {
         alloc: Global,
         bytes: &'b [u8],
     ) -> Result<Option<CowSlice<'b, u8, Global>>>
-        ensures value { GivesOrMemory (λ d. option_map cow_slice_items d) result (section_data self.now bytes.now) }
-        ensures borrowed { IfOk result (λ d. IfSome d (λ items. IsBorrowedSlice items ↔ (self.now.virtual_size ≤ self.now.size_of_raw_data))) }
+        ensures value { GivesOrMemory (λ d. option_map cow_slice_items d) result
+            (section_data self.now bytes.now) }
+        ensures borrowed { IfOk result
+            (λ d.
+            IfSome d
+            (λ items.
+            IsBorrowedSlice items ↔ (self.now.virtual_size ≤ self.now.size_of_raw_data))) }
         ensures grown { OnErr result (self.now.size_of_raw_data < self.now.virtual_size) }
-        ensures inside { OnErr result (self.now.pointer_to_raw_data + self.now.size_of_raw_data ≤ length bytes.now) }
+        ensures inside { OnErr result
+            (self.now.pointer_to_raw_data + self.now.size_of_raw_data ≤ length bytes.now) }
     {
         let Ok(raw_data) = self.raw_data(bytes) else {
             return Ok(None);
@@ -292,7 +318,8 @@ impl SectionTable {
     /// # Errors
     /// As [`SectionTable::name_offset_with_opts`] in strict mode.
     pub fn name_offset(&self) -> Result<Option<usize>>
-        ensures { Answers (λ v. v) result (name_value true self.now.name) (IsNameFault true self.now.name) }
+        ensures { Answers (λ v. v) result (name_value true self.now.name)
+            (IsNameFault true self.now.name) }
     {
         self.name_offset_with_opts(&ParseOptions::default())
     }
@@ -312,7 +339,8 @@ impl SectionTable {
     /// strict mode; in permissive mode the name is then direct.
     pub fn name_offset_with_opts(&self, opts: &ParseOptions) -> Result<Option<usize>>
         ensures { let strict = is_strict opts.now.parse_mode in
-            Answers (λ v. v) result (name_value strict self.now.name) (IsNameFault strict self.now.name) }
+            Answers (λ v. v) result (name_value strict self.now.name)
+            (IsNameFault strict self.now.name) }
     {
         name_value(&self.name, opts.parse_mode)
     }
@@ -327,7 +355,8 @@ impl SectionTable {
     pub fn set_name_offset(&mut self, idx: usize) -> Result<()>
         ensures name { OnOk result (indirect_name idx ≡ Some self.new.name) }
         ensures others { self.new ≡ record self.old { name = self.new.name } }
-        ensures says { OnOk result ((strict : Bool) → name_value strict self.new.name ≡ Some (Some idx)) }
+        ensures says { OnOk result
+            ((strict : Bool) → name_value strict self.new.name ≡ Some (Some idx)) }
         ensures refused { IfErr result (λ e. (indirect_name idx ≡ None) × IsNameOffsetFault idx e) }
         ensures err { OnErr result (self.new ≡ self.old) }
     {
@@ -344,7 +373,8 @@ impl SectionTable {
     /// [`Error::Read`] with `BadInput` where the eight bytes up to a NUL are not UTF-8 and there is
     /// no real name.
     pub fn name(&self) -> Result<&str>
-        ensures { Answers (λ s. s.now) result (name_of self.now.real_name self.now.name) (IsNoName self.now.real_name self.now.name) }
+        ensures { Answers (λ s. s.now) result (name_of self.now.real_name self.now.name)
+            (IsNoName self.now.real_name self.now.name) }
     {
         match &self.real_name {
             Some(name) => Ok(name.as_str()),
@@ -364,7 +394,8 @@ impl SectionTable {
     pub fn relocations<'b>(&self, bytes: &'b [u8]) -> Result<Relocations<'b>>
         ensures { let place = self.now.pointer_to_relocations in
             let count = self.now.number_of_relocations in
-            Answers relocations_left result (relocations_at bytes.now place count) (IsSliceFault bytes.now place (10 * count)) }
+            Answers relocations_left result (relocations_at bytes.now place count)
+            (IsSliceFault bytes.now place (10 * count)) }
     {
         let offset = self.pointer_to_relocations as usize;
         Relocations::parse(bytes, offset, self.number_of_relocations as usize)
@@ -392,15 +423,17 @@ impl SectionTable {
     }
 
     /// Writes the record at the front of `bytes` and answers its size, 40. The real name is no part
-    /// of it. A record that was read is written as it stood, and any section is read again from what
-    /// was written, but for its real name, by the same order of bytes.
+    /// of it. A record that was read is written as it stood, and any section is read again from
+    /// what was written, but for its real name, by the same order of bytes.
     ///
     /// # Errors
     /// [`Error::Read`] where there is no room; `bytes` then stays.
     #[tactic(auto, using(crate::proofs::SectionTableRoundTrip::section_back, crate::proofs::SectionTableRoundTrip::section_record_back))]
     pub fn try_into_ctx(&self, bytes: &mut [u8], endian: Endian) -> Result<usize>
         ensures size { IfOk result (λ size. size ≡ 40) }
-        ensures written { Writes result (overwritten bytes.old 0 (encoding endian (section_fields self.now))) bytes.old bytes.new (IsSliceFault bytes.old 0 40) }
+        ensures written { Writes result
+            (overwritten bytes.old 0 (encoding endian (section_fields self.now))) bytes.old
+            bytes.new (IsSliceFault bytes.old 0 40) }
         ensures back { WritesBack 40 section_record section_fields }
         ensures parsed_back { SectionWritesBack }
         ensures again { SectionReadsBack self.now }
@@ -442,7 +475,8 @@ impl SectionTable {
 // What the eight bytes of a name say.
 #[tactic(auto, unfolding(crate::specs::SectionName::name_value, crate::specs::SectionName::IsNameFault))]
 fn name_value(name: &[u8; 8], mode: ParseMode) -> Result<Option<usize>>
-    ensures { Answers (λ v. v) result (name_value (is_strict mode) name.now) (IsNameFault (is_strict mode) name.now) }
+    ensures { Answers (λ v. v) result (name_value (is_strict mode) name.now)
+        (IsNameFault (is_strict mode) name.now) }
 {
     if name[0] != b'/' {
         return Ok(None);
@@ -482,7 +516,8 @@ fn real_name(
     string_table_offset: usize,
     value: Option<usize>,
 ) -> Result<Option<String>>
-    ensures value { GivesOrMemory (λ name. option_map string_bytes name) result (real_name_at bytes.now string_table_offset value) }
+    ensures value { GivesOrMemory (λ name. option_map string_bytes name) result
+        (real_name_at bytes.now string_table_offset value) }
     ensures grown { OnErr result (HasBytes (real_name_at bytes.now string_table_offset value)) }
 {
     let Some(offset) = value.and_then(|value| string_table_offset.checked_add(value)) else {

@@ -1,14 +1,23 @@
 //! The symbols of a COFF file: their records and names, and the table of them.
 
-ghost use Rattle.std.specs.Prelude.{◌≡◌, ◌↔◌, ◌+◌, ◌-◌, ◌*◌, ◌/◌, ◌%◌, ◌^◌, ◌<◌, ◌≤◌, ◌<ℤ◌, pos, Some, IfOk, IfSome, IsTrue, length, option_map};
+ghost use Rattle.std.specs.Prelude.{◌≡◌, ◌↔◌, ◌+◌, ◌-◌, ◌*◌, ◌/◌, ◌%◌, ◌^◌, ◌<◌, ◌≤◌, ◌<ℤ◌, pos};
+ghost use Rattle.std.specs.Prelude.{Some, IfOk, IfSome, IsTrue, length, option_map};
 ghost use Rattle.std.specs.Iterator.{UpTo, YieldsFirstBy, at_most};
 ghost use Rattle.std.specs.Iterator.SizeHint.{IsWithinCount};
 ghost use Rattle.goblin_base.specs.Answers.{Answers, Writes, IsSliceFault};
 ghost use Rattle.goblin_base.specs.Bytes.{overwritten, slice_at};
 ghost use Rattle.goblin_base.specs.Record.{record_at, ReadsBack, WritesBack, encoding, record_over};
 ghost use Rattle.goblin_pe_sect.specs.declared.symbol.Symbol.{Symbol};
-ghost use Rattle.goblin_pe_sect.specs.AuxiliarySymbols.{begin_and_end_function_record, function_definition_record, section_definition_record, weak_external_record};
-ghost use Rattle.goblin_pe_sect.specs.Symbols.{AreSymbolsOf, IsNoSymbolName, IsSymbolsFault, file_name_at, inline_name, name_offset_of, named_symbol, named_value, offset_name, stored_number, stored_offset, symbol_fields, symbol_item, symbol_name, symbol_record, symbols_in, symbols_left, table_bytes};
+ghost use Rattle.goblin_pe_sect.specs.AuxiliarySymbols.{begin_and_end_function_record};
+ghost use Rattle.goblin_pe_sect.specs.AuxiliarySymbols.{function_definition_record};
+ghost use Rattle.goblin_pe_sect.specs.AuxiliarySymbols.{section_definition_record};
+ghost use Rattle.goblin_pe_sect.specs.AuxiliarySymbols.{weak_external_record};
+ghost use Rattle.goblin_pe_sect.specs.Symbols.{AreSymbolsOf, IsNoSymbolName, IsSymbolsFault};
+ghost use Rattle.goblin_pe_sect.specs.Symbols.{file_name_at, inline_name, name_offset_of};
+ghost use Rattle.goblin_pe_sect.specs.Symbols.{named_symbol, named_value, offset_name};
+ghost use Rattle.goblin_pe_sect.specs.Symbols.{stored_number, stored_offset, symbol_fields};
+ghost use Rattle.goblin_pe_sect.specs.Symbols.{symbol_item, symbol_name, symbol_record, symbols_in};
+ghost use Rattle.goblin_pe_sect.specs.Symbols.{symbols_left, table_bytes};
 
 use goblin_base::{
     Cause, Endian, Error, Field, Record, Result, Strtab, field_array, field_i16, field_u8,
@@ -48,8 +57,8 @@ pub const COFF_SYMBOL_SIZE: usize = 18;
 
 const _: () = prove!(COFF_SYMBOL_SIZE == 18);
 
-// How many bytes before the texts of a string table say its length. The offsets that symbols store count
-// them.
+// How many bytes before the texts of a string table say its length. The offsets that symbols store
+// count them.
 const LENGTH_FIELD_SIZE: u32 = 4;
 
 /// A symbol, as its record describes it.
@@ -124,7 +133,8 @@ impl Symbol {
     /// # Errors
     /// [`Error::Read`] where the 18 bytes pass the end of the file.
     pub fn parse<'a>(bytes: &'a [u8], offset: usize) -> Result<(Option<&'a str>, Symbol)>
-        ensures { Answers named_value result (record_at 18 named_symbol bytes.now offset) (IsSliceFault bytes.now offset 18) }
+        ensures { Answers named_value result (record_at 18 named_symbol bytes.now offset)
+            (IsSliceFault bytes.now offset 18) }
     {
         let record = pread_slice(bytes, offset, COFF_SYMBOL_SIZE)?;
         Ok(named(record))
@@ -151,7 +161,8 @@ impl Symbol {
     /// there, and of the stored number where that is below 4; [`Error::Read`] with `BadInput` where
     /// the eight bytes are the name and are not UTF-8 up to a NUL.
     pub fn name<'a>(&'a self, strtab: &'a Strtab) -> Result<&'a str>
-        ensures { Answers (λ s. s.now) result (symbol_name strtab.now self.now.name) (IsNoSymbolName strtab.now self.now.name) }
+        ensures { Answers (λ s. s.now) result (symbol_name strtab.now self.now.name)
+            (IsNoSymbolName strtab.now self.now.name) }
     {
         let Some(stored) = self.stored_number() else {
             return pread_str_until(&self.name, 0, 8);
@@ -205,7 +216,9 @@ impl Symbol {
     ///
     /// Source: PE Format, "Auxiliary Format 1: Function Definitions".
     pub fn is_function_definition(&self) -> bool
-        ensures { IsTrue result ↔ ((self.now.storage_class ≡ 2) × (self.now.typ / 16 ≡ 2) × (pos 0 <ℤ self.now.section_number)) }
+        ensures { IsTrue result
+            ↔ ((self.now.storage_class ≡ 2) × (self.now.typ / 16 ≡ 2)
+            × (pos 0 <ℤ self.now.section_number)) }
     {
         self.storage_class == IMAGE_SYM_CLASS_EXTERNAL
             && self.derived_type() == IMAGE_SYM_DTYPE_FUNCTION
@@ -237,19 +250,22 @@ impl Symbol {
     ///
     /// Source: PE Format, "Auxiliary Format 5: Section Definitions".
     pub fn is_section_definition(&self) -> bool
-        ensures { IsTrue result ↔ ((self.now.storage_class ≡ 3) × (0 < self.now.number_of_aux_symbols)) }
+        ensures { IsTrue result
+            ↔ ((self.now.storage_class ≡ 3) × (0 < self.now.number_of_aux_symbols)) }
     {
         self.storage_class == IMAGE_SYM_CLASS_STATIC && self.number_of_aux_symbols > 0
     }
 
     /// Writes the record to the front of `bytes`, and answers its size, 18. One that was read is
-    /// written as it stood, and any is read again from what was written, by the same order of bytes.
+    /// written as it stood, and any is read again from what was written, by the same order of
+    /// bytes.
     ///
     /// # Errors
     /// [`Error::Read`] where there is no room for 18 bytes; `bytes` are then as they were.
     pub fn try_into_ctx(self, bytes: &mut [u8], endian: Endian) -> Result<usize>
         ensures size { IfOk result (λ n. n ≡ 18) }
-        ensures written { let after = record_over 18 (encoding endian (symbol_fields self)) bytes.old in
+        ensures written { let after = record_over 18 (encoding endian (symbol_fields self))
+            bytes.old in
             Writes result after bytes.old bytes.new (IsSliceFault bytes.old 0 18) }
         ensures long { IfOk result (λ n. length (encoding endian (symbol_fields self)) ≡ 18) }
         ensures back { IfOk result (λ n. WritesBack 18 symbol_record symbol_fields) }
@@ -302,7 +318,8 @@ impl<'a> SymbolTable<'a> {
     /// [`Error::Read`] where they pass the end of the file, or begin at it, also where there are
     /// none; [`Error::Malformed`] with [`Cause::Overflow`] where their size passes 64 bits.
     pub fn parse(bytes: &'a [u8], offset: usize, number: usize) -> Result<SymbolTable<'a>>
-        ensures { Answers table_bytes result (slice_at bytes.now offset (18 * number)) (IsSymbolsFault bytes.now offset number) }
+        ensures { Answers table_bytes result (slice_at bytes.now offset (18 * number))
+            (IsSymbolsFault bytes.now offset number) }
     {
         let Some(size) = number.checked_mul(COFF_SYMBOL_SIZE) else {
             return Err(Error::Malformed(Cause::Overflow));
@@ -322,7 +339,8 @@ impl<'a> SymbolTable<'a> {
     // The bytes of the record at an index.
     fn record_at(&self, index: usize) -> Option<&'a [u8]>
         ensures len { IfSome result (λ r. length r.now ≡ 18) }
-        ensures value { option_map (λ r. r.now) result ≡ slice_at (table_bytes self.now) (18 * index) 18 }
+        ensures value { option_map (λ r. r.now) result
+            ≡ slice_at (table_bytes self.now) (18 * index) 18 }
     {
         let offset = index.checked_mul(COFF_SYMBOL_SIZE)?;
         pread_slice(self.symbols, offset, COFF_SYMBOL_SIZE).ok()
@@ -332,7 +350,8 @@ impl<'a> SymbolTable<'a> {
     /// (name that stands in it, symbol), as [`Symbol::parse`] gives them. `None` where the table
     /// has no such record.
     pub fn get(&self, index: usize) -> Option<(Option<&'a str>, Symbol)>
-        ensures { option_map named_value result ≡ record_at 18 named_symbol (table_bytes self.now) (18 * index) }
+        ensures { option_map named_value result
+            ≡ record_at 18 named_symbol (table_bytes self.now) (18 * index) }
     {
         Some(named(self.record_at(index)?))
     }
@@ -340,7 +359,9 @@ impl<'a> SymbolTable<'a> {
     /// The record at `index`, whatever it is, as an auxiliary record of a function definition.
     /// `None` where the table has no such record.
     pub fn aux_function_definition(&self, index: usize) -> Option<AuxFunctionDefinition>
-        ensures { result ≡ record_at 18 (function_definition_record Endian.Little) (table_bytes self.now) (18 * index) }
+        ensures { result
+            ≡ record_at 18 (function_definition_record Endian.Little) (table_bytes self.now)
+            (18 * index) }
     {
         let record = self.record_at(index)?;
         Some(AuxFunctionDefinition::in_record(record, Endian::Little))
@@ -349,7 +370,9 @@ impl<'a> SymbolTable<'a> {
     /// The record at `index`, whatever it is, as an auxiliary record of a function's start or end.
     /// `None` where the table has no such record.
     pub fn aux_begin_and_end_function(&self, index: usize) -> Option<AuxBeginAndEndFunction>
-        ensures { result ≡ record_at 18 (begin_and_end_function_record Endian.Little) (table_bytes self.now) (18 * index) }
+        ensures { result
+            ≡ record_at 18 (begin_and_end_function_record Endian.Little) (table_bytes self.now)
+            (18 * index) }
     {
         let record = self.record_at(index)?;
         Some(AuxBeginAndEndFunction::in_record(record, Endian::Little))
@@ -358,7 +381,9 @@ impl<'a> SymbolTable<'a> {
     /// The record at `index`, whatever it is, as an auxiliary record of a weak external. `None`
     /// where the table has no such record.
     pub fn aux_weak_external(&self, index: usize) -> Option<AuxWeakExternal>
-        ensures { result ≡ record_at 18 (weak_external_record Endian.Little) (table_bytes self.now) (18 * index) }
+        ensures { result
+            ≡ record_at 18 (weak_external_record Endian.Little) (table_bytes self.now)
+            (18 * index) }
     {
         let record = self.record_at(index)?;
         Some(AuxWeakExternal::in_record(record, Endian::Little))
@@ -367,7 +392,9 @@ impl<'a> SymbolTable<'a> {
     /// The record at `index`, whatever it is, as an auxiliary record of a section definition.
     /// `None` where the table has no such record.
     pub fn aux_section_definition(&self, index: usize) -> Option<AuxSectionDefinition>
-        ensures { result ≡ record_at 18 (section_definition_record Endian.Little) (table_bytes self.now) (18 * index) }
+        ensures { result
+            ≡ record_at 18 (section_definition_record Endian.Little) (table_bytes self.now)
+            (18 * index) }
     {
         let record = self.record_at(index)?;
         Some(AuxSectionDefinition::in_record(record, Endian::Little))
@@ -378,7 +405,8 @@ impl<'a> SymbolTable<'a> {
     ///
     /// Source: PE Format, "Auxiliary Format 4: Files".
     pub fn aux_file(&self, index: usize, number: usize) -> Option<&'a str>
-        ensures { option_map (λ s. s.now) result ≡ file_name_at (table_bytes self.now) index number }
+        ensures { option_map (λ s. s.now) result
+            ≡ file_name_at (table_bytes self.now) index number }
     {
         let offset = index.checked_mul(COFF_SYMBOL_SIZE)?;
         let size = number.checked_mul(COFF_SYMBOL_SIZE)?;
@@ -406,7 +434,8 @@ impl<'a> SymbolTable<'a> {
     /// were.
     pub fn try_into_ctx(self, bytes: &mut [u8], _endian: Endian) -> Result<usize>
         ensures size { IfOk result (λ n. n ≡ length (table_bytes self.entry)) }
-        ensures written { Writes result (overwritten bytes.old 0 (table_bytes self.entry)) bytes.old bytes.new (IsSliceFault bytes.old 0 (length (table_bytes self.entry))) }
+        ensures written { Writes result (overwritten bytes.old 0 (table_bytes self.entry)) bytes.old
+            bytes.new (IsSliceFault bytes.old 0 (length (table_bytes self.entry))) }
     {
         pwrite_slice(bytes, 0, self.symbols)?;
         Ok(self.symbols.len())
@@ -443,8 +472,10 @@ impl<'a> Iterator for SymbolIterator<'a> {
     /// No more come than there are records left.
     #[tactic(auto, using(crate::proofs::SymbolHeads::symbols_most))]
     fn size_hint(&self) -> (usize, Option<usize>)
-        ensures lower { IsWithinCount result.0 (at_most (length self.now.symbols.now / 18 - self.now.index)) }
-        ensures upper { IfSome result.1 (UpTo (at_most (length self.now.symbols.now / 18 - self.now.index))) }
+        ensures lower { IsWithinCount result.0
+            (at_most (length self.now.symbols.now / 18 - self.now.index)) }
+        ensures upper { IfSome result.1
+            (UpTo (at_most (length self.now.symbols.now / 18 - self.now.index))) }
         ensures most { IfSome result.1 (λ n. length (symbols_left self.now) ≤ n) }
         ensures value { result ≡ (0, Some (length self.now.symbols.now / 18 - self.now.index)) }
     {

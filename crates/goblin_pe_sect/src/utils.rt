@@ -2,11 +2,16 @@
 //!
 //! Addresses are relative to the image's base (RVAs); offsets are file offsets. Both are in bytes.
 
-ghost use Rattle.std.specs.Prelude.{◌≡◌, ◌+◌, ◌^◌, ◌<◌, ◌≤◌, ◌↔◌, IsTrue, IfSome, MatchOption, find};
+ghost use Rattle.std.specs.Prelude.{◌≡◌, ◌+◌, ◌^◌, ◌<◌, ◌≤◌, ◌↔◌, IsTrue, IfSome, MatchOption};
+ghost use Rattle.std.specs.Prelude.{find};
 ghost use Rattle.std.specs.Int.{is_power_of_two};
 ghost use Rattle.std.specs.Option.{option_copied, option_map};
 ghost use Rattle.goblin_base.specs.Answers.{Answers};
-ghost use Rattle.goblin_pe_sect.specs.Mapping.{read_size, window_end, window_of, is_in_window, raw_begin, offset_in, file_offset, InWindow, MapsTo, MapsNowhere, OffsetsApart, name_at, name_or_none, data_at, IsMessage, IsNameAtFault, IsSafeNameFault, IsDataFault};
+ghost use Rattle.goblin_pe_sect.specs.Mapping.{read_size, window_end, window_of, is_in_window};
+ghost use Rattle.goblin_pe_sect.specs.Mapping.{raw_begin, offset_in, file_offset, InWindow, MapsTo};
+ghost use Rattle.goblin_pe_sect.specs.Mapping.{MapsNowhere, OffsetsApart, name_at, name_or_none};
+ghost use Rattle.goblin_pe_sect.specs.Mapping.{data_at, IsMessage, IsNameAtFault, IsSafeNameFault};
+ghost use Rattle.goblin_pe_sect.specs.Mapping.{IsDataFault};
 ghost use Rattle.goblin_pe_sect.specs.Multiples.{greatest_multiple, least_multiple};
 ghost use Rattle.goblin_pe_sect.specs.Options.{is_strict, default_options};
 
@@ -182,7 +187,8 @@ pub fn find_offset(
 ) -> Option<usize>
     ensures value { result ≡ file_offset opts.now sections.now file_alignment rva }
     ensures first { IsTrue opts.now.resolve_rva → IsTrue (is_power_of_two file_alignment) →
-        MatchOption result (MapsNowhere sections.now file_alignment rva) (MapsTo opts.now sections.now file_alignment rva) }
+        MatchOption result (MapsNowhere sections.now file_alignment rva)
+        (MapsTo opts.now sections.now file_alignment rva) }
     ensures apart { OffsetsApart opts.now sections.now file_alignment }
 {
     file_offset(rva, sections, file_alignment, opts)
@@ -199,7 +205,8 @@ pub fn find_offset_or(
     opts: &ParseOptions,
     msg: &'static str,
 ) -> Result<usize>
-    ensures { Answers (λ p. p) result (file_offset opts.now sections.now file_alignment rva) (IsMessage msg.now) }
+    ensures { Answers (λ p. p) result (file_offset opts.now sections.now file_alignment rva)
+        (IsMessage msg.now) }
 {
     find_offset(rva, sections, file_alignment, opts).ok_or(Error::Malformed(Cause::Message(msg)))
 }
@@ -239,7 +246,9 @@ pub fn safe_try_name<'a>(
     opts: &ParseOptions,
 ) -> Result<Option<&'a str>>
     ensures { let m = file_offset opts.now sections.now file_alignment in
-        Answers (option_map (λ s. s.now)) result (name_or_none (is_strict opts.now.parse_mode) (name_at m bytes.now rva)) (IsSafeNameFault m rva) }
+        Answers (option_map (λ s. s.now)) result
+        (name_or_none (is_strict opts.now.parse_mode) (name_at m bytes.now rva))
+        (IsSafeNameFault m rva) }
 {
     let offset = find_offset(rva, sections, file_alignment, opts);
     safe_name_at(bytes, rva, offset, opts)
@@ -258,7 +267,9 @@ pub fn safe_name_at<'a>(
     opts: &ParseOptions,
 ) -> Result<Option<&'a str>>
     ensures { let strict = is_strict opts.now.parse_mode in
-        Answers (option_map (λ s. s.now)) result (name_or_none strict (name_at (λ _. offset) bytes.now rva)) (IsSafeNameFault (λ _. offset) rva) }
+        Answers (option_map (λ s. s.now)) result
+        (name_or_none strict (name_at (λ _. offset) bytes.now rva))
+        (IsSafeNameFault (λ _. offset) rva) }
 {
     let cause = match offset {
         Some(offset) => match pread_str(bytes, offset) {
@@ -287,7 +298,8 @@ pub fn get_data<'a, 'e, T: TryFromCtx<'a>>(
 ) -> ResultOf<'e, T>
     ensures { let m = file_offset default_options sections.now file_alignment in
         let rva = directory.virtual_address in
-        Answers T.plain result (data_at m T.value_of bytes.now rva) (IsDataFault m T.refusal bytes.now rva) }
+        Answers T.plain result (data_at m T.value_of bytes.now rva)
+        (IsDataFault m T.refusal bytes.now rva) }
 {
     get_data_with_opts(
         bytes,
@@ -314,7 +326,8 @@ pub fn get_data_with_opts<'a, 'e, T: TryFromCtx<'a>>(
 ) -> ResultOf<'e, T>
     ensures { let m = file_offset opts.now sections.now file_alignment in
         let rva = directory.virtual_address in
-        Answers T.plain result (data_at m T.value_of bytes.now rva) (IsDataFault m T.refusal bytes.now rva) }
+        Answers T.plain result (data_at m T.value_of bytes.now rva)
+        (IsDataFault m T.refusal bytes.now rva) }
 {
     let rva = directory.virtual_address as usize;
     let Some(offset) = find_offset(rva, sections, file_alignment, opts) else {

@@ -6,13 +6,15 @@
 //! at each start and end of a window that is not empty, and each piece keeps its first section; an
 //! address is then found among n pieces by about log n comparisons.
 
-ghost use Rattle.std.specs.Prelude.{◌≡◌, ℕ, ◌+◌, ◌-◌, ◌*◌, ◌^◌, ◌<◌, ◌≤◌, IsTrue, IfOk, IfErr, length, map, []};
+ghost use Rattle.std.specs.Prelude.{◌≡◌, ℕ, ◌+◌, ◌-◌, ◌*◌, ◌^◌, ◌<◌, ◌≤◌, IsTrue, IfOk, IfErr};
+ghost use Rattle.std.specs.Prelude.{length, map, []};
 ghost use Rattle.std.specs.Int.{is_power_of_two};
 ghost use Rattle.std.specs.Option.{option_map};
 ghost use Rattle.std.specs.List.Sorted.{IsStrictlyIncreasing};
 ghost use Rattle.goblin_base.specs.Answers.{IsMemory};
 ghost use Rattle.goblin_pe_sect.specs.Mapping.{file_offset};
-ghost use Rattle.goblin_pe_sect.specs.WindowIndex.{IsCut, first_owner, last_owner, located, owner_offset, reached, halvings, HasPieces};
+ghost use Rattle.goblin_pe_sect.specs.WindowIndex.{IsCut, first_owner, last_owner, located};
+ghost use Rattle.goblin_pe_sect.specs.WindowIndex.{owner_offset, reached, halvings, HasPieces};
 
 mod bounds;
 mod cuts;
@@ -27,13 +29,14 @@ use owners::{Owner, owners_of};
 use std::alloc::Global;
 use std::marker::Model;
 
-// The index in the middle of those from `low` up to, and without, `high`: at most half of the others
-// stand on either side, and below it as many as above it or one more.
+// The index in the middle of those from `low` up to, and without, `high`: at most half of the
+// others stand on either side, and below it as many as above it or one more.
 fn middle(low: usize, high: usize) -> usize
     requires { low < high }
     ensures within { (low ≤ result) × (result < high) }
     ensures halves { (2 * (result - low) ≤ high - low) × (2 * (high - (result + 1)) ≤ high - low) }
-    ensures even { (high - low ≤ 2 * (result - low) + 1) × (high - low ≤ 2 * (high - (result + 1)) + 2) }
+    ensures even { (high - low ≤ 2 * (result - low) + 1)
+        × (high - low ≤ 2 * (high - (result + 1)) + 2) }
 {
     low + (high - low) / 2
 }
@@ -76,7 +79,8 @@ impl Model for WindowIndex {
 
     ghost Value = { Pieces };
 
-    ghost view = { λ w. record { resolves = w.resolves; begins = w.bounds; owners = w.owners.items } };
+    ghost view = { λ w.
+        record { resolves = w.resolves; begins = w.bounds; owners = w.owners.items } };
 
     ghost invariant = { λ w. IsIndex w.resolves w.bounds w.owners.items };
 }
@@ -94,8 +98,8 @@ impl WindowIndex {
     }
 
     /// An index of the sections' windows, which maps every address as
-    /// [`find_offset`](crate::utils::find_offset) does with the same arguments. It has at most two pieces
-    /// for each section and one more; none where `opts` says that addresses are offsets or
+    /// [`find_offset`](crate::utils::find_offset) does with the same arguments. It has at most two
+    /// pieces for each section and one more; none where `opts` says that addresses are offsets or
     /// `file_alignment` is no power of two, and then no memory is taken.
     ///
     /// # Errors
@@ -106,13 +110,19 @@ impl WindowIndex {
         file_alignment: u32,
         opts: &ParseOptions,
     ) -> Result<WindowIndex>
-        ensures mapped { IfOk result (λ w. (rva : ℕ) → located w rva ≡ file_offset opts.now sections.now file_alignment rva) }
+        ensures mapped { IfOk result
+            (λ w.
+            (rva : ℕ) → located w rva ≡ file_offset opts.now sections.now file_alignment rva) }
         ensures refused { IfErr result IsMemory }
         ensures grown { IfErr result (λ e. HasPieces opts.now file_alignment) }
         ensures few { IfOk result (λ w. length w.begins ≤ 2 * length sections.now + 1) }
         ensures no_pieces { IfOk result (λ w. ¬ HasPieces opts.now file_alignment → w.begins ≡ []) }
-        ensures cut { IfOk result (λ w. IsTrue opts.now.resolve_rva → IsTrue (is_power_of_two file_alignment) → IsCut sections.now file_alignment w.begins) }
-        ensures owned { IfOk result (λ w. w.owners ≡ map (first_owner opts.now sections.now file_alignment) w.begins) }
+        ensures cut { IfOk result
+            (λ w.
+            IsTrue opts.now.resolve_rva → IsTrue (is_power_of_two file_alignment)
+            → IsCut sections.now file_alignment w.begins) }
+        ensures owned { IfOk result
+            (λ w. w.owners ≡ map (first_owner opts.now sections.now file_alignment) w.begins) }
     {
         if !opts.resolve_rva {
             return Ok(WindowIndex::without_pieces(alloc, false));
@@ -157,7 +167,8 @@ impl WindowIndex {
         ensures value { result.0 ≡ located self.now rva }
         ensures most { (d : ℕ) → length self.now.begins < 2 ^ d → result.1 ≤ d }
         ensures fewest { (d : ℕ) → 2 ^ d ≤ length self.now.begins + 1 → d ≤ result.1 }
-        ensures counted { result.1 ≡ halvings (length self.now.begins) (reached self.now.begins rva) }
+        ensures counted { result.1
+            ≡ halvings (length self.now.begins) (reached self.now.begins rva) }
     {
         if !self.resolves {
             return (Some(rva), 0);

@@ -5,8 +5,10 @@ use Rattle.goblin_pe_tables.specs.ImportDirectory.{ImportedLibrary, import_data}
 use Rattle.goblin_pe_tables.specs.ImportLookup.{EntryValue}
 use Rattle.goblin_pe_tables.specs.Imports.{ImportValue}
 
--- Where the libraries are the import data of some file, in either mode and by any map of addresses, the imports number at most as many as records fit the file, times as many as entries fit it.
+-- Where the libraries are the import data of some file, in either mode and by any map of addresses,
+-- the imports number at most as many as records fit the file, times as many as entries fit it.
 unfoldable pub AreFew : Format EntryValue → List ImportedLibrary → List ImportValue → Type 0
 AreFew format libraries imports =
-    (strict : Bool) (offset_of : ℕ → Option ℕ) (file : List ℕ) (rva : ℕ) → import_data strict format offset_of file rva ≡ Some libraries
+    (strict : Bool) (offset_of : ℕ → Option ℕ) (file : List ℕ) (rva : ℕ)
+    → import_data strict format offset_of file rva ≡ Some libraries
     → length imports ≤ length file / 20 * (length file / format.width)

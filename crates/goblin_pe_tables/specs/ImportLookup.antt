@@ -13,7 +13,8 @@ pub use Rattle.goblin_pe_tables.specs.ImportEntries.{entry_value}
 use Rattle.goblin_pe_tables.specs.LookupReadings as reading
 use Rattle.goblin_pe_tables.specs.declared.import.lookup_table.HintNameTableEntry.{HintNameTableEntry}
 use Rattle.goblin_pe_tables.specs.declared.import.lookup_table.SyntheticImportLookupTableEntry.{SyntheticImportLookupTableEntry}
-use Rattle.goblin_pe_tables.specs.declared.import.lookup_table.SyntheticImportLookupTableEntry.TheVariants.{OrdinalNumber, HintNameTableRVA}
+use Rattle.goblin_pe_tables.specs.declared.import.lookup_table.SyntheticImportLookupTableEntry.TheVariants.{OrdinalNumber}
+use Rattle.goblin_pe_tables.specs.declared.import.lookup_table.SyntheticImportLookupTableEntry.TheVariants.{HintNameTableRVA}
 
 -- what is kept of an entry: one entry, or nothing; none where strict mode has no value for it
 abbrev pub kept_entry : Bool → (ℕ → Option ℕ) → List ℕ → EntryValue → Option (List LookupEntry)

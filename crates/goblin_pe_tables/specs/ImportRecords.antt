@@ -24,7 +24,8 @@ import_record endian bytes = record {
 -- the fields of a record, in order
 unfoldable pub import_fields : ImportDirectoryEntry → List FieldValue
 import_fields r =
-    uint 4 r.import_lookup_table_rva ∷ uint 4 r.time_date_stamp ∷ uint 4 r.forwarder_chain ∷ uint 4 r.name_rva ∷ uint 4 r.import_address_table_rva ∷ []
+    uint 4 r.import_lookup_table_rva ∷ uint 4 r.time_date_stamp ∷ uint 4 r.forwarder_chain
+    ∷ uint 4 r.name_rva ∷ uint 4 r.import_address_table_rva ∷ []
 
 -- a record without a name, or without an address table, ends a directory
 abbrev pub is_last_record : ImportDirectoryEntry → Bool
@@ -32,7 +33,11 @@ is_last_record r = r.name_rva == 0 || r.import_address_table_rva == 0
 
 -- directories of such records
 abbrev pub import_slots : SlotFormat ImportDirectoryEntry
-import_slots = record { entry = record { width = 20; value_of = import_record Little }; is_last = is_last_record }
+import_slots =
+    record {
+      entry = record { width = 20; value_of = import_record Little };
+      is_last = is_last_record;
+    }
 
 -- what a record leads to
 pub record ImportedLibrary : Type 0 where
@@ -42,10 +47,15 @@ pub record ImportedLibrary : Type 0 where
   pub import_lookup_slots : List ℕ
   pub import_address_table : List ℕ
 
--- the offset of a record's lookup table: that of its own address, and where it has none, that of the address table's
+-- the offset of a record's lookup table: that of its own address, and where it has none, that of
+-- the address table's
 abbrev pub lookup_offset : (ℕ → Option ℕ) → ImportDirectoryEntry → Option ℕ
-lookup_offset offset_of r = option_or (offset_of r.import_lookup_table_rva) (offset_of r.import_address_table_rva)
+lookup_offset offset_of r =
+    option_or (offset_of r.import_lookup_table_rva) (offset_of r.import_address_table_rva)
 
 -- the address of a record's address table: that of its lookup table where it names none
 abbrev pub address_table_rva : ImportDirectoryEntry → ℕ
-address_table_rva r = if r.import_address_table_rva == 0 then r.import_lookup_table_rva else r.import_address_table_rva
+address_table_rva r =
+    if r.import_address_table_rva == 0
+    then r.import_lookup_table_rva
+    else r.import_address_table_rva

@@ -1,5 +1,8 @@
--- The imports of import data: one for each entry that a lookup table keeps, in the order of the libraries and of the entries.
-use Rattle.std.specs.Prelude.{◌≡◌, ◌⊎◌, ℕ, ◌+◌, ◌*◌, ◌^◌, ◌++◌, ◌==◌, nat_lt, not, IsSomeAnd, Bool, true, false, if◌then◌else◌, codes, List, [], length, slice_get, sum_by, Option, Some, None, unwrap_or}
+-- The imports of import data: one for each entry that a lookup table keeps, in the order of the
+-- libraries and of the entries.
+use Rattle.std.specs.Prelude.{◌≡◌, ◌⊎◌, ℕ, ◌+◌, ◌*◌, ◌^◌, ◌++◌, ◌==◌, nat_lt, not, IsSomeAnd, Bool}
+use Rattle.std.specs.Prelude.{true, false, if◌then◌else◌, codes, List, [], length, slice_get}
+use Rattle.std.specs.Prelude.{sum_by, Option, Some, None, unwrap_or}
 use Rattle.std.specs.Fmt.{decimal}
 use Rattle.std.specs.List.{find}
 use Rattle.goblin_base.specs.declared.error.ErrorOf.{ErrorOf}
@@ -28,16 +31,37 @@ pub record ImportValue : Type 0 where
 abbrev pub ordinal_name : ℕ → List ℕ
 ordinal_name ordinal = codes "ORDINAL " ++ decimal ordinal
 
--- the import of an entry, from this library, with its slot's index and offset, and with this size; the name of an import by name stands in the file
+-- the import of an entry, from this library, with its slot's index and offset, and with this size;
+-- the name of an import by name stands in the file
 unfoldable pub import_of : List ℕ → ℕ → ℕ → ℕ → LookupEntry → ImportValue
 import_of dll slot offset size (ByOrdinal ordinal) =
-    record { name = ordinal_name ordinal; is_borrowed = false; dll = dll; ordinal = ordinal; offset = offset; rva = 0; size = size; slot = slot }
+    record {
+      name = ordinal_name ordinal;
+      is_borrowed = false;
+      dll = dll;
+      ordinal = ordinal;
+      offset = offset;
+      rva = 0;
+      size = size;
+      slot = slot;
+    }
 import_of dll slot offset size (ByName rva named) =
-    record { name = named.name; is_borrowed = true; dll = dll; ordinal = named.hint; offset = offset; rva = rva; size = size; slot = slot }
+    record {
+      name = named.name;
+      is_borrowed = true;
+      dll = dll;
+      ordinal = named.hint;
+      offset = offset;
+      rva = rva;
+      size = size;
+      slot = slot;
+    }
 
--- the offset of a slot of an address table of entries of `size` bytes, where it does not pass 64 bits
+-- the offset of a slot of an address table of entries of `size` bytes, where it does not pass 64
+-- bits
 abbrev pub import_offset : ℕ → ℕ → ℕ → Option ℕ
-import_offset rva size slot = if nat_lt (rva + size * slot) (2 ^ 64) then Some (rva + size * slot) else None
+import_offset rva size slot =
+    if nat_lt (rva + size * slot) (2 ^ 64) then Some (rva + size * slot) else None
 
 -- the import of the entry at a position, by its slot
 abbrev pub import_at : ℕ → List ℕ → ℕ → List LookupEntry → List ℕ → ℕ → Option ImportValue
@@ -47,9 +71,11 @@ import_at size dll rva entries slots position = do
   offset ← import_offset rva size slot
   Some (import_of dll slot offset size entry)
 
--- the imports of the entries that a lookup table keeps, where none has an offset that passes 64 bits
+-- the imports of the entries that a lookup table keeps, where none has an offset that passes 64
+-- bits
 unfoldable pub imports_by : ℕ → List ℕ → ℕ → List LookupEntry → List ℕ → Option (List ImportValue)
-imports_by size dll rva entries slots = all_at (import_at size dll rva entries slots) (length entries)
+imports_by size dll rva entries slots =
+    all_at (import_at size dll rva entries slots) (length entries)
 
 -- the entries that a library's lookup table keeps
 abbrev pub kept_entries : ImportedLibrary → List LookupEntry
@@ -66,11 +92,15 @@ has_slots library = length (kept_entries library) == length library.import_looku
 -- the imports from a library, where each of its entries has a slot
 abbrev pub library_imports : ℕ → ImportedLibrary → Option (List ImportValue)
 library_imports size library =
-    if has_slots library then imports_by size library.name library.import_directory_entry.import_address_table_rva (kept_entries library) library.import_lookup_slots else None
+    if has_slots library
+    then imports_by size library.name library.import_directory_entry.import_address_table_rva
+    (kept_entries library) library.import_lookup_slots
+    else None
 
 -- the imports from all libraries, of entries of `size` bytes
 unfoldable pub imports_of : ℕ → List ImportedLibrary → Option (List ImportValue)
-imports_of size libraries = each_below (λ i. slice_get libraries i >>= library_imports size) (length libraries)
+imports_of size libraries =
+    each_below (λ i. slice_get libraries i >>= library_imports size) (length libraries)
 
 -- the refusal is that an offset passes 64 bits
 abbrev pub IsOverflow : ErrorOf → Type 0
@@ -83,10 +113,13 @@ first_without_slots libraries = find (λ library. not (has_slots library)) libra
 
 -- the refusal says how many entries and how many slots a library has
 abbrev pub IsSlotCount : ImportedLibrary → ErrorOf → Type 0
-IsSlotCount library (Malformed (SlotCount entries slots)) = (entries ≡ length (kept_entries library)) × (slots ≡ length library.import_lookup_slots)
+IsSlotCount library (Malformed (SlotCount entries slots)) =
+    (entries ≡ length (kept_entries library)) × (slots ≡ length library.import_lookup_slots)
 IsSlotCount library e = ⊥
 
--- which cause is true of imports that are refused: the counts of the first library that has not as many entries as slots, and where each has, an offset that passes 64 bits
+-- which cause is true of imports that are refused: the counts of the first library that has not as
+-- many entries as slots, and where each has, an offset that passes 64 bits
 abbrev pub IsImportsFault : List ImportedLibrary → ErrorOf → Type 0
 IsImportsFault libraries e =
-    IsSomeAnd (first_without_slots libraries) (λ library. IsSlotCount library e) ⊎ ((first_without_slots libraries ≡ None) × IsOverflow e)
+    IsSomeAnd (first_without_slots libraries) (λ library. IsSlotCount library e)
+    ⊎ ((first_without_slots libraries ≡ None) × IsOverflow e)

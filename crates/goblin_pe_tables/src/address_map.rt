@@ -15,8 +15,8 @@ use goblin_pe_sect::windows::WindowIndex;
 use std::alloc::Global;
 use std::marker::Model;
 
-/// Where addresses lie in the file, and how what stands there is read: the sections, the file alignment
-/// and the options by which addresses are mapped, and the index that maps them.
+/// Where addresses lie in the file, and how what stands there is read: the sections, the file
+/// alignment and the options by which addresses are mapped, and the index that maps them.
 #[derive(Drop)]
 pub struct AddressMap<'s> {
     sections: &'s [SectionTable],
@@ -33,14 +33,16 @@ impl<'s> Model for AddressMap<'s> {
 
     ghost Value = { MapOfAddresses };
 
-    ghost view = { λ x. record { sections = x.sections.now; file_alignment = x.file_alignment; opts = x.opts } };
+    ghost view = { λ x.
+        record { sections = x.sections.now; file_alignment = x.file_alignment; opts = x.opts } };
 
-    ghost invariant = { λ x. (rva : ℕ) → located x.index rva ≡ file_offset x.opts x.sections.now x.file_alignment rva };
+    ghost invariant = { λ x.
+        (rva : ℕ) → located x.index rva ≡ file_offset x.opts x.sections.now x.file_alignment rva };
 }
 
 impl<'s> AddressMap<'s> {
-    /// Prepares the index of the sections' windows. No memory is taken where `opts` says that addresses
-    /// are offsets or `file_alignment` is no power of two.
+    /// Prepares the index of the sections' windows. No memory is taken where `opts` says that
+    /// addresses are offsets or `file_alignment` is no power of two.
     ///
     /// # Errors
     /// [`Error::Memory`](goblin_base::Error::Memory) alone.
@@ -50,7 +52,8 @@ impl<'s> AddressMap<'s> {
         file_alignment: u32,
         opts: &ParseOptions,
     ) -> Result<AddressMap<'s>>
-        ensures made { GivesOrMemory (λ x. x) result (record { sections = sections.now; file_alignment = file_alignment; opts = opts.now }) }
+        ensures made { GivesOrMemory (λ x. x) result
+            (record { sections = sections.now; file_alignment = file_alignment; opts = opts.now }) }
         ensures grown { IfErr result (λ e. HasPieces opts.now file_alignment) }
     {
         let index = WindowIndex::prepare(alloc, sections, file_alignment, opts)?;
@@ -89,7 +92,9 @@ impl<'s> AddressMap<'s> {
     /// As [`safe_try_name`](goblin_pe_sect::utils::safe_try_name).
     pub fn name_at<'a>(&self, bytes: &'a [u8], rva: u32) -> Result<Option<&'a str>>
         ensures { let m = offset_of self.now in
-            Answers (option_map (λ s. s.now)) result (name_or_none (reads_strictly self.now) (name_at m bytes.now rva)) (IsSafeNameFault m rva) }
+            Answers (option_map (λ s. s.now)) result
+            (name_or_none (reads_strictly self.now) (name_at m bytes.now rva))
+            (IsSafeNameFault m rva) }
     {
         safe_name_at(bytes, rva as usize, self.offset_of(rva), &self.opts)
     }

@@ -4,13 +4,16 @@
 //! three tables. A name pointer and the ordinal with its index are a named export; the ordinal is
 //! the index of its address. An address inside the directory is that of a forwarder's text.
 
-ghost use Rattle.std.specs.Prelude.{◌≤◌, ◌≡◌, ◌++◌, ◌⊎◌, IfErr, IsOk, IsSome, IsSomeAnd, OnErr, OnOk, length, option_and_then, option_map, option_to_list};
+ghost use Rattle.std.specs.Prelude.{◌≤◌, ◌≡◌, ◌++◌, ◌⊎◌, IfErr, IsOk, IsSome, IsSomeAnd, OnErr};
+ghost use Rattle.std.specs.Prelude.{OnOk, length, option_and_then, option_map, option_to_list};
 ghost use Rattle.goblin_base.specs.Answers.{AnswersOrMemory, GivesOrMemory, IsMemory};
 ghost use Rattle.goblin_base.specs.Bytes.{text_at};
 ghost use Rattle.goblin_pe_sect.specs.Mapping.{file_offset};
 ghost use Rattle.goblin_pe_sect.specs.Options.{default_options};
 ghost use Rattle.goblin_pe_tables.specs.Addresses.{offset_of};
-ghost use Rattle.goblin_pe_tables.specs.Exports.{HasEntries, HasExports, IsExportDataFault, export_data, export_row, exports, reexport_of, rva_of};
+ghost use Rattle.goblin_pe_tables.specs.Exports.{HasEntries, HasExports, IsExportDataFault};
+ghost use Rattle.goblin_pe_tables.specs.Exports.{export_data, export_row, exports, reexport_of};
+ghost use Rattle.goblin_pe_tables.specs.Exports.{rva_of};
 ghost use Rattle.goblin_pe_tables.specs.Forwarders.{forwarder_at, forwarder_value};
 ghost use Rattle.goblin_pe_sect.specs.WindowIndex.{HasPieces};
 
@@ -61,7 +64,8 @@ fn reexport_of<'a>(
     address: &ExportAddressTableEntry,
     address_map: &AddressMap,
 ) -> Option<Option<Reexport<'a>>>
-    ensures { option_map (option_map forwarder_value) result ≡ reexport_of (offset_of address_map.now) bytes.now address.now }
+    ensures { option_map (option_map forwarder_value) result
+        ≡ reexport_of (offset_of address_map.now) bytes.now address.now }
 {
     match *address {
         ExportAddressTableEntry::ExportRVA(_) => Some(None),
@@ -121,9 +125,14 @@ impl<'a> ExportData<'a> {
         file_alignment: u32,
     ) -> Result<ExportData<'a>>
         ensures value { let m = file_offset default_options sections.now file_alignment in
-            AnswersOrMemory (λ x. x) result (export_data m directory bytes.now) (IsExportDataFault m directory bytes.now) }
+            AnswersOrMemory (λ x. x) result (export_data m directory bytes.now)
+            (IsExportDataFault m directory bytes.now) }
         ensures grown { let m = file_offset default_options sections.now file_alignment in
-            IfErr result (λ e. IsMemory e → IsSomeAnd (export_data m directory bytes.now) HasEntries ⊎ HasPieces default_options file_alignment) }
+            IfErr result
+            (λ e.
+            IsMemory e
+            → IsSomeAnd (export_data m directory bytes.now) HasEntries
+            ⊎ HasPieces default_options file_alignment) }
     {
         let opts = ParseOptions::default();
         ExportData::parse_with_opts(alloc, bytes, directory, sections, file_alignment, &opts)
@@ -149,15 +158,21 @@ impl<'a> ExportData<'a> {
         opts: &ParseOptions,
     ) -> Result<ExportData<'a>>
         ensures value { let m = file_offset opts.now sections.now file_alignment in
-            AnswersOrMemory (λ x. x) result (export_data m directory bytes.now) (IsExportDataFault m directory bytes.now) }
+            AnswersOrMemory (λ x. x) result (export_data m directory bytes.now)
+            (IsExportDataFault m directory bytes.now) }
         ensures grown { let m = file_offset opts.now sections.now file_alignment in
-            IfErr result (λ e. IsMemory e → IsSomeAnd (export_data m directory bytes.now) HasEntries ⊎ HasPieces opts.now file_alignment) }
+            IfErr result
+            (λ e.
+            IsMemory e
+            → IsSomeAnd (export_data m directory bytes.now) HasEntries
+            ⊎ HasPieces opts.now file_alignment) }
     {
         let address_map = AddressMap::prepare(alloc, sections, file_alignment, opts)?;
         ExportData::parse_by(alloc, bytes, directory, &address_map)
     }
 
-    /// The export data as [`ExportData::parse_with_opts`] reads it, by addresses that are mapped already.
+    /// The export data as [`ExportData::parse_with_opts`] reads it, by addresses that are mapped
+    /// already.
     ///
     /// # Errors
     /// As [`ExportData::parse_with_opts`].
@@ -169,8 +184,13 @@ impl<'a> ExportData<'a> {
         address_map: &AddressMap,
     ) -> Result<ExportData<'a>>
         ensures value { let m = offset_of address_map.now in
-            AnswersOrMemory (λ x. x) result (export_data m directory bytes.now) (IsExportDataFault m directory bytes.now) }
-        ensures grown { IfErr result (λ e. IsMemory e → IsSomeAnd (export_data (offset_of address_map.now) directory bytes.now) HasEntries) }
+            AnswersOrMemory (λ x. x) result (export_data m directory bytes.now)
+            (IsExportDataFault m directory bytes.now) }
+        ensures grown { IfErr result
+            (λ e.
+            IsMemory e
+            → IsSomeAnd (export_data (offset_of address_map.now) directory bytes.now)
+            HasEntries) }
     {
         let mapped = |rva: u32| address_map.offset_of(rva);
         let Some(offset) = mapped(directory.virtual_address) else {
@@ -202,9 +222,9 @@ impl<'a> ExportData<'a> {
 pub struct Export<'a> {
     /// The export's name; `None` where no text stands at its address.
     pub name: Option<&'a str>,
-    /// The file offset of `rva`, as [`find_offset`](goblin_pe_sect::utils::find_offset) gives it: `None`
-    /// where no section maps it or the file alignment is no power of two; where the options say
-    /// that addresses are offsets, `rva` itself.
+    /// The file offset of `rva`, as [`find_offset`](goblin_pe_sect::utils::find_offset) gives it:
+    /// `None` where no section maps it or the file alignment is no power of two; where the options
+    /// say that addresses are offsets, `rva` itself.
     pub offset: Option<usize>,
     /// The export's address, relative to the image's base; of a forwarder that of its text.
     pub rva: usize,
@@ -231,8 +251,8 @@ impl<'a> Model for Export<'a> {
     } };
 }
 
-// How many ordinals number an address that is no forwarder's: so many exports there are at least, where
-// each has a name pointer.
+// How many ordinals number an address that is no forwarder's: so many exports there are at least,
+// where each has a name pointer.
 fn plain_count(tables: &ExportData) -> usize
     ensures { result ≤ length tables.now.export_ordinal_table }
 {
@@ -248,7 +268,8 @@ fn plain_count(tables: &ExportData) -> usize
 
 // Adds a row that is there; with the first, room is made for so many.
 fn add_row<'a>(exports: &mut Vec<Export<'a>>, row: Option<Export<'a>>, room: usize) -> Result<()>
-    ensures added { OnOk result (exports.new.items ≡ exports.old.items ++ option_to_list row.entry) }
+    ensures added { OnOk result
+        (exports.new.items ≡ exports.old.items ++ option_to_list row.entry) }
     ensures refused { IfErr result IsMemory }
     ensures grown { OnErr result (IsSome row.entry) }
 {
@@ -262,8 +283,8 @@ fn add_row<'a>(exports: &mut Vec<Export<'a>>, row: Option<Export<'a>>, room: usi
 }
 
 impl<'a> Export<'a> {
-    // The export of the name pointer at an index, where its ordinal, its address and, of a forwarder,
-    // the text are there.
+    // The export of the name pointer at an index, where its ordinal, its address and, of a
+    // forwarder, the text are there.
     #[tactic(auto, unfolding(crate::specs::Exports::export_row))]
     fn of_pointer(
         bytes: &'a [u8],
@@ -300,9 +321,14 @@ impl<'a> Export<'a> {
         sections: &[SectionTable],
         file_alignment: u32,
     ) -> Result<Vec<Export<'a>>>
-        ensures value { GivesOrMemory (λ v. v.items) result (exports (file_offset default_options sections.now file_alignment) bytes.now export_data.now) }
+        ensures value { GivesOrMemory (λ v. v.items) result
+            (exports (file_offset default_options sections.now file_alignment) bytes.now
+            export_data.now) }
         ensures empty { length bytes.now ≡ 0 → IsOk result }
-        ensures grown { OnErr result (HasExports (file_offset default_options sections.now file_alignment) bytes.now export_data.now ⊎ HasPieces default_options file_alignment) }
+        ensures grown { OnErr result
+            (HasExports (file_offset default_options sections.now file_alignment) bytes.now
+            export_data.now
+            ⊎ HasPieces default_options file_alignment) }
     {
         let opts = ParseOptions::default();
         Export::parse_with_opts(alloc, bytes, export_data, sections, file_alignment, &opts)
@@ -310,12 +336,12 @@ impl<'a> Export<'a> {
 
     /// The exports that export data lists, one for each name pointer, in their order. There is none
     /// for a name pointer whose ordinal is missing, or whose ordinal numbers no address, or whose
-    /// address is a forwarder's that can't be read. An export whose name can't be read stays, without
-    /// it. An empty file has no exports. Both modes give the same answer.
+    /// address is a forwarder's that can't be read. An export whose name can't be read stays,
+    /// without it. An empty file has no exports. Both modes give the same answer.
     ///
     /// # Errors
-    /// [`Error::Memory`] alone, and never on an empty file, for which no memory is taken. Else it comes
-    /// where there is an export, or where addresses are mapped.
+    /// [`Error::Memory`] alone, and never on an empty file, for which no memory is taken. Else it
+    /// comes where there is an export, or where addresses are mapped.
     #[tactic(auto, unfolding(crate::specs::Exports::exports))]
     pub fn parse_with_opts(
         alloc: Global,
@@ -325,9 +351,12 @@ impl<'a> Export<'a> {
         file_alignment: u32,
         opts: &ParseOptions,
     ) -> Result<Vec<Export<'a>>>
-        ensures value { GivesOrMemory (λ v. v.items) result (exports (file_offset opts.now sections.now file_alignment) bytes.now export_data.now) }
+        ensures value { GivesOrMemory (λ v. v.items) result
+            (exports (file_offset opts.now sections.now file_alignment) bytes.now export_data.now) }
         ensures empty { length bytes.now ≡ 0 → IsOk result }
-        ensures grown { OnErr result (HasExports (file_offset opts.now sections.now file_alignment) bytes.now export_data.now ⊎ HasPieces opts.now file_alignment) }
+        ensures grown { OnErr result
+            (HasExports (file_offset opts.now sections.now file_alignment) bytes.now export_data.now
+            ⊎ HasPieces opts.now file_alignment) }
     {
         if bytes.is_empty() {
             return Ok(Vec::new(alloc));
@@ -347,8 +376,10 @@ impl<'a> Export<'a> {
         export_data: &ExportData,
         address_map: &AddressMap,
     ) -> Result<Vec<Export<'a>>>
-        ensures value { GivesOrMemory (λ v. v.items) result (exports (offset_of address_map.now) bytes.now export_data.now) }
-        ensures grown { OnErr result (HasExports (offset_of address_map.now) bytes.now export_data.now) }
+        ensures value { GivesOrMemory (λ v. v.items) result
+            (exports (offset_of address_map.now) bytes.now export_data.now) }
+        ensures grown { OnErr result
+            (HasExports (offset_of address_map.now) bytes.now export_data.now) }
     {
         let mut exports = Vec::new(alloc);
         if bytes.is_empty() {

@@ -11,7 +11,8 @@ ghost use Rattle.goblin_pe_sect.specs.Mapping.{file_offset};
 ghost use Rattle.goblin_pe_sect.specs.Options.{default_options, is_strict};
 ghost use Rattle.goblin_pe_sect.specs.WindowIndex.{HasPieces};
 ghost use Rattle.goblin_pe_tables.specs.Addresses.{offset_of, reads_strictly};
-ghost use Rattle.goblin_pe_tables.specs.ImportDirectory.{HasRecords, IsImportDataFault, import_data};
+ghost use Rattle.goblin_pe_tables.specs.ImportDirectory.{HasRecords, IsImportDataFault};
+ghost use Rattle.goblin_pe_tables.specs.ImportDirectory.{import_data};
 ghost use Rattle.goblin_pe_tables.specs.ImportReadings as reading;
 
 use crate::address_map::AddressMap;
@@ -65,7 +66,10 @@ fn kept_library<'a, 'e, T: Bitfield<'a>>(
     entry: ImportDirectoryEntry,
     address_map: &AddressMap,
 ) -> ResultOf<'e, Option<SyntheticImportDirectoryEntry<'a>>>
-    ensures { ReadsOrMemory option_to_list result (reading.kept_library (reads_strictly address_map.now) T.format (offset_of address_map.now) entry) bytes.now }
+    ensures { ReadsOrMemory option_to_list result
+        (reading.kept_library (reads_strictly address_map.now) T.format (offset_of address_map.now)
+        entry)
+        bytes.now }
 {
     match SyntheticImportDirectoryEntry::parse_by::<T>(alloc, bytes, entry, address_map) {
         Ok(library) => Ok(Some(library)),
@@ -81,7 +85,10 @@ fn libraries<'a, 'e, T: Bitfield<'a>>(
     offset: usize,
     address_map: &AddressMap,
 ) -> ResultOf<'e, ImportData<'a>>
-    ensures value { ReadsOrMemory (λ x. x) result (reading.libraries_at (reads_strictly address_map.now) T.format (offset_of address_map.now) offset) bytes.now }
+    ensures value { ReadsOrMemory (λ x. x) result
+        (reading.libraries_at (reads_strictly address_map.now) T.format (offset_of address_map.now)
+        offset)
+        bytes.now }
     ensures grown { IfErr result (λ e. IsMemory e → HasRecords bytes.now offset) }
 {
     let mut import_data = Vec::new(alloc);
@@ -120,9 +127,15 @@ impl<'a> ImportData<'a> {
     ) -> ResultOf<'e, ImportData<'a>>
         ensures value { let m = file_offset default_options sections.now file_alignment in
             let rva = directory.virtual_address in
-            AnswersOrMemory (λ x. x) result (import_data true T.format m bytes.now rva) (IsImportDataFault true T.format m bytes.now rva) }
-        ensures grown { let place = file_offset default_options sections.now file_alignment directory.virtual_address in
-            IfErr result (λ e. IsMemory e → IsSomeAnd place (HasRecords bytes.now) ⊎ HasPieces default_options file_alignment) }
+            AnswersOrMemory (λ x. x) result (import_data true T.format m bytes.now rva)
+            (IsImportDataFault true T.format m bytes.now rva) }
+        ensures grown { let place = file_offset default_options sections.now file_alignment
+            directory.virtual_address in
+            IfErr result
+            (λ e.
+            IsMemory e
+            → IsSomeAnd place (HasRecords bytes.now)
+            ⊎ HasPieces default_options file_alignment) }
     {
         let opts = ParseOptions::default();
         ImportData::parse_with_opts::<T>(alloc, bytes, directory, sections, file_alignment, &opts)
@@ -140,8 +153,8 @@ impl<'a> ImportData<'a> {
     /// In strict mode [`Error::Malformed`] with [`Cause::Unmapped`] where the directory's address
     /// has no file offset, and with [`Cause::ImportRecordEnd`] where it meets the end of the file;
     /// and as [`SyntheticImportDirectoryEntry::parse_with_opts`] of a record. In both modes
-    /// [`Error::Memory`] where memory is refused, which is asked for where addresses are mapped, and
-    /// where the directory has a record.
+    /// [`Error::Memory`] where memory is refused, which is asked for where addresses are mapped,
+    /// and where the directory has a record.
     pub fn parse_with_opts<'e, T: Bitfield<'a>>(
         alloc: Global,
         bytes: &'a [u8],
@@ -153,16 +166,22 @@ impl<'a> ImportData<'a> {
         ensures value { let m = file_offset opts.now sections.now file_alignment in
             let strict = is_strict opts.now.parse_mode in
             let rva = directory.virtual_address in
-            AnswersOrMemory (λ x. x) result (import_data strict T.format m bytes.now rva) (IsImportDataFault strict T.format m bytes.now rva) }
+            AnswersOrMemory (λ x. x) result (import_data strict T.format m bytes.now rva)
+            (IsImportDataFault strict T.format m bytes.now rva) }
         ensures permissive { is_strict opts.now.parse_mode ≡ false → IfErr result IsMemory }
-        ensures grown { let place = file_offset opts.now sections.now file_alignment directory.virtual_address in
-            IfErr result (λ e. IsMemory e → IsSomeAnd place (HasRecords bytes.now) ⊎ HasPieces opts.now file_alignment) }
+        ensures grown { let place = file_offset opts.now sections.now file_alignment
+            directory.virtual_address in
+            IfErr result
+            (λ e.
+            IsMemory e
+            → IsSomeAnd place (HasRecords bytes.now) ⊎ HasPieces opts.now file_alignment) }
     {
         let address_map = AddressMap::prepare(alloc, sections, file_alignment, opts)?;
         ImportData::parse_by::<T>(alloc, bytes, directory, &address_map)
     }
 
-    /// The imports as [`ImportData::parse_with_opts`] reads them, by addresses that are mapped already.
+    /// The imports as [`ImportData::parse_with_opts`] reads them, by addresses that are mapped
+    /// already.
     ///
     /// # Errors
     /// As [`ImportData::parse_with_opts`].
@@ -173,9 +192,16 @@ impl<'a> ImportData<'a> {
         directory: DataDirectory,
         address_map: &AddressMap,
     ) -> ResultOf<'e, ImportData<'a>>
-        ensures value { ReadsOrMemory (λ x. x) result (reading.import_data (reads_strictly address_map.now) T.format (offset_of address_map.now) directory.virtual_address) bytes.now }
+        ensures value { ReadsOrMemory (λ x. x) result
+            (reading.import_data (reads_strictly address_map.now) T.format
+            (offset_of address_map.now) directory.virtual_address)
+            bytes.now }
         ensures permissive { reads_strictly address_map.now ≡ false → IfErr result IsMemory }
-        ensures grown { IfErr result (λ e. IsMemory e → IsSomeAnd (offset_of address_map.now directory.virtual_address) (HasRecords bytes.now)) }
+        ensures grown { IfErr result
+            (λ e.
+            IsMemory e
+            → IsSomeAnd (offset_of address_map.now directory.virtual_address)
+            (HasRecords bytes.now)) }
     {
         let rva = directory.virtual_address;
         let is_permissive = address_map.is_permissive();

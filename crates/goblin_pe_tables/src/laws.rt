@@ -1,5 +1,5 @@
-//! Laws over two reads of imports and of exports, and which bytes of a file import data depend on: what
-//! `goblin_pe::laws` says of them holds here.
+//! Laws over two reads of imports and of exports, and which bytes of a file import data depend on:
+//! what `goblin_pe::laws` says of them holds here.
 
 mod exports;
 mod footprint;

@@ -1,8 +1,8 @@
 //! Worked values of whole files.
 //!
-//! A [`Whole`](goblin_pe::Whole) ends in `drop`: what is proved of its parts is then proved once, and
-//! not in each function that has one. What owns memory is looked at by a function that borrows it, or
-//! takes it.
+//! A [`Whole`](goblin_pe::Whole) ends in `drop`: what is proved of its parts is then proved once,
+//! and not in each function that has one. What owns memory is looked at by a function that borrows
+//! it, or takes it.
 
 mod counts;
 mod large_file;

@@ -4,9 +4,11 @@ use Rattle.std.specs.Str.{bytes_eq}
 use Rattle.goblin_pe.specs.declared.options.ParseMode.{ParseMode}
 use Rattle.goblin_pe.specs.declared.options.ParseMode.TheVariants.{Strict, Permissive}
 
--- the mode that the words ask for, the first being the program's name: none where they are a wrong use
+-- the mode that the words ask for, the first being the program's name: none where they are a wrong
+-- use
 abbrev pub mode_of_words : List (List ℕ) → Option ParseMode
 mode_of_words [] = Some Strict
 mode_of_words (program ∷ []) = Some Strict
-mode_of_words (program ∷ word ∷ []) = if bytes_eq word (codes "--permissive") then Some Permissive else None
+mode_of_words (program ∷ word ∷ []) =
+    if bytes_eq word (codes "--permissive") then Some Permissive else None
 mode_of_words _ = None

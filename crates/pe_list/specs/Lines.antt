@@ -1,5 +1,6 @@
 -- The lines of a listing.
-use Rattle.std.specs.Prelude.{ℕ, ◌/◌, List, [], ◌∷◌, ◌++◌, codes, length, unwrap_or, Option, Some, None, Result, Ok, Err, suc}
+use Rattle.std.specs.Prelude.{ℕ, ◌/◌, List, [], ◌∷◌, ◌++◌, codes, length, unwrap_or, Option, Some}
+use Rattle.std.specs.Prelude.{None, Result, Ok, Err, suc}
 use Rattle.std.specs.List.{concat, flat_map}
 use Rattle.goblin_pe.specs.declared.error.ErrorOf.{ErrorOf}
 use Rattle.goblin_pe.specs.Bytes.{before_nul}
@@ -23,7 +24,9 @@ if_there field (Some x) = field x
 
 -- what the header's line says of an optional header
 abbrev pub optional_fields : OptionalHeader → List ℕ
-optional_fields h = hex_field (codes " magic=") h.standard_fields.magic ++ hex_field (codes " entry=") h.standard_fields.address_of_entry_point
+optional_fields h =
+    hex_field (codes " magic=") h.standard_fields.magic
+    ++ hex_field (codes " entry=") h.standard_fields.address_of_entry_point
 
 -- the line of the header; without an optional header it ends after the number of sections
 unfoldable pub header_line : PeHeader → List ℕ
@@ -62,10 +65,13 @@ import_line i = concat (
     ∷ codes "\n"
     ∷ [])
 
--- what an export stands for in another library: the library, and after a dot the name, or `#` and the ordinal
+-- what an export stands for in another library: the library, and after a dot the name, or `#` and
+-- the ordinal
 unfoldable pub forward_field : Forwarder → List ℕ
-forward_field (ByName export lib) = name_field (codes " forward=") lib ++ name_field (codes ".") export
-forward_field (ByOrdinal ordinal lib) = name_field (codes " forward=") lib ++ decimal_field (codes ".#") ordinal
+forward_field (ByName export lib) =
+    name_field (codes " forward=") lib ++ name_field (codes ".") export
+forward_field (ByOrdinal ordinal lib) =
+    name_field (codes " forward=") lib ++ decimal_field (codes ".#") ordinal
 
 -- the line of an export, without what it has not
 unfoldable pub export_line : ExportRow → List ℕ
@@ -77,7 +83,8 @@ export_line e = concat (
     ∷ codes "\n"
     ∷ [])
 
--- the line of a block of base relocations, with the number of its words; or that the blocks end with one that is refused
+-- the line of a block of base relocations, with the number of its words; or that the blocks end
+-- with one that is refused
 unfoldable pub block_line : Result Block ErrorOf → List ℕ
 block_line (Ok b) = concat (
     hex_field (codes "block rva=") b.rva
@@ -96,12 +103,15 @@ block_count (Err e ∷ items) = block_count items
 -- the lines of a table: that it is absent or refused, or how many entries it has, and then theirs
 unfoldable pub part_lines : {A : Type 0} → List ℕ → (A → ℕ) → (A → List ℕ) → Part A → List ℕ
 part_lines label count lines Absent = label ++ codes " absent\n"
-part_lines label count lines (Read table) = concat (label ∷ decimal_field (codes " ") (count table) ∷ codes "\n" ∷ lines table ∷ [])
+part_lines label count lines (Read table) =
+    concat (label ∷ decimal_field (codes " ") (count table) ∷ codes "\n" ∷ lines table ∷ [])
 part_lines label count lines Refused = label ++ codes " refused\n"
 
 -- the lines of the base relocations
 abbrev pub relocation_lines : Part (List ℕ) → List ℕ
-relocation_lines relocations = part_lines (codes "relocations") (λ bytes. block_count (block_items bytes 0)) (λ bytes. flat_map block_line (block_items bytes 0)) relocations
+relocation_lines relocations =
+    part_lines (codes "relocations") (λ bytes. block_count (block_items bytes 0))
+    (λ bytes. flat_map block_line (block_items bytes 0)) relocations
 
 -- the lines of a whole file
 unfoldable pub whole_lines : WholeFile → List ℕ

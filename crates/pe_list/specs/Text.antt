@@ -1,5 +1,6 @@
 -- The pieces of a line: numbers and names as text.
-use Rattle.std.specs.Prelude.{ℕ, List, [], ◌∷◌, ◌++◌, Bool, false, ◌==◌, nat_le, not, ◌&&◌, codes, if◌then◌else◌, ◌/◌, ◌%◌}
+use Rattle.std.specs.Prelude.{ℕ, List, [], ◌∷◌, ◌++◌, Bool, false, ◌==◌, nat_le, not, ◌&&◌, codes}
+use Rattle.std.specs.Prelude.{if◌then◌else◌, ◌/◌, ◌%◌}
 use Rattle.std.specs.List.{flat_map}
 use Rattle.std.specs.Fmt.{decimal, digits, digit_glyph}
 
@@ -17,7 +18,10 @@ is_plain b = nat_le 0x20 b && nat_le b 0x7e && not (b == 0x5c)
 
 -- another byte is `\x` and two lower-case hexadecimal digits
 unfoldable pub escaped_byte : ℕ → List ℕ
-escaped_byte b = if is_plain b then b ∷ [] else codes "\\x" ++ digit_glyph false (b / 16) ∷ digit_glyph false (b % 16) ∷ []
+escaped_byte b =
+    if is_plain b
+    then b ∷ []
+    else codes "\\x" ++ digit_glyph false (b / 16) ∷ digit_glyph false (b % 16) ∷ []
 
 -- a name, as it is printed
 abbrev pub escaped : List ℕ → List ℕ

@@ -13,10 +13,11 @@
 //! | `block refused` | where a rest follows the blocks |
 //!
 //! H is `0x` and hexadecimal digits, D decimal digits, N a name, escaped as
-//! [`push_name`](crate::text::push_name) says. The fields are those of [`Header`], [`SectionTable`],
-//! [`Import`], [`Export`] and [`RelocationBlock`]. A line ends with a line feed.
+//! [`push_name`](crate::text::push_name) says. The fields are those of [`Header`],
+//! [`SectionTable`], [`Import`], [`Export`] and [`RelocationBlock`]. A line ends with a line feed.
 
-ghost use Rattle.std.specs.Prelude.{◌≡◌, ◌++◌, ℕ, IfErr, IsSome, List, OnOk, codes, length, option_map, string_bytes};
+ghost use Rattle.std.specs.Prelude.{◌≡◌, ◌++◌, ℕ, IfErr, IsSome, List, OnOk, codes, length};
+ghost use Rattle.std.specs.Prelude.{option_map, string_bytes};
 ghost use Rattle.std.specs.List.{flat_map};
 ghost use Rattle.goblin_pe.specs.Answers.{AnswersOrMemory, IsMemory};
 ghost use Rattle.goblin_pe.specs.Options.{is_strict};
@@ -24,7 +25,10 @@ ghost use Rattle.goblin_pe.specs.PeHeader.{header_value, pe_header};
 ghost use Rattle.goblin_pe.specs.BaseRelocations.{block_item, block_items, relocation_bytes};
 ghost use Rattle.goblin_pe.specs.Forwarders.{forwarder_value};
 ghost use Rattle.goblin_pe.specs.Whole.{items_part, part_map};
-ghost use Rattle.pe_list.specs.Lines.{block_count, block_line, export_line, forward_field, header_line, if_there, import_line, optional_fields, part_lines, relocation_lines, section_line, shown_name, whole_lines};
+ghost use Rattle.pe_list.specs.Lines.{block_count, block_line, export_line, forward_field};
+ghost use Rattle.pe_list.specs.Lines.{header_line, if_there, import_line, optional_fields};
+ghost use Rattle.pe_list.specs.Lines.{part_lines, relocation_lines, section_line, shown_name};
+ghost use Rattle.pe_list.specs.Lines.{whole_lines};
 ghost use Rattle.pe_list.specs.Listing.{IsLayoutFault, listing_of};
 ghost use Rattle.pe_list.specs.Text.{hex_field, name_field};
 
@@ -40,14 +44,15 @@ use goblin_pe::section_table::SectionTable;
 use goblin_pe::{Error, Part, Whole};
 use std::alloc::{AllocError, Global};
 
-/// The listing of a file: a line for the header, for each section, and for each table of the file with
-/// its entries.
+/// The listing of a file: a line for the header, for each section, and for each table of the file
+/// with its entries.
 ///
 /// # Errors
-/// Those of [`Whole::read`] in this mode; [`Error::Memory`] where memory is refused, and never of a file
-/// whose header is refused.
+/// Those of [`Whole::read`] in this mode; [`Error::Memory`] where memory is refused, and never of a
+/// file whose header is refused.
 pub fn list(alloc: Global, bytes: &[u8], mode: ParseMode) -> Result<String, Error>
-    ensures value { AnswersOrMemory (λ text. string_bytes text) result (listing_of mode bytes.now) (IsLayoutFault mode bytes.now) }
+    ensures value { AnswersOrMemory (λ text. string_bytes text) result (listing_of mode bytes.now)
+        (IsLayoutFault mode bytes.now) }
     ensures grown { IfErr result (λ e. IsMemory e → IsSome (pe_header (is_strict mode) bytes.now)) }
 {
     let opts = ParseOptions::default().with_parse_mode(mode);
@@ -77,7 +82,8 @@ fn push_whole(text: &mut String, whole: &Whole) -> Result<(), AllocError>
 }
 
 fn push_header(text: &mut String, header: &Header) -> Result<(), AllocError>
-    ensures { OnOk result (string_bytes text.new ≡ string_bytes text.old ++ header_line (header_value header.now)) }
+    ensures { OnOk result
+        (string_bytes text.new ≡ string_bytes text.old ++ header_line (header_value header.now)) }
 {
     let coff_header = &header.coff_header;
     push_hex(text, "header machine=", coff_header.machine as u64)?;
@@ -91,7 +97,8 @@ fn push_optional_header(
     text: &mut String,
     header: &Option<OptionalHeader>,
 ) -> Result<(), AllocError>
-    ensures { OnOk result (string_bytes text.new ≡ string_bytes text.old ++ if_there optional_fields header.now) }
+    ensures { OnOk result
+        (string_bytes text.new ≡ string_bytes text.old ++ if_there optional_fields header.now) }
 {
     if let Some(header) = header {
         let fields = &header.standard_fields;
@@ -156,7 +163,9 @@ impl Listed for Export<'_> {
 }
 
 fn push_offset(text: &mut String, offset: Option<usize>) -> Result<(), AllocError>
-    ensures { OnOk result (string_bytes text.new ≡ string_bytes text.old ++ if_there (hex_field (codes " offset=")) offset) }
+    ensures { OnOk result
+        (string_bytes text.new
+        ≡ string_bytes text.old ++ if_there (hex_field (codes " offset=")) offset) }
 {
     if let Some(offset) = offset {
         push_hex(text, " offset=", offset as u64)?;
@@ -165,7 +174,10 @@ fn push_offset(text: &mut String, offset: Option<usize>) -> Result<(), AllocErro
 }
 
 fn push_export_name(text: &mut String, name: Option<&str>) -> Result<(), AllocError>
-    ensures { OnOk result (string_bytes text.new ≡ string_bytes text.old ++ if_there (name_field (codes " name=")) (option_map (λ n. n.now) name.entry)) }
+    ensures { OnOk result
+        (string_bytes text.new
+        ≡ string_bytes text.old
+        ++ if_there (name_field (codes " name=")) (option_map (λ n. n.now) name.entry)) }
 {
     if let Some(name) = name {
         push_name(text, " name=", name)?;
@@ -175,7 +187,10 @@ fn push_export_name(text: &mut String, name: Option<&str>) -> Result<(), AllocEr
 
 #[tactic(auto, unfolding(crate::specs::Lines::forward_field))]
 fn push_reexport(text: &mut String, reexport: Option<Reexport>) -> Result<(), AllocError>
-    ensures { OnOk result (string_bytes text.new ≡ string_bytes text.old ++ if_there forward_field (option_map forwarder_value reexport.entry)) }
+    ensures { OnOk result
+        (string_bytes text.new
+        ≡ string_bytes text.old
+        ++ if_there forward_field (option_map forwarder_value reexport.entry)) }
 {
     match reexport {
         Some(Reexport::DLLName { export, lib }) => {
@@ -192,7 +207,8 @@ fn push_reexport(text: &mut String, reexport: Option<Reexport>) -> Result<(), Al
 }
 
 fn push_lines<T: Listed>(text: &mut String, items: &[T]) -> Result<(), AllocError>
-    ensures { OnOk result (string_bytes text.new ≡ string_bytes text.old ++ flat_map T.line items.now) }
+    ensures { OnOk result
+        (string_bytes text.new ≡ string_bytes text.old ++ flat_map T.line items.now) }
 {
     'lines: for item in items {
         item.push_line(text)?;
@@ -206,7 +222,10 @@ fn push_part<T: Listed>(
     label: &str,
     part: &Part<Vec<T>>,
 ) -> Result<(), AllocError>
-    ensures { OnOk result (string_bytes text.new ≡ string_bytes text.old ++ part_lines label.now length (flat_map T.line) (items_part part.now)) }
+    ensures { OnOk result
+        (string_bytes text.new
+        ≡ string_bytes text.old
+        ++ part_lines label.now length (flat_map T.line) (items_part part.now)) }
 {
     text.push_str(label)?;
     match part {
@@ -223,7 +242,9 @@ fn push_part<T: Listed>(
 
 #[tactic(auto, unfolding(crate::specs::Lines::part_lines, goblin_pe::specs::Whole::part_map))]
 fn push_relocations(text: &mut String, part: &Part<RelocationData>) -> Result<(), AllocError>
-    ensures { OnOk result (string_bytes text.new ≡ string_bytes text.old ++ relocation_lines (part_map relocation_bytes part.now)) }
+    ensures { OnOk result
+        (string_bytes text.new
+        ≡ string_bytes text.old ++ relocation_lines (part_map relocation_bytes part.now)) }
 {
     text.push_str("relocations")?;
     match part {
@@ -253,7 +274,10 @@ fn block_count(relocations: &RelocationData) -> usize
 }
 
 fn push_blocks(text: &mut String, relocations: &RelocationData) -> Result<(), AllocError>
-    ensures { OnOk result (string_bytes text.new ≡ string_bytes text.old ++ flat_map block_line (block_items (relocation_bytes relocations.now) 0)) }
+    ensures { OnOk result
+        (string_bytes text.new
+        ≡ string_bytes text.old
+        ++ flat_map block_line (block_items (relocation_bytes relocations.now) 0)) }
 {
     'blocks: for block in relocations.blocks() {
         push_block(text, block)?;
@@ -263,7 +287,8 @@ fn push_blocks(text: &mut String, relocations: &RelocationData) -> Result<(), Al
 
 #[tactic(auto, unfolding(crate::specs::Lines::block_line))]
 fn push_block(text: &mut String, block: Result<RelocationBlock, Error>) -> Result<(), AllocError>
-    ensures { OnOk result (string_bytes text.new ≡ string_bytes text.old ++ block_line (block_item block.entry)) }
+    ensures { OnOk result
+        (string_bytes text.new ≡ string_bytes text.old ++ block_line (block_item block.entry)) }
 {
     match block {
         Ok(block) => {

@@ -1,5 +1,5 @@
-//! Reads a PE file on standard input and lists it: its header, its sections, imports, exports and base
-//! relocations, a line each.
+//! Reads a PE file on standard input and lists it: its header, its sections, imports, exports and
+//! base relocations, a line each.
 #![tactic(auto)]
 
 mod command;

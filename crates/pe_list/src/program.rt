@@ -1,6 +1,7 @@
 //! A run of the program: the whole input is read, listed, and the listing is written.
 
-ghost use Rattle.std.specs.Prelude.{◌≡◌, ◌≢◌, ◌<◌, length, string_bytes, Err, IfErr, IfOk, IfSome, IsSomeAnd, IsTrue, None, OnErr, OnOk, Some};
+ghost use Rattle.std.specs.Prelude.{◌≡◌, ◌≢◌, ◌<◌, length, string_bytes, Err, IfErr, IfOk, IfSome};
+ghost use Rattle.std.specs.Prelude.{IsSomeAnd, IsTrue, None, OnErr, OnOk, Some};
 ghost use Rattle.std.specs.Io.KnownBytes.{Appends, Keeps};
 ghost use Rattle.goblin_pe.specs.Answers.{IsMemory};
 ghost use Rattle.pe_list.specs.Listing.{IsLayoutFault, listing_of};
@@ -48,10 +49,16 @@ fn read_listing<R: Read>(
     reader: &mut Watched<R>,
     mode: ParseMode,
 ) -> Result<String, RunFault>
-    ensures listed { IfOk result (λ text. IfSome (R.remaining reader.old.inner) (λ file. listing_of mode file ≡ Some (string_bytes text))) }
-    ensures refused { IfRefused result (λ cause. ¬ IsMemory cause → IfSome (R.remaining reader.old.inner) (λ file.
+    ensures listed { IfOk result
+        (λ text.
+        IfSome (R.remaining reader.old.inner)
+        (λ file. listing_of mode file ≡ Some (string_bytes text))) }
+    ensures refused { IfRefused result (λ cause. ¬ IsMemory cause
+        → IfSome (R.remaining reader.old.inner) (λ file.
         (listing_of mode file ≡ None) × IsLayoutFault mode file cause)) }
-    ensures grown { IfRefused result (λ cause. IsMemory cause → IfSome (R.remaining reader.old.inner) (λ file. 0 < length file)) }
+    ensures grown { IfRefused result
+        (λ cause.
+        IsMemory cause → IfSome (R.remaining reader.old.inner) (λ file. 0 < length file)) }
     ensures output { IfErr result (λ fault. fault ≢ RunFault.Output) }
     ensures input { result ≡ Err RunFault.Input → IsTrue reader.new.failed }
     ensures once { result ≢ Err RunFault.Input → reader.new.failed ≡ reader.old.failed }
@@ -70,7 +77,8 @@ fn read_listing<R: Read>(
 /// # Errors
 /// [`RunFault::Refused`] where the bytes have no listing, or where memory was refused;
 /// [`RunFault::Input`] and [`RunFault::Output`] where a read or a write failed, which isn't tried
-/// again. Nothing goes out before the whole listing is there; on `Output` a beginning of it went out.
+/// again. Nothing goes out before the whole listing is there; on `Output` a beginning of it went
+/// out.
 pub fn run<R: Read, W: Write>(
     alloc: Global,
     reader: &mut Watched<R>,
@@ -78,14 +86,19 @@ pub fn run<R: Read, W: Write>(
     mode: ParseMode,
 ) -> Result<(), RunFault>
     ensures listed { OnOk result (IfSome (R.remaining reader.old.inner) (λ file.
-        IsSomeAnd (listing_of mode file) (Appends (W.contents writer.old.inner) (W.contents writer.new.inner)))) }
+        IsSomeAnd (listing_of mode file)
+        (Appends (W.contents writer.old.inner) (W.contents writer.new.inner)))) }
     ensures cut { result ≡ Err RunFault.Output → IfSome (R.remaining reader.old.inner) (λ file.
-        IsSomeAnd (listing_of mode file) (AppendsPart (W.contents writer.old.inner) (W.contents writer.new.inner))) }
-    ensures refused { IfRefused result (λ cause. ¬ IsMemory cause → IfSome (R.remaining reader.old.inner) (λ file.
+        IsSomeAnd (listing_of mode file)
+        (AppendsPart (W.contents writer.old.inner) (W.contents writer.new.inner))) }
+    ensures refused { IfRefused result (λ cause. ¬ IsMemory cause
+        → IfSome (R.remaining reader.old.inner) (λ file.
         (listing_of mode file ≡ None) × IsLayoutFault mode file cause)) }
 
     // Memory is refused only where the input has a byte.
-    ensures grown { IfRefused result (λ cause. IsMemory cause → IfSome (R.remaining reader.old.inner) (λ file. 0 < length file)) }
+    ensures grown { IfRefused result
+        (λ cause.
+        IsMemory cause → IfSome (R.remaining reader.old.inner) (λ file. 0 < length file)) }
 
     // Nothing goes out before the listing is whole.
     ensures nothing_out { OnErr result (result ≢ Err RunFault.Output →

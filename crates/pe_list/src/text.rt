@@ -3,7 +3,8 @@
 ghost use Rattle.std.specs.Prelude.{[], ◌≡◌, ◌++◌, ◌∷◌, ◌<◌, IsTrue, OnOk, false, string_bytes};
 ghost use Rattle.std.specs.Fmt.{digit_glyph, digits};
 ghost use Rattle.std.specs.List.{list_all};
-ghost use Rattle.pe_list.specs.Text.{decimal_field, escaped, escaped_byte, hex_field, is_plain, name_field};
+ghost use Rattle.pe_list.specs.Text.{decimal_field, escaped, escaped_byte, hex_field, is_plain};
+ghost use Rattle.pe_list.specs.Text.{name_field};
 
 use std::alloc::AllocError;
 
@@ -11,7 +12,8 @@ use std::alloc::AllocError;
 #[tactic(auto, unfolding(crate::specs::Text::hex_field))]
 #[inline(always)]
 pub fn push_hex(text: &mut String, label: &str, number: u64) -> Result<(), AllocError>
-    ensures { OnOk result (string_bytes text.new ≡ string_bytes text.old ++ hex_field label.now number) }
+    ensures { OnOk result
+        (string_bytes text.new ≡ string_bytes text.old ++ hex_field label.now number) }
 {
     text.push_str(label)?;
     text.push_str("0x")?;
@@ -22,7 +24,8 @@ pub fn push_hex(text: &mut String, label: &str, number: u64) -> Result<(), Alloc
 // Appends the digits of a number, without leading zeros.
 #[tactic(auto, using(std::proofs::lemmas::Fmt::hex_one_digit, crate::proofs::HexDigits::more_digits))]
 fn push_hex_digits(text: &mut String, number: u64) -> Result<(), AllocError>
-    ensures { OnOk result (string_bytes text.new ≡ string_bytes text.old ++ digits 16 false number) }
+    ensures { OnOk result
+        (string_bytes text.new ≡ string_bytes text.old ++ digits 16 false number) }
 {
     if number < 16 {
         return push_hex_digit(text, number);
@@ -34,7 +37,8 @@ fn push_hex_digits(text: &mut String, number: u64) -> Result<(), AllocError>
 
 fn push_hex_digit(text: &mut String, value: u64) -> Result<(), AllocError>
     requires { value < 16 }
-    ensures { OnOk result (string_bytes text.new ≡ string_bytes text.old ++ digit_glyph false value ∷ []) }
+    ensures { OnOk result
+        (string_bytes text.new ≡ string_bytes text.old ++ digit_glyph false value ∷ []) }
 {
     text.push(hex_digit(value) as char)
 }
@@ -54,7 +58,8 @@ fn hex_digit(value: u64) -> u8
 #[tactic(auto, unfolding(crate::specs::Text::decimal_field))]
 #[inline(always)]
 pub fn push_decimal(text: &mut String, label: &str, number: u64) -> Result<(), AllocError>
-    ensures { OnOk result (string_bytes text.new ≡ string_bytes text.old ++ decimal_field label.now number) }
+    ensures { OnOk result
+        (string_bytes text.new ≡ string_bytes text.old ++ decimal_field label.now number) }
 {
     text.push_str(label)?;
     write!(text, "{number}")?;
@@ -66,7 +71,8 @@ pub fn push_decimal(text: &mut String, label: &str, number: u64) -> Result<(), A
 #[tactic(auto, unfolding(crate::specs::Text::name_field))]
 #[inline(always)]
 pub fn push_name(text: &mut String, label: &str, name: &str) -> Result<(), AllocError>
-    ensures { OnOk result (string_bytes text.new ≡ string_bytes text.old ++ name_field label.now name.now) }
+    ensures { OnOk result
+        (string_bytes text.new ≡ string_bytes text.old ++ name_field label.now name.now) }
 {
     text.push_str(label)?;
     push_escaped(text, name)?;
@@ -76,7 +82,8 @@ pub fn push_name(text: &mut String, label: &str, name: &str) -> Result<(), Alloc
 /// As [`push_name`], of a name that need not be text.
 #[tactic(auto, unfolding(crate::specs::Text::name_field))]
 pub fn push_name_bytes(text: &mut String, label: &str, name: &[u8]) -> Result<(), AllocError>
-    ensures { OnOk result (string_bytes text.new ≡ string_bytes text.old ++ name_field label.now name.now) }
+    ensures { OnOk result
+        (string_bytes text.new ≡ string_bytes text.old ++ name_field label.now name.now) }
 {
     text.push_str(label)?;
     push_each_escaped(text, name)?;
@@ -96,7 +103,8 @@ fn push_escaped(text: &mut String, name: &str) -> Result<(), AllocError>
     Ok(())
 }
 
-// Whether every byte stands for itself. All are looked at, which is faster than to stop at the first.
+// Whether every byte stands for itself. All are looked at, which is faster than to stop at the
+// first.
 fn is_plain_name(name: &[u8]) -> bool
     ensures { result ≡ list_all is_plain name.now }
 {

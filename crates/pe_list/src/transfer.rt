@@ -1,6 +1,7 @@
 //! A whole input and a whole output, each moved by a loop. A call that fails isn't tried again.
 
-ghost use Rattle.std.specs.Prelude.{◌≡◌, ◌≢◌, ◌+◌, ◌<◌, ◌≤◌, Err, IfErr, IfOk, IfSome, IsTrue, OnErr, OnOk, drop, length, take};
+ghost use Rattle.std.specs.Prelude.{◌≡◌, ◌≢◌, ◌+◌, ◌<◌, ◌≤◌, Err, IfErr, IfOk, IfSome, IsTrue};
+ghost use Rattle.std.specs.Prelude.{OnErr, OnOk, drop, length, take};
 ghost use Rattle.std.specs.Io.KnownBytes.{Appends, Consumes, IsAtEnd, Keeps};
 ghost use Rattle.pe_list.specs.Run.{AppendsPart, IsOutOfMemory};
 
@@ -16,14 +17,18 @@ const CHUNK: usize = 65536;
 /// All bytes that the reader has left.
 ///
 /// # Errors
-/// [`RunFault::Input`] where a read fails; [`RunFault::Refused`] where memory is refused, and so over
-/// a reader that never ends; of no byte none is asked for.
+/// [`RunFault::Input`] where a read fails; [`RunFault::Refused`] where memory is refused, and so
+/// over a reader that never ends; of no byte none is asked for.
 #[tactic(auto, using(crate::proofs::Reading::some_byte))]
 pub fn read_all<R: Read>(alloc: Global, reader: &mut Watched<R>) -> Result<Vec<u8>, RunFault>
-    ensures bytes { IfOk result (λ bytes. IfSome (R.remaining reader.old.inner) (λ file. bytes.items ≡ file)) }
+    ensures bytes { IfOk result
+        (λ bytes. IfSome (R.remaining reader.old.inner) (λ file. bytes.items ≡ file)) }
     ensures ended { OnOk result (IsTrue reader.new.ended) }
     ensures refused { IfErr result (λ fault. fault ≢ RunFault.Input → IsOutOfMemory fault) }
-    ensures grown { IfErr result (λ fault. fault ≢ RunFault.Input → IfSome (R.remaining reader.old.inner) (λ file. 0 < length file)) }
+    ensures grown { IfErr result
+        (λ fault.
+        fault ≢ RunFault.Input
+        → IfSome (R.remaining reader.old.inner) (λ file. 0 < length file)) }
     ensures input { result ≡ Err RunFault.Input → IsTrue reader.new.failed }
     ensures once { result ≢ Err RunFault.Input → reader.new.failed ≡ reader.old.failed }
 {
@@ -46,10 +51,12 @@ pub fn read_all<R: Read>(alloc: Global, reader: &mut Watched<R>) -> Result<Vec<u
 /// # Errors
 /// [`RunFault::Output`] where a write fails or takes no byte; a beginning of the text went out.
 pub fn write_text<W: Write>(writer: &mut Watched<W>, text: &[u8]) -> Result<(), RunFault>
-    ensures written { OnOk result (Appends (W.contents writer.old.inner) (W.contents writer.new.inner) text.now) }
+    ensures written { OnOk result
+        (Appends (W.contents writer.old.inner) (W.contents writer.new.inner) text.now) }
     ensures fault { IfErr result (λ fault. fault ≡ RunFault.Output) }
     ensures failed { OnErr result (IsTrue writer.new.failed) }
-    ensures cut { OnErr result (AppendsPart (W.contents writer.old.inner) (W.contents writer.new.inner) text.now) }
+    ensures cut { OnErr result
+        (AppendsPart (W.contents writer.old.inner) (W.contents writer.new.inner) text.now) }
     ensures once { OnOk result (writer.new.failed ≡ writer.old.failed) }
 {
     let mut rest = text;
@@ -65,10 +72,14 @@ fn write_front<W: Write>(writer: &mut Watched<W>, bytes: &[u8]) -> Result<usize,
     requires { 0 < length bytes.now }
     ensures some { IfOk result (λ n. 0 < n) }
     ensures within { IfOk result (λ n. n ≤ length bytes.now) }
-    ensures took { IfOk result (λ n. Appends (W.contents writer.old.inner) (W.contents writer.new.inner) (take n bytes.now)) }
+    ensures took { IfOk result
+        (λ n.
+        Appends (W.contents writer.old.inner) (W.contents writer.new.inner)
+        (take n bytes.now)) }
     ensures fault { IfErr result (λ fault. fault ≡ RunFault.Output) }
     ensures failed { OnErr result (IsTrue writer.new.failed) }
-    ensures kept { OnErr result (Keeps (W.contents writer.old.inner) (W.contents writer.new.inner)) }
+    ensures kept { OnErr result
+        (Keeps (W.contents writer.old.inner) (W.contents writer.new.inner)) }
     ensures once { OnOk result (writer.new.failed ≡ writer.old.failed) }
 {
     match writer.write(bytes) {

@@ -1,5 +1,5 @@
-//! Calls that take memory, or none in some case, each by a word: for the script that refuses each of their
-//! growths in turn.
+//! Calls that take memory, or none in some case, each by a word: for the script that refuses each
+//! of their growths in turn.
 
 mod amount;
 mod laws;
@@ -32,8 +32,9 @@ pub type Seen = Result<usize, Refused>;
 /// The same of a law, which has an answer for each of two files, modes or tables of sections.
 pub type BothSeen = (Seen, Seen);
 
-/// Makes the call of this word over the sample file, whose section has its name elsewhere, and shows its
-/// answer in a line. The form is `default` for the call without options, or the mode of the options.
+/// Makes the call of this word over the sample file, whose section has its name elsewhere, and
+/// shows its answer in a line. The form is `default` for the call without options, or the mode of
+/// the options.
 pub fn show_call(rt: &HostRuntime, word: &str, form: &str) -> Result<(), Refused> {
     let opts = options_of(form)?;
     let mut file = [0; SAMPLE_LEN];
@@ -68,8 +69,8 @@ fn show(rt: &HostRuntime, seen: Seen) -> Result<(), Refused> {
     Ok(())
 }
 
-// Shows both answers of a law, each in its place; then the law is refused where one of them was, for want
-// of memory.
+// Shows both answers of a law, each in its place; then the law is refused where one of them was,
+// for want of memory.
 fn show_both(rt: &HostRuntime, (first, second): BothSeen) -> Result<(), Refused> {
     println!(rt; "{} {}", Side(first), Side(second))?;
     match (first, second) {

@@ -1,5 +1,6 @@
-//! Shows what readers of the library make of a file on standard input, for the script that compares it
-//! with what stands beside the samples; or what a call answers, for the script that refuses it memory.
+//! Shows what readers of the library make of a file on standard input, for the script that compares
+//! it with what stands beside the samples; or what a call answers, for the script that refuses it
+//! memory.
 #![tactic(auto)]
 
 mod calls;
@@ -91,7 +92,8 @@ fn text(word: &Option<String>) -> &str {
     }
 }
 
-// Shows what the word asks for of the file on standard input, or makes the call that the operand names.
+// Shows what the word asks for of the file on standard input, or makes the call that the operand
+// names.
 fn show(rt: &HostRuntime, word: &str, operand: &str, form: &str) -> Result<(), Refused> {
     match word {
         "call" => show_call(rt, operand, form),
@@ -101,8 +103,8 @@ fn show(rt: &HostRuntime, word: &str, operand: &str, form: &str) -> Result<(), R
     }
 }
 
-// The options by which addresses are looked up: by `rounded` a section's data begins where the Windows
-// loader takes it to.
+// The options by which addresses are looked up: by `rounded` a section's data begins where the
+// Windows loader takes it to.
 fn look_up_options(form: &str) -> ParseOptions {
     let mut opts = ParseOptions::default();
     if form == "rounded" {
@@ -151,8 +153,12 @@ fn show_header(rt: &HostRuntime, file: &[u8]) -> Result<(), Refused> {
 // Writes the header of a file to the front of `written`, from which it is read again as it is, and
 // answers how many bytes it takes.
 fn write_header(file: &[u8], written: &mut [u8]) -> goblin_base::Result<usize>
-    ensures again { OnOk result (IsSomeAnd (pe_header true file.now) (λ h. pe_header true written.new ≡ Some h)) }
-    ensures size { IfOk result (λ n. IsSomeAnd (pe_header true file.now) (λ h. IsSomeAnd (header_bytes Endian.Little h) (λ bytes. n ≡ length bytes))) }
+    ensures again { OnOk result
+        (IsSomeAnd (pe_header true file.now) (λ h. pe_header true written.new ≡ Some h)) }
+    ensures size { IfOk result
+        (λ n.
+        IsSomeAnd (pe_header true file.now)
+        (λ h. IsSomeAnd (header_bytes Endian.Little h) (λ bytes. n ≡ length bytes))) }
     ensures room { IfOk result (λ n. n ≤ length written.old) }
 {
     let header = Header::parse(file)?;
@@ -282,8 +288,8 @@ fn show_count(rt: &HostRuntime, name: &str, count: usize) -> Result<(), Refused>
     Ok(())
 }
 
-// The file alignment by which addresses of an object are looked up, and how far they lie apart, all below
-// `SPAN`.
+// The file alignment by which addresses of an object are looked up, and how far they lie apart, all
+// below `SPAN`.
 const ALIGNMENT: u32 = 0x200;
 
 const STEP: usize = 0x9E37_79B1;
@@ -302,7 +308,8 @@ fn sections_of(alloc: Global, file: &[u8]) -> goblin_base::Result<Vec<SectionTab
     header.sections(alloc, file, &mut offset)
 }
 
-// The file offsets of `count` addresses of an object, added up: by a walk over its sections for each.
+// The file offsets of `count` addresses of an object, added up: by a walk over its sections for
+// each.
 fn walked(alloc: Global, file: &[u8], count: u32, opts: &ParseOptions) -> Result<usize, Refused> {
     let sections = sections_of(alloc, file)?;
     let mut sum = 0usize;

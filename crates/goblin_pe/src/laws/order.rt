@@ -32,8 +32,8 @@ pub struct Request {
     pub name: usize,
 }
 
-/// The answers of the six readers that map addresses by a table of sections, with errors whose texts
-/// live for `'e`. Use it by its name [`Tables`].
+/// The answers of the six readers that map addresses by a table of sections, with errors whose
+/// texts live for `'e`. Use it by its name [`Tables`].
 #[derive(Debug, Drop)]
 pub struct TablesOf<'a, 'e, D> {
     /// The import lookup table at an offset.
@@ -62,8 +62,10 @@ pub(super) fn read_tables<'a, 'e, T: Bitfield<'a>, D: TryFromCtx<'a>>(
     file_alignment: u32,
     opts: &ParseOptions,
 ) -> TablesOf<'a, 'e, D>
-    ensures read { AreTables T.format D.plain D.value_of D.refusal (is_strict opts.now.parse_mode) (file_offset opts.now sections.now file_alignment) bytes.now request.now result }
-    ensures grown { AreGrown T.format (is_strict opts.now.parse_mode) opts.now file_alignment (file_offset opts.now sections.now file_alignment) bytes.now request.now result }
+    ensures read { AreTables T.format D.plain D.value_of D.refusal (is_strict opts.now.parse_mode)
+        (file_offset opts.now sections.now file_alignment) bytes.now request.now result }
+    ensures grown { AreGrown T.format (is_strict opts.now.parse_mode) opts.now file_alignment
+        (file_offset opts.now sections.now file_alignment) bytes.now request.now result }
 {
     let lookup = SyntheticImportLookupTableEntry::parse_with_opts::<T>(
         alloc,
@@ -108,8 +110,8 @@ pub(super) fn read_tables<'a, 'e, T: Bitfield<'a>, D: TryFromCtx<'a>>(
 /// `Error::Memory` too, stands in its place, and the others still run.
 ///
 /// Each answer is its reader's own. Where the second table is the first in another order and the
-/// windows of any two sections are disjoint, both answers of a reader are equal, or both are refusals,
-/// unless one is `Error::Memory`.
+/// windows of any two sections are disjoint, both answers of a reader are equal, or both are
+/// refusals, unless one is `Error::Memory`.
 pub fn reorder_whole_tables<'a, 'e, T: Bitfield<'a>, D: TryFromCtx<'a>>(
     alloc: Global,
     bytes: &'a [u8],
@@ -119,11 +121,16 @@ pub fn reorder_whole_tables<'a, 'e, T: Bitfield<'a>, D: TryFromCtx<'a>>(
     file_alignment: u32,
     opts: &ParseOptions,
 ) -> (TablesOf<'a, 'e, D>, TablesOf<'a, 'e, D>)
-    ensures first { AreTables T.format D.plain D.value_of D.refusal (is_strict opts.now.parse_mode) (file_offset opts.now first.now file_alignment) bytes.now request.now result.0 }
-    ensures second { AreTables T.format D.plain D.value_of D.refusal (is_strict opts.now.parse_mode) (file_offset opts.now second.now file_alignment) bytes.now request.now result.1 }
-    ensures first_grown { AreGrown T.format (is_strict opts.now.parse_mode) opts.now file_alignment (file_offset opts.now first.now file_alignment) bytes.now request.now result.0 }
-    ensures second_grown { AreGrown T.format (is_strict opts.now.parse_mode) opts.now file_alignment (file_offset opts.now second.now file_alignment) bytes.now request.now result.1 }
-    ensures alike { IsReordering file_alignment first.now second.now → AreAlike D.plain result.0 result.1 }
+    ensures first { AreTables T.format D.plain D.value_of D.refusal (is_strict opts.now.parse_mode)
+        (file_offset opts.now first.now file_alignment) bytes.now request.now result.0 }
+    ensures second { AreTables T.format D.plain D.value_of D.refusal (is_strict opts.now.parse_mode)
+        (file_offset opts.now second.now file_alignment) bytes.now request.now result.1 }
+    ensures first_grown { AreGrown T.format (is_strict opts.now.parse_mode) opts.now file_alignment
+        (file_offset opts.now first.now file_alignment) bytes.now request.now result.0 }
+    ensures second_grown { AreGrown T.format (is_strict opts.now.parse_mode) opts.now file_alignment
+        (file_offset opts.now second.now file_alignment) bytes.now request.now result.1 }
+    ensures alike { IsReordering file_alignment first.now second.now
+        → AreAlike D.plain result.0 result.1 }
 {
     let one = read_tables::<T, D>(alloc, bytes, first, request, file_alignment, opts);
     let other = read_tables::<T, D>(alloc, bytes, second, request, file_alignment, opts);

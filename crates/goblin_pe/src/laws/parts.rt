@@ -6,7 +6,8 @@ ghost use Rattle.goblin_pe_sect.specs.Mapping.{file_offset};
 ghost use Rattle.goblin_pe_sect.specs.Options.{is_strict};
 ghost use Rattle.goblin_pe_head.specs.TeHeader.{te_header};
 ghost use Rattle.goblin_pe.specs.SectionRoom.{TakesSections};
-ghost use Rattle.goblin_pe.specs.TwinParts.{AreAlikeParts, AreParts, ArePartsGrown, AreSameParts, IsTeImageFault, PartsAsked, te_image_at, te_view};
+ghost use Rattle.goblin_pe.specs.TwinParts.{AreAlikeParts, AreParts, ArePartsGrown, AreSameParts};
+ghost use Rattle.goblin_pe.specs.TwinParts.{IsTeImageFault, PartsAsked, te_image_at, te_view};
 
 use crate::data_directories::DataDirectory;
 use crate::header::{CoffHeader, Header, TeHeader};
@@ -18,8 +19,8 @@ use crate::utils::get_data_with_opts;
 use goblin_base::{Result, ResultOf, Strtab, TryFromCtx};
 use std::alloc::Global;
 
-/// The answers of the readers of headers and of single tables, with errors whose texts live for `'e`.
-/// Use it by its name [`Parts`].
+/// The answers of the readers of headers and of single tables, with errors whose texts live for
+/// `'e`. Use it by its name [`Parts`].
 #[derive(Drop)]
 pub struct PartsOf<'a, 'e, D> {
     /// The header of bytes that begin with a signature, as [`Header::parse_without_dos`] reads it.
@@ -44,8 +45,13 @@ pub type Parts<'a, D> = PartsOf<'a, 'static, D>;
 // The header of a Terse Executable at an offset, and its sections after it.
 #[tactic(auto, unfolding(crate::specs::TwinParts::te_image_at), using(crate::proofs::TwinParts::te_there, crate::proofs::SectionRoom::te_sections_take))]
 fn read_te(alloc: Global, bytes: &[u8], offset: usize) -> Result<(TeHeader, Vec<SectionTable>)>
-    ensures value { AnswersOrMemory te_view result (te_image_at bytes.now offset) (IsTeImageFault bytes.now offset) }
-    ensures grown { IfErr result (λ e. IsMemory e → IsSomeAnd (te_header bytes.now offset) (λ header. TakesSections header.number_of_sections bytes.now)) }
+    ensures value { AnswersOrMemory te_view result (te_image_at bytes.now offset)
+        (IsTeImageFault bytes.now offset) }
+    ensures grown { IfErr result
+        (λ e.
+        IsMemory e
+        → IsSomeAnd (te_header bytes.now offset)
+        (λ header. TakesSections header.number_of_sections bytes.now)) }
 {
     let mut end = offset;
     let header = TeHeader::parse(bytes, &mut end)?;
@@ -66,9 +72,22 @@ fn read_parts<'a, 'e, D: TryFromCtx<'a>>(
     file_alignment: u32,
     opts: &ParseOptions,
 ) -> PartsOf<'a, 'e, D>
-    ensures read { let asked : PartsAsked = record { coff_header = coff_header; offset = offset; relocations = relocations; value = value } in
-        AreParts D.plain D.value_of D.refusal (is_strict opts.now.parse_mode) (file_offset opts.now sections.now file_alignment) asked bytes.now result }
-    ensures grown { let asked : PartsAsked = record { coff_header = coff_header; offset = offset; relocations = relocations; value = value } in
+    ensures read { let asked : PartsAsked =
+        record {
+          coff_header = coff_header;
+          offset = offset;
+          relocations = relocations;
+          value = value;
+        } in
+        AreParts D.plain D.value_of D.refusal (is_strict opts.now.parse_mode)
+        (file_offset opts.now sections.now file_alignment) asked bytes.now result }
+    ensures grown { let asked : PartsAsked =
+        record {
+          coff_header = coff_header;
+          offset = offset;
+          relocations = relocations;
+          value = value;
+        } in
         ArePartsGrown asked bytes.now result }
 {
     let mut end = offset;
@@ -90,20 +109,20 @@ fn read_parts<'a, 'e, D: TryFromCtx<'a>>(
 }
 
 /// Runs the readers of [`Parts`] on two files: the sections of `coff_header` at `offset`, where a
-/// Terse Executable would begin, too; its symbols and strings; the base relocations of the directory
-/// `relocations`, and the value at the address of the directory `value`, by the handed table of
-/// sections. A refusal of one reader, `Error::Memory` too, stands in its place, and the others
-/// still run.
+/// Terse Executable would begin, too; its symbols and strings; the base relocations of the
+/// directory `relocations`, and the value at the address of the directory `value`, by the handed
+/// table of sections. A refusal of one reader, `Error::Memory` too, stands in its place, and the
+/// others still run.
 ///
 /// Each reader has a footprint of its own. The header's: the signature, the COFF header, and what
-/// [`twin_header`](crate::laws::twin_header) says of an optional header. That of sections: each record,
-/// and the text to which its name points. The symbol table's bytes; the string table's length and
-/// bytes; a Terse Executable's record and, where its header is there, its sections; the bytes of the
-/// base relocations; and of the value all from its offset on.
+/// [`twin_header`](crate::laws::twin_header) says of an optional header. That of sections: each
+/// record, and the text to which its name points. The symbol table's bytes; the string table's
+/// length and bytes; a Terse Executable's record and, where its header is there, its sections; the
+/// bytes of the base relocations; and of the value all from its offset on.
 ///
 /// # Errors
-/// For each file as the readers that the fields of [`PartsOf`] name; memory is wanted only of sections
-/// for which the file has room.
+/// For each file as the readers that the fields of [`PartsOf`] name; memory is wanted only of
+/// sections for which the file has room.
 pub fn twin_parts<'a, 'e, D: TryFromCtx<'a>>(
     alloc: Global,
     a: &'a [u8],
@@ -116,18 +135,58 @@ pub fn twin_parts<'a, 'e, D: TryFromCtx<'a>>(
     file_alignment: u32,
     opts: &ParseOptions,
 ) -> (PartsOf<'a, 'e, D>, PartsOf<'a, 'e, D>)
-    ensures first { let asked : PartsAsked = record { coff_header = coff_header; offset = offset; relocations = relocations; value = value } in
-        AreParts D.plain D.value_of D.refusal (is_strict opts.now.parse_mode) (file_offset opts.now sections.now file_alignment) asked a.now result.0 }
-    ensures second { let asked : PartsAsked = record { coff_header = coff_header; offset = offset; relocations = relocations; value = value } in
-        AreParts D.plain D.value_of D.refusal (is_strict opts.now.parse_mode) (file_offset opts.now sections.now file_alignment) asked b.now result.1 }
-    ensures first_grown { let asked : PartsAsked = record { coff_header = coff_header; offset = offset; relocations = relocations; value = value } in
+    ensures first { let asked : PartsAsked =
+        record {
+          coff_header = coff_header;
+          offset = offset;
+          relocations = relocations;
+          value = value;
+        } in
+        AreParts D.plain D.value_of D.refusal (is_strict opts.now.parse_mode)
+        (file_offset opts.now sections.now file_alignment) asked a.now result.0 }
+    ensures second { let asked : PartsAsked =
+        record {
+          coff_header = coff_header;
+          offset = offset;
+          relocations = relocations;
+          value = value;
+        } in
+        AreParts D.plain D.value_of D.refusal (is_strict opts.now.parse_mode)
+        (file_offset opts.now sections.now file_alignment) asked b.now result.1 }
+    ensures first_grown { let asked : PartsAsked =
+        record {
+          coff_header = coff_header;
+          offset = offset;
+          relocations = relocations;
+          value = value;
+        } in
         ArePartsGrown asked a.now result.0 }
-    ensures second_grown { let asked : PartsAsked = record { coff_header = coff_header; offset = offset; relocations = relocations; value = value } in
+    ensures second_grown { let asked : PartsAsked =
+        record {
+          coff_header = coff_header;
+          offset = offset;
+          relocations = relocations;
+          value = value;
+        } in
         ArePartsGrown asked b.now result.1 }
-    ensures same_value { let asked : PartsAsked = record { coff_header = coff_header; offset = offset; relocations = relocations; value = value } in
-        AreSameParts D.value_of (is_strict opts.now.parse_mode) (file_offset opts.now sections.now file_alignment) asked a.now b.now }
-    ensures alike { let asked : PartsAsked = record { coff_header = coff_header; offset = offset; relocations = relocations; value = value } in
-        AreAlikeParts D.plain (is_strict opts.now.parse_mode) (file_offset opts.now sections.now file_alignment) asked a.now b.now result.0 result.1 }
+    ensures same_value { let asked : PartsAsked =
+        record {
+          coff_header = coff_header;
+          offset = offset;
+          relocations = relocations;
+          value = value;
+        } in
+        AreSameParts D.value_of (is_strict opts.now.parse_mode)
+        (file_offset opts.now sections.now file_alignment) asked a.now b.now }
+    ensures alike { let asked : PartsAsked =
+        record {
+          coff_header = coff_header;
+          offset = offset;
+          relocations = relocations;
+          value = value;
+        } in
+        AreAlikeParts D.plain (is_strict opts.now.parse_mode)
+        (file_offset opts.now sections.now file_alignment) asked a.now b.now result.0 result.1 }
 {
     let first = read_parts(
         alloc,

@@ -1,13 +1,18 @@
 //! The COFF header, and the tables that it leads to: the section table, the symbol table and the
 //! string table.
 
-ghost use Rattle.std.specs.Prelude.{◌≡◌, ◌+◌, ◌*◌, ◌/◌, ◌<◌, length, option_map, true, IfErr, OnOk, OnErr, IsErrAnd, IfOk};
-ghost use Rattle.goblin_base.specs.Answers.{Answers, AnswersOrMemory, IsMemory, IsSliceFault, Writes};
+ghost use Rattle.std.specs.Prelude.{◌≡◌, ◌+◌, ◌*◌, ◌/◌, ◌<◌, length, option_map, true, IfErr, OnOk};
+ghost use Rattle.std.specs.Prelude.{OnErr, IsErrAnd, IfOk};
+ghost use Rattle.goblin_base.specs.Answers.{Answers, AnswersOrMemory, IsMemory, IsSliceFault};
+ghost use Rattle.goblin_base.specs.Answers.{Writes};
 ghost use Rattle.goblin_base.specs.Record.{record_at, ReadsBack, WritesBack, encoding, record_over};
 ghost use Rattle.goblin_pe_sect.specs.Options.{is_strict};
 ghost use Rattle.goblin_pe_sect.specs.Symbols.{table_bytes};
 ghost use Rattle.goblin_pe_head.specs.declared.header.coff.CoffHeader.{CoffHeader};
-ghost use Rattle.goblin_pe_head.specs.CoffHeader.{IsNoStrings, IsNoSymbols, strings_of, symbols_of, coff_fields, coff_header, symbols_end, string_table_offset, sections_at, IsSectionsFault, IsTooManySections};
+ghost use Rattle.goblin_pe_head.specs.CoffHeader.{IsNoStrings, IsNoSymbols, strings_of, symbols_of};
+ghost use Rattle.goblin_pe_head.specs.CoffHeader.{coff_fields, coff_header, symbols_end};
+ghost use Rattle.goblin_pe_head.specs.CoffHeader.{string_table_offset, sections_at};
+ghost use Rattle.goblin_pe_head.specs.CoffHeader.{IsSectionsFault, IsTooManySections};
 
 use crate::header::sections::read_sections;
 use goblin_base::{
@@ -100,7 +105,9 @@ impl CoffHeader {
     /// # Errors
     /// [`Error::Read`] where the 20 bytes pass the end of the file; `offset` then stays.
     pub fn parse(bytes: &[u8], offset: &mut usize) -> Result<CoffHeader>
-        ensures value { Answers (λ h. h) result (record_at 20 (coff_header Endian.Little) bytes.now offset.old) (IsSliceFault bytes.now offset.old 20) }
+        ensures value { Answers (λ h. h) result
+            (record_at 20 (coff_header Endian.Little) bytes.now offset.old)
+            (IsSliceFault bytes.now offset.old 20) }
         ensures ok { OnOk result (offset.new ≡ offset.old + 20) }
         ensures err { OnErr result (offset.new ≡ offset.old) }
     {
@@ -120,8 +127,11 @@ impl CoffHeader {
     ) -> Result<Vec<SectionTable>>
         ensures value { let table = symbols_end self.now in
             let count = self.now.number_of_sections in
-            AnswersOrMemory (λ v. v.items) result (sections_at true table count bytes.now offset.old) (IsSectionsFault true table count bytes.now offset.old) }
-        ensures first { length bytes.now / 40 < self.now.number_of_sections → IsErrAnd result (IsTooManySections self.now.number_of_sections bytes.now) }
+            AnswersOrMemory (λ v. v.items) result
+            (sections_at true table count bytes.now offset.old)
+            (IsSectionsFault true table count bytes.now offset.old) }
+        ensures first { length bytes.now / 40 < self.now.number_of_sections
+            → IsErrAnd result (IsTooManySections self.now.number_of_sections bytes.now) }
         ensures grown { IfErr result (λ e. IsMemory e → 0 < self.now.number_of_sections) }
         ensures ok { OnOk result (offset.new ≡ offset.old + 40 * self.now.number_of_sections) }
         ensures err { OnErr result (offset.new ≡ offset.old) }
@@ -150,8 +160,11 @@ impl CoffHeader {
         ensures value { let strict = is_strict opts.now.parse_mode in
             let table = symbols_end self.now in
             let count = self.now.number_of_sections in
-            AnswersOrMemory (λ v. v.items) result (sections_at strict table count bytes.now offset.old) (IsSectionsFault strict table count bytes.now offset.old) }
-        ensures first { length bytes.now / 40 < self.now.number_of_sections → IsErrAnd result (IsTooManySections self.now.number_of_sections bytes.now) }
+            AnswersOrMemory (λ v. v.items) result
+            (sections_at strict table count bytes.now offset.old)
+            (IsSectionsFault strict table count bytes.now offset.old) }
+        ensures first { length bytes.now / 40 < self.now.number_of_sections
+            → IsErrAnd result (IsTooManySections self.now.number_of_sections bytes.now) }
         ensures grown { IfErr result (λ e. IsMemory e → 0 < self.now.number_of_sections) }
         ensures ok { OnOk result (offset.new ≡ offset.old + 40 * self.now.number_of_sections) }
         ensures err { OnErr result (offset.new ≡ offset.old) }
@@ -172,7 +185,8 @@ impl CoffHeader {
     /// [`Error::Read`] where its records pass the end of the file, or begin at it, also where there
     /// are none.
     pub fn symbols<'a>(&self, bytes: &'a [u8]) -> Result<Option<SymbolTable<'a>>>
-        ensures { Answers (option_map table_bytes) result (symbols_of self.now bytes.now) (IsNoSymbols self.now bytes.now) }
+        ensures { Answers (option_map table_bytes) result (symbols_of self.now bytes.now)
+            (IsNoSymbols self.now bytes.now) }
     {
         if self.pointer_to_symbol_table == 0 {
             return Ok(None);
@@ -193,7 +207,8 @@ impl CoffHeader {
     /// [`Error::Read`] where the four bytes pass the end of the file; [`Error::Malformed`] with
     /// [`Cause::CoffLength`] where the length is below 4; and as [`Strtab::parse`].
     pub fn strings<'a>(&self, alloc: Global, bytes: &'a [u8]) -> Result<Option<Strtab<'a>>>
-        ensures { Answers (λ t. t) result (strings_of self.now bytes.now) (IsNoStrings self.now bytes.now) }
+        ensures { Answers (λ t. t) result (strings_of self.now bytes.now)
+            (IsNoStrings self.now bytes.now) }
     {
         let Some(offset) = self.string_table_offset() else {
             return Ok(None);
@@ -208,8 +223,8 @@ impl CoffHeader {
     }
 
     /// The file offset of the string table, which stands after the symbol table; `None` where the
-    /// pointer to that is 0. The four bytes of its length stand there, and the texts after them. It may
-    /// lie past the file.
+    /// pointer to that is 0. The four bytes of its length stand there, and the texts after them. It
+    /// may lie past the file.
     ///
     /// Source: PE Format, "COFF String Table".
     #[tactic(auto, unfolding(crate::specs::CoffHeader::string_table_offset))]
@@ -222,9 +237,9 @@ impl CoffHeader {
         Some(self.symbols_end())
     }
 
-    /// The file offset after the last record of the symbol table: the pointer to that, plus 18 bytes for
-    /// each record. The string table stands there, if there is one. The names of sections are looked up
-    /// from there on in any case, also where the pointer is 0.
+    /// The file offset after the last record of the symbol table: the pointer to that, plus 18
+    /// bytes for each record. The string table stands there, if there is one. The names of sections
+    /// are looked up from there on in any case, also where the pointer is 0.
     pub fn symbols_end(&self) -> usize
         ensures { result ≡ symbols_end self.now }
     {
@@ -233,13 +248,15 @@ impl CoffHeader {
     }
 
     /// Writes the record to the front of `bytes`, and answers its size, 20. One that was read is
-    /// written as it stood, and any is read again from what was written, by the same order of bytes.
+    /// written as it stood, and any is read again from what was written, by the same order of
+    /// bytes.
     ///
     /// # Errors
     /// [`Error::Read`] where there is no room for 20 bytes; `bytes` are then as they were.
     pub fn try_into_ctx(self, bytes: &mut [u8], endian: Endian) -> Result<usize>
         ensures size { IfOk result (λ n. n ≡ 20) }
-        ensures written { let after = record_over 20 (encoding endian (coff_fields self)) bytes.old in
+        ensures written { let after = record_over 20 (encoding endian (coff_fields self))
+            bytes.old in
             Writes result after bytes.old bytes.new (IsSliceFault bytes.old 0 20) }
         ensures long { IfOk result (λ n. length (encoding endian (coff_fields self)) ≡ 20) }
         ensures back { IfOk result (λ n. WritesBack 20 coff_header coff_fields) }

@@ -198,16 +198,19 @@ impl DosHeader {
         Ok(header)
     }
 
-    /// Writes the record at the front of `bytes` and answers its size, 64. A header that was read is
-    /// written as it stood, and any header is read again from what was written, by the same order of
-    /// bytes. In little-endian order that of a file is written as the file's first 64 bytes.
+    /// Writes the record at the front of `bytes` and answers its size, 64. A header that was read
+    /// is written as it stood, and any header is read again from what was written, by the same
+    /// order of bytes. In little-endian order that of a file is written as the file's first 64
+    /// bytes.
     ///
     /// # Errors
     /// [`Error::Read`] where there is no room for 64 bytes; `bytes` are then as they were.
     #[tactic(auto, using(crate::proofs::DosHeaderRoundTrip::dos_back, crate::proofs::PeHeaderRoundTrip::dos_file))]
     pub fn try_into_ctx(self, bytes: &mut [u8], endian: Endian) -> Result<usize>
         ensures size { IfOk result (λ n. n ≡ 64) }
-        ensures written { Writes result (overwritten bytes.old 0 (encoding endian (dos_fields self))) bytes.old bytes.new (IsSliceFault bytes.old 0 64) }
+        ensures written { Writes result
+            (overwritten bytes.old 0 (encoding endian (dos_fields self))) bytes.old bytes.new
+            (IsSliceFault bytes.old 0 64) }
         ensures back { WritesBack 64 dos_record dos_fields }
         ensures file { DosWritesBack }
         ensures again { ReadsBack 64 dos_record dos_fields self }

@@ -1,6 +1,7 @@
 //! The whole header of a PE file.
 
-ghost use Rattle.std.specs.Prelude.{◌≡◌, ◌+◌, ◌≤◌, IfOk, IfSome, IsSomeAnd, Some, drop, length, option_and_then, option_map, true};
+ghost use Rattle.std.specs.Prelude.{◌≡◌, ◌+◌, ◌≤◌, IfOk, IfSome, IsSomeAnd, Some, drop, length};
+ghost use Rattle.std.specs.Prelude.{option_and_then, option_map, true};
 ghost use Rattle.goblin_base.specs.declared.endian.Endian.{Endian};
 ghost use Rattle.goblin_base.specs.Answers.{Answers, Writes, IsSliceFault, FirstFault};
 ghost use Rattle.goblin_base.specs.Bytes.{overwritten, replaced};
@@ -8,7 +9,10 @@ ghost use Rattle.goblin_pe_sect.specs.Options.{is_strict};
 ghost use Rattle.goblin_pe_head.specs.HeaderLaws.{HeaderReadsBack, HeaderWritesBack};
 ghost use Rattle.goblin_pe_head.specs.DosStub.{stub_bytes, IsStubFault};
 ghost use Rattle.goblin_pe_head.specs.OptionalHeader.{IsOptionalFault, written_bytes};
-ghost use Rattle.goblin_pe_head.specs.PeHeader.{default_header, header_at, header_bytes, header_parts, header_value, header_without_dos, optional_at, optional_part, pe_header, stub_in, IsHeaderAtFault, IsHeaderFault, IsUnwrittenPart};
+ghost use Rattle.goblin_pe_head.specs.PeHeader.{default_header, header_at, header_bytes};
+ghost use Rattle.goblin_pe_head.specs.PeHeader.{header_parts, header_value, header_without_dos};
+ghost use Rattle.goblin_pe_head.specs.PeHeader.{optional_at, optional_part, pe_header, stub_in};
+ghost use Rattle.goblin_pe_head.specs.PeHeader.{IsHeaderAtFault, IsHeaderFault, IsUnwrittenPart};
 ghost use Rattle.goblin_pe_head.specs.RichHeader.{PaddingFits, rich_header, rich_value};
 
 use crate::header::{
@@ -67,7 +71,9 @@ impl Default for Header<'_> {
 // The stub before the PE signature; where there is none, permissive mode takes the default one.
 #[tactic(auto, unfolding(crate::specs::PeHeader::stub_in))]
 fn stub_in<'a>(bytes: &'a [u8], pe_pointer: u32, opts: &ParseOptions) -> Result<DosStub<'a>>
-    ensures { Answers stub_bytes result (stub_in (is_strict opts.now.parse_mode) bytes.now pe_pointer) (IsStubFault bytes.now pe_pointer) }
+    ensures { Answers stub_bytes result
+        (stub_in (is_strict opts.now.parse_mode) bytes.now pe_pointer)
+        (IsStubFault bytes.now pe_pointer) }
 {
     let is_permissive = opts.parse_mode.is_permissive();
     DosStub::parse(bytes, pe_pointer).or_permissive_and_default(is_permissive, "DOS stub")
@@ -77,7 +83,8 @@ fn stub_in<'a>(bytes: &'a [u8], pe_pointer: u32, opts: &ParseOptions) -> Result<
 #[tactic(auto, unfolding(crate::specs::PeHeader::optional_at))]
 fn optional_at(size: u16, bytes: &[u8], offset: usize) -> Result<Option<OptionalHeader>>
     requires { offset ≤ length bytes.now }
-    ensures { Answers (λ header. header) result (optional_at size bytes.now offset) (IsOptionalFault (drop offset bytes.now)) }
+    ensures { Answers (λ header. header) result (optional_at size bytes.now offset)
+        (IsOptionalFault (drop offset bytes.now)) }
 {
     if size == 0 {
         return Ok(None);
@@ -92,9 +99,11 @@ impl<'a> Header<'a> {
     /// # Errors
     /// As [`Header::parse_with_opts`] in strict mode.
     pub fn parse(bytes: &'a [u8]) -> Result<Self>
-        ensures value { Answers header_value result (pe_header true bytes.now) (IsHeaderFault true bytes.now) }
+        ensures value { Answers header_value result (pe_header true bytes.now)
+            (IsHeaderFault true bytes.now) }
         ensures padding { IfOk result (λ header. IfSome header.rich_header PaddingFits) }
-        ensures rich { IfOk result (λ header. rich_header bytes.now ≡ Some (option_map rich_value header.rich_header)) }
+        ensures rich { IfOk result
+            (λ header. rich_header bytes.now ≡ Some (option_map rich_value header.rich_header)) }
     {
         Header::parse_with_opts(bytes, &ParseOptions::default())
     }
@@ -108,9 +117,12 @@ impl<'a> Header<'a> {
     /// [`OptionalHeader`].
     #[tactic(auto, unfolding(crate::specs::PeHeader::pe_header, crate::specs::PeHeader::IsHeaderFault, crate::specs::RichHeader::rich_header))]
     pub fn parse_with_opts(bytes: &'a [u8], opts: &ParseOptions) -> Result<Self>
-        ensures value { Answers header_value result (pe_header (is_strict opts.now.parse_mode) bytes.now) (IsHeaderFault (is_strict opts.now.parse_mode) bytes.now) }
+        ensures value { Answers header_value result
+            (pe_header (is_strict opts.now.parse_mode) bytes.now)
+            (IsHeaderFault (is_strict opts.now.parse_mode) bytes.now) }
         ensures padding { IfOk result (λ header. IfSome header.rich_header PaddingFits) }
-        ensures rich { IfOk result (λ header. rich_header bytes.now ≡ Some (option_map rich_value header.rich_header)) }
+        ensures rich { IfOk result
+            (λ header. rich_header bytes.now ≡ Some (option_map rich_value header.rich_header)) }
     {
         let dos_header = DosHeader::parse(bytes)?;
         let dos_stub = stub_in(bytes, dos_header.pe_pointer, opts)?;
@@ -127,7 +139,8 @@ impl<'a> Header<'a> {
     /// [`Error::Read`] where the COFF header passes the end; as the reader of [`OptionalHeader`].
     #[tactic(auto, unfolding(crate::specs::PeHeader::header_without_dos, crate::specs::PeHeader::zero_dos_header))]
     pub fn parse_without_dos(bytes: &'a [u8]) -> Result<Self>
-        ensures { Answers header_value result (header_without_dos bytes.now) (IsHeaderAtFault bytes.now 0) }
+        ensures { Answers header_value result (header_without_dos bytes.now)
+            (IsHeaderAtFault bytes.now 0) }
     {
         Header::parse_at(bytes, 0, DosHeader::default(), DosStub::default(), None)
     }
@@ -143,7 +156,8 @@ impl<'a> Header<'a> {
     ) -> Result<Self>
         ensures value { let stub = stub_bytes dos_stub.entry in
             let rich = option_map rich_value rich_header.entry in
-            Answers header_value result (header_at dos_header stub rich bytes.now offset) (IsHeaderAtFault bytes.now offset) }
+            Answers header_value result (header_at dos_header stub rich bytes.now offset)
+            (IsHeaderAtFault bytes.now offset) }
         ensures rich { IfOk result (λ header. header.rich_header ≡ rich_header.entry) }
     {
         let Ok(signature) = pread_u32(bytes, offset, Endian::Little) else {
@@ -177,10 +191,15 @@ impl<'a> Header<'a> {
     /// they were.
     #[tactic(auto, unfolding(crate::specs::PeHeader::header_bytes), using(crate::proofs::PeHeaderRoundTrip::header_back, crate::proofs::PeHeaderRoundTrip::header_again))]
     pub fn try_into_ctx(self, bytes: &mut [u8], endian: Endian) -> Result<usize>
-        ensures size { IfOk result (λ n. IsSomeAnd (header_bytes endian (header_value self.entry)) (λ written. n ≡ length written)) }
+        ensures size { IfOk result
+            (λ n.
+            IsSomeAnd (header_bytes endian (header_value self.entry))
+            (λ written. n ≡ length written)) }
         ensures written { let made = header_bytes endian (header_value self.entry) in
-            let IsFault = FirstFault made (IsUnwrittenPart self.entry.optional_header) (λ written. IsSliceFault bytes.old 0 (length written)) in
-            Writes result (option_and_then (overwritten bytes.old 0) made) bytes.old bytes.new IsFault }
+            let IsFault = FirstFault made (IsUnwrittenPart self.entry.optional_header)
+            (λ written. IsSliceFault bytes.old 0 (length written)) in
+            Writes result (option_and_then (overwritten bytes.old 0) made) bytes.old bytes.new
+            IsFault }
         ensures back { HeaderWritesBack }
         ensures again { HeaderReadsBack }
     {
@@ -197,17 +216,21 @@ impl<'a> Header<'a> {
     #[tactic(auto, using(crate::proofs::WrittenForm::length_header_parts))]
     fn written_size(&self, optional: &[u8]) -> usize
         requires { length optional.now ≤ 240 }
-        ensures value { (endian : Endian) → result ≡ length (header_parts endian (header_value self.now) optional.now) }
+        ensures value { (endian : Endian)
+            → result ≡ length (header_parts endian (header_value self.now) optional.now) }
         ensures room { result ≡ 88 + length (stub_bytes self.now.dos_stub) + length optional.now }
     {
         SIZEOF_HEADERS + self.dos_stub.bytes.len() + optional.len()
     }
 
-    // Writes the parts one after the other, the optional header as these bytes, where there is room.
+    // Writes the parts one after the other, the optional header as these bytes, where there is
+    // room.
     #[tactic(auto, unfolding(crate::specs::PeHeader::header_parts))]
     fn put(&self, bytes: &mut [u8], optional: &[u8], endian: Endian)
-        requires { 88 + length (stub_bytes self.now.dos_stub) + length optional.now ≤ length bytes.old }
-        ensures { bytes.new ≡ replaced bytes.old 0 (header_parts endian (header_value self.now) optional.now) }
+        requires { 88 + length (stub_bytes self.now.dos_stub) + length optional.now
+            ≤ length bytes.old }
+        ensures { bytes.new
+            ≡ replaced bytes.old 0 (header_parts endian (header_value self.now) optional.now) }
     {
         let stub = self.dos_stub.bytes;
         let signature: [u8; SIZEOF_PE_MAGIC] = record_bytes(
@@ -226,7 +249,8 @@ impl<'a> Header<'a> {
 
 // What is written of the optional header, where there is one.
 fn optional_bytes(header: &Option<OptionalHeader>, endian: Endian) -> Result<WrittenHeader>
-    ensures { Answers written_bytes result (optional_part endian header.now) (IsUnwrittenPart header.now) }
+    ensures { Answers written_bytes result (optional_part endian header.now)
+        (IsUnwrittenPart header.now) }
 {
     match header {
         Some(header) => header.to_bytes(endian),

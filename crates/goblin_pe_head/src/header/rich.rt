@@ -1,14 +1,20 @@
 //! The Rich header, in which a linker says which tools made a file.
 
-ghost use Rattle.std.specs.Prelude.{◌≡◌, ◌≤◌, ◌<◌, ◌+◌, ◌*◌, ◌/◌, ◌^◌, List, ℕ, Some, length, drop, option_map, IfOk, IfSome};
+ghost use Rattle.std.specs.Prelude.{◌≡◌, ◌≤◌, ◌<◌, ◌+◌, ◌*◌, ◌/◌, ◌^◌, List, ℕ, Some, length, drop};
+ghost use Rattle.std.specs.Prelude.{option_map, IfOk, IfSome};
 ghost use Rattle.std.specs.Iterator.{UpTo, YieldsFirst, at_most};
 ghost use Rattle.std.specs.Iterator.SizeHint.{IsWithinCount};
 ghost use Rattle.goblin_base.specs.Answers.{Answers, IsSliceFault, Writes};
 ghost use Rattle.goblin_base.specs.Bytes.{IsBytes};
 ghost use Rattle.goblin_base.specs.Record.{ReadsBack, WritesBack, encoding, record_over};
 ghost use Rattle.goblin_pe_head.specs.declared.header.rich.RichMetadata.{RichMetadata};
-ghost use Rattle.goblin_pe_head.specs.RichHeader.{PaddingFits, RichIsMarked, RichIsUnmarked, marker_place, dans_place, other_place, leading_words, rich_in, rich_at, rich_header, IsRichAtFault, rich_value, IsStretchFault, IsRichFault};
-ghost use Rattle.goblin_pe_head.specs.RichMetadata.{AreEntriesOf, metadata_at, metadata_fields, metadata_items, metadata_left, metadata_record};
+ghost use Rattle.goblin_pe_head.specs.RichHeader.{PaddingFits, RichIsMarked, RichIsUnmarked};
+ghost use Rattle.goblin_pe_head.specs.RichHeader.{marker_place, dans_place, other_place};
+ghost use Rattle.goblin_pe_head.specs.RichHeader.{leading_words, rich_in, rich_at, rich_header};
+ghost use Rattle.goblin_pe_head.specs.RichHeader.{IsRichAtFault, rich_value, IsStretchFault};
+ghost use Rattle.goblin_pe_head.specs.RichHeader.{IsRichFault};
+ghost use Rattle.goblin_pe_head.specs.RichMetadata.{AreEntriesOf, metadata_at, metadata_fields};
+ghost use Rattle.goblin_pe_head.specs.RichMetadata.{metadata_items, metadata_left, metadata_record};
 
 use crate::header::{DOS_STUB_OFFSET, DosHeader};
 use goblin_base::{
@@ -71,7 +77,8 @@ impl<'a> RichHeader<'a> {
     /// where the data would not end after it starts, both counted from offset 0x40; [`Error::Read`]
     /// with [`ReadFault::TooBig`] where the data is no whole number of words.
     pub fn parse(bytes: &'a [u8]) -> Result<Option<Self>>
-        ensures value { Answers (option_map rich_value) result (rich_header bytes.now) (IsRichFault bytes.now) }
+        ensures value { Answers (option_map rich_value) result (rich_header bytes.now)
+            (IsRichFault bytes.now) }
         ensures padding { IfOk result (λ rich. IfSome rich PaddingFits) }
 
         // Each marker stands at the least offset where it can.
@@ -87,7 +94,8 @@ impl<'a> RichHeader<'a> {
     /// As [`RichHeader::parse`], in both modes.
     #[tactic(auto, unfolding(crate::specs::RichHeader::rich_header, crate::specs::RichHeader::IsRichFault), using(crate::proofs::RichPlaces::rich_marked, crate::proofs::RichPlaces::rich_unmarked))]
     pub fn parse_with_opts(bytes: &'a [u8], _opts: &ParseOptions) -> Result<Option<Self>>
-        ensures value { Answers (option_map rich_value) result (rich_header bytes.now) (IsRichFault bytes.now) }
+        ensures value { Answers (option_map rich_value) result (rich_header bytes.now)
+            (IsRichFault bytes.now) }
         ensures padding { IfOk result (λ rich. IfSome rich PaddingFits) }
 
         // Each marker stands at the least offset where it can.
@@ -101,7 +109,8 @@ impl<'a> RichHeader<'a> {
     // Finds the Rich header before a PE signature.
     pub(super) fn parse_at(bytes: &'a [u8], pe_pointer: u32) -> Result<Option<Self>>
         requires { pe_pointer ≤ length bytes.now }
-        ensures value { Answers (option_map rich_value) result (rich_at bytes.now pe_pointer) (IsRichAtFault bytes.now pe_pointer) }
+        ensures value { Answers (option_map rich_value) result (rich_at bytes.now pe_pointer)
+            (IsRichAtFault bytes.now pe_pointer) }
         ensures padding { IfOk result (λ rich. IfSome rich PaddingFits) }
     {
         let start = DOS_STUB_OFFSET as usize;
@@ -117,11 +126,14 @@ impl<'a> RichHeader<'a> {
     #[tactic(auto, using(crate::proofs::RichLaw::rich_entries))]
     pub fn metadatas(&self) -> RichMetadataIterator<'a>
         requires { self.now.padding_size ≤ length self.now.bytes.now }
-        ensures entries { metadata_left result ≡ metadata_items self.now.key (drop self.now.padding_size self.now.bytes.now) }
+        ensures entries { metadata_left result
+            ≡ metadata_items self.now.key (drop self.now.padding_size self.now.bytes.now) }
 
         // The entries of a Rich header that was read are its data.
-        ensures law { (bytes : List ℕ) → IsBytes bytes → rich_header bytes ≡ Some (Some (rich_value self.now))
-            → AreEntriesOf self.now.key (drop self.now.padding_size self.now.bytes.now) (metadata_left result) }
+        ensures law { (bytes : List ℕ) → IsBytes bytes
+            → rich_header bytes ≡ Some (Some (rich_value self.now))
+            → AreEntriesOf self.now.key (drop self.now.padding_size self.now.bytes.now)
+            (metadata_left result) }
     {
         RichMetadataIterator {
             key: self.key,
@@ -191,15 +203,16 @@ impl RichMetadata {
         }
     }
 
-    /// Writes the entry to the front of `bytes`, under no key, and answers its size, 8. One that was
-    /// read so is written as it stood, and any is read again from what was written, by the same
+    /// Writes the entry to the front of `bytes`, under no key, and answers its size, 8. One that
+    /// was read so is written as it stood, and any is read again from what was written, by the same
     /// order of bytes.
     ///
     /// # Errors
     /// [`Error::Read`] where there is no room for 8 bytes; `bytes` are then as they were.
     pub fn try_into_ctx(self, bytes: &mut [u8], endian: Endian) -> Result<usize>
         ensures size { IfOk result (λ n. n ≡ 8) }
-        ensures written { let after = record_over 8 (encoding endian (metadata_fields self)) bytes.old in
+        ensures written { let after = record_over 8 (encoding endian (metadata_fields self))
+            bytes.old in
             Writes result after bytes.old bytes.new (IsSliceFault bytes.old 0 8) }
         ensures long { IfOk result (λ n. length (encoding endian (metadata_fields self)) ≡ 8) }
         ensures back { IfOk result (λ n. WritesBack 8 metadata_record metadata_fields) }
@@ -249,7 +262,8 @@ impl Iterator for RichMetadataIterator<'_> {
     fn size_hint(&self) -> (usize, Option<usize>)
         ensures lower { IsWithinCount result.0 (at_most ((length self.now.bytes.now + 7) / 8)) }
         ensures upper { IfSome result.1 (UpTo (at_most ((length self.now.bytes.now + 7) / 8))) }
-        ensures value { result ≡ (length (metadata_left self.now), Some (length (metadata_left self.now))) }
+        ensures value { result
+            ≡ (length (metadata_left self.now), Some (length (metadata_left self.now))) }
     {
         let count = self.bytes.len().div_ceil(RICH_METADATA_SIZE);
         (count, Some(count))
@@ -262,7 +276,8 @@ impl FusedIterator for RichMetadataIterator<'_> {}
 #[tactic(auto, unfolding(crate::specs::RichHeader::rich_in, crate::specs::RichHeader::IsStretchFault))]
 fn rich_in<'a>(stretch: &'a [u8]) -> Result<Option<RichHeader<'a>>>
     requires { length stretch.now + 64 < 2 ^ 32 }
-    ensures value { Answers (option_map rich_value) result (rich_in stretch.now) (IsStretchFault stretch.now) }
+    ensures value { Answers (option_map rich_value) result (rich_in stretch.now)
+        (IsStretchFault stretch.now) }
     ensures padding { IfOk result (λ rich. IfSome rich PaddingFits) }
 {
     let Some(end) = marker_place(stretch) else {

@@ -11,8 +11,8 @@ use goblin_pe_sect::options::ParseOptions;
 use goblin_pe_sect::section_table::SectionTable;
 use std::alloc::Global;
 
-// Reads `count` sections, whose records stand one after the other from `offset` on, and moves `offset`
-// past them; with a displacement, each as it is in the stripped file.
+// Reads `count` sections, whose records stand one after the other from `offset` on, and moves
+// `offset` past them; with a displacement, each as it is in the stripped file.
 pub(super) fn read_sections(
     alloc: Global,
     bytes: &[u8],
@@ -23,8 +23,10 @@ pub(super) fn read_sections(
     displacement: Option<u32>,
 ) -> Result<Vec<SectionTable>>
     ensures value { let strict = is_strict opts.now.parse_mode in
-        let sections = moved_sections_at displacement strict string_table_offset count bytes.now offset.old in
-        let fault = IsMovedSectionsFault displacement strict string_table_offset count bytes.now offset.old in
+        let sections = moved_sections_at displacement strict string_table_offset count bytes.now
+        offset.old in
+        let fault = IsMovedSectionsFault displacement strict string_table_offset count bytes.now
+        offset.old in
         AnswersOrMemory (λ v. v.items) result sections fault }
     ensures grown { IfErr result (λ e. IsMemory e → 0 < count) }
     ensures ok { OnOk result (offset.new ≡ offset.old + 40 * count) }

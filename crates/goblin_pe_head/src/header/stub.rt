@@ -44,10 +44,11 @@ impl<'a> DosStub<'a> {
     /// no bytes where the signature follows the DOS header, at 0x40.
     ///
     /// # Errors
-    /// [`Error::Malformed`] with [`Cause::StubBeforeStart`] where `pe_pointer` is below 0x40, else with
-    /// [`Cause::StubPastEnd`] where it is past the end of the file.
+    /// [`Error::Malformed`] with [`Cause::StubBeforeStart`] where `pe_pointer` is below 0x40, else
+    /// with [`Cause::StubPastEnd`] where it is past the end of the file.
     pub fn parse(bytes: &'a [u8], pe_pointer: u32) -> Result<Self>
-        ensures { Answers stub_bytes result (stub_at bytes.now pe_pointer) (IsStubFault bytes.now pe_pointer) }
+        ensures { Answers stub_bytes result (stub_at bytes.now pe_pointer)
+            (IsStubFault bytes.now pe_pointer) }
     {
         if pe_pointer < DOS_STUB_OFFSET {
             return Err(Error::Malformed(Cause::StubBeforeStart(pe_pointer)));
@@ -69,7 +70,8 @@ impl<'a> DosStub<'a> {
     /// are empty; they are then as they were.
     pub fn try_into_ctx(self, bytes: &mut [u8], _endian: Endian) -> Result<usize>
         ensures size { IfOk result (λ n. n ≡ length (stub_bytes self.entry)) }
-        ensures written { Writes result (overwritten bytes.old 0 (stub_bytes self.entry)) bytes.old bytes.new (IsSliceFault bytes.old 0 (length (stub_bytes self.entry))) }
+        ensures written { Writes result (overwritten bytes.old 0 (stub_bytes self.entry)) bytes.old
+            bytes.new (IsSliceFault bytes.old 0 (length (stub_bytes self.entry))) }
     {
         pwrite_slice(bytes, 0, self.bytes)?;
         Ok(self.bytes.len())

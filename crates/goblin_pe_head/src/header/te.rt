@@ -1,12 +1,17 @@
 //! The header of a Terse Executable, an image of firmware whose PE headers are stripped, and its
 //! sections.
 
-ghost use Rattle.std.specs.Prelude.{◌≡◌, ◌+◌, ◌*◌, ◌/◌, ◌<◌, ◌≤◌, length, IfErr, IsErrAnd, OnOk, OnErr, IfOk};
-ghost use Rattle.goblin_base.specs.Answers.{Answers, AnswersOrMemory, IsMemory, IsSliceFault, Writes};
+ghost use Rattle.std.specs.Prelude.{◌≡◌, ◌+◌, ◌*◌, ◌/◌, ◌<◌, ◌≤◌, length, IfErr, IsErrAnd, OnOk};
+ghost use Rattle.std.specs.Prelude.{OnErr, IfOk};
+ghost use Rattle.goblin_base.specs.Answers.{Answers, AnswersOrMemory, IsMemory, IsSliceFault};
+ghost use Rattle.goblin_base.specs.Answers.{Writes};
 ghost use Rattle.goblin_base.specs.Record.{ReadsBack, WritesBack, encoding, record_over};
 ghost use Rattle.goblin_pe_head.specs.declared.header.te.TeHeader.{TeHeader};
 ghost use Rattle.goblin_pe_head.specs.CoffHeader.{IsTooManySections};
-ghost use Rattle.goblin_pe_head.specs.TeHeader.{displacement, moved, pointer_moved, section_moved, te_adjusted, te_fields, te_header, te_record, te_sections_at, IsStrippedFault, IsTeFault, IsTeSectionsFault};
+ghost use Rattle.goblin_pe_head.specs.TeHeader.{displacement, moved, pointer_moved, section_moved};
+ghost use Rattle.goblin_pe_head.specs.TeHeader.{te_adjusted, te_fields, te_header, te_record};
+ghost use Rattle.goblin_pe_head.specs.TeHeader.{te_sections_at, IsStrippedFault, IsTeFault};
+ghost use Rattle.goblin_pe_head.specs.TeHeader.{IsTeSectionsFault};
 
 use crate::header::sections::read_sections;
 use goblin_base::{
@@ -135,7 +140,8 @@ impl TeHeader {
     /// [`Cause::StrippedSize`] where fewer than 40 bytes were stripped. `offset` then stays.
     #[tactic(auto, unfolding(crate::specs::TeHeader::te_header, crate::specs::TeHeader::te_adjusted, crate::specs::TeHeader::IsTeFault))]
     pub fn parse(bytes: &[u8], offset: &mut usize) -> Result<TeHeader>
-        ensures value { Answers (λ h. h) result (te_header bytes.now offset.old) (IsTeFault bytes.now offset.old) }
+        ensures value { Answers (λ h. h) result (te_header bytes.now offset.old)
+            (IsTeFault bytes.now offset.old) }
         ensures ok { OnOk result (offset.new ≡ offset.old + 40) }
         ensures err { OnErr result (offset.new ≡ offset.old) }
     {
@@ -170,8 +176,11 @@ impl TeHeader {
         bytes: &[u8],
         offset: &mut usize,
     ) -> Result<Vec<SectionTable>>
-        ensures value { AnswersOrMemory (λ v. v.items) result (te_sections_at self.now bytes.now offset.old) (IsTeSectionsFault self.now bytes.now offset.old) }
-        ensures first { length bytes.now / 40 < self.now.number_of_sections → IsErrAnd result (IsTooManySections self.now.number_of_sections bytes.now) }
+        ensures value { AnswersOrMemory (λ v. v.items) result
+            (te_sections_at self.now bytes.now offset.old)
+            (IsTeSectionsFault self.now bytes.now offset.old) }
+        ensures first { length bytes.now / 40 < self.now.number_of_sections
+            → IsErrAnd result (IsTooManySections self.now.number_of_sections bytes.now) }
         ensures grown { IfErr result (λ e. IsMemory e → 0 < self.now.number_of_sections) }
         ensures stripped { IfErr result (λ e. IsMemory e → 40 ≤ self.now.stripped_size) }
         ensures ok { OnOk result (offset.new ≡ offset.old + 40 * self.now.number_of_sections) }

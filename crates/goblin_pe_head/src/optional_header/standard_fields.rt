@@ -5,7 +5,10 @@ ghost use Rattle.goblin_base.specs.Answers.{IsSliceFault, Writes};
 ghost use Rattle.goblin_base.specs.Record.{ReadsBack, WritesBack, encoding, record_over};
 ghost use Rattle.goblin_pe_head.specs.declared.optional_header.standard_fields.StandardFields32.{StandardFields32};
 ghost use Rattle.goblin_pe_head.specs.declared.optional_header.standard_fields.StandardFields64.{StandardFields64};
-ghost use Rattle.goblin_pe_head.specs.OptionalHeader.{standard_32_record, standard_32_fields, standard_64_record, standard_64_fields, standard_from_32, standard_from_64, standard_to_32, standard_to_64};
+ghost use Rattle.goblin_pe_head.specs.OptionalHeader.{standard_32_record, standard_32_fields};
+ghost use Rattle.goblin_pe_head.specs.OptionalHeader.{standard_64_record, standard_64_fields};
+ghost use Rattle.goblin_pe_head.specs.OptionalHeader.{standard_from_32, standard_from_64};
+ghost use Rattle.goblin_pe_head.specs.OptionalHeader.{standard_to_32, standard_to_64};
 
 use goblin_base::{Endian, Field, Record, Result, field_u8, field_u16, field_u32, put_fields};
 
@@ -89,14 +92,16 @@ impl Record for StandardFields32 {
 
 impl StandardFields32 {
     /// Writes the record to the front of `bytes`, and answers its size, 28. One that was read is
-    /// written as it stood, and any is read again from what was written, by the same order of bytes.
+    /// written as it stood, and any is read again from what was written, by the same order of
+    /// bytes.
     ///
     /// # Errors
     /// [`Error::Read`](goblin_base::Error::Read) where there is no room for 28 bytes; `bytes` are
     /// then as they were.
     pub fn try_into_ctx(self, bytes: &mut [u8], endian: Endian) -> Result<usize>
         ensures size { IfOk result (λ n. n ≡ 28) }
-        ensures written { let after = record_over 28 (encoding endian (standard_32_fields self)) bytes.old in
+        ensures written { let after = record_over 28 (encoding endian (standard_32_fields self))
+            bytes.old in
             Writes result after bytes.old bytes.new (IsSliceFault bytes.old 0 28) }
         ensures long { IfOk result (λ n. length (encoding endian (standard_32_fields self)) ≡ 28) }
         ensures back { IfOk result (λ n. WritesBack 28 standard_32_record standard_32_fields) }
@@ -181,14 +186,16 @@ impl Record for StandardFields64 {
 
 impl StandardFields64 {
     /// Writes the record to the front of `bytes`, and answers its size, 24. One that was read is
-    /// written as it stood, and any is read again from what was written, by the same order of bytes.
+    /// written as it stood, and any is read again from what was written, by the same order of
+    /// bytes.
     ///
     /// # Errors
     /// [`Error::Read`](goblin_base::Error::Read) where there is no room for 24 bytes; `bytes` are
     /// then as they were.
     pub fn try_into_ctx(self, bytes: &mut [u8], endian: Endian) -> Result<usize>
         ensures size { IfOk result (λ n. n ≡ 24) }
-        ensures written { let after = record_over 24 (encoding endian (standard_64_fields self)) bytes.old in
+        ensures written { let after = record_over 24 (encoding endian (standard_64_fields self))
+            bytes.old in
             Writes result after bytes.old bytes.new (IsSliceFault bytes.old 0 24) }
         ensures long { IfOk result (λ n. length (encoding endian (standard_64_fields self)) ≡ 24) }
         ensures back { IfOk result (λ n. WritesBack 24 standard_64_record standard_64_fields) }

@@ -5,7 +5,10 @@ ghost use Rattle.goblin_base.specs.Answers.{Answers, IsSliceFault, Writes};
 ghost use Rattle.goblin_base.specs.Record.{ReadsBack, WritesBack, encoding, record_over};
 ghost use Rattle.goblin_pe_head.specs.declared.optional_header.windows_fields.WindowsFields32.{WindowsFields32};
 ghost use Rattle.goblin_pe_head.specs.declared.optional_header.windows_fields.WindowsFields64.{WindowsFields64};
-ghost use Rattle.goblin_pe_head.specs.OptionalHeader.{windows_32_record, windows_32_fields, windows_64_record, windows_64_fields, windows_from_32, narrowed, IsTooWide, NarrowsWindows};
+ghost use Rattle.goblin_pe_head.specs.OptionalHeader.{windows_32_record, windows_32_fields};
+ghost use Rattle.goblin_pe_head.specs.OptionalHeader.{windows_64_record, windows_64_fields};
+ghost use Rattle.goblin_pe_head.specs.OptionalHeader.{windows_from_32, narrowed, IsTooWide};
+ghost use Rattle.goblin_pe_head.specs.OptionalHeader.{NarrowsWindows};
 
 use goblin_base::{
     Cause, Endian, Error, Field, Record, Result, field_u16, field_u32, field_u64, put_fields,
@@ -156,13 +159,15 @@ impl Record for WindowsFields32 {
 
 impl WindowsFields32 {
     /// Writes the record to the front of `bytes`, and answers its size, 68. One that was read is
-    /// written as it stood, and any is read again from what was written, by the same order of bytes.
+    /// written as it stood, and any is read again from what was written, by the same order of
+    /// bytes.
     ///
     /// # Errors
     /// [`Error::Read`] where there is no room for 68 bytes; `bytes` are then as they were.
     pub fn try_into_ctx(self, bytes: &mut [u8], endian: Endian) -> Result<usize>
         ensures size { IfOk result (λ n. n ≡ 68) }
-        ensures written { let after = record_over 68 (encoding endian (windows_32_fields self)) bytes.old in
+        ensures written { let after = record_over 68 (encoding endian (windows_32_fields self))
+            bytes.old in
             Writes result after bytes.old bytes.new (IsSliceFault bytes.old 0 68) }
         ensures long { IfOk result (λ n. length (encoding endian (windows_32_fields self)) ≡ 68) }
         ensures back { IfOk result (λ n. WritesBack 68 windows_32_record windows_32_fields) }
@@ -308,13 +313,15 @@ impl Record for WindowsFields64 {
 
 impl WindowsFields64 {
     /// Writes the record to the front of `bytes`, and answers its size, 88. One that was read is
-    /// written as it stood, and any is read again from what was written, by the same order of bytes.
+    /// written as it stood, and any is read again from what was written, by the same order of
+    /// bytes.
     ///
     /// # Errors
     /// [`Error::Read`] where there is no room for 88 bytes; `bytes` are then as they were.
     pub fn try_into_ctx(self, bytes: &mut [u8], endian: Endian) -> Result<usize>
         ensures size { IfOk result (λ n. n ≡ 88) }
-        ensures written { let after = record_over 88 (encoding endian (windows_64_fields self)) bytes.old in
+        ensures written { let after = record_over 88 (encoding endian (windows_64_fields self))
+            bytes.old in
             Writes result after bytes.old bytes.new (IsSliceFault bytes.old 0 88) }
         ensures long { IfOk result (λ n. length (encoding endian (windows_64_fields self)) ≡ 88) }
         ensures back { IfOk result (λ n. WritesBack 88 windows_64_record windows_64_fields) }
@@ -381,8 +388,8 @@ impl TryFrom<WindowsFields64> for WindowsFields32 {
     /// The same fields.
     ///
     /// # Errors
-    /// [`Error::Malformed`] with [`Cause::FieldTooWide`] where one of the five wide fields does not fit
-    /// 32 bits.
+    /// [`Error::Malformed`] with [`Cause::FieldTooWide`] where one of the five wide fields does not
+    /// fit 32 bits.
     #[tactic(auto, unfolding(crate::specs::OptionalHeader::windows_to_32))]
     fn try_from(fields: WindowsFields64) -> Result<WindowsFields32> {
         Ok(WindowsFields32 {

@@ -88,7 +88,8 @@ fn no_sections_are_read_at_any_offset(rt: HostRuntime) -> Result<(), Fail> {
 
 #[test]
 fn sections_are_refused_for_the_first_that_is_missing(rt: HostRuntime) -> Result<(), Fail> {
-    // Two records at 21, of which the first has a name without a number, and the second lacks a byte.
+    // Two records at 21, of which the first has a name without a number, and the second lacks a
+    // byte.
     let mut file = vec![in rt.alloc(); 0u8; 100]?;
     put(&mut file, 21, b"/");
     let header = CoffHeader {

@@ -89,7 +89,8 @@ fn entries_of(file: &[u8]) -> Option<RichMetadataIterator<'_>> {
     }
 }
 
-/// Where the first entry stands that is not that of its row, or where the entries should have ended.
+/// Where the first entry stands that is not that of its row, or where the entries should have
+/// ended.
 fn first_unlike(mut entries: RichMetadataIterator<'_>) -> Option<usize> {
     for row in ENTRIES {
         if !is_entry(entries.next(), row) {

@@ -109,7 +109,8 @@ fn tables_of_object(alloc: Global, file: &[u8]) -> Option<(SymbolTable<'_>, Strt
     }
 }
 
-/// The index of the first symbol that is not as that tool shows it, or comes after those that it shows.
+/// The index of the first symbol that is not as that tool shows it, or comes after those that it
+/// shows.
 fn first_unlike(symbols: &SymbolTable<'_>, strings: &Strtab<'_>) -> Option<usize> {
     let mut read = symbols.iter();
     for row in SYMBOLS {
@@ -187,8 +188,8 @@ fn a_function_definition_after_a_symbol_is_read(rt: HostRuntime) {
     assert!(rt; matches!(&read, Ok(Some(table)) if table.aux_function_definition(1) == Some(want)));
 }
 
-/// Whether the object's file name is read from the record after its symbol, and an empty one from no
-/// record.
+/// Whether the object's file name is read from the record after its symbol, and an empty one from
+/// no record.
 fn has_file_name(table: &SymbolTable<'_>) -> bool {
     table.aux_file(26, 1) == Some("free.c") && table.aux_file(26, 0) == Some("")
 }

@@ -8,7 +8,8 @@ use goblin_pe_head::header::TE_MAGIC;
 use goblin_pe_sect::DataDirectory;
 use std::test::Fail;
 
-/// A header of a file of which `stripped_size` bytes were stripped, with an entry point and one section.
+/// A header of a file of which `stripped_size` bytes were stripped, with an entry point and one
+/// section.
 fn header(stripped_size: u16) -> TeHeader {
     TeHeader {
         signature: TE_MAGIC,

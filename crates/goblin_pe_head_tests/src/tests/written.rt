@@ -85,7 +85,8 @@ fn a_stub_without_bytes_wants_a_place_to_begin(rt: HostRuntime) {
     assert!(rt; matches!(written, Ok(0)) && byte == [0xAA]);
 }
 
-/// Whether the sample file's COFF header is written in an order, with these bytes first, and read again.
+/// Whether the sample file's COFF header is written in an order, with these bytes first, and read
+/// again.
 fn is_written_and_read(endian: Endian, front: &[u8; 4]) -> bool {
     let mut record = [0; SIZEOF_COFF_HEADER];
     let is_written = sample_coff().try_into_ctx(&mut record, endian).is_ok();

@@ -197,7 +197,8 @@ fn are_sample_imports<'a>(
     matches!(&read, Ok(imports) if are_rows(imports, &[GO, SEVEN]))
 }
 
-/// Whether these are the other tables of the sample file. The five bytes of a name are no whole block.
+/// Whether these are the other tables of the sample file. The five bytes of a name are no whole
+/// block.
 fn are_other_tables(tables: &Tables<ImportDirectoryEntry>) -> bool {
     has_exports(&tables.exports, "a.dll", &[PLAIN, FORWARDED])
         && has_entries(&tables.lookup, 2)

@@ -505,8 +505,8 @@ fn lookup_tables_of_two_files_are_read_by_entries_of_eight_bytes(
     Ok(())
 }
 
-/// Whether the first file's imports are refused by entries of two bytes, and the second has those of one
-/// library.
+/// Whether the first file's imports are refused by entries of two bytes, and the second has those
+/// of one library.
 fn has_one_library_by_short_entries(alloc: Global, first: &[u8], second: &[u8]) -> bool {
     let sections = [sample_section()];
     let opts = ParseOptions::default();
@@ -524,8 +524,8 @@ fn imports_of_two_files_are_read_by_entries_of_two_bytes(rt: HostRuntime) -> Res
     Ok(())
 }
 
-/// Whether the footprint of imports by entries of two bytes has the lookup table's four bytes, and not the
-/// one after them.
+/// Whether the footprint of imports by entries of two bytes has the lookup table's four bytes, and
+/// not the one after them.
 fn has_short_lookup_alone(alloc: Global, file: &[u8]) -> bool {
     let sections = [sample_section()];
     let opts = ParseOptions::default();

@@ -58,14 +58,15 @@ type Headers<'a> = (
     goblin_base::Result<Header<'a>>,
 );
 
-/// Whether the first is the sample file's header, and the second is the same exactly where this is said.
+/// Whether the first is the sample file's header, and the second is the same exactly where this is
+/// said.
 fn are_headers(headers: &Headers, are_the_same: bool) -> bool {
     let is_the_same = matches!(headers, (Ok(first), Ok(second)) if first == second);
     is_the_same == are_the_same && matches!(&headers.0, Ok(header) if is_sample_header(header))
 }
 
-/// Whether the first file has the sample file's header, and the second the same exactly where this is
-/// said.
+/// Whether the first file has the sample file's header, and the second the same exactly where this
+/// is said.
 fn have_headers(file: &[u8], other: &[u8], are_the_same: bool) -> bool {
     are_headers(
         &twin_header(file, other, &ParseOptions::default()),
@@ -280,8 +281,8 @@ fn has_the_value(value: &goblin_base::Result<DataDirectory>) -> bool {
     matches!(value, Ok(value) if value.virtual_address == 0x6100_0000)
 }
 
-/// How a reader answered: `.` where it read what the Terse Executable has, `x` where it was refused,
-/// and `m` where that was for want of memory.
+/// How a reader answered: `.` where it read what the Terse Executable has, `x` where it was
+/// refused, and `m` where that was for want of memory.
 fn mark(is_right: bool, error: Option<&Error>) -> u8 {
     match error {
         Some(Error::Memory(_)) => b'm',
@@ -341,8 +342,8 @@ fn eight_bytes(virtual_address: u32) -> DataDirectory {
     }
 }
 
-/// What becomes of the Terse Executable, by bytes at an offset and by its length, and how each reader
-/// answers for it then.
+/// What becomes of the Terse Executable, by bytes at an offset and by its length, and how each
+/// reader answers for it then.
 const CHANGED: &[(usize, &[u8], usize, &[u8; 7])] = &[
     (0x00, b"VZ", 0x70, b"......."),
     // The size of an optional header, which is none.
@@ -360,8 +361,8 @@ const CHANGED: &[(usize, &[u8], usize, &[u8; 7])] = &[
     (0x00, b"VZ", 0x00, b"xxxxxxx"),
 ];
 
-/// Whether each reader answers so for the second file, and reads the first; and also where that is the
-/// second.
+/// Whether each reader answers so for the second file, and reads the first; and also where that is
+/// the second.
 fn are_marked(alloc: Global, file: &[u8], other: &[u8], want: &[u8; 7]) -> bool {
     marks_of_each(alloc, file, other) == (*b".......", *want)
         && marks_of_each(alloc, other, file) == (*want, *b".......")

@@ -6,7 +6,11 @@ ghost use Rattle.std.specs.Iterator.SizeHint.{IsWithinCount};
 ghost use Rattle.goblin_base.specs.Answers.{Answers, IsSliceFault, Writes};
 ghost use Rattle.goblin_base.specs.Record.{ReadsBack, WritesBack, encoding, record_over};
 ghost use Rattle.goblin_pe_sect.specs.declared.relocation.base.RelocationWord.{RelocationWord};
-ghost use Rattle.goblin_pe_sect.specs.BaseRelocations.{AreBlocksOf, IsRelocationDataFault, block_at, block_item, block_items, blocks_left, relocation_data, relocation_bytes, word_fields, word_items, word_record, words_left};
+ghost use Rattle.goblin_pe_sect.specs.BaseRelocations.{AreBlocksOf, IsRelocationDataFault};
+ghost use Rattle.goblin_pe_sect.specs.BaseRelocations.{block_at, block_item, block_items};
+ghost use Rattle.goblin_pe_sect.specs.BaseRelocations.{blocks_left, relocation_data};
+ghost use Rattle.goblin_pe_sect.specs.BaseRelocations.{relocation_bytes, word_fields, word_items};
+ghost use Rattle.goblin_pe_sect.specs.BaseRelocations.{word_record, words_left};
 ghost use Rattle.goblin_pe_sect.specs.Mapping.{file_offset};
 ghost use Rattle.goblin_pe_sect.specs.Options.{default_options};
 
@@ -29,8 +33,8 @@ const _: () = prove!(RELOCATION_BLOCK_SIZE == 8);
 const RELOCATION_WORD_SIZE: usize = 2;
 
 /// The base relocations of an image: the bytes of their directory. Where a loader can't load the
-/// image at the base that it was linked for, it adds the distance to the number at each address that
-/// they name.
+/// image at the base that it was linked for, it adds the distance to the number at each address
+/// that they name.
 ///
 /// Source: PE Format, "The .reloc Section (Image Only)".
 #[derive(Debug, PartialEq, Clone, Default, Drop)]
@@ -51,7 +55,8 @@ impl<'a> RelocationData<'a> {
         file_alignment: u32,
     ) -> Result<Self>
         ensures { let offset_of = file_offset default_options sections.now file_alignment in
-            Answers relocation_bytes result (relocation_data offset_of bytes.now dd) (IsRelocationDataFault offset_of bytes.now dd) }
+            Answers relocation_bytes result (relocation_data offset_of bytes.now dd)
+            (IsRelocationDataFault offset_of bytes.now dd) }
     {
         let opts = ParseOptions::default();
         RelocationData::parse_with_opts(bytes, dd, sections, file_alignment, &opts)
@@ -72,7 +77,8 @@ impl<'a> RelocationData<'a> {
         opts: &ParseOptions,
     ) -> Result<Self>
         ensures { let offset_of = file_offset opts.now sections.now file_alignment in
-            Answers relocation_bytes result (relocation_data offset_of bytes.now dd) (IsRelocationDataFault offset_of bytes.now dd) }
+            Answers relocation_bytes result (relocation_data offset_of bytes.now dd)
+            (IsRelocationDataFault offset_of bytes.now dd) }
     {
         let rva = dd.virtual_address as usize;
         let Some(offset) = find_offset(rva, sections, file_alignment, opts) else {
@@ -89,7 +95,8 @@ impl<'a> RelocationData<'a> {
     #[tactic(auto, using(crate::proofs::BlocksOf::blocks_of))]
     pub fn blocks(&self) -> RelocationBlockIterator<'a>
         ensures items { blocks_left result ≡ block_items (relocation_bytes self.now) 0 }
-        ensures blocks { AreBlocksOf (relocation_bytes self.now) (block_items (relocation_bytes self.now) 0) }
+        ensures blocks { AreBlocksOf (relocation_bytes self.now)
+            (block_items (relocation_bytes self.now) 0) }
     {
         RelocationBlockIterator {
             bytes: self.bytes,
@@ -107,8 +114,8 @@ pub struct RelocationBlock<'a> {
     /// The page's address, relative to the image's base, at 0. The offset of each word is added to
     /// it.
     pub rva: u32,
-    /// The size of the block with its head, in bytes, at 4: the next block begins this far after its
-    /// begin.
+    /// The size of the block with its head, in bytes, at 4: the next block begins this far after
+    /// its begin.
     pub size: u32,
     /// The bytes after the head, which are the words.
     pub bytes: &'a [u8],
@@ -189,8 +196,10 @@ impl<'a> Iterator for RelocationBlockIterator<'a> {
     /// No more come than heads fit, and one for a rest.
     #[tactic(auto, using(crate::proofs::BlockItems::items_most))]
     fn size_hint(&self) -> (usize, Option<usize>)
-        ensures lower { IsWithinCount result.0 (at_most ((length self.now.bytes.now - self.now.offset + 7) / 8)) }
-        ensures upper { IfSome result.1 (UpTo (at_most ((length self.now.bytes.now - self.now.offset + 7) / 8))) }
+        ensures lower { IsWithinCount result.0
+            (at_most ((length self.now.bytes.now - self.now.offset + 7) / 8)) }
+        ensures upper { IfSome result.1
+            (UpTo (at_most ((length self.now.bytes.now - self.now.offset + 7) / 8))) }
         ensures most { IfSome result.1 (λ n. length (blocks_left self.now) ≤ n) }
         ensures value { result ≡ (0, Some ((length self.now.bytes.now - self.now.offset + 7) / 8)) }
     {
@@ -255,13 +264,15 @@ impl RelocationWord {
     }
 
     /// Writes the record to the front of `bytes`, and answers its size, 2. One that was read is
-    /// written as it stood, and any is read again from what was written, by the same order of bytes.
+    /// written as it stood, and any is read again from what was written, by the same order of
+    /// bytes.
     ///
     /// # Errors
     /// [`Error::Read`] where there is no room for 2 bytes; `bytes` are then as they were.
     pub fn try_into_ctx(self, bytes: &mut [u8], endian: Endian) -> Result<usize>
         ensures size { IfOk result (λ n. n ≡ 2) }
-        ensures written { let after = record_over 2 (encoding endian (word_fields self)) bytes.old in
+        ensures written { let after = record_over 2 (encoding endian (word_fields self))
+            bytes.old in
             Writes result after bytes.old bytes.new (IsSliceFault bytes.old 0 2) }
         ensures long { IfOk result (λ n. length (encoding endian (word_fields self)) ≡ 2) }
         ensures back { IfOk result (λ n. WritesBack 2 word_record word_fields) }
@@ -312,7 +323,8 @@ impl Iterator for RelocationWordIterator<'_> {
     fn size_hint(&self) -> (usize, Option<usize>)
         ensures lower { IsWithinCount result.0 (at_most ((length self.now.bytes.now + 1) / 2)) }
         ensures upper { IfSome result.1 (UpTo (at_most ((length self.now.bytes.now + 1) / 2))) }
-        ensures value { result ≡ (length (words_left self.now), Some (length (words_left self.now))) }
+        ensures value { result
+            ≡ (length (words_left self.now), Some (length (words_left self.now))) }
     {
         let count = self.bytes.len().div_ceil(RELOCATION_WORD_SIZE);
         (count, Some(count))

@@ -7,7 +7,13 @@ ghost use Rattle.goblin_pe_sect.specs.declared.symbol.auxiliary.AuxBeginAndEndFu
 ghost use Rattle.goblin_pe_sect.specs.declared.symbol.auxiliary.AuxFunctionDefinition.{AuxFunctionDefinition};
 ghost use Rattle.goblin_pe_sect.specs.declared.symbol.auxiliary.AuxSectionDefinition.{AuxSectionDefinition};
 ghost use Rattle.goblin_pe_sect.specs.declared.symbol.auxiliary.AuxWeakExternal.{AuxWeakExternal};
-ghost use Rattle.goblin_pe_sect.specs.AuxiliarySymbols.{begin_and_end_function_fields, begin_and_end_function_record, function_definition_fields, function_definition_record, section_definition_fields, section_definition_record, weak_external_fields, weak_external_record};
+ghost use Rattle.goblin_pe_sect.specs.AuxiliarySymbols.{begin_and_end_function_fields};
+ghost use Rattle.goblin_pe_sect.specs.AuxiliarySymbols.{begin_and_end_function_record};
+ghost use Rattle.goblin_pe_sect.specs.AuxiliarySymbols.{function_definition_fields};
+ghost use Rattle.goblin_pe_sect.specs.AuxiliarySymbols.{function_definition_record};
+ghost use Rattle.goblin_pe_sect.specs.AuxiliarySymbols.{section_definition_fields};
+ghost use Rattle.goblin_pe_sect.specs.AuxiliarySymbols.{section_definition_record};
+ghost use Rattle.goblin_pe_sect.specs.AuxiliarySymbols.{weak_external_fields, weak_external_record};
 
 use super::COFF_SYMBOL_SIZE;
 use goblin_base::{
@@ -71,18 +77,23 @@ impl Record for AuxFunctionDefinition {
 
 impl AuxFunctionDefinition {
     /// Writes the record to the front of `bytes`, and answers its size, 18. One that was read is
-    /// written as it stood, and any is read again from what was written, by the same order of bytes.
+    /// written as it stood, and any is read again from what was written, by the same order of
+    /// bytes.
     ///
     /// # Errors
     /// [`Error::Read`](goblin_base::Error::Read) where there is no room for 18 bytes; `bytes` are
     /// then as they were.
     pub fn try_into_ctx(self, bytes: &mut [u8], endian: Endian) -> Result<usize>
         ensures size { IfOk result (λ n. n ≡ 18) }
-        ensures written { let after = record_over 18 (encoding endian (function_definition_fields self)) bytes.old in
+        ensures written { let after = record_over 18
+            (encoding endian (function_definition_fields self)) bytes.old in
             Writes result after bytes.old bytes.new (IsSliceFault bytes.old 0 18) }
-        ensures long { IfOk result (λ n. length (encoding endian (function_definition_fields self)) ≡ 18) }
-        ensures back { IfOk result (λ n. WritesBack 18 function_definition_record function_definition_fields) }
-        ensures again { IfOk result (λ n. ReadsBack 18 function_definition_record function_definition_fields self) }
+        ensures long { IfOk result
+            (λ n. length (encoding endian (function_definition_fields self)) ≡ 18) }
+        ensures back { IfOk result
+            (λ n. WritesBack 18 function_definition_record function_definition_fields) }
+        ensures again { IfOk result
+            (λ n. ReadsBack 18 function_definition_record function_definition_fields self) }
     {
         Record::try_into_ctx(self, bytes, endian)
     }
@@ -151,18 +162,23 @@ impl Record for AuxBeginAndEndFunction {
 
 impl AuxBeginAndEndFunction {
     /// Writes the record to the front of `bytes`, and answers its size, 18. One that was read is
-    /// written as it stood, and any is read again from what was written, by the same order of bytes.
+    /// written as it stood, and any is read again from what was written, by the same order of
+    /// bytes.
     ///
     /// # Errors
     /// [`Error::Read`](goblin_base::Error::Read) where there is no room for 18 bytes; `bytes` are
     /// then as they were.
     pub fn try_into_ctx(self, bytes: &mut [u8], endian: Endian) -> Result<usize>
         ensures size { IfOk result (λ n. n ≡ 18) }
-        ensures written { let after = record_over 18 (encoding endian (begin_and_end_function_fields self)) bytes.old in
+        ensures written { let after = record_over 18
+            (encoding endian (begin_and_end_function_fields self)) bytes.old in
             Writes result after bytes.old bytes.new (IsSliceFault bytes.old 0 18) }
-        ensures long { IfOk result (λ n. length (encoding endian (begin_and_end_function_fields self)) ≡ 18) }
-        ensures back { IfOk result (λ n. WritesBack 18 begin_and_end_function_record begin_and_end_function_fields) }
-        ensures again { IfOk result (λ n. ReadsBack 18 begin_and_end_function_record begin_and_end_function_fields self) }
+        ensures long { IfOk result
+            (λ n. length (encoding endian (begin_and_end_function_fields self)) ≡ 18) }
+        ensures back { IfOk result
+            (λ n. WritesBack 18 begin_and_end_function_record begin_and_end_function_fields) }
+        ensures again { IfOk result
+            (λ n. ReadsBack 18 begin_and_end_function_record begin_and_end_function_fields self) }
     {
         Record::try_into_ctx(self, bytes, endian)
     }
@@ -222,18 +238,22 @@ impl Record for AuxWeakExternal {
 
 impl AuxWeakExternal {
     /// Writes the record to the front of `bytes`, and answers its size, 18. One that was read is
-    /// written as it stood, and any is read again from what was written, by the same order of bytes.
+    /// written as it stood, and any is read again from what was written, by the same order of
+    /// bytes.
     ///
     /// # Errors
     /// [`Error::Read`](goblin_base::Error::Read) where there is no room for 18 bytes; `bytes` are
     /// then as they were.
     pub fn try_into_ctx(self, bytes: &mut [u8], endian: Endian) -> Result<usize>
         ensures size { IfOk result (λ n. n ≡ 18) }
-        ensures written { let after = record_over 18 (encoding endian (weak_external_fields self)) bytes.old in
+        ensures written { let after = record_over 18 (encoding endian (weak_external_fields self))
+            bytes.old in
             Writes result after bytes.old bytes.new (IsSliceFault bytes.old 0 18) }
-        ensures long { IfOk result (λ n. length (encoding endian (weak_external_fields self)) ≡ 18) }
+        ensures long { IfOk result
+            (λ n. length (encoding endian (weak_external_fields self)) ≡ 18) }
         ensures back { IfOk result (λ n. WritesBack 18 weak_external_record weak_external_fields) }
-        ensures again { IfOk result (λ n. ReadsBack 18 weak_external_record weak_external_fields self) }
+        ensures again { IfOk result
+            (λ n. ReadsBack 18 weak_external_record weak_external_fields self) }
     {
         Record::try_into_ctx(self, bytes, endian)
     }
@@ -310,18 +330,23 @@ impl Record for AuxSectionDefinition {
 
 impl AuxSectionDefinition {
     /// Writes the record to the front of `bytes`, and answers its size, 18. One that was read is
-    /// written as it stood, and any is read again from what was written, by the same order of bytes.
+    /// written as it stood, and any is read again from what was written, by the same order of
+    /// bytes.
     ///
     /// # Errors
     /// [`Error::Read`](goblin_base::Error::Read) where there is no room for 18 bytes; `bytes` are
     /// then as they were.
     pub fn try_into_ctx(self, bytes: &mut [u8], endian: Endian) -> Result<usize>
         ensures size { IfOk result (λ n. n ≡ 18) }
-        ensures written { let after = record_over 18 (encoding endian (section_definition_fields self)) bytes.old in
+        ensures written { let after = record_over 18
+            (encoding endian (section_definition_fields self)) bytes.old in
             Writes result after bytes.old bytes.new (IsSliceFault bytes.old 0 18) }
-        ensures long { IfOk result (λ n. length (encoding endian (section_definition_fields self)) ≡ 18) }
-        ensures back { IfOk result (λ n. WritesBack 18 section_definition_record section_definition_fields) }
-        ensures again { IfOk result (λ n. ReadsBack 18 section_definition_record section_definition_fields self) }
+        ensures long { IfOk result
+            (λ n. length (encoding endian (section_definition_fields self)) ≡ 18) }
+        ensures back { IfOk result
+            (λ n. WritesBack 18 section_definition_record section_definition_fields) }
+        ensures again { IfOk result
+            (λ n. ReadsBack 18 section_definition_record section_definition_fields self) }
     {
         Record::try_into_ctx(self, bytes, endian)
     }

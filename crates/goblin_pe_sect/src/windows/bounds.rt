@@ -4,8 +4,8 @@ ghost use Rattle.std.specs.Prelude.{◌≡◌, ◌+◌, ◌<◌, ◌≤◌, ◌�
 
 use std::marker::Model;
 
-/// Where the pieces of the line of addresses begin. A search sees a bound by [`Bounds::reaches`] alone,
-/// which counts its calls.
+/// Where the pieces of the line of addresses begin. A search sees a bound by [`Bounds::reaches`]
+/// alone, which counts its calls.
 #[derive(Drop)]
 pub struct Bounds {
     begins: Vec<usize>,

@@ -7,8 +7,8 @@ use crate::section_table::SectionTable;
 use crate::utils::section_window;
 use std::alloc::{AllocError, Global};
 
-/// Where the line of addresses is cut, in rising order: at 0 and at each start and end of a window that is
-/// not empty.
+/// Where the line of addresses is cut, in rising order: at 0 and at each start and end of a window
+/// that is not empty.
 pub(super) fn cut_points(
     alloc: Global,
     sections: &[SectionTable],

@@ -1,12 +1,16 @@
 //! Which section each piece of the line of addresses belongs to.
 //!
-//! The pieces are halved, again and again: each stretch of them is handed the windows that may own some of
-//! its pieces, which are few, and hands them on to its halves. So the steps grow like n log n.
+//! The pieces are halved, again and again: each stretch of them is handed the windows that may own
+//! some of its pieces, which are few, and hands them on to its halves. So the steps grow like n log
+//! n.
 
-ghost use Rattle.std.specs.Prelude.{◌≡◌, ◌<◌, ◌++◌, IsTrue, IfOk, OnOk, map, find, filter, position};
+ghost use Rattle.std.specs.Prelude.{◌≡◌, ◌<◌, ◌++◌, IsTrue, IfOk, OnOk, map, find, filter};
+ghost use Rattle.std.specs.Prelude.{position};
 ghost use Rattle.std.specs.List.Sorted.{IsStrictlyIncreasing};
 ghost use Rattle.goblin_pe_sect.specs.WindowIndex.{first_owner};
-ghost use Rattle.goblin_pe_sect.specs.WindowStretches.{window_holds, window_covers, window_meets, owner_among, section_window_at, section_windows, FindTheSame, IsRising};
+ghost use Rattle.goblin_pe_sect.specs.WindowStretches.{window_holds, window_covers, window_meets};
+ghost use Rattle.goblin_pe_sect.specs.WindowStretches.{owner_among, section_window_at};
+ghost use Rattle.goblin_pe_sect.specs.WindowStretches.{section_windows, FindTheSame, IsRising};
 
 use crate::options::ParseOptions;
 use crate::section_table::SectionTable;
@@ -24,7 +28,8 @@ pub struct Owner {
     pub pointer: u32,
 }
 
-// So few windows are walked over for each piece; more are first shared out between halves of the pieces.
+// So few windows are walked over for each piece; more are first shared out between halves of the
+// pieces.
 const FEW: usize = 16;
 
 // The window of a section, and what an index keeps of the section.
@@ -142,7 +147,8 @@ fn push_each_owner(
     windows: &[Window],
     owners: &mut Vec<Option<Owner>>,
 ) -> Result<(), AllocError>
-    ensures { OnOk result (owners.new.items ≡ owners.old.items ++ map (owner_among windows.now) begins.now) }
+    ensures { OnOk result
+        (owners.new.items ≡ owners.old.items ++ map (owner_among windows.now) begins.now) }
 {
     'pieces: for begin in begins {
         owners.push(owner_at(*begin, windows))?;
@@ -150,7 +156,8 @@ fn push_each_owner(
     Ok(())
 }
 
-// Adds the owner of each piece: halves of the pieces, each with the windows that may own some of them.
+// Adds the owner of each piece: halves of the pieces, each with the windows that may own some of
+// them.
 fn push_owners(
     alloc: Global,
     begins: &[usize],
@@ -158,7 +165,8 @@ fn push_owners(
     owners: &mut Vec<Option<Owner>>,
 ) -> Result<(), AllocError>
     requires { IsRising begins.now }
-    ensures { OnOk result (owners.new.items ≡ owners.old.items ++ map (owner_among windows.now) begins.now) }
+    ensures { OnOk result
+        (owners.new.items ≡ owners.old.items ++ map (owner_among windows.now) begins.now) }
 {
     if begins.is_empty() {
         return Ok(());
@@ -179,7 +187,8 @@ fn push_owners(
     Ok(())
 }
 
-/// What is kept of the section of each piece: the first whose window holds the piece's start, if one does.
+/// What is kept of the section of each piece: the first whose window holds the piece's start, if
+/// one does.
 pub(super) fn owners_of(
     alloc: Global,
     begins: &[usize],
@@ -189,7 +198,8 @@ pub(super) fn owners_of(
 ) -> Result<Vec<Option<Owner>>, AllocError>
     requires aligned { 0 < file_alignment }
     requires rising { IsStrictlyIncreasing begins.now }
-    ensures { IfOk result (λ v. v.items ≡ map (first_owner opts.now sections.now file_alignment) begins.now) }
+    ensures { IfOk result
+        (λ v. v.items ≡ map (first_owner opts.now sections.now file_alignment) begins.now) }
 {
     let windows = windows_of(alloc, sections, file_alignment, opts)?;
     let mut owners = Vec::with_capacity(alloc, begins.len())?;

@@ -16,8 +16,8 @@ fn a_range_holds_its_begin_and_not_its_end(rt: HostRuntime) {
     }
 }
 
-/// The offset of an address in one section, which is given by its address, its size in memory, and its
-/// data's size and offset.
+/// The offset of an address in one section, which is given by its address, its size in memory, and
+/// its data's size and offset.
 fn offset_in(numbers: (u32, u32, u32, u32), alignment: u32, rva: usize) -> Option<usize> {
     let (virtual_address, virtual_size, size, pointer) = numbers;
     let sections = [section(virtual_address, virtual_size, size, pointer)];

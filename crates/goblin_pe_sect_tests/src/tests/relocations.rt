@@ -247,8 +247,8 @@ fn blocks_have_a_count(rt: HostRuntime) -> Result<(), Fail> {
     Ok(())
 }
 
-/// Whether a block has an address and a count of words, of which the last fills it up to four bytes,
-/// with type 0, and no other has that type.
+/// Whether a block has an address and a count of words, of which the last fills it up to four
+/// bytes, with type 0, and no other has that type.
 fn is_block(block: &RelocationBlock, want: Option<&(u32, usize)>) -> bool {
     let Some((rva, count)) = want else {
         return false;

@@ -93,8 +93,8 @@ fn a_clone_has_the_empty_name_too(rt: HostRuntime) {
     assert!(rt; matches!(&copy, Ok(copy) if *copy == original));
 }
 
-/// Whether a section is written as these bytes, by the call that may refuse and by the one that does
-/// not.
+/// Whether a section is written as these bytes, by the call that may refuse and by the one that
+/// does not.
 fn is_written(section: &SectionTable, want: &[u8]) -> bool {
     let mut tried = [0xFF; 40];
     let mut written = [0xFF; 40];
@@ -112,7 +112,8 @@ fn a_section_is_written_as_it_stood(rt: HostRuntime) -> Result<(), Fail> {
     Ok(())
 }
 
-/// A record whose numbers are written with their highest bytes first: the bytes after its name go up.
+/// A record whose numbers are written with their highest bytes first: the bytes after its name go
+/// up.
 const HIGHEST_FIRST: &[u8] = b".rdata\0\0\x01\x02\x03\x04\x05\x06\x07\x08\x09\x0A\x0B\x0C\
     \x0D\x0E\x0F\x10\x11\x12\x13\x14\x15\x16\x17\x18\x19\x1A\x1B\x1C\x1D\x1E\x1F\x20";
 
@@ -185,8 +186,8 @@ fn data_is_borrowed_where_no_zeros_follow(rt: HostRuntime) {
     }
 }
 
-/// Whether the data of a section of six bytes, with four in the file of which the last is this byte, is
-/// owned, and is this.
+/// Whether the data of a section of six bytes, with four in the file of which the last is this
+/// byte, is owned, and is this.
 fn is_owned(alloc: Global, byte: u8, want: &[u8]) -> bool {
     let mut file = [0; 16];
     file[7] = byte;

@@ -48,8 +48,8 @@ fn a_window_ends_with_the_least_of_its_sizes(rt: HostRuntime) {
     }
 }
 
-/// Whether an index, and the walk over its sections, find this for an address, the former in so many
-/// probes.
+/// Whether an index, and the walk over its sections, find this for an address, the former in so
+/// many probes.
 fn is_found(
     index: &WindowIndex,
     sections: &[SectionTable],
@@ -150,8 +150,8 @@ fn a_probe_is_counted(rt: HostRuntime) -> Result<(), Fail> {
     Ok(())
 }
 
-/// What the walk over a section whose data begins at no multiple of the alignment, and its index, find
-/// for an address.
+/// What the walk over a section whose data begins at no multiple of the alignment, and its index,
+/// find for an address.
 fn rounded(
     alloc: Global,
     rule: RawPointerRule,

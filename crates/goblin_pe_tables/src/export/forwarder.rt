@@ -2,15 +2,18 @@
 
 ghost use Rattle.std.specs.Prelude.{◌≡◌, ◌↔◌, List, ℕ, Some};
 ghost use Rattle.goblin_base.specs.Answers.{Answers};
-ghost use Rattle.goblin_pe_tables.specs.ForwarderLaws.{forwarder_in-within, forwarder_fault-no_memory};
-ghost use Rattle.goblin_pe_tables.specs.Forwarders.{Forwarder, IsForwarder, IsForwarderAtFault, IsForwarderFault, forwarder_at, forwarder_in, forwarder_of, forwarder_value, ordinal_of};
+ghost use Rattle.goblin_pe_tables.specs.ForwarderLaws.{forwarder_in-within};
+ghost use Rattle.goblin_pe_tables.specs.ForwarderLaws.{forwarder_fault-no_memory};
+ghost use Rattle.goblin_pe_tables.specs.Forwarders.{Forwarder, IsForwarder, IsForwarderAtFault};
+ghost use Rattle.goblin_pe_tables.specs.Forwarders.{IsForwarderFault, forwarder_at, forwarder_in};
+ghost use Rattle.goblin_pe_tables.specs.Forwarders.{forwarder_of, forwarder_value, ordinal_of};
 
 use goblin_base::{Cause, Endian, Error, Result, TryFromCtx, pread_str};
 
 /// What an export that is a forwarder stands for: an export of another library.
 ///
-/// Source: PE Format, "Export Address Table". The text is the library's name, a dot, and the export's
-/// name or `#` and its ordinal, as in `MYDLL.expfunc` and `MYDLL.#27`.
+/// Source: PE Format, "Export Address Table". The text is the library's name, a dot, and the
+/// export's name or `#` and its ordinal, as in `MYDLL.expfunc` and `MYDLL.#27`.
 #[derive(Debug, PartialEq, Copy, Clone)]
 pub enum Reexport<'a> {
     /// An export by its name.
@@ -40,7 +43,8 @@ fn ordinal_of(text: &str) -> Option<u32>
 impl<'a> Reexport<'a> {
     // What a forwarder's text says.
     fn of_text(text: &'a str) -> Result<Reexport<'a>>
-        ensures { Answers forwarder_value result (forwarder_of text.now) (IsForwarderFault text.now) }
+        ensures { Answers forwarder_value result (forwarder_of text.now)
+            (IsForwarderFault text.now) }
     {
         let Some((lib, tail)) = text.split_once('.') else {
             return Err(Error::Malformed(Cause::Forwarder));
@@ -70,8 +74,10 @@ impl<'a> Reexport<'a> {
     /// 2^32 follows the `#`.
     #[tactic(auto, using(crate::proofs::Grammar::by_grammar))]
     pub fn parse(bytes: &'a [u8], offset: usize) -> Result<Reexport<'a>>
-        ensures value { Answers forwarder_value result (forwarder_at bytes.now offset) (IsForwarderAtFault bytes.now offset) }
-        ensures grammar { (text : List ℕ) (f : Forwarder) → (forwarder_of text ≡ Some f) ↔ IsForwarder text f }
+        ensures value { Answers forwarder_value result (forwarder_at bytes.now offset)
+            (IsForwarderAtFault bytes.now offset) }
+        ensures grammar { (text : List ℕ) (f : Forwarder) → (forwarder_of text ≡ Some f)
+            ↔ IsForwarder text f }
     {
         let text = pread_str(bytes, offset)?;
         Reexport::of_text(text)

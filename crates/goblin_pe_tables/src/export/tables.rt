@@ -1,11 +1,15 @@
 //! The export directory's record, and the three tables that it leads to.
 
-ghost use Rattle.std.specs.Prelude.{◌≡◌, ◌<◌, ◌≤◌, true, false, List, ℕ, IfErr, IsSome, OnErr, OnOk, length, IfOk};
+ghost use Rattle.std.specs.Prelude.{◌≡◌, ◌<◌, ◌≤◌, true, false, List, ℕ, IfErr, IsSome, OnErr};
+ghost use Rattle.std.specs.Prelude.{OnOk, length, IfOk};
 ghost use Rattle.goblin_base.specs.Answers.{Answers, GivesOrMemory, IsSliceFault, Writes};
 ghost use Rattle.goblin_base.specs.Tables.{counted_table_if};
 ghost use Rattle.goblin_base.specs.Record.{ReadsBack, WritesBack, encoding, record_over};
 ghost use Rattle.goblin_pe_tables.specs.declared.export.tables.ExportDirectoryTable.{ExportDirectoryTable};
-ghost use Rattle.goblin_pe_tables.specs.Exports.{IsCountFault, IsNoExportTable, address_entry, addresses, counts_fit, export_directory_at, export_directory_fields, export_directory_record, name_pointers, ordinals};
+ghost use Rattle.goblin_pe_tables.specs.Exports.{IsCountFault, IsNoExportTable, address_entry};
+ghost use Rattle.goblin_pe_tables.specs.Exports.{addresses, counts_fit, export_directory_at};
+ghost use Rattle.goblin_pe_tables.specs.Exports.{export_directory_fields, export_directory_record};
+ghost use Rattle.goblin_pe_tables.specs.Exports.{name_pointers, ordinals};
 
 use crate::table::Table;
 use goblin_base::{
@@ -115,7 +119,8 @@ impl ExportDirectoryTable {
     /// [`Error::Malformed`] with [`Cause::ExportTable`] where the 40 bytes pass the end of the
     /// file.
     pub fn parse(bytes: &[u8], offset: usize) -> Result<ExportDirectoryTable>
-        ensures { Answers (λ t. t) result (export_directory_at bytes.now offset) (IsNoExportTable offset) }
+        ensures { Answers (λ t. t) result (export_directory_at bytes.now offset)
+            (IsNoExportTable offset) }
     {
         match ExportDirectoryTable::read_at(bytes, offset, Endian::Little) {
             Ok(table) => Ok(table),
@@ -124,17 +129,22 @@ impl ExportDirectoryTable {
     }
 
     /// Writes the record to the front of `bytes`, and answers its size, 40. One that was read is
-    /// written as it stood, and any is read again from what was written, by the same order of bytes.
+    /// written as it stood, and any is read again from what was written, by the same order of
+    /// bytes.
     ///
     /// # Errors
     /// [`Error::Read`] where there is no room for 40 bytes; `bytes` are then as they were.
     pub fn try_into_ctx(self, bytes: &mut [u8], endian: Endian) -> Result<usize>
         ensures size { IfOk result (λ n. n ≡ 40) }
-        ensures written { let after = record_over 40 (encoding endian (export_directory_fields self)) bytes.old in
+        ensures written { let after = record_over 40
+            (encoding endian (export_directory_fields self)) bytes.old in
             Writes result after bytes.old bytes.new (IsSliceFault bytes.old 0 40) }
-        ensures long { IfOk result (λ n. length (encoding endian (export_directory_fields self)) ≡ 40) }
-        ensures back { IfOk result (λ n. WritesBack 40 export_directory_record export_directory_fields) }
-        ensures again { IfOk result (λ n. ReadsBack 40 export_directory_record export_directory_fields self) }
+        ensures long { IfOk result
+            (λ n. length (encoding endian (export_directory_fields self)) ≡ 40) }
+        ensures back { IfOk result
+            (λ n. WritesBack 40 export_directory_record export_directory_fields) }
+        ensures again { IfOk result
+            (λ n. ReadsBack 40 export_directory_record export_directory_fields self) }
     {
         Record::try_into_ctx(self, bytes, endian)
     }
@@ -200,8 +210,8 @@ fn room(bytes: &[u8], begin: usize, width: usize, count: u32) -> usize
     ((bytes.len() - begin) / width).min(count as usize)
 }
 
-// The table of `count` entries of `width` bytes, cut at the first that is not whole; without an offset
-// it has none.
+// The table of `count` entries of `width` bytes, cut at the first that is not whole; without an
+// offset it has none.
 fn counted_table<V: Drop, F: Fn(&[u8]) -> V>(
     alloc: Global,
     bytes: &[u8],
@@ -211,8 +221,11 @@ fn counted_table<V: Drop, F: Fn(&[u8]) -> V>(
     value_of: F,
 ) -> Result<Table<V>>
     requires { (entry : _) → length entry.now ≡ width → F.pre value_of entry }
-    ensures value { (value : List ℕ → V) → ((entry : _) (v : V) → length entry.now ≡ width → F.post value_of entry v → v ≡ value entry.now)
-        → GivesOrMemory (λ t. t) result (counted_table_if (record { width = width; value_of = value }) count bytes.now offset) }
+    ensures value { (value : List ℕ → V)
+        → ((entry : _) (v : V) → length entry.now ≡ width → F.post value_of entry v
+        → v ≡ value entry.now)
+        → GivesOrMemory (λ t. t) result
+        (counted_table_if (record { width = width; value_of = value }) count bytes.now offset) }
     ensures grown { OnErr result (IsSome offset × (0 < count)) }
 {
     let Some(begin) = offset else {
@@ -237,7 +250,8 @@ pub(super) fn name_pointers(
     offset: Option<usize>,
     count: u32,
 ) -> Result<ExportNamePointerTable>
-    ensures value { GivesOrMemory (λ t. t) result (counted_table_if name_pointers count bytes.now offset) }
+    ensures value { GivesOrMemory (λ t. t) result
+        (counted_table_if name_pointers count bytes.now offset) }
     ensures grown { OnErr result (0 < count) }
 {
     counted_table(alloc, bytes, offset, SIZEOF_NAME_POINTER, count, |entry| {
@@ -252,7 +266,8 @@ pub(super) fn ordinals(
     offset: Option<usize>,
     count: u32,
 ) -> Result<ExportOrdinalTable>
-    ensures value { GivesOrMemory (λ t. t) result (counted_table_if ordinals count bytes.now offset) }
+    ensures value { GivesOrMemory (λ t. t) result
+        (counted_table_if ordinals count bytes.now offset) }
     ensures grown { OnErr result (0 < count) }
 {
     counted_table(alloc, bytes, offset, SIZEOF_ORDINAL, count, |entry| {
@@ -268,7 +283,8 @@ pub(super) fn addresses(
     count: u32,
     directory: DataDirectory,
 ) -> Result<ExportAddressTable>
-    ensures value { GivesOrMemory (λ t. t) result (counted_table_if (addresses directory) count bytes.now offset) }
+    ensures value { GivesOrMemory (λ t. t) result
+        (counted_table_if (addresses directory) count bytes.now offset) }
     ensures grown { OnErr result (0 < count) }
 {
     counted_table(

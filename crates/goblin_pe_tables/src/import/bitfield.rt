@@ -5,7 +5,8 @@ ghost use Rattle.std.proofs.Common.{lit≤};
 ghost use Rattle.goblin_base.specs.Answers.{Answers, IsSliceFault};
 ghost use Rattle.goblin_base.specs.Record.{record_at};
 ghost use Rattle.goblin_base.specs.Tables.{Format};
-ghost use Rattle.goblin_pe_tables.specs.ImportLookup.{EntryValue, entries_32, entries_64, entry_value};
+ghost use Rattle.goblin_pe_tables.specs.ImportLookup.{EntryValue, entries_32, entries_64};
+ghost use Rattle.goblin_pe_tables.specs.ImportLookup.{entry_value};
 
 use goblin_base::{Endian, ResultOf, field_u32, field_u64, pread_slice};
 
@@ -25,11 +26,11 @@ const _: () = prove!(
         && IMPORT_RVA_MASK_64 == 0x7FFF_FFFF
 );
 
-/// The type of the entries of lookup and address tables: `u32` in an image for 32 bits, `u64` in one
-/// for 64 bits.
+/// The type of the entries of lookup and address tables: `u32` in an image for 32 bits, `u64` in
+/// one for 64 bits.
 ///
-/// Source: PE Format, "Import Lookup Table". What an entry answers is a function of the bytes that it
-/// was read from.
+/// Source: PE Format, "Import Lookup Table". What an entry answers is a function of the bytes that
+/// it was read from.
 pub trait Bitfield<'a>: Eq + Drop {
     /// How many bytes an entry has, and what they say.
     ghost format: { Format EntryValue };
@@ -147,7 +148,8 @@ impl<'a> Bitfield<'a> for u64 {
 
 // The entry at an offset.
 pub(crate) fn read_entry<'a, 'e, T: Bitfield<'a>>(bytes: &'a [u8], offset: usize) -> ResultOf<'e, T>
-    ensures { Answers T.value result (record_at T.format.width T.format.value_of bytes.now offset) (IsSliceFault bytes.now offset T.format.width) }
+    ensures { Answers T.value result (record_at T.format.width T.format.value_of bytes.now offset)
+        (IsSliceFault bytes.now offset T.format.width) }
 {
     let entry = pread_slice(bytes, offset, T::size_of())?;
     Ok(T::read(entry))

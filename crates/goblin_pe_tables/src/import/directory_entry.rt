@@ -3,7 +3,8 @@
 ghost use Rattle.std.specs.Prelude.{◌≡◌, ◌==◌, ◌&&◌, not, IfOk, length};
 ghost use Rattle.goblin_base.specs.Answers.{IsSliceFault, Writes};
 ghost use Rattle.goblin_base.specs.Record.{ReadsBack, WritesBack, encoding, record_over};
-ghost use Rattle.goblin_pe_tables.specs.ImportRecords.{import_fields, import_record, is_last_record};
+ghost use Rattle.goblin_pe_tables.specs.ImportRecords.{import_fields, import_record};
+ghost use Rattle.goblin_pe_tables.specs.ImportRecords.{is_last_record};
 ghost use Rattle.goblin_pe_tables.specs.declared.import.directory_entry.ImportDirectoryEntry.{ImportDirectoryEntry};
 
 use goblin_base::{Endian, Field, Record, Result, field_u32, put_fields};
@@ -74,7 +75,10 @@ impl ImportDirectoryEntry {
     /// stop earlier: see [`ImportDirectoryEntry::is_possibly_valid`].
     pub fn is_null(&self) -> bool
         ensures { let r = self.now in
-            result ≡ (r.import_lookup_table_rva == 0 && r.time_date_stamp == 0 && r.forwarder_chain == 0 && r.name_rva == 0 && r.import_address_table_rva == 0) }
+            result
+            ≡ (r.import_lookup_table_rva == 0 && r.time_date_stamp == 0
+            && r.forwarder_chain == 0 && r.name_rva == 0
+            && r.import_address_table_rva == 0) }
     {
         self.import_lookup_table_rva == 0
             && self.time_date_stamp == 0
@@ -92,14 +96,16 @@ impl ImportDirectoryEntry {
     }
 
     /// Writes the record to the front of `bytes`, and answers its size, 20. One that was read is
-    /// written as it stood, and any is read again from what was written, by the same order of bytes.
+    /// written as it stood, and any is read again from what was written, by the same order of
+    /// bytes.
     ///
     /// # Errors
     /// [`Error::Read`](goblin_base::Error::Read) where there is no room for 20 bytes; `bytes` are
     /// then as they were.
     pub fn try_into_ctx(self, bytes: &mut [u8], endian: Endian) -> Result<usize>
         ensures size { IfOk result (λ n. n ≡ 20) }
-        ensures written { let after = record_over 20 (encoding endian (import_fields self)) bytes.old in
+        ensures written { let after = record_over 20 (encoding endian (import_fields self))
+            bytes.old in
             Writes result after bytes.old bytes.new (IsSliceFault bytes.old 0 20) }
         ensures long { IfOk result (λ n. length (encoding endian (import_fields self)) ≡ 20) }
         ensures back { IfOk result (λ n. WritesBack 20 import_record import_fields) }

@@ -8,7 +8,9 @@ ghost use Rattle.goblin_pe_sect.specs.Mapping.{file_offset};
 ghost use Rattle.goblin_pe_sect.specs.Options.{default_options, is_strict};
 ghost use Rattle.goblin_pe_sect.specs.WindowIndex.{HasPieces};
 ghost use Rattle.goblin_pe_tables.specs.Addresses.{offset_of, reads_strictly};
-ghost use Rattle.goblin_pe_tables.specs.ImportDirectory.{HasImports, IsLibraryFault, address_table_rva, library_of, lookup_offset};
+ghost use Rattle.goblin_pe_tables.specs.ImportDirectory.{HasImports, IsLibraryFault};
+ghost use Rattle.goblin_pe_tables.specs.ImportDirectory.{address_table_rva, library_of};
+ghost use Rattle.goblin_pe_tables.specs.ImportDirectory.{lookup_offset};
 ghost use Rattle.goblin_pe_tables.specs.ImportLookup.{KeepsEntries, entry_view};
 ghost use Rattle.goblin_pe_tables.specs.ImportReadings as reading;
 ghost use Rattle.goblin_pe_tables.specs.ImportReadings.{lookup_if, name_at};
@@ -61,7 +63,8 @@ impl<'a> Model for SyntheticImportDirectoryEntry<'a> {
     } };
 }
 
-// The lookup table at an offset with the slots of its entries, and nothing where there is no offset.
+// The lookup table at an offset with the slots of its entries, and nothing where there is no
+// offset.
 #[tactic(auto, unfolding(crate::specs::ImportReadings::lookup_if))]
 fn lookup_table_if<'a, 'e, T: Bitfield<'a>>(
     alloc: Global,
@@ -69,8 +72,16 @@ fn lookup_table_if<'a, 'e, T: Bitfield<'a>>(
     offset: Option<usize>,
     address_map: &AddressMap,
 ) -> ResultOf<'e, (Option<ImportLookupTable<'a>>, Vec<usize>)>
-    ensures value { ReadsOrMemory (λ both. (option_map (map entry_view) both.0, both.1.items)) result (lookup_if (reads_strictly address_map.now) T.format (offset_of address_map.now) offset) bytes.now }
-    ensures grown { IfErr result (λ e. IsMemory e → IsSomeAnd offset (KeepsEntries (reads_strictly address_map.now) T.format (offset_of address_map.now) bytes.now)) }
+    ensures value { ReadsOrMemory (λ both. (option_map (map entry_view) both.0, both.1.items))
+        result
+        (lookup_if (reads_strictly address_map.now) T.format (offset_of address_map.now) offset)
+        bytes.now }
+    ensures grown { IfErr result
+        (λ e.
+        IsMemory e
+        → IsSomeAnd offset
+        (KeepsEntries (reads_strictly address_map.now) T.format (offset_of address_map.now)
+        bytes.now)) }
 {
     let Some(offset) = offset else {
         return Ok((None, Vec::new(alloc)));
@@ -87,7 +98,9 @@ fn lookup_table_if<'a, 'e, T: Bitfield<'a>>(
 // The name of a library; in permissive mode the empty one where none can be read.
 #[tactic(auto, unfolding(crate::specs::ImportReadings::name_at), using(crate::proofs::LibraryNames::taken, crate::proofs::LibraryNames::missing))]
 fn library_name<'a>(bytes: &'a [u8], rva: u32, address_map: &AddressMap) -> Result<&'a str>
-    ensures { Reads (λ s. s.now) result (or_else (reads_strictly address_map.now) [] (name_at (offset_of address_map.now) rva)) bytes.now }
+    ensures { Reads (λ s. s.now) result
+        (or_else (reads_strictly address_map.now) [] (name_at (offset_of address_map.now) rva))
+        bytes.now }
 {
     let name = address_map.name_at(bytes, rva)?;
     Ok(name.unwrap_or(no_text(bytes)))
@@ -116,8 +129,8 @@ pub(crate) fn address_table_rva(entry: &ImportDirectoryEntry) -> u32
 }
 
 impl<'a> SyntheticImportDirectoryEntry<'a> {
-    /// What a record leads to, as [`SyntheticImportDirectoryEntry::parse_with_opts`] with the default
-    /// options.
+    /// What a record leads to, as [`SyntheticImportDirectoryEntry::parse_with_opts`] with the
+    /// default options.
     ///
     /// # Errors
     /// As [`SyntheticImportDirectoryEntry::parse_with_opts`] in strict mode.
@@ -129,9 +142,15 @@ impl<'a> SyntheticImportDirectoryEntry<'a> {
         file_alignment: u32,
     ) -> ResultOf<'e, SyntheticImportDirectoryEntry<'a>>
         ensures value { let m = file_offset default_options sections.now file_alignment in
-            AnswersOrMemory (λ x. x) result (library_of true T.format m bytes.now import_directory_entry) (IsLibraryFault true T.format m bytes.now import_directory_entry) }
+            AnswersOrMemory (λ x. x) result
+            (library_of true T.format m bytes.now import_directory_entry)
+            (IsLibraryFault true T.format m bytes.now import_directory_entry) }
         ensures grown { let m = file_offset default_options sections.now file_alignment in
-            IfErr result (λ e. IsMemory e → HasImports true T.format m bytes.now import_directory_entry ⊎ HasPieces default_options file_alignment) }
+            IfErr result
+            (λ e.
+            IsMemory e
+            → HasImports true T.format m bytes.now import_directory_entry
+            ⊎ HasPieces default_options file_alignment) }
     {
         let opts = ParseOptions::default();
         SyntheticImportDirectoryEntry::parse_with_opts::<T>(
@@ -147,20 +166,20 @@ impl<'a> SyntheticImportDirectoryEntry<'a> {
     /// What a record leads to: the library's name, its lookup table and its address table, of
     /// entries of type `T`.
     ///
-    /// The lookup table is read at its address, and where that has no file offset, at the address of
-    /// the address table; where that has none either, there is no lookup table. The address table is
-    /// read at its address, and where that is 0, at the address of the lookup table; it keeps the
-    /// numbers up to one that is 0. The slots are those of
+    /// The lookup table is read at its address, and where that has no file offset, at the address
+    /// of the address table; where that has none either, there is no lookup table. The address
+    /// table is read at its address, and where that is 0, at the address of the lookup table; it
+    /// keeps the numbers up to one that is 0. The slots are those of
     /// [`SyntheticImportLookupTableEntry::parse_with_slots`].
     ///
     /// # Errors
-    /// In strict mode as [`safe_try_name`](goblin_pe_sect::utils::safe_try_name) where no name can be read;
-    /// in permissive mode the name is then empty. As
+    /// In strict mode as [`safe_try_name`](goblin_pe_sect::utils::safe_try_name) where no name can
+    /// be read; in permissive mode the name is then empty. As
     /// [`SyntheticImportLookupTableEntry::parse_with_opts`] where the lookup table is refused. In
     /// both modes [`Error::Malformed`] with [`Cause::Unmapped`] where the address of the address
     /// table has no file offset, and [`Error::Read`] where that table meets the end of the file.
-    /// [`Error::Memory`] where memory is refused, which is asked for where addresses are mapped, and
-    /// where either table keeps an entry.
+    /// [`Error::Memory`] where memory is refused, which is asked for where addresses are mapped,
+    /// and where either table keeps an entry.
     pub fn parse_with_opts<'e, T: Bitfield<'a>>(
         alloc: Global,
         bytes: &'a [u8],
@@ -171,9 +190,16 @@ impl<'a> SyntheticImportDirectoryEntry<'a> {
     ) -> ResultOf<'e, SyntheticImportDirectoryEntry<'a>>
         ensures value { let m = file_offset opts.now sections.now file_alignment in
             let strict = is_strict opts.now.parse_mode in
-            AnswersOrMemory (λ x. x) result (library_of strict T.format m bytes.now import_directory_entry) (IsLibraryFault strict T.format m bytes.now import_directory_entry) }
+            AnswersOrMemory (λ x. x) result
+            (library_of strict T.format m bytes.now import_directory_entry)
+            (IsLibraryFault strict T.format m bytes.now import_directory_entry) }
         ensures grown { let m = file_offset opts.now sections.now file_alignment in
-            IfErr result (λ e. IsMemory e → HasImports (is_strict opts.now.parse_mode) T.format m bytes.now import_directory_entry ⊎ HasPieces opts.now file_alignment) }
+            IfErr result
+            (λ e.
+            IsMemory e
+            → HasImports (is_strict opts.now.parse_mode) T.format m bytes.now
+            import_directory_entry
+            ⊎ HasPieces opts.now file_alignment) }
     {
         let address_map = AddressMap::prepare(alloc, sections, file_alignment, opts)?;
         SyntheticImportDirectoryEntry::parse_by::<T>(
@@ -192,8 +218,15 @@ impl<'a> SyntheticImportDirectoryEntry<'a> {
         import_directory_entry: ImportDirectoryEntry,
         address_map: &AddressMap,
     ) -> ResultOf<'e, SyntheticImportDirectoryEntry<'a>>
-        ensures value { ReadsOrMemory (λ x. x) result (reading.library_of (reads_strictly address_map.now) T.format (offset_of address_map.now) import_directory_entry) bytes.now }
-        ensures grown { IfErr result (λ e. IsMemory e → HasImports (reads_strictly address_map.now) T.format (offset_of address_map.now) bytes.now import_directory_entry) }
+        ensures value { ReadsOrMemory (λ x. x) result
+            (reading.library_of (reads_strictly address_map.now) T.format
+            (offset_of address_map.now) import_directory_entry)
+            bytes.now }
+        ensures grown { IfErr result
+            (λ e.
+            IsMemory e
+            → HasImports (reads_strictly address_map.now) T.format (offset_of address_map.now)
+            bytes.now import_directory_entry) }
     {
         let record = &import_directory_entry;
         let name = library_name(bytes, record.name_rva, address_map)?;

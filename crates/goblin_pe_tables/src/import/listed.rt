@@ -1,11 +1,16 @@
 //! The list of imports.
 
-ghost use Rattle.std.specs.Prelude.{◌≡◌, ◌<◌, ◌≤◌, ◌⊎◌, ◌++◌, ◌∷◌, [], IfErr, IfOk, None, OnErr, OnOk, false, length, map, min, option_map, string_bytes, true, vec_capacity, vec_len};
+ghost use Rattle.std.specs.Prelude.{◌≡◌, ◌<◌, ◌≤◌, ◌⊎◌, ◌++◌, ◌∷◌, [], IfErr, IfOk, None, OnErr};
+ghost use Rattle.std.specs.Prelude.{OnOk, false, length, map, min, option_map, string_bytes, true};
+ghost use Rattle.std.specs.Prelude.{vec_capacity, vec_len};
 ghost use Rattle.std.specs.Option.{option_copied};
 ghost use Rattle.goblin_base.specs.Answers.{AnswersOrMemory, GivesOrMemory, IsMemory};
 ghost use Rattle.goblin_pe_tables.specs.ImportBound.{AreFew};
 ghost use Rattle.goblin_pe_tables.specs.ImportLookup.{entry_view};
-ghost use Rattle.goblin_pe_tables.specs.Imports.{IsImportsFault, IsOverflow, first_without_slots, has_slots, import_of, import_offset, imports_by, imports_of, kept_count, kept_entries, library_imports, ordinal_name};
+ghost use Rattle.goblin_pe_tables.specs.Imports.{IsImportsFault, IsOverflow, first_without_slots};
+ghost use Rattle.goblin_pe_tables.specs.Imports.{has_slots, import_of, import_offset, imports_by};
+ghost use Rattle.goblin_pe_tables.specs.Imports.{imports_of, kept_count, kept_entries};
+ghost use Rattle.goblin_pe_tables.specs.Imports.{library_imports, ordinal_name};
 
 use crate::import::ImportData;
 use crate::import::bitfield::Bitfield;
@@ -104,8 +109,10 @@ impl<'a> Import<'a> {
         import_data: &ImportData<'a>,
         _sections: &[SectionTable],
     ) -> ResultOf<'e, Vec<Import<'a>>>
-        ensures value { AnswersOrMemory (λ v. v.items) result (imports_of T.format.width import_data.now) (IsImportsFault import_data.now) }
-        ensures counted { IfErr result (λ e. IsMemory e → first_without_slots import_data.now ≡ None) }
+        ensures value { AnswersOrMemory (λ v. v.items) result
+            (imports_of T.format.width import_data.now) (IsImportsFault import_data.now) }
+        ensures counted { IfErr result
+            (λ e. IsMemory e → first_without_slots import_data.now ≡ None) }
         ensures grown { IfErr result (λ e. IsMemory e → 0 < kept_count import_data.now) }
         ensures bound { IfOk result (λ v. AreFew T.format import_data.now v.items) }
     {
@@ -149,8 +156,8 @@ fn first_without_slots<'b, 'a>(
     libraries.iter().find(|library| !has_slots(library))
 }
 
-// How many entries the lookup tables of libraries keep, or the greatest number, for which there is no
-// memory.
+// How many entries the lookup tables of libraries keep, or the greatest number, for which there is
+// no memory.
 fn count_of(libraries: &[SyntheticImportDirectoryEntry]) -> usize
     ensures { result ≡ min (kept_count libraries.now) usize.MAX }
 {
@@ -172,9 +179,13 @@ fn push_entry<'a>(
     offset: usize,
     size: usize,
 ) -> Result<()>
-    ensures added { OnOk result (imports.new.items ≡ imports.old.items ++ import_of dll.now slot offset size (entry_view entry.now) ∷ []) }
+    ensures added { OnOk result
+        (imports.new.items
+        ≡ imports.old.items ++ import_of dll.now slot offset size (entry_view entry.now) ∷ []) }
     ensures refused { IfErr result IsMemory }
-    ensures grown { OnErr result (((import_of dll.now slot offset size (entry_view entry.now)).is_borrowed ≡ false) ⊎ (vec_capacity imports.old ≤ vec_len imports.old)) }
+    ensures grown { OnErr result
+        (((import_of dll.now slot offset size (entry_view entry.now)).is_borrowed ≡ false)
+        ⊎ (vec_capacity imports.old ≤ vec_len imports.old)) }
 {
     match entry {
         SyntheticImportLookupTableEntry::OrdinalNumber(ordinal) => {
@@ -204,8 +215,8 @@ fn push_entry<'a>(
     Ok(())
 }
 
-// Appends the imports of a table's entries, each in its slot of `size` bytes of the address table at
-// `rva`.
+// Appends the imports of a table's entries, each in its slot of `size` bytes of the address table
+// at `rva`.
 fn push_entries<'a>(
     alloc: Global,
     imports: &mut Vec<Import<'a>>,
@@ -217,7 +228,8 @@ fn push_entries<'a>(
 ) -> Result<()>
     requires { length slots.now ≡ length entries.now }
     ensures value { let made = imports_by size dll.now rva (map entry_view entries.now) slots.now in
-        AnswersOrMemory (λ _. imports.new.items) result (option_map (λ more. imports.old.items ++ more) made) IsOverflow }
+        AnswersOrMemory (λ _. imports.new.items) result
+        (option_map (λ more. imports.old.items ++ more) made) IsOverflow }
     ensures grown { IfErr result (λ e. IsMemory e → 0 < length entries.now) }
 {
     'entries: for (position, entry) in entries.iter().enumerate() {
@@ -238,7 +250,9 @@ fn push_imports<'a>(
     size: usize,
 ) -> Result<()>
     requires { has_slots library.now ≡ true }
-    ensures value { AnswersOrMemory (λ _. imports.new.items) result (option_map (λ made. imports.old.items ++ made) (library_imports size library.now)) IsOverflow }
+    ensures value { AnswersOrMemory (λ _. imports.new.items) result
+        (option_map (λ made. imports.old.items ++ made) (library_imports size library.now))
+        IsOverflow }
     ensures grown { IfErr result (λ e. IsMemory e → 0 < length (kept_entries library.now)) }
 {
     push_entries(
@@ -259,7 +273,8 @@ fn imports_of<'a>(
     libraries: &[SyntheticImportDirectoryEntry<'a>],
     size: usize,
 ) -> Result<Vec<Import<'a>>>
-    ensures value { AnswersOrMemory (λ v. v.items) result (imports_of size libraries.now) (IsImportsFault libraries.now) }
+    ensures value { AnswersOrMemory (λ v. v.items) result (imports_of size libraries.now)
+        (IsImportsFault libraries.now) }
     ensures counted { IfErr result (λ e. IsMemory e → first_without_slots libraries.now ≡ None) }
     ensures grown { IfErr result (λ e. IsMemory e → 0 < kept_count libraries.now) }
 {

@@ -1,6 +1,7 @@
 //! Import lookup tables: what is imported from a library, by name or by ordinal.
 
-ghost use Rattle.std.specs.Prelude.{◌≡◌, ◌<◌, ◌++◌, ◌∷◌, [], ◌⊎◌, IfErr, IfOk, OnErr, OnOk, Some, if◌then◌else◌, length, map, option_to_list, true};
+ghost use Rattle.std.specs.Prelude.{◌≡◌, ◌<◌, ◌++◌, ◌∷◌, [], ◌⊎◌, IfErr, IfOk, OnErr, OnOk, Some};
+ghost use Rattle.std.specs.Prelude.{if◌then◌else◌, length, map, option_to_list, true};
 ghost use Rattle.std.specs.List.{All};
 ghost use Rattle.std.specs.List.Sorted.{IsStrictlyIncreasing};
 ghost use Rattle.goblin_base.specs.Answers.{AnswersOrMemory, IsMemory};
@@ -10,7 +11,9 @@ ghost use Rattle.goblin_pe_sect.specs.Mapping.{file_offset};
 ghost use Rattle.goblin_pe_sect.specs.Options.{default_options, is_strict};
 ghost use Rattle.goblin_pe_sect.specs.WindowIndex.{HasPieces};
 ghost use Rattle.goblin_pe_tables.specs.Addresses.{offset_of, reads_strictly};
-ghost use Rattle.goblin_pe_tables.specs.ImportLookup.{IsLookupTableFault, KeepsEntries, entry_slots, lookup_slots, lookup_table, entry_view, hint_name_view, kept_view};
+ghost use Rattle.goblin_pe_tables.specs.ImportLookup.{IsLookupTableFault, KeepsEntries};
+ghost use Rattle.goblin_pe_tables.specs.ImportLookup.{entry_slots, lookup_slots, lookup_table};
+ghost use Rattle.goblin_pe_tables.specs.ImportLookup.{entry_view, hint_name_view, kept_view};
 ghost use Rattle.goblin_pe_tables.specs.LookupReadings as reading;
 
 use crate::address_map::AddressMap;
@@ -44,8 +47,8 @@ pub struct HintNameTableEntry<'a> {
 }
 
 impl<'a> HintNameTableEntry<'a> {
-    /// The hint and the name at the file offset `offset`, as [`HintNameTableEntry::parse_with_opts`]
-    /// with the default options.
+    /// The hint and the name at the file offset `offset`, as
+    /// [`HintNameTableEntry::parse_with_opts`] with the default options.
     ///
     /// # Errors
     /// As [`HintNameTableEntry::parse_with_opts`] in strict mode.
@@ -68,7 +71,8 @@ impl<'a> HintNameTableEntry<'a> {
         offset: usize,
         opts: &ParseOptions,
     ) -> Result<HintNameTableEntry<'a>>
-        ensures { Reads hint_name_view result (reading.hint_name (is_strict opts.now.parse_mode) offset) bytes.now }
+        ensures { Reads hint_name_view result
+            (reading.hint_name (is_strict opts.now.parse_mode) offset) bytes.now }
     {
         let Ok(hint) = pread_u16(bytes, offset, Endian::Little) else {
             return Err(Error::Malformed(Cause::HintEntry(offset)));
@@ -94,14 +98,18 @@ pub enum SyntheticImportLookupTableEntry<'a> {
 }
 
 impl<'a> SyntheticImportLookupTableEntry<'a> {
-    // What a table keeps of an entry: `None` where it leads nowhere, or in permissive mode to no hint.
+    // What a table keeps of an entry: `None` where it leads nowhere, or in permissive mode to no
+    // hint.
     #[tactic(auto, unfolding(crate::specs::LookupReadings::kept_entry, crate::specs::LookupReadings::kept_name))]
     fn kept<'e, T: Bitfield<'a>>(
         entry: &T,
         bytes: &'a [u8],
         address_map: &AddressMap,
     ) -> ResultOf<'e, Option<SyntheticImportLookupTableEntry<'a>>>
-        ensures { Reads kept_view result (reading.kept_entry (reads_strictly address_map.now) (offset_of address_map.now) (T.value entry.now)) bytes.now }
+        ensures { Reads kept_view result
+            (reading.kept_entry (reads_strictly address_map.now) (offset_of address_map.now)
+            (T.value entry.now))
+            bytes.now }
     {
         if entry.is_ordinal() {
             let ordinal = entry.to_ordinal();
@@ -138,9 +146,14 @@ impl<'a> SyntheticImportLookupTableEntry<'a> {
         file_alignment: u32,
     ) -> ResultOf<'e, ImportLookupTable<'a>>
         ensures value { let m = file_offset default_options sections.now file_alignment in
-            AnswersOrMemory (map entry_view) result (lookup_table true T.format m bytes.now offset) (IsLookupTableFault true T.format m bytes.now offset) }
+            AnswersOrMemory (map entry_view) result (lookup_table true T.format m bytes.now offset)
+            (IsLookupTableFault true T.format m bytes.now offset) }
         ensures grown { let m = file_offset default_options sections.now file_alignment in
-            IfErr result (λ e. IsMemory e → KeepsEntries true T.format m bytes.now offset ⊎ HasPieces default_options file_alignment) }
+            IfErr result
+            (λ e.
+            IsMemory e
+            → KeepsEntries true T.format m bytes.now offset
+            ⊎ HasPieces default_options file_alignment) }
     {
         let opts = ParseOptions::default();
         SyntheticImportLookupTableEntry::parse_with_opts::<T>(
@@ -153,17 +166,17 @@ impl<'a> SyntheticImportLookupTableEntry<'a> {
         )
     }
 
-    /// The lookup table at the file offset `offset`: what is kept of the entries of type `T` there, up
-    /// to one whose number is 0.
+    /// The lookup table at the file offset `offset`: what is kept of the entries of type `T` there,
+    /// up to one whose number is 0.
     ///
-    /// An entry by ordinal is kept. One whose address has no file offset is left out, in both modes;
-    /// and in permissive mode also one whose hint is not whole.
+    /// An entry by ordinal is kept. One whose address has no file offset is left out, in both
+    /// modes; and in permissive mode also one whose hint is not whole.
     ///
     /// # Errors
-    /// In strict mode [`Error::Malformed`] with [`Cause::LookupEnd`] where the table meets the end of
-    /// the file, and as [`HintNameTableEntry::parse_with_opts`] where an entry leads to no hint and
-    /// name; in permissive mode the table ends there. [`Error::Memory`] where memory is refused, which
-    /// is asked for where addresses are mapped, and where an entry is kept.
+    /// In strict mode [`Error::Malformed`] with [`Cause::LookupEnd`] where the table meets the end
+    /// of the file, and as [`HintNameTableEntry::parse_with_opts`] where an entry leads to no hint
+    /// and name; in permissive mode the table ends there. [`Error::Memory`] where memory is
+    /// refused, which is asked for where addresses are mapped, and where an entry is kept.
     pub fn parse_with_opts<'e, T: Bitfield<'a>>(
         alloc: Global,
         bytes: &'a [u8],
@@ -174,9 +187,15 @@ impl<'a> SyntheticImportLookupTableEntry<'a> {
     ) -> ResultOf<'e, ImportLookupTable<'a>>
         ensures value { let m = file_offset opts.now sections.now file_alignment in
             let strict = is_strict opts.now.parse_mode in
-            AnswersOrMemory (map entry_view) result (lookup_table strict T.format m bytes.now offset) (IsLookupTableFault strict T.format m bytes.now offset) }
+            AnswersOrMemory (map entry_view) result
+            (lookup_table strict T.format m bytes.now offset)
+            (IsLookupTableFault strict T.format m bytes.now offset) }
         ensures grown { let m = file_offset opts.now sections.now file_alignment in
-            IfErr result (λ e. IsMemory e → KeepsEntries (is_strict opts.now.parse_mode) T.format m bytes.now offset ⊎ HasPieces opts.now file_alignment) }
+            IfErr result
+            (λ e.
+            IsMemory e
+            → KeepsEntries (is_strict opts.now.parse_mode) T.format m bytes.now offset
+            ⊎ HasPieces opts.now file_alignment) }
     {
         let (table, _) = SyntheticImportLookupTableEntry::parse_with_slots::<T>(
             alloc,
@@ -190,10 +209,10 @@ impl<'a> SyntheticImportLookupTableEntry<'a> {
     }
 
     /// The pair (lookup table at the file offset `offset`, as
-    /// [`SyntheticImportLookupTableEntry::parse_with_opts`] reads it; the slot of each entry that it
-    /// keeps, in order). The slot of an entry is how many entries stand before it in the file; in the
-    /// address table its own entry has the same index. The slots rise, and lie below the slot where
-    /// the table ends.
+    /// [`SyntheticImportLookupTableEntry::parse_with_opts`] reads it; the slot of each entry that
+    /// it keeps, in order). The slot of an entry is how many entries stand before it in the file;
+    /// in the address table its own entry has the same index. The slots rise, and lie below the
+    /// slot where the table ends.
     ///
     /// # Errors
     /// As [`SyntheticImportLookupTableEntry::parse_with_opts`].
@@ -208,14 +227,25 @@ impl<'a> SyntheticImportLookupTableEntry<'a> {
     ) -> ResultOf<'e, (ImportLookupTable<'a>, Vec<usize>)>
         ensures value { let m = file_offset opts.now sections.now file_alignment in
             let strict = is_strict opts.now.parse_mode in
-            AnswersOrMemory (λ both. map entry_view both.0) result (lookup_table strict T.format m bytes.now offset) (IsLookupTableFault strict T.format m bytes.now offset) }
+            AnswersOrMemory (λ both. map entry_view both.0) result
+            (lookup_table strict T.format m bytes.now offset)
+            (IsLookupTableFault strict T.format m bytes.now offset) }
         ensures grown { let m = file_offset opts.now sections.now file_alignment in
-            IfErr result (λ e. IsMemory e → KeepsEntries (is_strict opts.now.parse_mode) T.format m bytes.now offset ⊎ HasPieces opts.now file_alignment) }
+            IfErr result
+            (λ e.
+            IsMemory e
+            → KeepsEntries (is_strict opts.now.parse_mode) T.format m bytes.now offset
+            ⊎ HasPieces opts.now file_alignment) }
         ensures slots { let m = file_offset opts.now sections.now file_alignment in
-            IfOk result (λ both. both.1.items ≡ lookup_slots (is_strict opts.now.parse_mode) T.format m bytes.now offset) }
+            IfOk result
+            (λ both.
+            both.1.items
+            ≡ lookup_slots (is_strict opts.now.parse_mode) T.format m bytes.now offset) }
         ensures counted { IfOk result (λ both. length both.0 ≡ length both.1.items) }
         ensures rising { IfOk result (λ both. IsStrictlyIncreasing both.1.items) }
-        ensures below { IfOk result (λ both. All (λ slot. slot < stop (entry_slots T.format) bytes.now offset) both.1.items) }
+        ensures below { IfOk result
+            (λ both.
+            All (λ slot. slot < stop (entry_slots T.format) bytes.now offset) both.1.items) }
     {
         let address_map = AddressMap::prepare(alloc, sections, file_alignment, opts)?;
         SyntheticImportLookupTableEntry::parse_by::<T>(alloc, bytes, offset, &address_map)
@@ -228,9 +258,20 @@ impl<'a> SyntheticImportLookupTableEntry<'a> {
         offset: usize,
         address_map: &AddressMap,
     ) -> ResultOf<'e, (ImportLookupTable<'a>, Vec<usize>)>
-        ensures value { ReadsOrMemory (λ both. (map entry_view both.0, both.1.items)) result (reading.lookup_with_slots (reads_strictly address_map.now) T.format (offset_of address_map.now) offset) bytes.now }
-        ensures grown { IfErr result (λ e. IsMemory e → KeepsEntries (reads_strictly address_map.now) T.format (offset_of address_map.now) bytes.now offset) }
-        ensures slots { IfOk result (λ both. both.1.items ≡ lookup_slots (reads_strictly address_map.now) T.format (offset_of address_map.now) bytes.now offset) }
+        ensures value { ReadsOrMemory (λ both. (map entry_view both.0, both.1.items)) result
+            (reading.lookup_with_slots (reads_strictly address_map.now) T.format
+            (offset_of address_map.now) offset)
+            bytes.now }
+        ensures grown { IfErr result
+            (λ e.
+            IsMemory e
+            → KeepsEntries (reads_strictly address_map.now) T.format (offset_of address_map.now)
+            bytes.now offset) }
+        ensures slots { IfOk result
+            (λ both.
+            both.1.items
+            ≡ lookup_slots (reads_strictly address_map.now) T.format (offset_of address_map.now)
+            bytes.now offset) }
         ensures counted { IfOk result (λ both. length both.0 ≡ length both.1.items) }
     {
         let size = T::size_of();
@@ -264,9 +305,15 @@ fn push_kept<'a>(
     kept: Option<SyntheticImportLookupTableEntry<'a>>,
     slot: usize,
 ) -> Result<()>
-    ensures entries { OnOk result (entries.new.items ≡ entries.old.items ++ option_to_list kept.entry) }
-    ensures slots { OnOk result (slots.new.items ≡ slots.old.items ++ (if is_kept (Some (kept_view kept.entry)) then slot ∷ [] else [])) }
-    ensures counted { OnOk result (length entries.old.items ≡ length slots.old.items → length entries.new.items ≡ length slots.new.items) }
+    ensures entries { OnOk result
+        (entries.new.items ≡ entries.old.items ++ option_to_list kept.entry) }
+    ensures slots { OnOk result
+        (slots.new.items
+        ≡ slots.old.items
+        ++ (if is_kept (Some (kept_view kept.entry)) then slot ∷ [] else [])) }
+    ensures counted { OnOk result
+        (length entries.old.items ≡ length slots.old.items
+        → length entries.new.items ≡ length slots.new.items) }
     ensures memory { IfErr result IsMemory }
     ensures grown { OnErr result (is_kept (Some (kept_view kept.entry)) ≡ true) }
 {

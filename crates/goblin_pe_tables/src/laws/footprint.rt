@@ -1,6 +1,7 @@
 //! Which bytes of a file its imports depend on.
 
-ghost use Rattle.std.specs.Prelude.{◌≡◌, ◌<◌, ◌≤◌, ◌⊎◌, ◌↔◌, ◌++◌, ℕ, IfErr, IfOk, OnErr, OnOk, length};
+ghost use Rattle.std.specs.Prelude.{◌≡◌, ◌<◌, ◌≤◌, ◌⊎◌, ◌↔◌, ◌++◌, ℕ, IfErr, IfOk, OnErr, OnOk};
+ghost use Rattle.std.specs.Prelude.{length};
 ghost use Rattle.std.specs.List.{All};
 ghost use Rattle.goblin_base.specs.Answers.{IsMemory};
 ghost use Rattle.goblin_base.specs.Footprints.{Covers, positions, stretch_footprint};
@@ -8,7 +9,10 @@ ghost use Rattle.goblin_pe_sect.specs.Mapping.{file_offset};
 ghost use Rattle.goblin_pe_sect.specs.Options.{is_strict};
 ghost use Rattle.goblin_pe_sect.specs.WindowIndex.{HasPieces};
 ghost use Rattle.goblin_pe_tables.specs.Addresses.{offset_of};
-ghost use Rattle.goblin_pe_tables.specs.ImportFootprints.{addresses_footprint, entry_footprint, hint_footprint, import_footprint, libraries_footprint, library_footprint, lookup_footprint};
+ghost use Rattle.goblin_pe_tables.specs.ImportFootprints.{addresses_footprint, entry_footprint};
+ghost use Rattle.goblin_pe_tables.specs.ImportFootprints.{hint_footprint, import_footprint};
+ghost use Rattle.goblin_pe_tables.specs.ImportFootprints.{libraries_footprint, library_footprint};
+ghost use Rattle.goblin_pe_tables.specs.ImportFootprints.{lookup_footprint};
 
 use crate::address_map::AddressMap;
 use crate::import::{
@@ -40,7 +44,8 @@ fn add_stretch<'e>(
     bytes: &[u8],
     offset: usize,
 ) -> ResultOf<'e, ()>
-    ensures added { OnOk result (ranges.new.items ≡ ranges.old.items ++ stretch_footprint bytes.now offset) }
+    ensures added { OnOk result
+        (ranges.new.items ≡ ranges.old.items ++ stretch_footprint bytes.now offset) }
     ensures refused { IfErr result IsMemory }
     ensures grown { OnErr result (0 < length (stretch_footprint bytes.now offset)) }
 {
@@ -53,7 +58,8 @@ fn add_stretch<'e>(
 
 // Adds the hint at an offset, and the text after it.
 fn add_hint<'e>(ranges: &mut Vec<(usize, usize)>, bytes: &[u8], offset: usize) -> ResultOf<'e, ()>
-    ensures added { OnOk result (ranges.new.items ≡ ranges.old.items ++ hint_footprint bytes.now offset) }
+    ensures added { OnOk result
+        (ranges.new.items ≡ ranges.old.items ++ hint_footprint bytes.now offset) }
     ensures refused { IfErr result IsMemory }
     ensures grown { OnErr result (0 < length (hint_footprint bytes.now offset)) }
 {
@@ -73,9 +79,13 @@ fn add_entry<'a, 'e, T: Bitfield<'a>>(
     bytes: &'a [u8],
     address_map: &AddressMap,
 ) -> ResultOf<'e, ()>
-    ensures added { OnOk result (ranges.new.items ≡ ranges.old.items ++ entry_footprint (offset_of address_map.now) bytes.now (T.value entry.now)) }
+    ensures added { OnOk result
+        (ranges.new.items
+        ≡ ranges.old.items
+        ++ entry_footprint (offset_of address_map.now) bytes.now (T.value entry.now)) }
     ensures refused { IfErr result IsMemory }
-    ensures grown { OnErr result (0 < length (entry_footprint (offset_of address_map.now) bytes.now (T.value entry.now))) }
+    ensures grown { OnErr result
+        (0 < length (entry_footprint (offset_of address_map.now) bytes.now (T.value entry.now))) }
 {
     if entry.is_ordinal() {
         return Ok(());
@@ -93,9 +103,13 @@ fn add_lookup_table<'a, 'e, T: Bitfield<'a>>(
     offset: usize,
     address_map: &AddressMap,
 ) -> ResultOf<'e, ()>
-    ensures added { OnOk result (ranges.new.items ≡ ranges.old.items ++ lookup_footprint T.format (offset_of address_map.now) bytes.now offset) }
+    ensures added { OnOk result
+        (ranges.new.items
+        ≡ ranges.old.items
+        ++ lookup_footprint T.format (offset_of address_map.now) bytes.now offset) }
     ensures refused { IfErr result IsMemory }
-    ensures grown { OnErr result (0 < length (lookup_footprint T.format (offset_of address_map.now) bytes.now offset)) }
+    ensures grown { OnErr result
+        (0 < length (lookup_footprint T.format (offset_of address_map.now) bytes.now offset)) }
 {
     let size = T::size_of();
     let mut place = offset;
@@ -117,7 +131,8 @@ fn add_address_table<'a, 'e, T: Bitfield<'a>>(
     bytes: &'a [u8],
     offset: usize,
 ) -> ResultOf<'e, ()>
-    ensures added { OnOk result (ranges.new.items ≡ ranges.old.items ++ addresses_footprint T.format bytes.now offset) }
+    ensures added { OnOk result
+        (ranges.new.items ≡ ranges.old.items ++ addresses_footprint T.format bytes.now offset) }
     ensures refused { IfErr result IsMemory }
     ensures grown { OnErr result (0 < length (addresses_footprint T.format bytes.now offset)) }
 {
@@ -142,9 +157,13 @@ fn add_library<'a, 'e, T: Bitfield<'a>>(
     entry: &ImportDirectoryEntry,
     address_map: &AddressMap,
 ) -> ResultOf<'e, ()>
-    ensures added { OnOk result (ranges.new.items ≡ ranges.old.items ++ library_footprint T.format (offset_of address_map.now) bytes.now entry.now) }
+    ensures added { OnOk result
+        (ranges.new.items
+        ≡ ranges.old.items
+        ++ library_footprint T.format (offset_of address_map.now) bytes.now entry.now) }
     ensures refused { IfErr result IsMemory }
-    ensures grown { OnErr result (0 < length (library_footprint T.format (offset_of address_map.now) bytes.now entry.now)) }
+    ensures grown { OnErr result
+        (0 < length (library_footprint T.format (offset_of address_map.now) bytes.now entry.now)) }
 {
     if let Some(offset) = address_map.offset_of(entry.name_rva) {
         add_stretch(ranges, bytes, offset)?;
@@ -165,9 +184,13 @@ fn add_libraries<'a, 'e, T: Bitfield<'a>>(
     offset: usize,
     address_map: &AddressMap,
 ) -> ResultOf<'e, ()>
-    ensures added { OnOk result (ranges.new.items ≡ ranges.old.items ++ libraries_footprint T.format (offset_of address_map.now) bytes.now offset) }
+    ensures added { OnOk result
+        (ranges.new.items
+        ≡ ranges.old.items
+        ++ libraries_footprint T.format (offset_of address_map.now) bytes.now offset) }
     ensures refused { IfErr result IsMemory }
-    ensures grown { OnErr result (0 < length (libraries_footprint T.format (offset_of address_map.now) bytes.now offset)) }
+    ensures grown { OnErr result
+        (0 < length (libraries_footprint T.format (offset_of address_map.now) bytes.now offset)) }
 {
     let mut place = offset;
     'records: loop {
@@ -190,9 +213,17 @@ fn import_ranges<'a, 'e, T: Bitfield<'a>>(
     rva: u32,
     address_map: &AddressMap,
 ) -> ResultOf<'e, Vec<(usize, usize)>>
-    ensures ranges { IfOk result (λ v. v.items ≡ import_footprint (is_strict address_map.now.opts.parse_mode) T.format (offset_of address_map.now) bytes.now rva) }
+    ensures ranges { IfOk result
+        (λ v.
+        v.items
+        ≡ import_footprint (is_strict address_map.now.opts.parse_mode) T.format
+        (offset_of address_map.now) bytes.now rva) }
     ensures refused { IfErr result IsMemory }
-    ensures grown { OnErr result (0 < length (import_footprint (is_strict address_map.now.opts.parse_mode) T.format (offset_of address_map.now) bytes.now rva)) }
+    ensures grown { OnErr result
+        (0
+        < length
+        (import_footprint (is_strict address_map.now.opts.parse_mode) T.format
+        (offset_of address_map.now) bytes.now rva)) }
 {
     let mut ranges = Vec::new(alloc);
     match address_map.offset_of(rva) {
@@ -203,13 +234,14 @@ fn import_ranges<'a, 'e, T: Bitfield<'a>>(
     Ok(ranges)
 }
 
-/// The footprint of the imports of a file: the ranges (begin, end) of the positions on which the import
-/// data of a directory depends, as [`twin_imports`](crate::laws::twin_imports) says. A position is in
-/// the footprint exactly where it lies in one of the ranges, which come in no order and may overlap.
-/// None is empty, and none passes the file.
+/// The footprint of the imports of a file: the ranges (begin, end) of the positions on which the
+/// import data of a directory depends, as [`twin_imports`](crate::laws::twin_imports) says. A
+/// position is in the footprint exactly where it lies in one of the ranges, which come in no order
+/// and may overlap. None is empty, and none passes the file.
 ///
 /// # Errors
-/// [`Error::Memory`](goblin_base::Error::Memory) alone, where addresses are mapped or a range is listed.
+/// [`Error::Memory`](goblin_base::Error::Memory) alone, where addresses are mapped or a range is
+/// listed.
 pub fn footprint_imports<'a, 'e, T: Bitfield<'a>>(
     alloc: Global,
     bytes: &'a [u8],
@@ -218,12 +250,20 @@ pub fn footprint_imports<'a, 'e, T: Bitfield<'a>>(
     file_alignment: u32,
     opts: &ParseOptions,
 ) -> ResultOf<'e, Vec<(usize, usize)>>
-    ensures ranges { IfOk result (λ v. v.items ≡ import_footprint (is_strict opts.now.parse_mode) T.format (file_offset opts.now sections.now file_alignment) bytes.now directory.virtual_address) }
-    ensures covers { let footprint = import_footprint (is_strict opts.now.parse_mode) T.format (file_offset opts.now sections.now file_alignment) bytes.now directory.virtual_address in
+    ensures ranges { IfOk result
+        (λ v.
+        v.items
+        ≡ import_footprint (is_strict opts.now.parse_mode) T.format
+        (file_offset opts.now sections.now file_alignment) bytes.now
+        directory.virtual_address) }
+    ensures covers { let footprint = import_footprint (is_strict opts.now.parse_mode) T.format
+        (file_offset opts.now sections.now file_alignment) bytes.now directory.virtual_address in
         IfOk result (λ v. (p : ℕ) → Covers v.items p ↔ Covers footprint p) }
-    ensures within { IfOk result (λ v. All (λ range. (range.0 < range.1) × (range.1 ≤ length bytes.now)) v.items) }
+    ensures within { IfOk result
+        (λ v. All (λ range. (range.0 < range.1) × (range.1 ≤ length bytes.now)) v.items) }
     ensures refused { IfErr result IsMemory }
-    ensures grown { let footprint = import_footprint (is_strict opts.now.parse_mode) T.format (file_offset opts.now sections.now file_alignment) bytes.now directory.virtual_address in
+    ensures grown { let footprint = import_footprint (is_strict opts.now.parse_mode) T.format
+        (file_offset opts.now sections.now file_alignment) bytes.now directory.virtual_address in
         OnErr result ((0 < length footprint) ⊎ HasPieces opts.now file_alignment) }
 {
     let address_map = AddressMap::prepare(alloc, sections, file_alignment, opts)?;

@@ -6,9 +6,11 @@ ghost use Rattle.goblin_base.specs.Footprints.{Agree, AlikeOrMemory};
 ghost use Rattle.goblin_pe_sect.specs.Mapping.{file_offset};
 ghost use Rattle.goblin_pe_sect.specs.Options.{is_strict};
 ghost use Rattle.goblin_pe_sect.specs.WindowIndex.{HasPieces};
-ghost use Rattle.goblin_pe_tables.specs.ImportDirectory.{HasRecords, IsImportDataFault, import_data};
+ghost use Rattle.goblin_pe_tables.specs.ImportDirectory.{HasRecords, IsImportDataFault};
+ghost use Rattle.goblin_pe_tables.specs.ImportDirectory.{import_data};
 ghost use Rattle.goblin_pe_tables.specs.ImportFootprints.{import_footprint, lookup_footprint};
-ghost use Rattle.goblin_pe_tables.specs.ImportLookup.{IsLookupTableFault, KeepsEntries, entry_view, lookup_table};
+ghost use Rattle.goblin_pe_tables.specs.ImportLookup.{IsLookupTableFault, KeepsEntries, entry_view};
+ghost use Rattle.goblin_pe_tables.specs.ImportLookup.{lookup_table};
 
 use crate::import::{Bitfield, ImportData, ImportLookupTable, SyntheticImportLookupTableEntry};
 use goblin_base::ResultOf;
@@ -19,9 +21,9 @@ use std::alloc::Global;
 
 /// The lookup tables of entries of type `T` at one offset of two files.
 ///
-/// The footprint of the read: the entries up to and with the one whose number is 0, as far as they lie
-/// in the file; and for each entry before that one that imports by name, the hint at its address and
-/// the text after it.
+/// The footprint of the read: the entries up to and with the one whose number is 0, as far as they
+/// lie in the file; and for each entry before that one that imports by name, the hint at its
+/// address and the text after it.
 ///
 /// # Errors
 /// For each file as [`SyntheticImportLookupTableEntry::parse_with_opts`].
@@ -39,19 +41,32 @@ pub fn twin_lookup<'a, 'e, T: Bitfield<'a>>(
 )
     ensures first { let m = file_offset opts.now sections.now file_alignment in
         let strict = is_strict opts.now.parse_mode in
-        AnswersOrMemory (map entry_view) result.0 (lookup_table strict T.format m a.now offset) (IsLookupTableFault strict T.format m a.now offset) }
+        AnswersOrMemory (map entry_view) result.0 (lookup_table strict T.format m a.now offset)
+        (IsLookupTableFault strict T.format m a.now offset) }
     ensures second { let m = file_offset opts.now sections.now file_alignment in
         let strict = is_strict opts.now.parse_mode in
-        AnswersOrMemory (map entry_view) result.1 (lookup_table strict T.format m b.now offset) (IsLookupTableFault strict T.format m b.now offset) }
+        AnswersOrMemory (map entry_view) result.1 (lookup_table strict T.format m b.now offset)
+        (IsLookupTableFault strict T.format m b.now offset) }
     ensures first_grown { let m = file_offset opts.now sections.now file_alignment in
-        IfErr result.0 (λ e. IsMemory e → KeepsEntries (is_strict opts.now.parse_mode) T.format m a.now offset ⊎ HasPieces opts.now file_alignment) }
+        IfErr result.0
+        (λ e.
+        IsMemory e
+        → KeepsEntries (is_strict opts.now.parse_mode) T.format m a.now offset
+        ⊎ HasPieces opts.now file_alignment) }
     ensures second_grown { let m = file_offset opts.now sections.now file_alignment in
-        IfErr result.1 (λ e. IsMemory e → KeepsEntries (is_strict opts.now.parse_mode) T.format m b.now offset ⊎ HasPieces opts.now file_alignment) }
+        IfErr result.1
+        (λ e.
+        IsMemory e
+        → KeepsEntries (is_strict opts.now.parse_mode) T.format m b.now offset
+        ⊎ HasPieces opts.now file_alignment) }
     ensures same_value { let m = file_offset opts.now sections.now file_alignment in
         let strict = is_strict opts.now.parse_mode in
-        Agree (lookup_footprint T.format m a.now offset) a.now b.now → lookup_table strict T.format m a.now offset ≡ lookup_table strict T.format m b.now offset }
+        Agree (lookup_footprint T.format m a.now offset) a.now b.now
+        → lookup_table strict T.format m a.now offset
+        ≡ lookup_table strict T.format m b.now offset }
     ensures alike { let m = file_offset opts.now sections.now file_alignment in
-        Agree (lookup_footprint T.format m a.now offset) a.now b.now → AlikeOrMemory (map entry_view) result.0 result.1 }
+        Agree (lookup_footprint T.format m a.now offset) a.now b.now
+        → AlikeOrMemory (map entry_view) result.0 result.1 }
 {
     let first = SyntheticImportLookupTableEntry::parse_with_opts::<T>(
         alloc,
@@ -77,8 +92,8 @@ pub fn twin_lookup<'a, 'e, T: Bitfield<'a>>(
 /// The footprint of the read: the records up to and with the one that ends the directory, as far as
 /// they lie in the file; and for each record before that one the text of the library's name, the
 /// footprint of its lookup table, and the entries of its address table up to and with the one whose
-/// number is 0. [`footprint_imports`](crate::laws::footprint_imports) lists it. It is empty where the
-/// directory's address has no file offset, and in permissive mode where that offset is 0.
+/// number is 0. [`footprint_imports`](crate::laws::footprint_imports) lists it. It is empty where
+/// the directory's address has no file offset, and in permissive mode where that offset is 0.
 ///
 /// # Errors
 /// For each file as [`ImportData::parse_with_opts`].
@@ -93,21 +108,35 @@ pub fn twin_imports<'a, 'e, T: Bitfield<'a>>(
 ) -> (ResultOf<'e, ImportData<'a>>, ResultOf<'e, ImportData<'a>>)
     ensures first { let m = file_offset opts.now sections.now file_alignment in
         let strict = is_strict opts.now.parse_mode in
-        AnswersOrMemory (λ x. x) result.0 (import_data strict T.format m a.now directory.virtual_address) (IsImportDataFault strict T.format m a.now directory.virtual_address) }
+        AnswersOrMemory (λ x. x) result.0
+        (import_data strict T.format m a.now directory.virtual_address)
+        (IsImportDataFault strict T.format m a.now directory.virtual_address) }
     ensures second { let m = file_offset opts.now sections.now file_alignment in
         let strict = is_strict opts.now.parse_mode in
-        AnswersOrMemory (λ x. x) result.1 (import_data strict T.format m b.now directory.virtual_address) (IsImportDataFault strict T.format m b.now directory.virtual_address) }
-    ensures first_grown { let place = file_offset opts.now sections.now file_alignment directory.virtual_address in
-        IfErr result.0 (λ e. IsMemory e → IsSomeAnd place (HasRecords a.now) ⊎ HasPieces opts.now file_alignment) }
-    ensures second_grown { let place = file_offset opts.now sections.now file_alignment directory.virtual_address in
-        IfErr result.1 (λ e. IsMemory e → IsSomeAnd place (HasRecords b.now) ⊎ HasPieces opts.now file_alignment) }
+        AnswersOrMemory (λ x. x) result.1
+        (import_data strict T.format m b.now directory.virtual_address)
+        (IsImportDataFault strict T.format m b.now directory.virtual_address) }
+    ensures first_grown { let place = file_offset opts.now sections.now file_alignment
+        directory.virtual_address in
+        IfErr result.0
+        (λ e.
+        IsMemory e
+        → IsSomeAnd place (HasRecords a.now) ⊎ HasPieces opts.now file_alignment) }
+    ensures second_grown { let place = file_offset opts.now sections.now file_alignment
+        directory.virtual_address in
+        IfErr result.1
+        (λ e.
+        IsMemory e
+        → IsSomeAnd place (HasRecords b.now) ⊎ HasPieces opts.now file_alignment) }
     ensures same_value { let m = file_offset opts.now sections.now file_alignment in
         let strict = is_strict opts.now.parse_mode in
         Agree (import_footprint strict T.format m a.now directory.virtual_address) a.now b.now →
-        import_data strict T.format m a.now directory.virtual_address ≡ import_data strict T.format m b.now directory.virtual_address }
+        import_data strict T.format m a.now directory.virtual_address
+        ≡ import_data strict T.format m b.now directory.virtual_address }
     ensures alike { let m = file_offset opts.now sections.now file_alignment in
         let strict = is_strict opts.now.parse_mode in
-        Agree (import_footprint strict T.format m a.now directory.virtual_address) a.now b.now → AlikeOrMemory (λ x. x) result.0 result.1 }
+        Agree (import_footprint strict T.format m a.now directory.virtual_address) a.now b.now
+        → AlikeOrMemory (λ x. x) result.0 result.1 }
 {
     let first = ImportData::parse_with_opts::<T>(
         alloc,

@@ -18,7 +18,8 @@ fn file_of_words(alloc: Global) -> Result<Vec<u8>, AllocError> {
     Ok(file)
 }
 
-/// How many libraries and how many imports the file has, by records that stand after the first word.
+/// How many libraries and how many imports the file has, by records that stand after the first
+/// word.
 fn counts(alloc: Global, file: &[u8]) -> goblin_base::Result<(usize, usize)> {
     let directory = DataDirectory {
         virtual_address: 0x8000_0004,

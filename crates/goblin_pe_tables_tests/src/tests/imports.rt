@@ -131,8 +131,8 @@ fn imports_are_listed_by_entries_of_two_bytes(rt: HostRuntime) -> Result<(), Fai
     Ok(())
 }
 
-/// How many entries the sample file's lookup table has by the reader without options, and by entries of
-/// type `T`.
+/// How many entries the sample file's lookup table has by the reader without options, and by
+/// entries of type `T`.
 fn lookup_length<'a, 'e, T: Bitfield<'a>>(alloc: Global, file: &'a [u8]) -> ResultOf<'e, usize> {
     let sections = [sample_section()];
     let table = SyntheticImportLookupTableEntry::parse::<T>(
@@ -182,8 +182,8 @@ fn lookup_tables_are_read_by_each_entry_type(rt: HostRuntime) -> Result<(), Fail
     Ok(())
 }
 
-/// How many entries the sample file's address table has by the reader without options, and by entries
-/// of type `T`.
+/// How many entries the sample file's address table has by the reader without options, and by
+/// entries of type `T`.
 fn address_length<'a, 'e, T: Bitfield<'a>>(alloc: Global, file: &'a [u8]) -> ResultOf<'e, usize> {
     let sections = [sample_section()];
     let library = SyntheticImportDirectoryEntry::parse::<T>(
@@ -329,7 +329,8 @@ fn a_record_without_an_address_table_has_it_at_its_lookup_table(
     Ok(())
 }
 
-/// The sample file with a record whose address table no section maps, and its own record after that.
+/// The sample file with a record whose address table no section maps, and its own record after
+/// that.
 fn with_unmapped_addresses<'e>(alloc: Global) -> ResultOf<'e, Vec<u8>> {
     let mut second = [0; SIZEOF_IMPORT_DIRECTORY_ENTRY];
     RECORD.try_into_ctx(&mut second, Endian::Little)?;
@@ -401,8 +402,8 @@ fn ends_at(imports: &[Import], offset: usize) -> bool {
 
 #[test]
 fn an_import_whose_offset_passes_64_bits_is_refused(rt: HostRuntime) -> Result<(), Fail> {
-    // With a third import, the offset of the last is that of its address table and two entries more,
-    // which are 2^64 - 2 bytes.
+    // With a third import, the offset of the last is that of its address table and two entries
+    // more, which are 2^64 - 2 bytes.
     let file = sample_with(rt.alloc(), 0x248, b"\x08\x00\x00\x80")?;
     assert!(rt; ends_at(&vast_imports(rt.alloc(), &file, 1)?, usize::MAX));
     assert!(rt; is_told(vast_imports(rt.alloc(), &file, 2), Cause::Overflow));
@@ -536,8 +537,8 @@ fn is_lookup_refused(alloc: Global, file: &[u8], cause: Cause) -> bool {
 
 #[test]
 fn each_refusal_of_a_lookup_table_tells_its_cause(rt: HostRuntime) -> Result<(), Fail> {
-    // The table by ordinals, which meets the end of the file; and as it stands, where the hint of its
-    // first entry is missing before that.
+    // The table by ordinals, which meets the end of the file; and as it stands, where the hint of
+    // its first entry is missing before that.
     let rows: [(&[u8], Cause); 2] = [
         (b"\x05\x00\x00\x80", Cause::LookupEnd(0x248)),
         (b"\x90\x10\x00\x00", Cause::HintEntry(0x290)),

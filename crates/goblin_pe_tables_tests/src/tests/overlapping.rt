@@ -1,4 +1,5 @@
-//! Two sections that overlap, in both orders: each reader takes what stands where `find_offset` says.
+//! Two sections that overlap, in both orders: each reader takes what stands where `find_offset`
+//! says.
 
 use fixture::sample::{put, section};
 use goblin_base::read::{pread_str, pread_u32};
@@ -27,8 +28,8 @@ const EXPORTS: DataDirectory = DataDirectory {
     size: 40,
 };
 
-/// What stands in the file: the import record and the export record, which lead to addresses that lie in
-/// both sections; what the narrow section has there, and what the wide one has.
+/// What stands in the file: the import record and the export record, which lead to addresses that
+/// lie in both sections; what the narrow section has there, and what the wide one has.
 const BYTES: &[(usize, &[u8])] = &[
     (0x800, b"\x10\x12"),
     (0x80C, b"\x40\x12\x00\x00\x20\x12"),
@@ -174,7 +175,8 @@ fn exports_agree(
     Ok(are_right && is_library_name(&tables, file, sections))
 }
 
-/// Whether the name stands at this offset, and all readers take what stands where `find_offset` says.
+/// Whether the name stands at this offset, and all readers take what stands where `find_offset`
+/// says.
 fn readers_agree(
     alloc: Global,
     file: &[u8],

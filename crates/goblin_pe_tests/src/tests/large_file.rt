@@ -1,5 +1,5 @@
-//! A large file: long names, more imports and exports than two bytes can count, and more than a mebibyte of
-//! base relocations. With ample memory each reader answers.
+//! A large file: long names, more imports and exports than two bytes can count, and more than a
+//! mebibyte of base relocations. With ample memory each reader answers.
 
 use fixture::sample::{TABLE, sample_named, section};
 use goblin_base::{Endian, pwrite_slice, pwrite_u16, pwrite_u32};
@@ -20,12 +20,13 @@ const ENTRIES: usize = 70_000;
 /// How many blocks of base relocations there are, of 12 bytes each.
 const BLOCKS: usize = 100_000;
 
-/// How long the one name is that the section, the library, the first import and the first export have.
-/// The other exports have its last letter.
+/// How long the one name is that the section, the library, the first import and the first export
+/// have. The other exports have its last letter.
 const NAME_LEN: usize = 5_000;
 
-/// Where the tables stand in the file: the hint, the name after it and its last letter, the lookup table,
-/// which is also the address table, the three tables of the exports, and the base relocations.
+/// Where the tables stand in the file: the hint, the name after it and its last letter, the lookup
+/// table, which is also the address table, the three tables of the exports, and the base
+/// relocations.
 const HINT: usize = 0x300;
 
 const NAME: usize = HINT + 2;
@@ -93,8 +94,8 @@ fn put_imports(file: &mut [u8]) -> goblin_base::Result<()> {
     Ok(())
 }
 
-/// Puts the entries of the three tables of exports: the first by the long name, the others by its last
-/// letter.
+/// Puts the entries of the three tables of exports: the first by the long name, the others by its
+/// last letter.
 fn put_exports(file: &mut [u8]) -> goblin_base::Result<()> {
     let letter = (LETTER + DISTANCE) as u32;
     for i in 0..ENTRIES {

@@ -53,8 +53,8 @@ impl Read for Source {
     }
 }
 
-/// Takes up to `step` bytes a call, and `room` in all; then a call fails or takes none, and those after
-/// it take bytes again.
+/// Takes up to `step` bytes a call, and `room` in all; then a call fails or takes none, and those
+/// after it take bytes again.
 #[derive(Drop)]
 struct Sink {
     taken: Vec<u8>,
@@ -110,8 +110,8 @@ impl Write for Sink {
     }
 }
 
-/// Whether a run ended as it should over a source whose call `failing` fails: with the fault and nothing
-/// written, or well where none fails, which is 0.
+/// Whether a run ended as it should over a source whose call `failing` fails: with the fault and
+/// nothing written, or well where none fails, which is 0.
 fn ends_by_call(ran: &Result<(), RunFault>, taken: &[u8], failing: usize) -> bool {
     if failing == 0 {
         ran.is_ok() && taken == LISTING
@@ -150,8 +150,8 @@ fn no_read_follows_a_failed_one_or_the_end(rt: HostRuntime) -> Result<(), Fail> 
     Ok(())
 }
 
-/// Whether a run over a reader whose first call failed before, and whose call `failing_again` fails in the
-/// run, stops there. Where none fails again it makes so many reads.
+/// Whether a run over a reader whose first call failed before, and whose call `failing_again` fails
+/// in the run, stops there. Where none fails again it makes so many reads.
 fn stops_at_the_second_failure(alloc: Global, source: &mut Source, reads: usize) -> bool {
     let failing_again = source.failing_again;
     let mut taken = Vec::new(alloc);
@@ -174,7 +174,8 @@ fn stops_at_the_second_failure(alloc: Global, source: &mut Source, reads: usize)
 #[test]
 fn no_read_follows_a_second_failed_one(rt: HostRuntime) -> Result<(), Fail> {
     let alloc = rt.alloc();
-    // The first call fails before the run; then three give 0x100 bytes each, and the last meets the end.
+    // The first call fails before the run; then three give 0x100 bytes each, and the last meets the
+    // end.
     for failing_again in [0, 2, 3, 4, 5] {
         let mut source = Source::new(alloc, sample(alloc)?, 0x100, 1);
         source.failing_again = failing_again;
@@ -195,15 +196,15 @@ fn ends_by_room(ran: &Result<(), RunFault>, room: usize) -> bool {
     }
 }
 
-/// How many calls a sink gets that takes one byte a call or all that it has room for, of which the last
-/// fails where it has no room for all.
+/// How many calls a sink gets that takes one byte a call or all that it has room for, of which the
+/// last fails where it has no room for all.
 fn calls_by_room(step: usize, room: usize) -> usize {
     let full_calls = if step == 1 { room } else { room.min(1) };
     full_calls.saturating_add(usize::from(room != LISTING.len()))
 }
 
-/// Whether a run over the file stops at the sink's fault, of which there is none where the sink has room
-/// for all: what it took is the front of the listing, and the call that failed is the last.
+/// Whether a run over the file stops at the sink's fault, of which there is none where the sink has
+/// room for all: what it took is the front of the listing, and the call that failed is the last.
 fn stops_at_the_fault(alloc: Global, file: &[u8], sink: &mut Sink) -> bool {
     let (step, room) = (sink.step, sink.room);
     let ran = run(
@@ -243,7 +244,8 @@ fn is_answer(answer: io::Result<usize>, count: Option<usize>) -> bool {
     }
 }
 
-/// Whether a read answered so, and the reader tells whether a call has failed by then or met the end.
+/// Whether a read answered so, and the reader tells whether a call has failed by then or met the
+/// end.
 fn is_read(
     read: io::Result<usize>,
     given: Option<usize>,
@@ -258,7 +260,8 @@ fn a_watched_reader_hands_on_each_call_and_its_answer(rt: HostRuntime) -> Result
     let bytes = Vec::from_array(rt.alloc(), *b"abcdefg")?;
     let mut source = Source::new(rt.alloc(), bytes, 3, 2);
     let mut reader = Watched::new(&mut source);
-    // The room, how many bytes are given and which, and whether a call has failed by then or met the end.
+    // The room, how many bytes are given and which, and whether a call has failed by then or met
+    // the end.
     let rows: [(usize, Option<usize>, &[u8; 4], (bool, bool)); 6] = [
         (4, Some(3), b"abc-", (false, false)),
         (2, None, b"----", (true, false)),
@@ -277,8 +280,8 @@ fn a_watched_reader_hands_on_each_call_and_its_answer(rt: HostRuntime) -> Result
     Ok(())
 }
 
-/// Whether a write takes so many bytes, and the writer tells whether a call has failed by then. Where no
-/// count is said it takes none, or is interrupted.
+/// Whether a write takes so many bytes, and the writer tells whether a call has failed by then.
+/// Where no count is said it takes none, or is interrupted.
 fn is_written(
     writer: &mut Watched<&mut Sink>,
     bytes: &[u8],

@@ -128,8 +128,8 @@ fn a_refused_table_is_listed_in_permissive_mode_alone(rt: HostRuntime) -> Result
     Ok(())
 }
 
-/// Whether a run over the sample file with this name of its section shows the name so, or is refused
-/// where there is nothing to show.
+/// Whether a run over the sample file with this name of its section shows the name so, or is
+/// refused where there is nothing to show.
 fn is_shown(alloc: Global, file: &[u8], mode: ParseMode, shown: Option<&[u8]>) -> bool {
     let line = b"section va=0x1000 vsize=0x100 raw=0x100 ptr=0x200 name=";
     match shown {

@@ -34,8 +34,8 @@ impl Read for Broken<'_> {
     }
 }
 
-/// Whether a run ended as it should over a reader that fails after so many reads: with the fault, and
-/// nothing written, or well where that reader gives all.
+/// Whether a run ended as it should over a reader that fails after so many reads: with the fault,
+/// and nothing written, or well where that reader gives all.
 fn ends_by_reads(
     ran: &Result<(), RunFault>,
     reader: &Watched<Broken>,

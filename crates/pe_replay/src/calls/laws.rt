@@ -71,7 +71,8 @@ fn parts_seen(parts: Parts<DataDirectory>) -> Seen {
     parts_sum(&parts)
 }
 
-// How long the names of the sections are, by a COFF header and as a Terse Executable's, and the strings.
+// How long the names of the sections are, by a COFF header and as a Terse Executable's, and the
+// strings.
 fn parts_sum(parts: &Parts<DataDirectory>) -> Seen {
     let sections = parts.sections.seen()?;
     let of_te = parts.te.seen()?;
@@ -79,8 +80,8 @@ fn parts_sum(parts: &Parts<DataDirectory>) -> Seen {
     Ok(sections.saturating_add(of_te).saturating_add(strings))
 }
 
-// A Terse Executable with one section and a string table; its header is taken for a section, too. Both have
-// names.
+// A Terse Executable with one section and a string table; its header is taken for a section, too.
+// Both have names.
 fn parts(alloc: Global, opts: &ParseOptions) -> BothSeen {
     let mut file = [0; 0x58];
     put(&mut file, 0x00, b"ab\0\0\x01\0\x28");

@@ -38,8 +38,8 @@ fn parts_seen(alloc: Global, file: &[u8], word: &str, opts: &Option<ParseOptions
     }
 }
 
-// The answer of a call that moves an offset past so many records of the section table, and leaves it where
-// it was if it is refused.
+// The answer of a call that moves an offset past so many records of the section table, and leaves
+// it where it was if it is refused.
 fn moved(seen: Seen, offset: usize, records: usize) -> Seen {
     let end = TABLE.saturating_add(records.saturating_mul(40));
     match seen {
