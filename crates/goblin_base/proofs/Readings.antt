@@ -12,7 +12,7 @@ use Rattle.goblin_base.specs.declared.error.ErrorOf.TheVariants.{BadMagic, Buffe
 use Rattle.goblin_base.specs.declared.error.ErrorOf.TheVariants.{Malformed, Memory, Read}
 use Rattle.goblin_base.specs.Answers.{◌>>=◌, FirstFault, IsBoundedTextFault, IsMemory}
 use Rattle.goblin_base.specs.Answers.{IsSliceFault, IsTextFault}
-use Rattle.goblin_base.specs.Footprints.{Agree, led_to, rest_footprint, slot_footprint}
+use Rattle.goblin_base.specs.Footprints.{Agree, Range, led_to, rest_footprint, slot_footprint}
 use Rattle.goblin_base.specs.Reading.{Reading, Reads, ReadsOrMemory, Twins, TwinsOrMemory}
 use Rattle.goblin_base.specs.Tables.{IsTableFault, SlotFormat, kept_slots, slot_at}
 use Rattle.goblin_base.specs.Tables.{slot_place, slot_table, stop}
@@ -41,7 +41,7 @@ module _ {A B : Type 0} (r : Reading A) (f : A → Reading B) where
       both-in bytes (r.reaches bytes) _ (r.is_inside bytes)
       (led-in bytes (r.value bytes) (λ x. (f x).reaches bytes) (λ x. (f x).is_inside bytes))
 
-first_no_memory : {A : Type 0} (value : Option A) (IsCause : ErrorOf → Type 0)
+pub first_no_memory : {A : Type 0} (value : Option A) (IsCause : ErrorOf → Type 0)
     (Later : A → ErrorOf → Type 0) (e : ErrorOf) → (IsCause e → ¬ IsMemory e)
     → ((x : A) → Later x e → ¬ IsMemory e) → FirstFault value IsCause Later e → ¬ IsMemory e
 first_no_memory None IsCause Later e one rest h = one h
@@ -188,6 +188,14 @@ module _ {V A : Type 0} (slots : SlotFormat V) (piece : V → Reading (List A)) 
       some_no_memory bytes (slot_at slots bytes o h.0) e h.3
 
 -- ---- two files
+
+-- what a reading has the value of is the same in files that agree on what it reaches
+pub same-by_reading : {A : Type 0} (reading : Reading A) (value : List ℕ → Option A)
+    (ranges : List Range) (a b : List ℕ) → ((bytes : List ℕ) → reading.value bytes ≡ value bytes)
+    → reading.reaches a ≡ ranges → Agree ranges a b → value a ≡ value b
+same-by_reading reading value ranges a b is reaches h =
+    sym (is a)
+    ∙ reading.is_local a b (subst (λ (own : List Range). Agree own a b) (sym reaches) h) ∙ is b
 
 pub twins : {X Y : Type 0} (view : X → Y) (reading : Reading Y) (a b : List ℕ)
     (r q : Result X ErrorOf) → Reads view r reading a → Reads view q reading b

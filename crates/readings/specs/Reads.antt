@@ -1,8 +1,8 @@
 -- How readings are put together. Each word keeps the laws of a reading. So a definition by these
 -- words needs no proof of them.
-use Rattle.std.specs.Prelude.{◌≡◌, ℕ, Bool, true, false, List, [], ◌++◌, Option, Some, None}
-use Rattle.std.specs.Prelude.{option_map, refl}
-use Rattle.std.proofs.Common.{ap, ◌∙◌}
+use Rattle.std.specs.Prelude.{◌≡◌, ℕ, Bool, true, false, List, [], ◌++◌, length, Option, Some, None}
+use Rattle.std.specs.Prelude.{option_map, option_to_list, refl, ◌+◌, drop, slice_range}
+use Rattle.std.proofs.Common.{ap, ◌∙◌, cond}
 use Rattle.goblin_base.specs.declared.endian.Endian.{Endian}
 use Rattle.goblin_base.specs.declared.error.CauseOf.{CauseOf}
 use Rattle.goblin_base.specs.declared.error.ErrorOf.{ErrorOf}
@@ -13,17 +13,27 @@ use Rattle.goblin_base.specs.Answers.{IsSliceFault, IsTextFault, all_at}
 use Rattle.goblin_base.specs.Bytes as bytes_of
 use Rattle.goblin_base.specs.Footprints.{counted_footprint, led_to, rest_footprint}
 use Rattle.goblin_base.specs.Footprints.{slice_footprint, slot_footprint, stretch_footprint}
+use Rattle.goblin_base.specs.Parts as parts
+use Rattle.goblin_base.specs.Parts.{between_footprint, moved_by, search_footprint}
 use Rattle.goblin_base.specs.Reading.{Reading}
 use Rattle.goblin_base.specs.Record as records
+use Rattle.goblin_base.specs.Strtab as strings
+use Rattle.goblin_base.specs.Strtab.{IsStringTableFault}
 use Rattle.goblin_base.specs.Tables as tables
 use Rattle.goblin_base.specs.Tables.{Format, IsTableFault, SlotFormat, concat_below, kept_slots}
 use Rattle.goblin_base.specs.Tables.{slot_table}
 use Rattle.goblin_base.specs.Values as values
 use Rattle.goblin_base.specs.Values.{IsValueFault}
+use Rattle.goblin_base.proofs.Below.{concat_below-agree}
 use Rattle.goblin_base.proofs.Footprints.{agree-below, same-all_at, same-bounded_text_at}
-use Rattle.goblin_base.proofs.Footprints.{same-counted_table, same-number_at, same-record_at}
-use Rattle.goblin_base.proofs.Footprints.{same-slice_at, same-text_at}
-use Rattle.goblin_base.proofs.Inside.{below-in, counted-in, none-in, rest-in, slice-in, stretch-in}
+use Rattle.goblin_base.proofs.Footprints.{same-counted_table, same-counted_table_if, same-number_at}
+use Rattle.goblin_base.proofs.Footprints.{same-record_at, same-slice_at, same-text_at}
+use Rattle.goblin_base.proofs.Inside.{below-in, counted-in, led-in, none-in, rest-in, slice-in}
+use Rattle.goblin_base.proofs.Inside.{stretch-in}
+use Rattle.goblin_base.proofs.Parts.{agree-moved, agree-moved_slice, between-in, rest-moved-in}
+use Rattle.goblin_base.proofs.Parts.{same-bytes_between, same-front_through, same-string_table}
+use Rattle.goblin_base.proofs.Parts.{search-in, slice-moved-in, string_table-not_memory}
+use Rattle.goblin_base.proofs.Picks.{checked-not_memory, pick-inside, pick-local, pick-not_memory}
 use Rattle.goblin_base.proofs.Readings.{beside-inside, beside-local, bounded_text-not_memory}
 use Rattle.goblin_base.proofs.Readings.{kept-local, malformed-not_memory, slice-not_memory}
 use Rattle.goblin_base.proofs.Readings.{table-inside, table-local, table-not_memory}
@@ -51,6 +61,21 @@ needs value cause = needs_by value (λ e. e ≡ Malformed cause) (malformed-not_
 -- a value that is there
 abbrev pub given : {A : Type 0} → A → Reading A
 given x = needs_by (Some x) (λ e. ⊥) (λ e h. absurd h)
+
+-- a value that may be missing, with no cause where it is: only where nothing is refused for it
+abbrev pub taken : {A : Type 0} → Option A → Reading A
+taken value = needs_by value (λ e. ⊥) (λ e h. absurd h)
+
+-- how many bytes the file has; files that agree on no position have one length, too
+abbrev pub file_length : Reading ℕ
+file_length = record {
+  value = λ bytes. Some (length bytes);
+  IsCause = λ bytes e. ⊥;
+  reaches = λ bytes. [];
+  is_local = λ a b agree. ap (λ (n : ℕ). Some n) agree.same_length;
+  is_inside = none-in;
+  not_memory = λ bytes e h. absurd h;
+}
 
 -- ---- what stands at an offset
 
@@ -109,6 +134,42 @@ bounded_text_at p n = record {
   not_memory = λ bytes. bounded_text-not_memory bytes p n;
 }
 
+-- the string table of n bytes at p
+abbrev pub string_table : ℕ → ℕ → Reading (List ℕ)
+string_table p n = record {
+  value = λ bytes. strings.string_table bytes p n;
+  IsCause = λ bytes. IsStringTableFault bytes p n;
+  reaches = λ bytes. slice_footprint bytes p n;
+  is_local = λ a b agree. same-string_table a b p n agree;
+  is_inside = λ bytes. slice-in bytes p n;
+  not_memory = λ bytes. string_table-not_memory bytes p n;
+}
+
+-- the bytes from `begin` up to `end`, which may be none; only where a cause is given by `because`
+abbrev pub bytes_between : ℕ → ℕ → Reading (List ℕ)
+bytes_between begin end = record {
+  value = λ bytes. parts.bytes_between bytes begin end;
+  IsCause = λ bytes e. ⊥;
+  reaches = λ bytes. between_footprint bytes begin end;
+  is_local = λ a b agree. same-bytes_between a b begin end agree;
+  is_inside = λ bytes. between-in bytes begin end;
+  not_memory = λ bytes e h. absurd h;
+}
+
+-- The least place at which the number of n bytes passes the test, with `more` bytes after it, and
+-- the bytes up to the end of those. It reaches these, and all where there is no such place. Only
+-- where a cause is given by `because`, or for what is read by `or_none`.
+abbrev pub front_through : Endian → ℕ → ℕ → (ℕ → Bool) → Reading (ℕ × List ℕ)
+front_through endian n more test = record {
+  value = parts.front_through endian n more test;
+  IsCause = λ bytes e. ⊥;
+  reaches = λ bytes.
+      search_footprint (n + more) (parts.least_place endian n more test bytes) bytes;
+  is_local = same-front_through endian n more test;
+  is_inside = search-in endian n more test;
+  not_memory = λ bytes e h. absurd h;
+}
+
 -- The value of a type at p, with all that follows it. `refusal` says which cause is true where
 -- the bytes from p on are refused; it is no Memory.
 abbrev pub value_at : {Y : Type 0} → (Endian → List ℕ → Option (Y × ℕ))
@@ -141,11 +202,33 @@ turned f r = record {
 abbrev pub mapped : {A B : Type 0} → (A → B) → Reading A → Reading B
 mapped f r = turned (option_map f) r
 
+-- what is read, if there is something: it is never refused
+abbrev pub or_none : {A : Type 0} → Reading A → Reading (Option A)
+or_none r = turned (λ x. Some x) r
+
 -- the same read, with this cause where it is refused
 abbrev pub because : {A : Type 0} → CauseOf → Reading A → Reading A
 because cause r = record r {
   IsCause = λ bytes e. e ≡ Malformed cause;
   not_memory = λ bytes. malformed-not_memory cause;
+}
+
+-- The same, where a predicate says which causes are true. None of them is Memory.
+abbrev pub because_by : {A : Type 0} → (IsCause : List ℕ → ErrorOf → Type 0)
+    → ((bytes : List ℕ) (e : ErrorOf) → IsCause bytes e → ¬ IsMemory e) → Reading A → Reading A
+because_by IsCause not_memory r = record r { IsCause = IsCause; not_memory = not_memory }
+
+-- What is made of the value, where something is; else the cause is one that `IsRefused` says of
+-- the value. None of them is Memory.
+abbrev pub checked : {A B : Type 0} → (A → Option B) → (IsRefused : A → ErrorOf → Type 0)
+    → ((x : A) (e : ErrorOf) → IsRefused x e → ¬ IsMemory e) → Reading A → Reading B
+checked f IsRefused not_memory r = record {
+  value = λ bytes. answers.◌>>=◌ (r.value bytes) f;
+  IsCause = λ bytes. FirstFault (r.value bytes) (r.IsCause bytes) IsRefused;
+  reaches = r.reaches;
+  is_local = λ a b agree. ap (λ value. answers.◌>>=◌ value f) (r.is_local a b agree);
+  is_inside = r.is_inside;
+  not_memory = checked-not_memory r IsRefused not_memory;
 }
 
 abbrev pub in_its_place : {A : Type 0} → Bool → A → Option A → Option A
@@ -193,6 +276,47 @@ r beside s = record {
   not_memory = then-not_memory r (λ x. s);
 }
 
+-- the one reading where the test is true, the other where it is false
+abbrev pub pick : {A : Type 0} → Bool → Reading A → Reading A → Reading A
+pick test r s = record {
+  value = λ bytes. cond test (r.value bytes) (s.value bytes);
+  IsCause = λ bytes e. cond test (r.IsCause bytes e) (s.IsCause bytes e);
+  reaches = λ bytes. cond test (r.reaches bytes) (s.reaches bytes);
+  is_local = pick-local r s test;
+  is_inside = pick-inside r s test;
+  not_memory = pick-not_memory r s test;
+}
+
+-- ---- parts of the bytes, as bytes of their own
+
+-- what is read of the bytes from p on
+abbrev pub in_rest : {A : Type 0} → ℕ → Reading A → Reading A
+in_rest p r = record {
+  value = λ bytes. r.value (drop p bytes);
+  IsCause = λ bytes. r.IsCause (drop p bytes);
+  reaches = λ bytes. moved_by p (r.reaches (drop p bytes));
+  is_local = λ a b agree.
+      r.is_local (drop p a) (drop p b) (agree-moved p (r.reaches (drop p a)) a b agree);
+  is_inside = λ bytes.
+      rest-moved-in p bytes (r.reaches (drop p bytes)) (r.is_inside (drop p bytes));
+  not_memory = λ bytes. r.not_memory (drop p bytes);
+}
+
+-- what is read of the bytes from `begin` up to `end`, or to the end of the file if that is before
+abbrev pub in_slice : {A : Type 0} → ℕ → ℕ → Reading A → Reading A
+in_slice begin end r = record {
+  value = λ bytes. r.value (slice_range bytes begin end);
+  IsCause = λ bytes. r.IsCause (slice_range bytes begin end);
+  reaches = λ bytes. moved_by begin (r.reaches (slice_range bytes begin end));
+  is_local = λ a b agree.
+      r.is_local (slice_range a begin end) (slice_range b begin end)
+      (agree-moved_slice begin end (r.reaches (slice_range a begin end)) a b agree);
+  is_inside = λ bytes.
+      slice-moved-in begin end bytes (r.reaches (slice_range bytes begin end))
+      (r.is_inside (slice_range bytes begin end));
+  not_memory = λ bytes. r.not_memory (slice_range bytes begin end);
+}
+
 -- ---- lists of reads
 
 -- n reads, one for each index: each is reached, and the cause is that of the first that is refused
@@ -211,6 +335,24 @@ each read n = record {
   not_memory = λ bytes e h. (read h.0).not_memory bytes e h.4;
 }
 
+-- the same n reads; what is refused is left out, and is reached, too
+abbrev pub each_kept : {A : Type 0} → (ℕ → Reading A) → ℕ → Reading (List A)
+each_kept read n = record {
+  value = λ bytes. Some (concat_below (λ i. option_to_list ((read i).value bytes)) n);
+  IsCause = λ bytes e. ⊥;
+  reaches = λ bytes. concat_below (λ i. (read i).reaches bytes) n;
+  is_local = λ a b agree.
+      ap (λ xs. Some xs)
+      (concat_below-agree (λ i. option_to_list ((read i).value a))
+      (λ i. option_to_list ((read i).value b)) n
+      (λ j below.
+      ap option_to_list
+      ((read j).is_local a b (agree-below (λ i. (read i).reaches a) n j a b below agree))));
+  is_inside = λ bytes.
+      below-in bytes (λ i. (read i).reaches bytes) n (λ i. (read i).is_inside bytes);
+  not_memory = λ bytes e h. absurd h;
+}
+
 -- ---- tables of a given count
 
 -- the entries of a table of `count` at o, cut at the first that is not whole
@@ -221,6 +363,20 @@ counted format count o = record {
   reaches = λ bytes. counted_footprint format count bytes o;
   is_local = λ a b agree. ap (λ xs. Some xs) (same-counted_table format count a b o agree);
   is_inside = λ bytes. counted-in bytes format count o;
+  not_memory = λ bytes e h. absurd h;
+}
+
+-- the same, where the table has an offset; else it has no entries
+abbrev pub counted_if : {V : Type 0} → Format V → ℕ → Option ℕ → Reading (List V)
+counted_if format count place = record {
+  value = λ bytes. Some (tables.counted_table_if format count bytes place);
+  IsCause = λ bytes e. ⊥;
+  reaches = λ bytes. led_to place (counted_footprint format count bytes);
+  is_local = λ a b agree.
+      ap (λ xs. Some xs) (same-counted_table_if format count a b place agree);
+  is_inside = λ bytes.
+      led-in bytes place (counted_footprint format count bytes)
+      (λ o. counted-in bytes format count o);
   not_memory = λ bytes e h. absurd h;
 }
 

@@ -1,0 +1,322 @@
+-- Files that agree on what a read of a part reaches have the same part, and what it reaches lies in
+-- the file.
+use Rattle.std.proofs.Common.{◌≡◌, ◌<◌, ◌≤◌, ◌⊎◌, ◌+◌, ◌-◌, ℕ, zero, suc, Bool, true, false, cond}
+use Rattle.std.proofs.Common.{◌&&◌, nat_le, List, [], ◌∷◌, length, drop, take, Option, Some, None}
+use Rattle.std.proofs.Common.{◌++◌, add-zero, refl, sym, ap, subst, ◌∙◌, inl, inr, arith}
+use Rattle.std.specs.Prelude.{option_map, slice_index, slice_range}
+use Rattle.std.specs.List.{find, range_with_len}
+use Rattle.std.proofs.lemmas.Bool.{and_parts, cases_Bool, cases_eq, cases_lt, cond-false, leb-true}
+use Rattle.std.proofs.lemmas.Bool.{le-ltb, lt-ltb}
+use Rattle.std.proofs.lemmas.Grind.{same_number_lists}
+use Rattle.std.proofs.lemmas.List.{get_or-drop, get_or-take, get_or_past, length-drop}
+use Rattle.std.proofs.lemmas.List.{length-take}
+use Rattle.std.proofs.lemmas.List.Elements.{All-cons, All-head, All-nil, All-tail}
+use Rattle.goblin_base.specs.declared.endian.Endian.{Endian}
+use Rattle.goblin_base.specs.declared.error.ErrorOf.{ErrorOf}
+use Rattle.goblin_base.specs.declared.error.ErrorOf.TheVariants.{BadMagic, BufferTooShort}
+use Rattle.goblin_base.specs.declared.error.ErrorOf.TheVariants.{Malformed, Memory, Read}
+use Rattle.goblin_base.specs.Answers.{IsMemory}
+use Rattle.goblin_base.specs.Bytes.{number, text_of}
+use Rattle.goblin_base.specs.Footprints.{Agree, Covers, Range, led_to, positions, slice_footprint}
+use Rattle.goblin_base.specs.Parts.{between_footprint, bytes_between, front_through, least_place}
+use Rattle.goblin_base.specs.Parts.{moved_by, search_footprint}
+use Rattle.goblin_base.specs.Reading.{IsInFile}
+use Rattle.goblin_base.specs.Strtab.{IsStringTableFault, string_table}
+use Rattle.goblin_base.proofs.Footprints.{agree-led, agree-slice, same-byte, same-number}
+use Rattle.goblin_base.proofs.Footprints.{same-slice_range, same-within}
+use Rattle.goblin_base.proofs.Inside.{AreInside, positions-in}
+
+-- ---- reads of a part, as of bytes of their own
+
+pub covers-moved : (p i : ℕ) (ranges : List Range) → Covers ranges i
+    → Covers (moved_by p ranges) (p + i)
+unfolding moved_by
+covers-moved p i [] h = absurd h
+covers-moved p i (range ∷ ranges) (inl h) = inl (omega (arith, h.0), omega (arith, h.1))
+covers-moved p i (range ∷ ranges) (inr h) = inr (covers-moved p i ranges h)
+
+-- files that agree on positions from p on agree on them in what is left there
+pub agree-moved : (p : ℕ) (ranges : List Range) (a b : List ℕ) → Agree (moved_by p ranges) a b
+    → Agree ranges (drop p a) (drop p b)
+agree-moved p ranges a b h = record {
+  same_length = omega (arith, length-drop p a, length-drop p b, h.same_length);
+  same_bytes = λ i c.
+      get_or-drop p a i 0 ∙ h.same_bytes (p + i) (covers-moved p i ranges c)
+      ∙ sym (get_or-drop p b i 0);
+}
+
+length-slice : (bytes : List ℕ) (begin end : ℕ)
+    → length (slice_range bytes begin end) ≤ end - begin
+length-slice bytes begin end = omega (arith, length-take (end - begin) (drop begin bytes))
+
+byte_of_slice : (bytes : List ℕ) (begin end i : ℕ) → i < end - begin
+    → slice_index (slice_range bytes begin end) i ≡ slice_index bytes (begin + i)
+byte_of_slice bytes begin end i lt =
+    get_or-take (end - begin) (drop begin bytes) i 0 lt ∙ get_or-drop begin bytes i 0
+
+-- and in a slice that begins at p
+pub agree-moved_slice : (begin end : ℕ) (ranges : List Range) (a b : List ℕ)
+    → Agree (moved_by begin ranges) a b
+    → Agree ranges (slice_range a begin end) (slice_range b begin end)
+agree-moved_slice begin end ranges a b h =
+    let long : (bytes : List ℕ) → length (slice_range bytes begin end) ≤ end - begin =
+    λ bytes. length-slice bytes begin end in
+    record {
+      same_length = omega (
+        arith,
+        length-take (end - begin) (drop begin a),
+        length-take (end - begin) (drop begin b),
+        length-drop begin a,
+        length-drop begin b,
+        h.same_length,
+      );
+      same_bytes = λ i c. elim (cases_lt i (end - begin)) [
+        | inl lt ↦
+            byte_of_slice a begin end i lt ∙ h.same_bytes (begin + i) (covers-moved begin i ranges c)
+            ∙ sym (byte_of_slice b begin end i lt)
+        | inr past ↦
+            get_or_past (slice_range a begin end) i 0 (omega (arith, long a, past))
+            ∙ sym (get_or_past (slice_range b begin end) i 0 (omega (arith, long b, past)))
+      ];
+    }
+
+-- what is reached of bytes that stand from p on lies in the file
+moved_in : (p : ℕ) (part bytes : List ℕ) (ranges : List Range)
+    → length part ≤ length bytes - p → AreInside part ranges
+    → AreInside bytes (moved_by p ranges)
+unfolding moved_by
+moved_in p part bytes [] le h = All-nil (IsInFile bytes)
+moved_in p part bytes (range ∷ ranges) le h =
+    let own = All-head (IsInFile part) range ranges h in
+    let rest = moved_in p part bytes ranges le (All-tail (IsInFile part) range ranges h) in
+    All-cons (IsInFile bytes) (p + range.0, p + range.1) (moved_by p ranges)
+    (omega (arith, own.0), omega (arith, own.0, own.1, le)) rest
+
+pub rest-moved-in : (p : ℕ) (bytes : List ℕ) (ranges : List Range)
+    → AreInside (drop p bytes) ranges → AreInside bytes (moved_by p ranges)
+rest-moved-in p bytes ranges h =
+    moved_in p (drop p bytes) bytes ranges (omega (arith, length-drop p bytes)) h
+
+pub slice-moved-in : (begin end : ℕ) (bytes : List ℕ) (ranges : List Range)
+    → AreInside (slice_range bytes begin end) ranges → AreInside bytes (moved_by begin ranges)
+slice-moved-in begin end bytes ranges h =
+    moved_in begin (slice_range bytes begin end) bytes ranges
+    (omega (
+      arith,
+      length-take (end - begin) (drop begin bytes),
+      length-drop begin bytes,
+    )) h
+
+pub positions-moved : (p m : ℕ) → moved_by p (positions 0 m) ≡ positions p (p + m)
+unfolding moved_by positions
+positions-moved p m =
+    elim (cases_lt 0 m) [
+      | inl some ↦
+          rw (lt-ltb 0 m some, lt-ltb p (p + m) (omega (arith, some)))
+          (ap (λ (k : ℕ). (k, p + m) ∷ []) (add-zero p))
+      | inr none ↦ rw (le-ltb 0 m none, le-ltb p (p + m) (omega (arith, none))) refl
+    ]
+
+pub append-moved : (p : ℕ) (xs ys : List Range)
+    → moved_by p (xs ++ ys) ≡ moved_by p xs ++ moved_by p ys
+unfolding moved_by
+append-moved p [] ys = refl
+append-moved p (x ∷ xs) ys =
+    ap (λ (rest : List Range). (p + x.0, p + x.1) ∷ rest) (append-moved p xs ys)
+
+-- ---- the bytes between two offsets
+
+same_if : {A : Type 0} (test again : Bool) (x y : A) → test ≡ again → (test ≡ true → x ≡ y)
+    → cond test (Some x) None ≡ cond again (Some y) None
+same_if {A} true true x y is same = ap (λ (z : A). Some z) (same refl)
+same_if true false x y is same = absurd cc
+same_if false true x y is same = absurd cc
+same_if false false x y is same = refl
+
+pub same-bytes_between : (a b : List ℕ) (begin end : ℕ)
+    → Agree (between_footprint a begin end) a b
+    → bytes_between a begin end ≡ bytes_between b begin end
+same-bytes_between a b begin end h =
+    same_if (nat_le begin end && nat_le end (length a)) (nat_le begin end && nat_le end (length b))
+    (slice_range a begin end) (slice_range b begin end)
+    (ap (λ (n : ℕ). nat_le begin end && nat_le end n) h.same_length)
+    (λ there.
+    let tests = and_parts (nat_le begin end) (nat_le end (length a)) there in
+    let low = leb-true begin end tests.0 in
+    let high = leb-true end (length a) tests.1 in
+    let is : bytes_between a begin end ≡ Some (slice_range a begin end) = rw there refl in
+    let own : Agree (positions begin end) a b =
+    agree-led (bytes_between a begin end) (λ _. positions begin end)
+    (slice_range a begin end) a b is h in
+    let all : begin + (end - begin) ≡ end = omega (arith, low) in
+    subst (λ (k : ℕ). slice_range a begin k ≡ slice_range b begin k) all
+    (same-within begin end a b begin (end - begin) own (omega arith) (omega (arith, all))
+    (omega (arith, all, high))))
+
+between_by : (bytes own : List ℕ) (begin end : ℕ) (there : Bool)
+    → (there ≡ true → end ≤ length bytes)
+    → AreInside bytes (led_to (cond there (Some own) None) (λ _. positions begin end))
+unfolding led_to
+between_by bytes own begin end true high = positions-in bytes begin end (λ some. high refl)
+between_by bytes own begin end false high = All-nil (IsInFile bytes)
+
+pub between-in : (bytes : List ℕ) (begin end : ℕ)
+    → AreInside bytes (between_footprint bytes begin end)
+between-in bytes begin end =
+    between_by bytes (slice_range bytes begin end) begin end
+    (nat_le begin end && nat_le end (length bytes))
+    (λ there.
+    leb-true end (length bytes)
+    (and_parts (nat_le begin end) (nat_le end (length bytes)) there).1)
+
+-- ---- the first number that passes a test
+
+-- the first of n numbers from a on that passes the test passes, and none before it does
+pub record IsFound (test : ℕ → Bool) (a n i : ℕ) : Type 0 where
+  pub low : a ≤ i
+  pub high : i < a + n
+  pub passes : test i ≡ true
+  pub least : (k : ℕ) → a ≤ k → k < i → test k ≡ false
+
+first_or_later : (passes : Bool) (a i : ℕ) (later : Option ℕ)
+    → cond passes (Some a) later ≡ Some i
+    → ((passes ≡ true) × (a ≡ i)) ⊎ ((passes ≡ false) × (later ≡ Some i))
+first_or_later true a i later e = inl (refl, cc)
+first_or_later false a i later e = inr (refl, e)
+
+-- what is found, with the numbers before it
+pub find_is : (test : ℕ → Bool) (n a i : ℕ) → find test (range_with_len a n) ≡ Some i
+    → IsFound test a n i
+find_is test zero a i e = absurd cc
+find_is test (suc n) a i e =
+    elim (first_or_later (test a) a i (find test (range_with_len (a + 1) n)) e) [
+      | inl here ↦ record {
+        low = omega (arith, here.1);
+        high = omega (arith, here.1);
+        passes = ap test (sym here.1) ∙ here.0;
+        least = λ k low lt. absurd (omega (arith, low, lt, here.1));
+      }
+      | inr later ↦
+          let rest = find_is test n (a + 1) i later.1 in
+          record {
+            low = omega (arith, rest.low);
+            high = omega (arith, rest.high);
+            passes = rest.passes;
+            least = λ k low lt. elim (cases_eq k a) [
+              | inl at ↦ ap test at ∙ later.0
+              | inr other ↦ rest.least k (omega (arith, low, other)) lt
+            ];
+          }
+    ]
+
+by_first : (first other : Bool) (a i : ℕ) (later again : Option ℕ) → first ≡ other
+    → (later ≡ Some i → again ≡ Some i) → cond first (Some a) later ≡ Some i
+    → cond other (Some a) again ≡ Some i
+by_first true true a i later again is more e = e
+by_first true false a i later again is more e = absurd cc
+by_first false true a i later again is more e = absurd cc
+by_first false false a i later again is more e = more e
+
+-- tests that agree up to the first number that passes find the same
+pub find_alike : (test again : ℕ → Bool) (n a i : ℕ) → find test (range_with_len a n) ≡ Some i
+    → ((k : ℕ) → k ≤ i → test k ≡ again k) → find again (range_with_len a n) ≡ Some i
+find_alike test again zero a i e same = absurd cc
+find_alike test again (suc n) a i e same =
+    let is = find_is test (suc n) a i e in
+    by_first (test a) (again a) a i (find test (range_with_len (a + 1) n))
+    (find again (range_with_len (a + 1) n)) (same a is.low)
+    (λ later. find_alike test again n (a + 1) i later same) e
+
+-- ---- the least place of a number that passes a test
+
+module _ (endian : Endian) (n more : ℕ) (test : ℕ → Bool) where
+  -- what is found lies in the file
+  pub least_place-high : (bytes : List ℕ) (i : ℕ) → least_place endian n more test bytes ≡ Some i
+      → i + (n + more) ≤ length bytes
+  least_place-high bytes i e =
+      let is =
+      find_is (λ k. test (number endian n bytes k)) (length bytes - (n + more - 1)) 0 i e in
+      omega (arith, is.high)
+
+  same_bytes_all : (a b : List ℕ) → Agree (positions 0 (length a)) a b → a ≡ b
+  same_bytes_all a b h =
+      same_number_lists a b h.same_length
+      (λ k lt. same-byte 0 (length a) a b k h (omega arith) lt)
+
+  same_front : (m : ℕ) (a b : List ℕ) → m ≤ length a → Agree (positions 0 m) a b
+      → take m a ≡ take m b
+  same_front m a b le h =
+      let all : 0 + m - 0 ≡ m = omega arith in
+      subst (λ (k : ℕ). take k a ≡ take k b) all
+      (same-within 0 m a b 0 m h (omega arith) (omega arith) (omega (arith, le)))
+
+  same_place : (a b : List ℕ) (i : ℕ) → least_place endian n more test a ≡ Some i
+      → Agree (positions 0 (i + (n + more))) a b → least_place endian n more test b ≡ Some i
+  same_place a b i e h =
+      let high = least_place-high a i e in
+      let alike =
+      find_alike (λ k. test (number endian n a k)) (λ k. test (number endian n b k))
+      (length a - (n + more - 1)) 0 i e
+      (λ k le.
+      let own = agree-slice 0 (i + (n + more)) a b k n (omega arith) (omega (arith, le)) h in
+      ap test (same-number endian n a b k own (omega (arith, le, high)))) in
+      subst
+      (λ (l : ℕ).
+      find (λ k. test (number endian n b k)) (range_with_len 0 (l - (n + more - 1))) ≡ Some i)
+      h.same_length alike
+
+  by_place : (a b : List ℕ) (place : Option ℕ) → least_place endian n more test a ≡ place
+      → Agree (search_footprint (n + more) place a) a b
+      → option_map (λ (i : ℕ). (i, take (i + (n + more)) a)) place
+      ≡ front_through endian n more test b
+  by_place a b None is h =
+      ap (option_map (λ (i : ℕ). (i, take (i + (n + more)) a))) (sym is)
+      ∙ ap (front_through endian n more test) (same_bytes_all a b h)
+  by_place a b (Some i) is h =
+      let there = same_place a b i is h in
+      let front =
+      same_front (i + (n + more)) a b (least_place-high a i is) h in
+      ap (λ (xs : List ℕ). Some (i, xs)) front
+      ∙ ap (option_map (λ (i : ℕ). (i, take (i + (n + more)) b))) (sym there)
+
+  pub same-front_through : (a b : List ℕ)
+      → Agree (search_footprint (n + more) (least_place endian n more test a) a) a b
+      → front_through endian n more test a ≡ front_through endian n more test b
+  same-front_through a b h = by_place a b (least_place endian n more test a) refl h
+
+  place_in : (bytes : List ℕ) (place : Option ℕ) → least_place endian n more test bytes ≡ place
+      → AreInside bytes (search_footprint (n + more) place bytes)
+  place_in bytes None is = positions-in bytes 0 (length bytes) (λ some. omega arith)
+  place_in bytes (Some i) is =
+      positions-in bytes 0 (i + (n + more)) (λ some. least_place-high bytes i is)
+
+  pub search-in : (bytes : List ℕ)
+      → AreInside bytes
+      (search_footprint (n + more) (least_place endian n more test bytes) bytes)
+  search-in bytes = place_in bytes (least_place endian n more test bytes) refl
+
+-- ---- string tables
+
+pub same-string_table : (a b : List ℕ) (p n : ℕ) → Agree (slice_footprint a p n) a b
+    → string_table a p n ≡ string_table b p n
+same-string_table a b p n h =
+    let long : nat_le (p + n) (length a) ≡ nat_le (p + n) (length b) =
+    ap (nat_le (p + n)) h.same_length in
+    elim (cases_Bool (nat_le (p + n) (length a))) [
+      | inl there ↦
+          ap (λ (own : List ℕ). cond (nat_le (p + n) (length a)) (text_of own) None)
+          (same-slice_range a b p n h (leb-true (p + n) (length a) there))
+          ∙ ap (λ (t : Bool). cond t (text_of (slice_range b p (p + n))) None) long
+      | inr past ↦
+          cond-false (nat_le (p + n) (length a)) (text_of (slice_range a p (p + n))) None past
+          ∙ sym (cond-false (nat_le (p + n) (length b)) (text_of (slice_range b p (p + n))) None
+          (sym long ∙ past))
+    ]
+
+pub string_table-not_memory : (bytes : List ℕ) (p n : ℕ) (e : ErrorOf)
+    → IsStringTableFault bytes p n e → ¬ IsMemory e
+string_table-not_memory bytes p n (Memory m) h = absurd h
+string_table-not_memory bytes p n (Malformed c) h = λ m. m
+string_table-not_memory bytes p n (BadMagic k) h = λ m. m
+string_table-not_memory bytes p n (BufferTooShort k what) h = λ m. m
+string_table-not_memory bytes p n (Read fault) h = λ m. m

@@ -1,0 +1,41 @@
+-- Parts of a file: the bytes between two offsets, the least place of a number that passes a test,
+-- and what a read of a part reaches, as positions in all bytes.
+use Rattle.std.specs.Prelude.{ℕ, ◌+◌, ◌-◌, Bool, ◌&&◌, nat_le, if◌then◌else◌, List, length, map}
+use Rattle.std.specs.Prelude.{Option, None, Some, option_map, slice_range, take}
+use Rattle.std.specs.List.{find, range_with_len}
+use Rattle.goblin_base.specs.declared.endian.Endian.{Endian}
+use Rattle.goblin_base.specs.Bytes.{number}
+use Rattle.goblin_base.specs.Footprints.{Range, led_to, positions}
+
+-- positions in the bytes from p on, as positions in all bytes
+unfoldable pub moved_by : ℕ → List Range → List Range
+moved_by p ranges = map (λ range. (p + range.0, p + range.1)) ranges
+
+-- the bytes from `begin` up to `end`, where `end` is not before it and lies in the file; they may
+-- be none
+abbrev pub bytes_between : List ℕ → ℕ → ℕ → Option (List ℕ)
+bytes_between bytes begin end =
+    if nat_le begin end && nat_le end (length bytes)
+    then Some (slice_range bytes begin end)
+    else None
+
+-- their positions
+abbrev pub between_footprint : List ℕ → ℕ → ℕ → List Range
+between_footprint bytes begin end =
+    led_to (bytes_between bytes begin end) (λ _. positions begin end)
+
+-- the least place at which the number of n bytes passes the test, with `more` bytes after it
+abbrev pub least_place : Endian → ℕ → ℕ → (ℕ → Bool) → List ℕ → Option ℕ
+least_place endian n more test bytes =
+    find (λ i. test (number endian n bytes i)) (range_with_len 0 (length bytes - (n + more - 1)))
+
+-- that place, and the bytes up to the end of those after it
+abbrev pub front_through : Endian → ℕ → ℕ → (ℕ → Bool) → List ℕ → Option (ℕ × List ℕ)
+front_through endian n more test bytes =
+    option_map (λ i. (i, take (i + (n + more)) bytes)) (least_place endian n more test bytes)
+
+-- a search from the front: up to the end of the `width` bytes at the place that is found, and all
+-- where none is
+abbrev pub search_footprint : ℕ → Option ℕ → List ℕ → List Range
+search_footprint width None bytes = positions 0 (length bytes)
+search_footprint width (Some i) bytes = positions 0 (i + width)
