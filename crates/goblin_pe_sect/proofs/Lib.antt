@@ -4,6 +4,7 @@ pub mod BlocksOf
 pub mod Cuts
 pub mod DataDirectoriesRoundTrip
 pub mod DigitsRoundTrip
+pub mod DirectoryReadings
 pub mod Entries
 pub mod EntriesFront
 pub mod First

@@ -1,12 +1,15 @@
+pub mod AddressReadings
 pub mod AuxiliarySymbols
 pub mod BaseRelocations
 pub mod DataDirectories
+pub mod DirectoryReadings
 pub mod Footprints
 pub mod Mapping
 pub mod Multiples
 pub mod Options
 pub mod Relocations
 pub mod SectionName
+pub mod SectionReadings
 pub mod SectionTable
 pub mod Symbols
 pub mod WindowIndex
