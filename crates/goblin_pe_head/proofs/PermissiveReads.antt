@@ -1,31 +1,39 @@
 -- What strict mode reads of headers, permissive mode reads, too.
-use Rattle.std.proofs.Common.{ℕ, ◌+◌, ◌*◌, true, false, List, Option, Some, None}
-use Rattle.goblin_base.specs.Answers.{◌>>=◌}
-use Rattle.goblin_base.proofs.Kept.{Keeps, all_at-kept, then-kept}
+use Rattle.std.proofs.Common.{ℕ, ◌+◌, ◌*◌, true, false, List, Option, sym, ◌∙◌}
+use Rattle.goblin_base.specs.Reading.{Repeats}
+use Rattle.goblin_base.proofs.Kept.{Keeps, all_at-kept}
+use Rattle.readings.specs.Reads.{◌beside◌}
+use Rattle.readings.proofs.Modes.{repeats-beside, repeats-mapped, repeats-or_else, repeats-same}
+use Rattle.readings.proofs.Modes.{repeats-then}
 use Rattle.goblin_pe_sect.specs.SectionTable.{section_at}
 use Rattle.goblin_pe_sect.proofs.PermissiveReads.{section_at-kept}
 use Rattle.goblin_pe_head.specs.CoffHeader.{sections_at}
-use Rattle.goblin_pe_head.specs.DosHeader.{dos_header}
-use Rattle.goblin_pe_head.specs.DosStub.{default_stub, stub_at}
-use Rattle.goblin_pe_head.specs.PeHeader.{header_at, pe_header, stub_in}
-use Rattle.goblin_pe_head.specs.RichHeader.{rich_at}
-use Rattle.std.specs.Option.{unwrap_or}
+use Rattle.goblin_pe_head.specs.DosStub.{default_stub}
+use Rattle.goblin_pe_head.specs.HeaderReadings as reading
+use Rattle.goblin_pe_head.specs.HeaderReadings.{SignedParts, header_of}
+use Rattle.goblin_pe_head.specs.PeHeader.{pe_header}
+use Rattle.goblin_pe_head.specs.RichHeader.{Rich}
+use Rattle.goblin_pe_head.proofs.HeaderReadings.{value-pe_header}
 
-or_default : (stub : Option (List ℕ)) → Keeps stub (Some (unwrap_or stub default_stub))
-or_default None bytes e = absurd cc
-or_default (Some stub) bytes e = e
-
-stub_in-kept : (bytes : List ℕ) (p : ℕ) → Keeps (stub_in true bytes p) (stub_in false bytes p)
-unfolding stub_in
-stub_in-kept bytes p = or_default (stub_at bytes p)
+-- only the stub differs
+pub repeats-header : Repeats (reading.pe_header true) (reading.pe_header false)
+unfolding reading.pe_header reading.stub_in
+repeats-header =
+    repeats-then reading.dos_header reading.dos_header (reading.header_after true)
+    (reading.header_after false) (repeats-same reading.dos_header) (λ dos.
+    let stub = reading.stub_at dos.pe_pointer in
+    let rest = reading.rich_and_parts dos.pe_pointer in
+    repeats-mapped
+    (λ (all : List ℕ × (Option Rich × SignedParts)). header_of dos all.0 all.1.0 all.1.1)
+    (reading.stub_in true dos.pe_pointer beside rest)
+    (reading.stub_in false dos.pe_pointer beside rest)
+    (repeats-beside (reading.stub_in true dos.pe_pointer) (reading.stub_in false dos.pe_pointer)
+    rest rest (repeats-or_else default_stub stub stub (repeats-same stub)) (repeats-same rest)))
 
 pub header-kept : (bytes : List ℕ) → Keeps (pe_header true bytes) (pe_header false bytes)
-unfolding pe_header
-header-kept bytes =
-    then-kept (dos_header bytes) (dos_header bytes) _ _ (λ dos same. same)
-    (λ dos. then-kept (stub_in true bytes dos.pe_pointer) (stub_in false bytes dos.pe_pointer)
-    (λ stub. rich_at bytes dos.pe_pointer >>= λ rich. header_at dos stub rich bytes dos.pe_pointer) (λ stub. rich_at bytes dos.pe_pointer >>= λ rich. header_at dos stub rich bytes dos.pe_pointer)
-    (stub_in-kept bytes dos.pe_pointer) (λ stub header same. same))
+header-kept bytes header is =
+    sym (value-pe_header false bytes)
+    ∙ repeats-header.kept bytes header (value-pe_header true bytes ∙ is)
 
 pub sections_at-kept : (table n : ℕ) (bytes : List ℕ) (p : ℕ) → Keeps (sections_at true table n bytes p) (sections_at false table n bytes p)
 sections_at-kept table n bytes p =

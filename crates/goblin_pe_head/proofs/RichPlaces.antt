@@ -5,45 +5,11 @@ use Rattle.std.specs.List.{find, range_with_len}
 use Rattle.std.specs.Int.Bits.{bit_xor}
 use Rattle.std.proofs.lemmas.Bool.{cases_eq, eqb-true, eq-eqb, ltb-true}
 use Rattle.std.proofs.lemmas.List.{length-take}
+use Rattle.goblin_base.proofs.Parts.{find_is}
 use Rattle.goblin_base.proofs.Steps.{step}
 use Rattle.goblin_pe_head.specs.declared.header.dos.DosHeader.{DosHeader}
 use Rattle.goblin_pe_head.specs.DosHeader.{dos_header}
 use Rattle.goblin_pe_head.specs.RichHeader.{IsDansAt, IsLeast, IsMarked, IsMarkerAt, Rich, RichIsMarked, RichIsUnmarked, dans_place, leading_words, least_below, marker_place, rich_before, rich_between, rich_header, rich_in, word_at}
-
--- the first of n numbers from a on that passes the test passes, and none before it does
-pub record IsFound (test : ℕ → Bool) (a n i : ℕ) : Type 0 where
-  pub low : a ≤ i
-  pub high : i < a + n
-  pub passes : test i ≡ true
-  pub least : (k : ℕ) → a ≤ k → k < i → test k ≡ false
-
-first_or_later : (passes : Bool) (a i : ℕ) (later : Option ℕ) → cond passes (Some a) later ≡ Some i → ((passes ≡ true) × (a ≡ i)) ⊎ ((passes ≡ false) × (later ≡ Some i))
-first_or_later true a i later e = inl (refl, cc)
-first_or_later false a i later e = inr (refl, e)
-
--- what is found, with the numbers before it
-pub find_is : (test : ℕ → Bool) (n a i : ℕ) → find test (range_with_len a n) ≡ Some i → IsFound test a n i
-find_is test zero a i e = absurd cc
-find_is test (suc n) a i e =
-    elim (first_or_later (test a) a i (find test (range_with_len (a + 1) n)) e) [
-      | inl here ↦ record {
-        low = omega (arith, here.1);
-        high = omega (arith, here.1);
-        passes = ap test (sym here.1) ∙ here.0;
-        least = λ k low lt. absurd (omega (arith, low, lt, here.1));
-      }
-      | inr later ↦
-          let rest = find_is test n (a + 1) i later.1 in
-          record {
-            low = omega (arith, rest.low);
-            high = omega (arith, rest.high);
-            passes = rest.passes;
-            least = λ k low lt. elim (cases_eq k a) [
-              | inl at ↦ ap test at ∙ later.0
-              | inr other ↦ rest.least k (omega (arith, low, other)) lt
-            ];
-          }
-    ]
 
 fails : (passes : Bool) (a : ℕ) (later : Option ℕ) → cond passes (Some a) later ≡ None → (passes ≡ false) × (later ≡ None)
 fails true a later e = absurd cc

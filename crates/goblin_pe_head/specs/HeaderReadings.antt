@@ -1,0 +1,184 @@
+-- The header of a PE file by readings: its parts, each at its offset.
+use Rattle.std.specs.Prelude.{ℕ, ◌+◌, ◌*◌, ◌==◌, Bool, List, Option, None, Some}
+use Rattle.goblin_base.specs.declared.endian.Endian.TheVariants.{Little}
+use Rattle.goblin_base.specs.Reading.{Reading}
+use Rattle.goblin_base.proofs.Picks.{by_cases-not_memory}
+use Rattle.readings.specs.Reads.{◌>>=◌, ◌beside◌, because_by, bytes_between, checked, given}
+use Rattle.readings.specs.Reads.{in_rest}
+use Rattle.readings.specs.Reads.{mapped, needs_by, number_at, or_else, pick, record_at}
+use Rattle.goblin_pe_sect.specs.DirectoryReadings.{directories_at}
+use Rattle.goblin_pe_head.specs.declared.header.coff.CoffHeader.{CoffHeader}
+use Rattle.goblin_pe_head.specs.declared.header.dos.DosHeader.{DosHeader}
+use Rattle.goblin_pe_head.specs.declared.optional_header.FixedFields.{FixedFields}
+use Rattle.goblin_pe_head.specs.declared.optional_header.OptionalHeader.{OptionalHeader}
+use Rattle.goblin_pe_head.specs.CoffHeader.{coff_header}
+use Rattle.goblin_pe_head.specs.DosHeader.{IsDosMagic, IsNoDosSignature, IsNoPePointer}
+use Rattle.goblin_pe_head.specs.DosHeader.{IsNoSignature}
+use Rattle.goblin_pe_head.specs.DosHeader.{IsPeMagic, dos_record, that_is}
+use Rattle.goblin_pe_head.specs.DosStub.{IsStubFault, default_stub}
+use Rattle.goblin_pe_head.specs.OptionalHeader.{IsBadMagic, standard_32_record, standard_64_record}
+use Rattle.goblin_pe_head.specs.OptionalHeader.{standard_from_32, standard_from_64}
+use Rattle.goblin_pe_head.specs.OptionalHeader.{windows_32_record}
+use Rattle.goblin_pe_head.specs.OptionalHeader.{windows_64_record, windows_from_32}
+use Rattle.goblin_pe_head.specs.PeHeader.{PeHeader, zero_dos_header}
+use Rattle.goblin_pe_head.specs.RichHeader.{Rich}
+use Rattle.goblin_pe_head.specs.RichReadings.{rich_at}
+
+-- ---- the DOS header
+
+-- the two bytes at the front, which have to be the DOS signature
+abbrev pub dos_signature : Reading ℕ
+dos_signature =
+    checked (that_is 0x5A4D) IsDosMagic (λ n. by_cases-not_memory (IsDosMagic n) (λ m h. h))
+    (because_by IsNoDosSignature (λ bytes. by_cases-not_memory (IsNoDosSignature bytes) (λ m h. h))
+    (number_at Little 2 0))
+
+-- the four bytes at p, whatever they are
+abbrev pub signature_at : ℕ → Reading ℕ
+signature_at p =
+    because_by (λ bytes. IsNoSignature bytes p)
+    (λ bytes. by_cases-not_memory (IsNoSignature bytes p) (λ m h. h)) (number_at Little 4 p)
+
+-- the four bytes at p, which have to be the PE signature
+abbrev pub pe_signature : ℕ → Reading ℕ
+pe_signature p =
+    checked (that_is 0x4550) IsPeMagic (λ n. by_cases-not_memory (IsPeMagic n) (λ m h. h))
+    (signature_at p)
+
+-- the record at the front, with the PE signature where it points
+abbrev pub signed_record : Reading DosHeader
+signed_record =
+    because_by IsNoPePointer (λ bytes. by_cases-not_memory (IsNoPePointer bytes) (λ m h. h))
+    (record_at 64 (dos_record Little) 0)
+    >>= λ header. mapped (λ signature. header) (pe_signature header.pe_pointer)
+
+-- the DOS header of a file: its record at 0, with the DOS signature there and the PE signature
+-- where the record points
+unfoldable pub dos_header : Reading DosHeader
+dos_header = mapped (λ both. both.1) (dos_signature beside signed_record)
+
+-- the Rich header of a file, where there is one
+unfoldable pub rich_header : Reading (Option Rich)
+rich_header = dos_header >>= λ dos. rich_at dos.pe_pointer
+
+-- ---- the stub
+
+-- the bytes from the end of the DOS header, at 64, up to a PE signature at p
+abbrev pub stub_at : ℕ → Reading (List ℕ)
+stub_at p =
+    because_by (λ bytes. IsStubFault bytes p)
+    (λ bytes. by_cases-not_memory (IsStubFault bytes p) (λ m h. h)) (bytes_between 64 p)
+
+-- the stub before a PE signature at p; where there is none, permissive mode takes the default one
+unfoldable pub stub_in : Bool → ℕ → Reading (List ℕ)
+stub_in strict p = or_else strict default_stub (stub_at p)
+
+-- ---- the optional header
+
+-- the fields before the directories, in an optional header for 32 bits and in one for 64
+abbrev pub fields_32 : Reading FixedFields
+fields_32 =
+    mapped
+    (λ both.
+    record {
+      standard_fields = standard_from_32 both.0;
+      windows_fields = windows_from_32 both.1;
+      size = 96;
+    })
+    (record_at 28 (standard_32_record Little) 0 beside record_at 68 (windows_32_record Little) 28)
+
+abbrev pub fields_64 : Reading FixedFields
+fields_64 =
+    mapped
+    (λ both.
+    record {
+      standard_fields = standard_from_64 both.0;
+      windows_fields = both.1;
+      size = 112;
+    })
+    (record_at 24 (standard_64_record Little) 0 beside record_at 88 (windows_64_record Little) 24)
+
+-- the fields that the magic asks for; another magic has none
+unfoldable pub fixed_fields : ℕ → Reading FixedFields
+fixed_fields magic =
+    pick (magic == 0x10B) fields_32
+    (pick (magic == 0x20B) fields_64
+    (needs_by None (IsBadMagic magic) (by_cases-not_memory (IsBadMagic magic) (λ m h. h))))
+
+-- the optional header at the front of bytes, and how many bytes it takes
+unfoldable pub optional_header : Reading (OptionalHeader × ℕ)
+optional_header =
+    number_at Little 2 0 >>= λ magic. fixed_fields magic >>= λ fields.
+    let count = fields.windows_fields.number_of_rva_and_sizes in
+    mapped
+    (λ entries. (
+      record {
+        standard_fields = fields.standard_fields;
+        windows_fields = fields.windows_fields;
+        data_directories = record { data_directories = entries };
+      },
+      fields.size + 8 * count,
+    ))
+    (directories_at count fields.size)
+
+-- the optional header at p, which is there where its size is not 0; the size says nothing else
+unfoldable pub optional_at : ℕ → ℕ → Reading (Option OptionalHeader)
+optional_at size p =
+    pick (size == 0) (given None) (mapped (λ header. Some header.0) (in_rest p optional_header))
+
+-- ---- the whole header
+
+-- the parts from a signature on
+pub record SignedParts : Type 0 where
+  pub signature : ℕ
+  pub coff_header : CoffHeader
+  pub optional_header : Option OptionalHeader
+
+-- the COFF header after a signature at p, and the optional header after that
+abbrev pub coff_parts : ℕ → Reading (CoffHeader × Option OptionalHeader)
+coff_parts p =
+    record_at 20 (coff_header Little) (p + 4)
+    >>= λ coff. mapped (λ optional. (coff, optional))
+    (optional_at coff.size_of_optional_header (p + 24))
+
+-- the parts from the signature at p on
+unfoldable pub parts_at : ℕ → Reading SignedParts
+parts_at p =
+    mapped
+    (λ both.
+    record { signature = both.0; coff_header = both.1.0; optional_header = both.1.1 })
+    (signature_at p beside coff_parts p)
+
+-- a header of its parts
+abbrev pub header_of : DosHeader → List ℕ → Option Rich → SignedParts → PeHeader
+header_of dos stub rich parts = record {
+  dos_header = dos;
+  dos_stub = stub;
+  rich_header = rich;
+  signature = parts.signature;
+  coff_header = parts.coff_header;
+  optional_header = parts.optional_header;
+}
+
+-- the header whose signature stands at p, with the parts before it
+unfoldable pub header_at : DosHeader → List ℕ → Option Rich → ℕ → Reading PeHeader
+header_at dos stub rich p = mapped (header_of dos stub rich) (parts_at p)
+
+-- the Rich header before a signature at p, and the parts from there on
+abbrev pub rich_and_parts : ℕ → Reading (Option Rich × SignedParts)
+rich_and_parts p = rich_at p beside parts_at p
+
+-- the header whose signature stands where this DOS header points
+abbrev pub header_after : Bool → DosHeader → Reading PeHeader
+header_after strict dos =
+    mapped (λ all. header_of dos all.0 all.1.0 all.1.1)
+    (stub_in strict dos.pe_pointer beside rich_and_parts dos.pe_pointer)
+
+-- the header of a file
+unfoldable pub pe_header : Bool → Reading PeHeader
+pe_header strict = dos_header >>= header_after strict
+
+-- the header of bytes that begin with a signature, whatever it is, after a DOS header of zeros and
+-- the default stub
+unfoldable pub header_without_dos : Reading PeHeader
+header_without_dos = header_at zero_dos_header default_stub None 0
