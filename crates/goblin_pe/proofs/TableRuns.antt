@@ -10,7 +10,8 @@ use Rattle.goblin_pe_sect.specs.Mapping.{data_at, name_at, name_or_none}
 use Rattle.goblin_pe_sect.proofs.PermissiveReads.{name_or_none-kept}
 use Rattle.goblin_pe.specs.declared.laws.order.Request.{Request}
 use Rattle.goblin_pe.specs.declared.laws.order.TablesOf.{TablesOf}
-use Rattle.goblin_pe_tables.specs.ExportFootprints.{export_read, export_read_view}
+use Rattle.goblin_pe_tables.specs.ExportReadings.{export_read}
+use Rattle.goblin_pe_tables.specs.Exports.{export_read_view}
 use Rattle.goblin_pe_tables.specs.ImportDirectory.{import_data}
 use Rattle.goblin_pe_tables.specs.ImportLookup.{EntryValue, entry_view, lookup_table}
 use Rattle.goblin_pe.specs.Modes.{unless_front}
@@ -26,7 +27,9 @@ module _ {D Y : Type 0} (format : Format EntryValue) (plain : D → Y) (value_of
       record {
         lookup = alike_or_memory_answers (map entry_view) _ _ _ _ _ _ one.lookup two.lookup (ap (λ (m : ℕ → Option ℕ). lookup_table strict format m bytes request.lookup) same);
         imports = alike_or_memory_answers (λ x. x) _ _ _ _ _ _ one.imports two.imports (ap (λ (m : ℕ → Option ℕ). import_data strict format m bytes request.imports.virtual_address) same);
-        exports = alike_or_memory_answers export_read_view _ _ _ _ _ _ one.exports two.exports (ap (λ (m : ℕ → Option ℕ). export_read m request.exports bytes) same);
+        exports =
+            alike_or_memory_answers export_read_view _ _ _ _ _ _ one.exports two.exports
+            (ap (λ (m : ℕ → Option ℕ). (export_read m request.exports).value bytes) same);
         relocations = alike_answers relocation_bytes _ _ _ _ _ _ one.relocations two.relocations (ap (λ (m : ℕ → Option ℕ). relocation_data m bytes request.relocations) same);
         name = alike_answers (option_map (λ s. s.now)) _ _ _ _ _ _ one.name two.name (ap (λ (m : ℕ → Option ℕ). name_or_none strict (name_at m bytes request.name)) same);
         value = alike_answers plain _ _ _ _ _ _ one.value two.value (ap (λ (m : ℕ → Option ℕ). data_at m value_of bytes request.value.virtual_address) same);

@@ -1,5 +1,6 @@
 -- Files that agree on what the reader of a whole file reaches in the first have the same parts.
 use Rattle.std.proofs.Common.{◌≡◌, ℕ, Bool, true, false, cond, Option, Some, None, List, [], ◌++◌, length, ap, subst, refl}
+use Rattle.std.specs.Prelude.{unwrap_or}
 use Rattle.goblin_base.specs.Footprints.{Agree, Range, led_to}
 use Rattle.goblin_base.proofs.Footprints.{agree-left, agree-right, same-led, same-then}
 use Rattle.goblin_base.proofs.Steps.{same_value}
@@ -17,14 +18,12 @@ use Rattle.goblin_pe_head.proofs.Footprints.{same-header, same-sections_at}
 use Rattle.goblin_pe.specs.declared.whole.Part.{Part}
 use Rattle.goblin_pe.specs.declared.whole.Part.TheVariants.{Absent, Refused}
 use Rattle.goblin_pe.specs.declared.whole.Part.TheVariants as part
-use Rattle.goblin_pe_tables.specs.ExportFootprints.{export_data_footprint, export_footprint, exports_footprint}
-use Rattle.goblin_pe_tables.specs.Exports.{ExportTables, export_data, exports}
-use Rattle.goblin_pe_tables.specs.ImportDirectory.{import_data}
-use Rattle.goblin_pe_tables.specs.ImportFootprints.{import_footprint}
+use Rattle.goblin_pe_tables.specs.ExportReadings as export_readings
+use Rattle.goblin_pe_tables.specs.Exports.{ExportRow, ExportTables, export_data, exports}
+use Rattle.goblin_pe_tables.specs.ImportReadings.{import_data}
+use Rattle.goblin_pe_tables.specs.ImportRecords.{ImportedLibrary}
 use Rattle.goblin_pe.specs.Whole.{TablePlaces, entry_format, export_data_part, exports_part, file_sections, import_data_part, imports_part, offset_by, part_at, part_map, part_of, places_in, relocations_part, section_table_offset, tables_of, whole_file}
 use Rattle.goblin_pe.specs.WholeFootprints.{file_sections_footprint, file_tables_footprint, import_part_footprint, whole_footprint}
-use Rattle.goblin_pe_tables.proofs.ExportFootprints.{same-export_data, same-exports}
-use Rattle.goblin_pe_tables.proofs.ImportFootprints.{same-import_data}
 
 -- the table of a directory
 same_part_at : {A : Type 0} → (strict : Bool) (table again : DataDirectory → Option A) (directory : Option DataDirectory) (leads_to : DataDirectory → List Range) (a b : List ℕ) → ((d : DataDirectory) → Agree (leads_to d) a b → table d ≡ again d) → Agree (led_to directory leads_to) a b
@@ -44,34 +43,65 @@ same_import_part opts sections a b places h =
     let strict = is_strict opts.parse_mode in
     let format = entry_format places.magic in
     let offset_of = offset_by opts sections places in
-    let leads_to : DataDirectory → List Range = λ d. import_footprint strict format offset_of a d.virtual_address in
-    same_if_asked opts.parse_imports (part_at strict (λ d. import_data strict format offset_of a d.virtual_address) places.imports) (part_at strict (λ d. import_data strict format offset_of b d.virtual_address) places.imports) (Some Absent) (led_to places.imports leads_to) a b
-    (same_part_at strict (λ d. import_data strict format offset_of a d.virtual_address) (λ d. import_data strict format offset_of b d.virtual_address) places.imports leads_to a b (λ d here. same-import_data strict format offset_of a b d.virtual_address here)) h
+    let read = λ (d : DataDirectory). import_data strict format offset_of d.virtual_address in
+    let leads_to : DataDirectory → List Range = λ d. (read d).reaches a in
+    let value : List ℕ → DataDirectory → Option (List ImportedLibrary) =
+    λ bytes d. (read d).value bytes in
+    same_if_asked opts.parse_imports (part_at strict (value a) places.imports)
+    (part_at strict (value b) places.imports) (Some Absent) (led_to places.imports leads_to) a b
+    (same_part_at strict (value a) (value b) places.imports leads_to a b
+    (λ d here. (read d).is_local a b here)) h
+
+-- what is reached of the rows that export data lists
+abbrev reach_of_rows : (ℕ → Option ℕ) → List ℕ → ExportTables → List Range
+reach_of_rows offset_of bytes tables = (export_readings.exports offset_of tables).reaches bytes
 
 -- the exports of export data that was read
-same_exports_of : (strict : Bool) (offset_of : ℕ → Option ℕ) (a b : List ℕ) (read : Option ExportTables) (x : Part ExportTables) → length a ≡ length b → part_of strict read ≡ Some x → Agree (led_to read (exports_footprint offset_of a)) a b
+same_exports_of : (strict : Bool) (offset_of : ℕ → Option ℕ) (a b : List ℕ)
+    (read : Option ExportTables) (x : Part ExportTables) → part_of strict read ≡ Some x
+    → Agree (led_to read (reach_of_rows offset_of a)) a b
     → part_map (exports offset_of a) x ≡ part_map (exports offset_of b) x
 unfolding part_of part_map led_to
-same_exports_of strict offset_of a b (Some tables) x long e h =
-    subst (λ (y : Part ExportTables). part_map (exports offset_of a) y ≡ part_map (exports offset_of b) y) (same_value (part.Read tables) x e) (ap (λ rows. part.Read rows) (same-exports offset_of a b tables long h))
-same_exports_of true offset_of a b None x long e h = absurd cc
-same_exports_of false offset_of a b None x long e h =
+same_exports_of strict offset_of a b (Some tables) x e h =
+    subst (λ (y : Part ExportTables).
+    part_map (exports offset_of a) y ≡ part_map (exports offset_of b) y)
+    (same_value (part.Read tables) x e)
+    (ap (λ (rows : Option (List ExportRow)). part.Read (unwrap_or rows []))
+    ((export_readings.exports offset_of tables).is_local a b h))
+same_exports_of true offset_of a b None x e h = absurd cc
+same_exports_of false offset_of a b None x e h =
     subst (λ (y : Part ExportTables). part_map (exports offset_of a) y ≡ part_map (exports offset_of b) y) (same_value Refused x e) refl
 
-same_exports_part : (strict : Bool) (offset_of : ℕ → Option ℕ) (a b : List ℕ) (directory : Option DataDirectory) (x : Part ExportTables) → part_at strict (λ d. export_data offset_of d a) directory ≡ Some x → Agree (led_to directory (λ d. export_footprint offset_of d a)) a b
+-- what is reached of a directory of exports
+abbrev reach_of_exports : (ℕ → Option ℕ) → List ℕ → DataDirectory → List Range
+reach_of_exports offset_of bytes d = (export_readings.export_read offset_of d).reaches bytes
+
+same_exports_part : (strict : Bool) (offset_of : ℕ → Option ℕ) (a b : List ℕ)
+    (directory : Option DataDirectory) (x : Part ExportTables)
+    → part_at strict (λ d. export_data offset_of d a) directory ≡ Some x
+    → Agree (led_to directory (reach_of_exports offset_of a)) a b
     → part_map (exports offset_of a) x ≡ part_map (exports offset_of b) x
-unfolding part_at led_to part_map export_footprint
+unfolding part_at led_to part_map export_readings.export_read
 same_exports_part strict offset_of a b None x e h =
     subst (λ (y : Part ExportTables). part_map (exports offset_of a) y ≡ part_map (exports offset_of b) y) (same_value Absent x e) refl
 same_exports_part strict offset_of a b (Some d) x e h =
-    same_exports_of strict offset_of a b (export_data offset_of d a) x h.same_length e (agree-right (export_data_footprint offset_of d a) (led_to (export_data offset_of d a) (exports_footprint offset_of a)) a b h)
+    same_exports_of strict offset_of a b (export_data offset_of d a) x e
+    (agree-right ((export_readings.export_data offset_of d).reaches a)
+    (led_to (export_data offset_of d a) (reach_of_rows offset_of a)) a b h)
 
-same_export_data_part : (strict : Bool) (offset_of : ℕ → Option ℕ) (a b : List ℕ) (directory : Option DataDirectory) → Agree (led_to directory (λ d. export_footprint offset_of d a)) a b
-    → part_at strict (λ d. export_data offset_of d a) directory ≡ part_at strict (λ d. export_data offset_of d b) directory
-unfolding export_footprint
+same_export_data_part : (strict : Bool) (offset_of : ℕ → Option ℕ) (a b : List ℕ)
+    (directory : Option DataDirectory)
+    → Agree (led_to directory (reach_of_exports offset_of a)) a b
+    → part_at strict (λ d. export_data offset_of d a) directory
+    ≡ part_at strict (λ d. export_data offset_of d b) directory
+unfolding export_readings.export_read
 same_export_data_part strict offset_of a b directory h =
-    same_part_at strict (λ d. export_data offset_of d a) (λ d. export_data offset_of d b) directory (λ d. export_footprint offset_of d a) a b
-    (λ d here. same-export_data offset_of d a b (agree-left (export_data_footprint offset_of d a) (led_to (export_data offset_of d a) (exports_footprint offset_of a)) a b here)) h
+    same_part_at strict (λ d. export_data offset_of d a) (λ d. export_data offset_of d b)
+    directory (reach_of_exports offset_of a) a b
+    (λ d here.
+    (export_readings.export_data offset_of d).is_local a b
+    (agree-left ((export_readings.export_data offset_of d).reaches a)
+    (led_to (export_data offset_of d a) (reach_of_rows offset_of a)) a b here)) h
 
 same_tables_of : (opts : ParseOptions) (sections : List Section) (a b : List ℕ) (places : TablePlaces) → Agree (file_tables_footprint opts sections a places) a b → tables_of opts sections a places ≡ tables_of opts sections b places
 unfolding tables_of file_tables_footprint export_data_part exports_part relocations_part
@@ -79,7 +109,7 @@ same_tables_of opts sections a b places h =
     let strict = is_strict opts.parse_mode in
     let offset_of = offset_by opts sections places in
     let of_imports = import_part_footprint opts sections a places in
-    let of_exports = led_to places.exports (λ d. export_footprint offset_of d a) in
+    let of_exports = led_to places.exports (reach_of_exports offset_of a) in
     let of_relocations = led_to places.relocations (relocation_footprint offset_of a) in
     let at_both : Agree (of_imports ++ of_exports) a b = agree-left (of_imports ++ of_exports) of_relocations a b h in
     let at_exports : Agree of_exports a b = agree-right of_imports of_exports a b at_both in

@@ -42,14 +42,14 @@ pub use Rattle.goblin_pe_head.specs.RichHeader
 pub use Rattle.goblin_pe_head.specs.RichMetadata
 pub use Rattle.goblin_pe_head.specs.TeHeader
 pub use Rattle.goblin_pe_tables.specs.Addresses
-pub use Rattle.goblin_pe_tables.specs.ExportFootprints
+pub use Rattle.goblin_pe_tables.specs.ExportReadings
+pub use Rattle.goblin_pe_tables.specs.ExportRecords
 pub use Rattle.goblin_pe_tables.specs.Exports
 pub use Rattle.goblin_pe_tables.specs.ForwarderLaws
 pub use Rattle.goblin_pe_tables.specs.Forwarders
 pub use Rattle.goblin_pe_tables.specs.ImportBound
 pub use Rattle.goblin_pe_tables.specs.ImportDirectory
 pub use Rattle.goblin_pe_tables.specs.ImportEntries
-pub use Rattle.goblin_pe_tables.specs.ImportFootprints
 pub use Rattle.goblin_pe_tables.specs.ImportLookup
 pub use Rattle.goblin_pe_tables.specs.ImportReadings
 pub use Rattle.goblin_pe_tables.specs.ImportRecords

@@ -5,6 +5,7 @@ use Rattle.goblin_base.specs.declared.endian.Endian.{Endian}
 use Rattle.goblin_base.specs.declared.error.ErrorOf.{ErrorOf}
 use Rattle.goblin_base.specs.Answers.{Answers, AnswersOrMemory, IsMemory}
 use Rattle.goblin_base.specs.Footprints.{Alike, AlikeOrMemory}
+use Rattle.goblin_base.specs.Reading.{ReadsOrMemory}
 use Rattle.goblin_base.specs.Tables.{Format}
 use Rattle.goblin_pe_sect.specs.BaseRelocations.{IsRelocationDataFault, relocation_bytes}
 use Rattle.goblin_pe_sect.specs.BaseRelocations.{relocation_data}
@@ -14,8 +15,8 @@ use Rattle.goblin_pe_sect.specs.Mapping.{name_or_none}
 use Rattle.goblin_pe_sect.specs.WindowIndex.{HasPieces}
 use Rattle.goblin_pe.specs.declared.laws.order.Request.{Request}
 use Rattle.goblin_pe.specs.declared.laws.order.TablesOf.{TablesOf}
-use Rattle.goblin_pe_tables.specs.ExportFootprints.{export_read, export_read_view}
-use Rattle.goblin_pe_tables.specs.Exports.{HasEntries, IsExportDataFault, export_data}
+use Rattle.goblin_pe_tables.specs.ExportReadings.{export_read}
+use Rattle.goblin_pe_tables.specs.Exports.{HasEntries, export_data, export_read_view}
 use Rattle.goblin_pe_tables.specs.ImportDirectory.{HasRecords, IsImportDataFault, import_data}
 use Rattle.goblin_pe_tables.specs.ImportLookup.{EntryValue, IsLookupTableFault, KeepsEntries}
 use Rattle.goblin_pe_tables.specs.ImportLookup.{entry_view, lookup_table}
@@ -32,9 +33,8 @@ pub record AreTables {D Y : Type 0} (format : Format EntryValue) (plain : D → 
   pub imports : (let rva = request.imports.virtual_address in
       AnswersOrMemory (λ x. x) tables.imports (import_data strict format offset_of bytes rva)
       (IsImportDataFault strict format offset_of bytes rva))
-  pub exports : AnswersOrMemory export_read_view tables.exports
-      (export_read offset_of request.exports bytes)
-      (IsExportDataFault offset_of request.exports bytes)
+  pub exports : ReadsOrMemory export_read_view tables.exports
+      (export_read offset_of request.exports) bytes
   pub relocations : Answers relocation_bytes tables.relocations
       (relocation_data offset_of bytes request.relocations)
       (IsRelocationDataFault offset_of bytes request.relocations)

@@ -20,8 +20,8 @@ use Rattle.goblin_pe.specs.declared.whole.Part.TheVariants.{Absent, Refused}
 use Rattle.goblin_pe.specs.declared.whole.Part.TheVariants as part
 use Rattle.goblin_pe.specs.declared.whole.Tables.{Tables}
 use Rattle.goblin_pe_tables.specs.Addresses.{MapOfAddresses, offset_of}
-use Rattle.goblin_pe_tables.specs.Exports.{ExportRow, ExportTables, IsExportDataFault, export_data}
-use Rattle.goblin_pe_tables.specs.Exports.{exports}
+use Rattle.goblin_pe_tables.specs.ExportReadings as export_readings
+use Rattle.goblin_pe_tables.specs.Exports.{ExportRow, ExportTables, export_data, exports}
 use Rattle.goblin_pe_tables.specs.ImportDirectory.{ImportedLibrary, IsImportDataFault, import_data}
 use Rattle.goblin_pe_tables.specs.ImportLookup.{EntryValue, entries_32, entries_64}
 use Rattle.goblin_pe_tables.specs.Imports.{ImportValue, IsImportsFault, imports_of}
@@ -230,8 +230,9 @@ IsImportPartFault opts sections bytes tables =
 -- which cause is true of export data that refuses all
 abbrev pub IsExportPartFault : ParseOptions → List Section → List ℕ → TablePlaces → ErrorOf → Type 0
 IsExportPartFault opts sections bytes tables =
+    let m = offset_by opts sections tables in
     IsPartAtFault (is_strict opts.parse_mode)
-    (λ d. IsExportDataFault (offset_by opts sections tables) d bytes) tables.exports
+    (λ d. (export_readings.export_data m d).IsCause bytes) tables.exports
 
 -- which cause is true of base relocations that refuse all
 abbrev pub IsRelocationsPartFault : ParseOptions → List Section → List ℕ → TablePlaces → ErrorOf

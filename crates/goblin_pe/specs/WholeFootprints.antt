@@ -2,6 +2,7 @@
 -- directories lead.
 use Rattle.std.specs.Prelude.{if◌then◌else◌, ℕ, List, [], ◌++◌}
 use Rattle.goblin_base.specs.Footprints.{Range, led_to}
+use Rattle.goblin_pe_sect.specs.declared.data_directories.DataDirectory.{DataDirectory}
 use Rattle.goblin_pe_sect.specs.declared.options.ParseOptions.{ParseOptions}
 use Rattle.goblin_pe_sect.specs.Footprints.{relocation_footprint}
 use Rattle.goblin_pe_sect.specs.Options.{is_strict}
@@ -9,8 +10,8 @@ use Rattle.goblin_pe_sect.specs.SectionTable.{Section}
 use Rattle.goblin_pe_head.specs.CoffHeader.{symbols_end}
 use Rattle.goblin_pe_head.specs.Footprints.{header_footprint, sections_footprint}
 use Rattle.goblin_pe_head.specs.PeHeader.{PeHeader, pe_header}
-use Rattle.goblin_pe_tables.specs.ExportFootprints.{export_footprint}
-use Rattle.goblin_pe_tables.specs.ImportFootprints.{import_footprint}
+use Rattle.goblin_pe_tables.specs.ExportReadings.{export_read}
+use Rattle.goblin_pe_tables.specs.ImportReadings.{import_data}
 use Rattle.goblin_pe.specs.Whole.{TablePlaces, entry_format, file_sections, offset_by, places_in}
 use Rattle.goblin_pe.specs.Whole.{section_table_offset}
 
@@ -19,19 +20,18 @@ use Rattle.goblin_pe.specs.Whole.{section_table_offset}
 unfoldable pub import_part_footprint : ParseOptions → List Section → List ℕ → TablePlaces
     → List Range
 import_part_footprint opts sections bytes places =
-    if opts.parse_imports
-    then led_to places.imports
-    (λ d.
-    import_footprint (is_strict opts.parse_mode) (entry_format places.magic)
-    (offset_by opts sections places) bytes d.virtual_address)
-    else []
+    let offset_of = offset_by opts sections places in
+    let strict = is_strict opts.parse_mode in
+    let read = λ (d : DataDirectory).
+    import_data strict (entry_format places.magic) offset_of d.virtual_address in
+    if opts.parse_imports then led_to places.imports (λ d. (read d).reaches bytes) else []
 
 -- the tables of a file with these sections, which lie in these places
 unfoldable pub file_tables_footprint : ParseOptions → List Section → List ℕ → TablePlaces
     → List Range
 file_tables_footprint opts sections bytes places =
     import_part_footprint opts sections bytes places
-    ++ led_to places.exports (λ d. export_footprint (offset_by opts sections places) d bytes)
+    ++ led_to places.exports (λ d. (export_read (offset_by opts sections places) d).reaches bytes)
     ++ led_to places.relocations (relocation_footprint (offset_by opts sections places) bytes)
 
 -- the sections of a file with this header

@@ -5,7 +5,7 @@ use Rattle.goblin_pe_sect.specs.declared.options.ParseOptions.{ParseOptions}
 use Rattle.goblin_pe_sect.specs.Mapping.{file_offset}
 use Rattle.goblin_pe_sect.specs.Options.{is_strict}
 use Rattle.goblin_pe_sect.specs.SectionTable.{Section}
-use Rattle.goblin_pe.specs.ImportFootprints.{import_footprint}
+use Rattle.goblin_pe.specs.ImportReadings.{import_data}
 use Rattle.goblin_pe.specs.Whole.{entry_format}
 use Rattle.goblin_pe_c.specs.declared.directory.PeDirectory.{PeDirectory}
 use Rattle.goblin_pe_c.specs.declared.headers.PeOptionalHeader.{PeOptionalHeader}
@@ -16,9 +16,13 @@ use Rattle.goblin_pe_c.proofs.Offsets.{map-unnamed}
 
 pub footprint-unnamed : (opts : ParseOptions) (header : PeOptionalHeader) (directory : PeDirectory) (records : List PeSection) (sections : List Section) (bytes : List ℕ)
     → directory.is_present ≡ true → sections ≡ map (λ s. unnamed (section_view s)) records
-    → import_footprint (is_strict opts.parse_mode) (entry_format header.magic) (file_offset opts sections header.file_alignment) bytes directory.virtual_address
+    → (import_data (is_strict opts.parse_mode) (entry_format header.magic)
+    (file_offset opts sections header.file_alignment) directory.virtual_address).reaches bytes
     ≡ footprint_by opts header directory (map section_view records) bytes
 unfolding footprint_by
 footprint-unnamed opts header directory records sections bytes present are =
     let same = ap (λ (s : List Section). file_offset opts s header.file_alignment) are ∙ map-unnamed opts header.file_alignment records in
-    rw present (ap (λ (m : ℕ → Option ℕ). import_footprint (is_strict opts.parse_mode) (entry_format header.magic) m bytes directory.virtual_address) same)
+    let strict = is_strict opts.parse_mode in
+    let format = entry_format header.magic in
+    let rva = directory.virtual_address in
+    rw present (ap (λ (m : ℕ → Option ℕ). (import_data strict format m rva).reaches bytes) same)

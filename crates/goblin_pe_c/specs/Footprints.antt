@@ -9,7 +9,7 @@ use Rattle.goblin_pe_sect.specs.Mapping.{file_offset}
 use Rattle.goblin_pe_sect.specs.Options.{is_strict}
 use Rattle.goblin_pe_sect.specs.SectionTable.{Section}
 use Rattle.goblin_pe_sect.specs.WindowIndex.{HasPieces}
-use Rattle.goblin_pe.specs.ImportFootprints.{import_footprint}
+use Rattle.goblin_pe.specs.ImportReadings.{import_data}
 use Rattle.goblin_pe.specs.Whole.{entry_format}
 use Rattle.goblin_pe_c.specs.declared.directory.PeDirectory.{PeDirectory}
 use Rattle.goblin_pe_c.specs.declared.footprint.PeRange.{PeRange}
@@ -29,9 +29,11 @@ range_said range = (range.0, range.1 - range.0)
 unfoldable pub footprint_by : ParseOptions → PeOptionalHeader → PeDirectory → List Section → List ℕ
     → List Range
 footprint_by opts header directory sections bytes =
+    let offset_of = file_offset opts sections header.file_alignment in
+    let strict = is_strict opts.parse_mode in
+    let format = entry_format header.magic in
     if directory.is_present
-    then import_footprint (is_strict opts.parse_mode) (entry_format header.magic)
-    (file_offset opts sections header.file_alignment) bytes directory.virtual_address
+    then (import_data strict format offset_of directory.virtual_address).reaches bytes
     else []
 
 -- memory is taken where there is a directory, with a section or an index that has pieces; and where

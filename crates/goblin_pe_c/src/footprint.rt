@@ -5,7 +5,7 @@ ghost use Rattle.goblin_base.specs.Answers.{GivesOrMemory, IsMemory};
 ghost use Rattle.goblin_pe_sect.specs.Mapping.{file_offset};
 ghost use Rattle.goblin_pe_sect.specs.Options.{is_strict};
 ghost use Rattle.goblin_pe_sect.specs.WindowIndex.{HasPieces};
-ghost use Rattle.goblin_pe.specs.ImportFootprints.{import_footprint};
+ghost use Rattle.goblin_pe.specs.ImportReadings.{import_data};
 ghost use Rattle.goblin_pe.specs.Whole.{entry_format};
 ghost use Rattle.goblin_pe_c.specs.Calls.{Reported};
 ghost use Rattle.goblin_pe_c.specs.Footprints.{Lists, TakesMemory, footprint_by, range_said};
@@ -92,15 +92,15 @@ fn footprint_at(
     sections: &[SectionTable],
     opts: &ParseOptions,
 ) -> Result<Vec<(usize, usize)>>
-    ensures ranges { IfOk result
-        (λ v.
-        v.items
-        ≡ import_footprint (is_strict opts.now.parse_mode) (entry_format header.now.magic)
-        (file_offset opts.now sections.now header.now.file_alignment) bytes.now rva) }
+    ensures ranges { let m = file_offset opts.now sections.now header.now.file_alignment in
+        let strict = is_strict opts.now.parse_mode in
+        let format = entry_format header.now.magic in
+        IfOk result (λ v. v.items ≡ (import_data strict format m rva).reaches bytes.now) }
     ensures refused { IfErr result IsMemory }
-    ensures grown { let footprint = import_footprint (is_strict opts.now.parse_mode)
-        (entry_format header.now.magic)
-        (file_offset opts.now sections.now header.now.file_alignment) bytes.now rva in
+    ensures grown { let m = file_offset opts.now sections.now header.now.file_alignment in
+        let strict = is_strict opts.now.parse_mode in
+        let format = entry_format header.now.magic in
+        let footprint = (import_data strict format m rva).reaches bytes.now in
         OnErr result ((0 < length footprint) ⊎ HasPieces opts.now header.now.file_alignment) }
 {
     let directory = DataDirectory {

@@ -1,38 +1,37 @@
--- A lookup table with its slots: the table alone. The slots rise, and lie below the table's stop.
-use Rattle.std.proofs.Common.{◌≡◌, ◌<◌, ℕ, Bool, List, Option, None, Some, Result, Ok, Err}
-use Rattle.std.proofs.Common.{ap, refl, sym, subst}
+-- A lookup table with its slots: the table alone, and the slots alone, which rise, and lie below
+-- the table's stop.
+use Rattle.std.proofs.Common.{◌≡◌, ◌<◌, ℕ, List, Option, None, Some}
+use Rattle.std.proofs.Common.{refl, sym, subst}
 use Rattle.std.specs.List.{All}
 use Rattle.std.specs.List.Sorted.{IsStrictlyIncreasing}
-use Rattle.goblin_base.specs.declared.error.ErrorOf.{ErrorOf}
-use Rattle.goblin_base.specs.Answers.{AnswersOrMemory}
-use Rattle.goblin_base.specs.Tables.{Format, stop}
-use Rattle.goblin_base.proofs.Steps.{same_value}
+use Rattle.goblin_base.specs.Tables.{SlotFormat, kept_slots, stop}
 use Rattle.readings.specs.Reads.{with_slots}
 use Rattle.goblin_base.proofs.SlotTables.{kept-below, kept-rising}
-use Rattle.goblin_pe_tables.specs.ImportLookup.{EntryValue, entry_slots, kept_entry, lookup_slots}
+use Rattle.goblin_pe_tables.proofs.ImportBound.{with_slots-kept, with_slots-value}
 
-no_table : {A : Type 0} (kept : List ℕ) (made : Option A) → with_slots kept made ≡ None
+pub no_table : {A : Type 0} (kept : List ℕ) (made : Option A) → with_slots kept made ≡ None
     → made ≡ None
 no_table kept None e = refl
 no_table kept (Some x) e = absurd cc
 
-a_table : {A : Type 0} (kept : List ℕ) (made : Option A) (both : A × List ℕ)
-    → with_slots kept made ≡ Some both → made ≡ Some both.0
-a_table kept None both e = absurd cc
-a_table {A} kept (Some x) both e =
-    ap (λ (p : A × List ℕ). Some p.0) (same_value (x, kept) both e)
+pub a_table : {A : Type 0} (kept : List ℕ) (made : Option A) (x : A) (own : List ℕ)
+    → with_slots kept made ≡ Some (x, own) → made ≡ Some x
+a_table kept made x own e = with_slots-value kept made (x, own) e
 
-pub table : {X A : Type 0} (f : X → A) (g : X → List ℕ) (result : Result X ErrorOf)
-    (kept : List ℕ) (made : Option A) (IsCause : ErrorOf → Type 0)
-    → AnswersOrMemory (λ x. (f x, g x)) result (with_slots kept made) IsCause
-    → AnswersOrMemory f result made IsCause
-table f g (Ok x) kept made IsCause h = a_table kept made (f x, g x) h
-table f g (Err e) kept made IsCause h = λ other.
-    let refused = h other in (no_table kept made refused.0, refused.1)
+pub slots : {A : Type 0} (kept : List ℕ) (made : Option A) (x : A) (own : List ℕ)
+    → with_slots kept made ≡ Some (x, own) → own ≡ kept
+slots kept made x own e = sym (with_slots-kept kept made (x, own) e)
 
-module _ (strict : Bool) (format : Format EntryValue) (offset_of : ℕ → Option ℕ) (bytes : List ℕ) (o : ℕ) (kept : List ℕ) where
-  pub rising : kept ≡ lookup_slots strict format offset_of bytes o → IsStrictlyIncreasing kept
-  rising is = subst IsStrictlyIncreasing (sym is) (kept-rising (entry_slots format) (kept_entry strict offset_of bytes) bytes o)
+module _ {V B A : Type 0} (format : SlotFormat V) (piece : V → Option (List B))
+    (bytes : List ℕ) (o : ℕ) (made : Option A) (x : A) (own : List ℕ) where
+  pub rising : with_slots (kept_slots format piece bytes o) made ≡ Some (x, own)
+      → IsStrictlyIncreasing own
+  rising e =
+      subst IsStrictlyIncreasing (with_slots-kept _ made (x, own) e)
+      (kept-rising format piece bytes o)
 
-  pub below : kept ≡ lookup_slots strict format offset_of bytes o → All (λ slot. slot < stop (entry_slots format) bytes o) kept
-  below is = subst (All (λ slot. slot < stop (entry_slots format) bytes o)) (sym is) (kept-below (entry_slots format) (kept_entry strict offset_of bytes) bytes o)
+  pub below : with_slots (kept_slots format piece bytes o) made ≡ Some (x, own)
+      → All (λ slot. slot < stop format bytes o) own
+  below e =
+      subst (All (λ slot. slot < stop format bytes o)) (with_slots-kept _ made (x, own) e)
+      (kept-below format piece bytes o)

@@ -12,7 +12,8 @@ use Rattle.goblin_pe_tables.specs.ImportDirectory.{address_table_rva, import_slo
 use Rattle.goblin_pe_tables.specs.ImportLookup as lookup
 use Rattle.goblin_pe_tables.specs.ImportLookup.{EntryValue, entry_slots}
 use Rattle.goblin_pe_tables.specs.ImportEntries.LookupEntry.{ByOrdinal}
-use Rattle.goblin_pe_tables.specs.ImportReadings.{at_address, kept_library, libraries_at}
+use Rattle.goblin_pe_sect.specs.AddressReadings.{at_address}
+use Rattle.goblin_pe_tables.specs.ImportReadings.{kept_library, libraries_at}
 use Rattle.goblin_pe_tables.specs.ImportReadings.{library_of, lookup_if, name_at, record_here}
 use Rattle.goblin_pe_tables.specs.LookupReadings.{address_table, hint_name, kept_entry, kept_name}
 use Rattle.goblin_pe_tables.specs.LookupReadings.{lookup_entry_at, lookup_table, lookup_with_slots}

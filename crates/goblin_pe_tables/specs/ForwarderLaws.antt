@@ -18,8 +18,7 @@ min_within n len (Some f) = min-le_right n len
 
 length_within : (len : ℕ) (text : Option (List ℕ))
     → IfSome {T = Forwarder × ℕ}
-    (text >>= (λ t. forwarder_of t >>= (λ f. Some (f, min (length t + 1) len))))
-    (λ x. x.1 ≤ len)
+    (text >>= (λ t. forwarder_of t >>= (λ f. Some (f, min (length t + 1) len)))) (λ x. x.1 ≤ len)
 length_within len None = tt
 length_within len (Some t) = min_within (length t + 1) len (forwarder_of t)
 
@@ -27,13 +26,19 @@ pub forwarder_in-within : (endian : Endian) (bytes : List ℕ)
     → IfSome (forwarder_in endian bytes) (λ x. x.1 ≤ length bytes)
 forwarder_in-within endian bytes = length_within (length bytes) (text_at bytes 0)
 
-forwarder_no_memory : (text : Option (List ℕ)) (bytes : List ℕ) (e : ErrorOf) → IsMemory e
-    → FirstFault text (IsTextFault bytes 0) IsForwarderFault e → ⊥
-forwarder_no_memory None bytes (Memory m) h fault = fault
-forwarder_no_memory None bytes e h fault = h
-forwarder_no_memory (Some t) bytes (Memory m) h fault = fault
-forwarder_no_memory (Some t) bytes e h fault = h
+forwarder_no_memory : (text : Option (List ℕ)) (bytes : List ℕ) (p : ℕ) (e : ErrorOf) → IsMemory e
+    → FirstFault text (IsTextFault bytes p) IsForwarderFault e → ⊥
+forwarder_no_memory None bytes p (Memory m) h fault = fault
+forwarder_no_memory None bytes p e h fault = h
+forwarder_no_memory (Some t) bytes p (Memory m) h fault = fault
+forwarder_no_memory (Some t) bytes p e h fault = h
 
 pub forwarder_fault-no_memory : (bytes : List ℕ) (e : ErrorOf) → IsMemory e
     → IsForwarderAtFault bytes 0 e → ⊥
-forwarder_fault-no_memory bytes e h fault = forwarder_no_memory (text_at bytes 0) bytes e h fault
+forwarder_fault-no_memory bytes e h fault = forwarder_no_memory (text_at bytes 0) bytes 0 e h fault
+
+-- the same at any offset
+pub forwarder_at-not_memory : (bytes : List ℕ) (p : ℕ) (e : ErrorOf)
+    → IsForwarderAtFault bytes p e → ¬ IsMemory e
+forwarder_at-not_memory bytes p e fault = λ m.
+    forwarder_no_memory (text_at bytes p) bytes p e m fault

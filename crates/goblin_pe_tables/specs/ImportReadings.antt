@@ -1,6 +1,5 @@
 -- The import directory by readings: the value, the cause and the footprint of each read in one
--- definition, over a map of addresses to file offsets. `ImportDirectory` and `ImportFootprints`
--- have the same as three.
+-- definition, over a map of addresses to file offsets.
 use Rattle.std.specs.Prelude.{ℕ, ◌==◌, Bool, ◌&&◌, not, cond, List, [], Option, Some, None}
 use Rattle.goblin_base.specs.declared.endian.Endian.TheVariants.{Little}
 use Rattle.goblin_base.specs.declared.error.CauseOf.TheVariants.{ImportRecordEnd}
@@ -12,7 +11,8 @@ use Rattle.goblin_base.specs.Reading.{Reading}
 use Rattle.goblin_base.specs.Tables.{Format}
 use Rattle.readings.specs.Reads.{◌>>=◌, ◌beside◌, because, given, mapped, needs_by, or_else}
 use Rattle.readings.specs.Reads.{or_left_out, record_at, table, text_at}
-use Rattle.goblin_pe_sect.specs.Mapping.{IsNameRead, IsUnmapped}
+use Rattle.goblin_pe_sect.specs.AddressReadings.{at_address, offset_at}
+use Rattle.goblin_pe_sect.specs.Mapping.{IsNameRead}
 use Rattle.goblin_pe_tables.specs.ImportEntries.{EntryValue, LookupEntry}
 use Rattle.goblin_pe_tables.specs.ImportRecords.{ImportedLibrary, address_table_rva}
 use Rattle.goblin_pe_tables.specs.ImportRecords.{import_record, import_slots, lookup_offset}
@@ -21,27 +21,12 @@ use Rattle.goblin_pe_tables.specs.declared.import.directory_entry.ImportDirector
 
 -- ---- at an address
 
-pub unmapped-not_memory : (rva : ℕ) (e : ErrorOf) → IsUnmapped rva e → ¬ IsMemory e
-unmapped-not_memory rva (Memory m) h = absurd h
-unmapped-not_memory rva (Malformed c) h = λ m. m
-unmapped-not_memory rva (BadMagic k) h = λ m. m
-unmapped-not_memory rva (BufferTooShort k what) h = λ m. m
-unmapped-not_memory rva (Read fault) h = λ m. m
-
 pub name_read-not_memory : (p : ℕ) (e : ErrorOf) → IsNameRead p e → ¬ IsMemory e
 name_read-not_memory p (Memory m) h = absurd h
 name_read-not_memory p (Malformed c) h = λ m. m
 name_read-not_memory p (BadMagic k) h = λ m. m
 name_read-not_memory p (BufferTooShort k what) h = λ m. m
 name_read-not_memory p (Read fault) h = λ m. m
-
--- the offset of an address
-abbrev pub offset_at : (ℕ → Option ℕ) → ℕ → Reading ℕ
-offset_at offset_of rva = needs_by (offset_of rva) (IsUnmapped rva) (unmapped-not_memory rva)
-
--- what stands at an address, by a reading at its offset
-abbrev pub at_address : {A : Type 0} → (ℕ → Option ℕ) → ℕ → (ℕ → Reading A) → Reading A
-at_address offset_of rva read = offset_at offset_of rva >>= read
 
 -- the text at an offset, as a name
 abbrev pub name_here : ℕ → Reading (List ℕ)

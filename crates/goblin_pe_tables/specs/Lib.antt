@@ -1,12 +1,12 @@
 pub mod Addresses
-pub mod ExportFootprints
+pub mod ExportReadings
+pub mod ExportRecords
 pub mod Exports
 pub mod ForwarderLaws
 pub mod Forwarders
 pub mod ImportBound
 pub mod ImportDirectory
 pub mod ImportEntries
-pub mod ImportFootprints
 pub mod ImportLookup
 pub mod ImportReadings
 pub mod ImportRecords

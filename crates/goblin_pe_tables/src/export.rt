@@ -6,14 +6,15 @@
 
 ghost use Rattle.std.specs.Prelude.{◌≤◌, ◌≡◌, ◌++◌, ◌⊎◌, IfErr, IsOk, IsSome, IsSomeAnd, OnErr};
 ghost use Rattle.std.specs.Prelude.{OnOk, length, option_and_then, option_map, option_to_list};
-ghost use Rattle.goblin_base.specs.Answers.{AnswersOrMemory, GivesOrMemory, IsMemory};
+ghost use Rattle.goblin_base.specs.Answers.{GivesOrMemory, IsMemory};
 ghost use Rattle.goblin_base.specs.Bytes.{text_at};
+ghost use Rattle.goblin_base.specs.Reading.{ReadsOrMemory};
 ghost use Rattle.goblin_pe_sect.specs.Mapping.{file_offset};
 ghost use Rattle.goblin_pe_sect.specs.Options.{default_options};
 ghost use Rattle.goblin_pe_tables.specs.Addresses.{offset_of};
-ghost use Rattle.goblin_pe_tables.specs.Exports.{HasEntries, HasExports, IsExportDataFault};
-ghost use Rattle.goblin_pe_tables.specs.Exports.{export_data, export_row, exports, reexport_of};
-ghost use Rattle.goblin_pe_tables.specs.Exports.{rva_of};
+ghost use Rattle.goblin_pe_tables.specs.ExportReadings as reading;
+ghost use Rattle.goblin_pe_tables.specs.Exports.{HasEntries, HasExports, export_data, export_row};
+ghost use Rattle.goblin_pe_tables.specs.Exports.{exports, rva_of};
 ghost use Rattle.goblin_pe_tables.specs.Forwarders.{forwarder_at, forwarder_value};
 ghost use Rattle.goblin_pe_sect.specs.WindowIndex.{HasPieces};
 
@@ -58,14 +59,15 @@ fn rva_of(address: &ExportAddressTableEntry) -> u32
 
 // What an entry of the address table stands for in another library, if it is a forwarder; nothing
 // where that can't be read.
-#[tactic(auto, unfolding(crate::specs::Exports::reexport_of))]
+#[tactic(auto, unfolding(crate::specs::ExportReadings::reexport_of))]
 fn reexport_of<'a>(
     bytes: &'a [u8],
     address: &ExportAddressTableEntry,
     address_map: &AddressMap,
 ) -> Option<Option<Reexport<'a>>>
-    ensures { option_map (option_map forwarder_value) result
-        ≡ reexport_of (offset_of address_map.now) bytes.now address.now }
+    ensures { let m = offset_of address_map.now in
+        option_map (option_map forwarder_value) result
+        ≡ (reading.reexport_of m address.now).value bytes.now }
 {
     match *address {
         ExportAddressTableEntry::ExportRVA(_) => Some(None),
@@ -125,13 +127,9 @@ impl<'a> ExportData<'a> {
         file_alignment: u32,
     ) -> Result<ExportData<'a>>
         ensures value { let m = file_offset default_options sections.now file_alignment in
-            AnswersOrMemory (λ x. x) result (export_data m directory bytes.now)
-            (IsExportDataFault m directory bytes.now) }
+            ReadsOrMemory (λ x. x) result (reading.export_data m directory) bytes.now }
         ensures grown { let m = file_offset default_options sections.now file_alignment in
-            IfErr result
-            (λ e.
-            IsMemory e
-            → IsSomeAnd (export_data m directory bytes.now) HasEntries
+            IfErr result (λ e. IsMemory e → IsSomeAnd (export_data m directory bytes.now) HasEntries
             ⊎ HasPieces default_options file_alignment) }
     {
         let opts = ParseOptions::default();
@@ -158,13 +156,9 @@ impl<'a> ExportData<'a> {
         opts: &ParseOptions,
     ) -> Result<ExportData<'a>>
         ensures value { let m = file_offset opts.now sections.now file_alignment in
-            AnswersOrMemory (λ x. x) result (export_data m directory bytes.now)
-            (IsExportDataFault m directory bytes.now) }
+            ReadsOrMemory (λ x. x) result (reading.export_data m directory) bytes.now }
         ensures grown { let m = file_offset opts.now sections.now file_alignment in
-            IfErr result
-            (λ e.
-            IsMemory e
-            → IsSomeAnd (export_data m directory bytes.now) HasEntries
+            IfErr result (λ e. IsMemory e → IsSomeAnd (export_data m directory bytes.now) HasEntries
             ⊎ HasPieces opts.now file_alignment) }
     {
         let address_map = AddressMap::prepare(alloc, sections, file_alignment, opts)?;
@@ -176,7 +170,7 @@ impl<'a> ExportData<'a> {
     ///
     /// # Errors
     /// As [`ExportData::parse_with_opts`].
-    #[tactic(auto, unfolding(crate::specs::Exports::tables_if, crate::specs::Exports::export_tables))]
+    #[tactic(auto, unfolding(crate::specs::ExportReadings::export_data, crate::specs::ExportReadings::tables_if, crate::specs::ExportReadings::fitting, crate::specs::ExportReadings::export_tables, crate::specs::ImportReadings::name_at,))]
     pub fn parse_by(
         alloc: Global,
         bytes: &'a [u8],
@@ -184,13 +178,10 @@ impl<'a> ExportData<'a> {
         address_map: &AddressMap,
     ) -> Result<ExportData<'a>>
         ensures value { let m = offset_of address_map.now in
-            AnswersOrMemory (λ x. x) result (export_data m directory bytes.now)
-            (IsExportDataFault m directory bytes.now) }
-        ensures grown { IfErr result
-            (λ e.
-            IsMemory e
-            → IsSomeAnd (export_data (offset_of address_map.now) directory bytes.now)
-            HasEntries) }
+            ReadsOrMemory (λ x. x) result (reading.export_data m directory) bytes.now }
+        ensures grown { let m = offset_of address_map.now in
+            IfErr result (λ e. IsMemory e →
+            IsSomeAnd (export_data m directory bytes.now) HasEntries) }
     {
         let mapped = |rva: u32| address_map.offset_of(rva);
         let Some(offset) = mapped(directory.virtual_address) else {
@@ -268,8 +259,8 @@ fn plain_count(tables: &ExportData) -> usize
 
 // Adds a row that is there; with the first, room is made for so many.
 fn add_row<'a>(exports: &mut Vec<Export<'a>>, row: Option<Export<'a>>, room: usize) -> Result<()>
-    ensures added { OnOk result
-        (exports.new.items ≡ exports.old.items ++ option_to_list row.entry) }
+    ensures added { let more = option_to_list row.entry in
+        OnOk result (exports.new.items ≡ exports.old.items ++ more) }
     ensures refused { IfErr result IsMemory }
     ensures grown { OnErr result (IsSome row.entry) }
 {
@@ -285,7 +276,7 @@ fn add_row<'a>(exports: &mut Vec<Export<'a>>, row: Option<Export<'a>>, room: usi
 impl<'a> Export<'a> {
     // The export of the name pointer at an index, where its ordinal, its address and, of a
     // forwarder, the text are there.
-    #[tactic(auto, unfolding(crate::specs::Exports::export_row))]
+    #[tactic(auto, unfolding(crate::specs::ExportReadings::export_row, crate::specs::ExportReadings::row_of, crate::specs::ImportReadings::name_at,))]
     fn of_pointer(
         bytes: &'a [u8],
         tables: &ExportData,
@@ -321,13 +312,11 @@ impl<'a> Export<'a> {
         sections: &[SectionTable],
         file_alignment: u32,
     ) -> Result<Vec<Export<'a>>>
-        ensures value { GivesOrMemory (λ v. v.items) result
-            (exports (file_offset default_options sections.now file_alignment) bytes.now
-            export_data.now) }
+        ensures value { let m = file_offset default_options sections.now file_alignment in
+            GivesOrMemory (λ v. v.items) result (exports m bytes.now export_data.now) }
         ensures empty { length bytes.now ≡ 0 → IsOk result }
-        ensures grown { OnErr result
-            (HasExports (file_offset default_options sections.now file_alignment) bytes.now
-            export_data.now
+        ensures grown { let m = file_offset default_options sections.now file_alignment in
+            OnErr result (HasExports m bytes.now export_data.now
             ⊎ HasPieces default_options file_alignment) }
     {
         let opts = ParseOptions::default();
@@ -342,7 +331,7 @@ impl<'a> Export<'a> {
     /// # Errors
     /// [`Error::Memory`] alone, and never on an empty file, for which no memory is taken. Else it
     /// comes where there is an export, or where addresses are mapped.
-    #[tactic(auto, unfolding(crate::specs::Exports::exports))]
+    #[tactic(auto, unfolding(crate::specs::ExportReadings::exports))]
     pub fn parse_with_opts(
         alloc: Global,
         bytes: &'a [u8],
@@ -351,11 +340,11 @@ impl<'a> Export<'a> {
         file_alignment: u32,
         opts: &ParseOptions,
     ) -> Result<Vec<Export<'a>>>
-        ensures value { GivesOrMemory (λ v. v.items) result
-            (exports (file_offset opts.now sections.now file_alignment) bytes.now export_data.now) }
+        ensures value { let m = file_offset opts.now sections.now file_alignment in
+            GivesOrMemory (λ v. v.items) result (exports m bytes.now export_data.now) }
         ensures empty { length bytes.now ≡ 0 → IsOk result }
-        ensures grown { OnErr result
-            (HasExports (file_offset opts.now sections.now file_alignment) bytes.now export_data.now
+        ensures grown { let m = file_offset opts.now sections.now file_alignment in
+            OnErr result (HasExports m bytes.now export_data.now
             ⊎ HasPieces opts.now file_alignment) }
     {
         if bytes.is_empty() {
@@ -369,17 +358,17 @@ impl<'a> Export<'a> {
     ///
     /// # Errors
     /// As [`Export::parse_with_opts`].
-    #[tactic(auto, unfolding(crate::specs::Exports::exports))]
+    #[tactic(auto, unfolding(crate::specs::ExportReadings::exports))]
     pub fn parse_by(
         alloc: Global,
         bytes: &'a [u8],
         export_data: &ExportData,
         address_map: &AddressMap,
     ) -> Result<Vec<Export<'a>>>
-        ensures value { GivesOrMemory (λ v. v.items) result
-            (exports (offset_of address_map.now) bytes.now export_data.now) }
-        ensures grown { OnErr result
-            (HasExports (offset_of address_map.now) bytes.now export_data.now) }
+        ensures value { let m = offset_of address_map.now in
+            GivesOrMemory (λ v. v.items) result (exports m bytes.now export_data.now) }
+        ensures grown { let m = offset_of address_map.now in
+            OnErr result (HasExports m bytes.now export_data.now) }
     {
         let mut exports = Vec::new(alloc);
         if bytes.is_empty() {

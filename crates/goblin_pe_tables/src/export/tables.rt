@@ -1,15 +1,16 @@
 //! The export directory's record, and the three tables that it leads to.
 
-ghost use Rattle.std.specs.Prelude.{◌≡◌, ◌<◌, ◌≤◌, true, false, List, ℕ, IfErr, IsSome, OnErr};
-ghost use Rattle.std.specs.Prelude.{OnOk, length, IfOk};
-ghost use Rattle.goblin_base.specs.Answers.{Answers, GivesOrMemory, IsSliceFault, Writes};
+ghost use Rattle.std.specs.Prelude.{◌≡◌, ◌<◌, ◌≤◌, List, ℕ, IfOk, IsSome, OnErr, length};
+ghost use Rattle.goblin_base.specs.Answers.{GivesOrMemory, IsSliceFault, Writes};
+ghost use Rattle.goblin_base.specs.Reading.{Reads};
 ghost use Rattle.goblin_base.specs.Tables.{counted_table_if};
 ghost use Rattle.goblin_base.specs.Record.{ReadsBack, WritesBack, encoding, record_over};
 ghost use Rattle.goblin_pe_tables.specs.declared.export.tables.ExportDirectoryTable.{ExportDirectoryTable};
-ghost use Rattle.goblin_pe_tables.specs.Exports.{IsCountFault, IsNoExportTable, address_entry};
-ghost use Rattle.goblin_pe_tables.specs.Exports.{addresses, counts_fit, export_directory_at};
-ghost use Rattle.goblin_pe_tables.specs.Exports.{export_directory_fields, export_directory_record};
-ghost use Rattle.goblin_pe_tables.specs.Exports.{name_pointers, ordinals};
+ghost use Rattle.goblin_pe_tables.specs.ExportReadings.{fitting, record_here};
+ghost use Rattle.goblin_pe_tables.specs.ExportRecords.{address_entry, addresses};
+ghost use Rattle.goblin_pe_tables.specs.ExportRecords.{export_directory_fields};
+ghost use Rattle.goblin_pe_tables.specs.ExportRecords.{export_directory_record};
+ghost use Rattle.goblin_pe_tables.specs.ExportRecords.{name_pointers, ordinals};
 
 use crate::table::Table;
 use goblin_base::{
@@ -76,7 +77,7 @@ impl Record for ExportDirectoryTable {
         SIZEOF_EXPORT_DIRECTORY_TABLE
     }
 
-    #[tactic(auto, unfolding(crate::specs::Exports::export_directory_record))]
+    #[tactic(auto, unfolding(crate::specs::ExportRecords::export_directory_record))]
     fn in_record(bytes: &[u8], endian: Endian) -> ExportDirectoryTable {
         ExportDirectoryTable {
             export_flags: field_u32(bytes, 0, endian),
@@ -93,7 +94,7 @@ impl Record for ExportDirectoryTable {
         }
     }
 
-    #[tactic(auto, unfolding(crate::specs::Exports::export_directory_fields), using(crate::proofs::ExportDirectoryRoundTrip::export_directory_back, crate::proofs::ExportDirectoryRoundTrip::export_directory_again))]
+    #[tactic(auto, unfolding(crate::specs::ExportRecords::export_directory_fields), using(crate::proofs::ExportDirectoryRoundTrip::export_directory_back, crate::proofs::ExportDirectoryRoundTrip::export_directory_again))]
     fn put(self, bytes: &mut [u8], endian: Endian) {
         let fields = [
             Field::U32(self.export_flags),
@@ -119,8 +120,7 @@ impl ExportDirectoryTable {
     /// [`Error::Malformed`] with [`Cause::ExportTable`] where the 40 bytes pass the end of the
     /// file.
     pub fn parse(bytes: &[u8], offset: usize) -> Result<ExportDirectoryTable>
-        ensures { Answers (λ t. t) result (export_directory_at bytes.now offset)
-            (IsNoExportTable offset) }
+        ensures { Reads (λ t. t) result (record_here offset) bytes.now }
     {
         match ExportDirectoryTable::read_at(bytes, offset, Endian::Little) {
             Ok(table) => Ok(table),
@@ -136,15 +136,15 @@ impl ExportDirectoryTable {
     /// [`Error::Read`] where there is no room for 40 bytes; `bytes` are then as they were.
     pub fn try_into_ctx(self, bytes: &mut [u8], endian: Endian) -> Result<usize>
         ensures size { IfOk result (λ n. n ≡ 40) }
-        ensures written { let after = record_over 40
-            (encoding endian (export_directory_fields self)) bytes.old in
+        ensures written { let own = encoding endian (export_directory_fields self) in
+            let after = record_over 40 own bytes.old in
             Writes result after bytes.old bytes.new (IsSliceFault bytes.old 0 40) }
-        ensures long { IfOk result
-            (λ n. length (encoding endian (export_directory_fields self)) ≡ 40) }
-        ensures back { IfOk result
-            (λ n. WritesBack 40 export_directory_record export_directory_fields) }
-        ensures again { IfOk result
-            (λ n. ReadsBack 40 export_directory_record export_directory_fields self) }
+        ensures long { let own = encoding endian (export_directory_fields self) in
+            IfOk result (λ n. length own ≡ 40) }
+        ensures back { IfOk result (λ n.
+            WritesBack 40 export_directory_record export_directory_fields) }
+        ensures again { IfOk result (λ n.
+            ReadsBack 40 export_directory_record export_directory_fields self) }
     {
         Record::try_into_ctx(self, bytes, endian)
     }
@@ -186,7 +186,7 @@ pub type ExportOrdinalTable = Table<u16>;
 
 impl ExportAddressTableEntry {
     // What an address stands for under an export directory.
-    #[tactic(auto, unfolding(crate::specs::Exports::address_entry))]
+    #[tactic(auto, unfolding(crate::specs::ExportRecords::address_entry))]
     fn of_rva(directory: DataDirectory, rva: u32) -> ExportAddressTableEntry
         ensures { result ≡ address_entry directory rva }
     {
@@ -250,8 +250,8 @@ pub(super) fn name_pointers(
     offset: Option<usize>,
     count: u32,
 ) -> Result<ExportNamePointerTable>
-    ensures value { GivesOrMemory (λ t. t) result
-        (counted_table_if name_pointers count bytes.now offset) }
+    ensures value { let entries = counted_table_if name_pointers count bytes.now offset in
+        GivesOrMemory (λ t. t) result entries }
     ensures grown { OnErr result (0 < count) }
 {
     counted_table(alloc, bytes, offset, SIZEOF_NAME_POINTER, count, |entry| {
@@ -266,8 +266,8 @@ pub(super) fn ordinals(
     offset: Option<usize>,
     count: u32,
 ) -> Result<ExportOrdinalTable>
-    ensures value { GivesOrMemory (λ t. t) result
-        (counted_table_if ordinals count bytes.now offset) }
+    ensures value { let entries = counted_table_if ordinals count bytes.now offset in
+        GivesOrMemory (λ t. t) result entries }
     ensures grown { OnErr result (0 < count) }
 {
     counted_table(alloc, bytes, offset, SIZEOF_ORDINAL, count, |entry| {
@@ -283,8 +283,8 @@ pub(super) fn addresses(
     count: u32,
     directory: DataDirectory,
 ) -> Result<ExportAddressTable>
-    ensures value { GivesOrMemory (λ t. t) result
-        (counted_table_if (addresses directory) count bytes.now offset) }
+    ensures value { let entries = counted_table_if (addresses directory) count bytes.now offset in
+        GivesOrMemory (λ t. t) result entries }
     ensures grown { OnErr result (0 < count) }
 {
     counted_table(
@@ -301,10 +301,9 @@ pub(super) fn addresses(
 }
 
 // Refuses a record that counts more entries than the file has bytes.
+#[tactic(auto, unfolding(crate::specs::ExportReadings::fitting))]
 pub(super) fn test_counts(bytes: &[u8], table: &ExportDirectoryTable) -> Result<()>
-    ensures fits { OnOk result (counts_fit bytes.now table.now ≡ true) }
-    ensures too_many { OnErr result (counts_fit bytes.now table.now ≡ false) }
-    ensures cause { IfErr result (IsCountFault bytes.now table.now) }
+    ensures { Reads (λ fits. table.now) result (fitting table.now) bytes.now }
 {
     let name_pointers = table.number_of_name_pointers as usize;
     if name_pointers > bytes.len() {

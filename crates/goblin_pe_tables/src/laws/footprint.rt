@@ -1,18 +1,17 @@
 //! Which bytes of a file its imports depend on.
 
-ghost use Rattle.std.specs.Prelude.{◌≡◌, ◌<◌, ◌≤◌, ◌⊎◌, ◌↔◌, ◌++◌, ℕ, IfErr, IfOk, OnErr, OnOk};
-ghost use Rattle.std.specs.Prelude.{length};
+ghost use Rattle.std.specs.Prelude.{◌≡◌, ◌+◌, ◌<◌, ◌≤◌, ◌⊎◌, ◌↔◌, ◌++◌, ℕ, IfErr, IfOk, OnErr};
+ghost use Rattle.std.specs.Prelude.{OnOk, length};
 ghost use Rattle.std.specs.List.{All};
 ghost use Rattle.goblin_base.specs.Answers.{IsMemory};
-ghost use Rattle.goblin_base.specs.Footprints.{Covers, positions, stretch_footprint};
+ghost use Rattle.goblin_base.specs.Footprints.{Covers, positions, slice_footprint};
+ghost use Rattle.goblin_base.specs.Footprints.{stretch_footprint};
 ghost use Rattle.goblin_pe_sect.specs.Mapping.{file_offset};
 ghost use Rattle.goblin_pe_sect.specs.Options.{is_strict};
 ghost use Rattle.goblin_pe_sect.specs.WindowIndex.{HasPieces};
-ghost use Rattle.goblin_pe_tables.specs.Addresses.{offset_of};
-ghost use Rattle.goblin_pe_tables.specs.ImportFootprints.{addresses_footprint, entry_footprint};
-ghost use Rattle.goblin_pe_tables.specs.ImportFootprints.{hint_footprint, import_footprint};
-ghost use Rattle.goblin_pe_tables.specs.ImportFootprints.{libraries_footprint, library_footprint};
-ghost use Rattle.goblin_pe_tables.specs.ImportFootprints.{lookup_footprint};
+ghost use Rattle.goblin_pe_tables.specs.Addresses.{offset_of, reads_strictly};
+ghost use Rattle.goblin_pe_tables.specs.ImportReadings.{import_data, libraries_at, library_of};
+ghost use Rattle.goblin_pe_tables.specs.LookupReadings.{address_table, kept_entry, lookup_table};
 
 use crate::address_map::AddressMap;
 use crate::import::{
@@ -58,10 +57,12 @@ fn add_stretch<'e>(
 
 // Adds the hint at an offset, and the text after it.
 fn add_hint<'e>(ranges: &mut Vec<(usize, usize)>, bytes: &[u8], offset: usize) -> ResultOf<'e, ()>
-    ensures added { OnOk result
-        (ranges.new.items ≡ ranges.old.items ++ hint_footprint bytes.now offset) }
+    ensures added { let text = stretch_footprint bytes.now (offset + 2) in
+        let hint_name = slice_footprint bytes.now offset 2 ++ text in
+        OnOk result (ranges.new.items ≡ ranges.old.items ++ hint_name) }
     ensures refused { IfErr result IsMemory }
-    ensures grown { OnErr result (0 < length (hint_footprint bytes.now offset)) }
+    ensures grown { let text = stretch_footprint bytes.now (offset + 2) in
+        OnErr result (0 < length (slice_footprint bytes.now offset 2 ++ text)) }
 {
     let Ok(hint) = pread_slice(bytes, offset, 2) else {
         return Ok(());
@@ -72,20 +73,22 @@ fn add_hint<'e>(ranges: &mut Vec<(usize, usize)>, bytes: &[u8], offset: usize) -
 }
 
 // Adds what an entry of a lookup table leads to.
-#[tactic(auto, unfolding(crate::specs::ImportFootprints::entry_footprint, goblin_base::specs::Footprints::led_to))]
+#[tactic(auto, unfolding(crate::specs::LookupReadings::kept_entry, crate::specs::LookupReadings::kept_name))]
 fn add_entry<'a, 'e, T: Bitfield<'a>>(
     ranges: &mut Vec<(usize, usize)>,
     entry: &T,
     bytes: &'a [u8],
     address_map: &AddressMap,
 ) -> ResultOf<'e, ()>
-    ensures added { OnOk result
-        (ranges.new.items
-        ≡ ranges.old.items
-        ++ entry_footprint (offset_of address_map.now) bytes.now (T.value entry.now)) }
+    ensures added { let m = offset_of address_map.now in
+        let strict = reads_strictly address_map.now in
+        let reached = (kept_entry strict m (T.value entry.now)).reaches bytes.now in
+        OnOk result (ranges.new.items ≡ ranges.old.items ++ reached) }
     ensures refused { IfErr result IsMemory }
-    ensures grown { OnErr result
-        (0 < length (entry_footprint (offset_of address_map.now) bytes.now (T.value entry.now))) }
+    ensures grown { let m = offset_of address_map.now in
+        let strict = reads_strictly address_map.now in
+        let reached = (kept_entry strict m (T.value entry.now)).reaches bytes.now in
+        OnErr result (0 < length reached) }
 {
     if entry.is_ordinal() {
         return Ok(());
@@ -103,13 +106,15 @@ fn add_lookup_table<'a, 'e, T: Bitfield<'a>>(
     offset: usize,
     address_map: &AddressMap,
 ) -> ResultOf<'e, ()>
-    ensures added { OnOk result
-        (ranges.new.items
-        ≡ ranges.old.items
-        ++ lookup_footprint T.format (offset_of address_map.now) bytes.now offset) }
+    ensures added { let m = offset_of address_map.now in
+        let strict = reads_strictly address_map.now in
+        let reached = (lookup_table strict T.format m offset).reaches bytes.now in
+        OnOk result (ranges.new.items ≡ ranges.old.items ++ reached) }
     ensures refused { IfErr result IsMemory }
-    ensures grown { OnErr result
-        (0 < length (lookup_footprint T.format (offset_of address_map.now) bytes.now offset)) }
+    ensures grown { let m = offset_of address_map.now in
+        let strict = reads_strictly address_map.now in
+        let reached = (lookup_table strict T.format m offset).reaches bytes.now in
+        OnErr result (0 < length reached) }
 {
     let size = T::size_of();
     let mut place = offset;
@@ -131,10 +136,11 @@ fn add_address_table<'a, 'e, T: Bitfield<'a>>(
     bytes: &'a [u8],
     offset: usize,
 ) -> ResultOf<'e, ()>
-    ensures added { OnOk result
-        (ranges.new.items ≡ ranges.old.items ++ addresses_footprint T.format bytes.now offset) }
+    ensures added { let reached = (address_table T.format offset).reaches bytes.now in
+        OnOk result (ranges.new.items ≡ ranges.old.items ++ reached) }
     ensures refused { IfErr result IsMemory }
-    ensures grown { OnErr result (0 < length (addresses_footprint T.format bytes.now offset)) }
+    ensures grown { let reached = (address_table T.format offset).reaches bytes.now in
+        OnErr result (0 < length reached) }
 {
     let size = T::size_of();
     let mut place = offset;
@@ -150,20 +156,22 @@ fn add_address_table<'a, 'e, T: Bitfield<'a>>(
 }
 
 // Adds what a record of an import directory leads to.
-#[tactic(auto, unfolding(crate::specs::ImportFootprints::library_footprint, goblin_base::specs::Footprints::led_to))]
+#[tactic(auto, unfolding(crate::specs::ImportReadings::library_of, crate::specs::ImportReadings::lookup_if, crate::specs::ImportReadings::name_at, goblin_base::specs::Footprints::led_to))]
 fn add_library<'a, 'e, T: Bitfield<'a>>(
     ranges: &mut Vec<(usize, usize)>,
     bytes: &'a [u8],
     entry: &ImportDirectoryEntry,
     address_map: &AddressMap,
 ) -> ResultOf<'e, ()>
-    ensures added { OnOk result
-        (ranges.new.items
-        ≡ ranges.old.items
-        ++ library_footprint T.format (offset_of address_map.now) bytes.now entry.now) }
+    ensures added { let m = offset_of address_map.now in
+        let strict = reads_strictly address_map.now in
+        let reached = (library_of strict T.format m entry.now).reaches bytes.now in
+        OnOk result (ranges.new.items ≡ ranges.old.items ++ reached) }
     ensures refused { IfErr result IsMemory }
-    ensures grown { OnErr result
-        (0 < length (library_footprint T.format (offset_of address_map.now) bytes.now entry.now)) }
+    ensures grown { let m = offset_of address_map.now in
+        let strict = reads_strictly address_map.now in
+        let reached = (library_of strict T.format m entry.now).reaches bytes.now in
+        OnErr result (0 < length reached) }
 {
     if let Some(offset) = address_map.offset_of(entry.name_rva) {
         add_stretch(ranges, bytes, offset)?;
@@ -184,13 +192,15 @@ fn add_libraries<'a, 'e, T: Bitfield<'a>>(
     offset: usize,
     address_map: &AddressMap,
 ) -> ResultOf<'e, ()>
-    ensures added { OnOk result
-        (ranges.new.items
-        ≡ ranges.old.items
-        ++ libraries_footprint T.format (offset_of address_map.now) bytes.now offset) }
+    ensures added { let m = offset_of address_map.now in
+        let strict = reads_strictly address_map.now in
+        let reached = (libraries_at strict T.format m offset).reaches bytes.now in
+        OnOk result (ranges.new.items ≡ ranges.old.items ++ reached) }
     ensures refused { IfErr result IsMemory }
-    ensures grown { OnErr result
-        (0 < length (libraries_footprint T.format (offset_of address_map.now) bytes.now offset)) }
+    ensures grown { let m = offset_of address_map.now in
+        let strict = reads_strictly address_map.now in
+        let reached = (libraries_at strict T.format m offset).reaches bytes.now in
+        OnErr result (0 < length reached) }
 {
     let mut place = offset;
     'records: loop {
@@ -206,24 +216,21 @@ fn add_libraries<'a, 'e, T: Bitfield<'a>>(
 }
 
 // The footprint of the import directory at an address.
-#[tactic(auto, unfolding(crate::specs::ImportFootprints::libraries_if_footprint, goblin_base::specs::Footprints::led_to))]
+#[tactic(auto, unfolding(crate::specs::ImportReadings::import_data, crate::specs::ImportReadings::libraries_past_front, goblin_base::specs::Footprints::led_to))]
 fn import_ranges<'a, 'e, T: Bitfield<'a>>(
     alloc: Global,
     bytes: &'a [u8],
     rva: u32,
     address_map: &AddressMap,
 ) -> ResultOf<'e, Vec<(usize, usize)>>
-    ensures ranges { IfOk result
-        (λ v.
-        v.items
-        ≡ import_footprint (is_strict address_map.now.opts.parse_mode) T.format
-        (offset_of address_map.now) bytes.now rva) }
+    ensures ranges { let m = offset_of address_map.now in
+        let strict = reads_strictly address_map.now in
+        IfOk result (λ v. v.items ≡ (import_data strict T.format m rva).reaches bytes.now) }
     ensures refused { IfErr result IsMemory }
-    ensures grown { OnErr result
-        (0
-        < length
-        (import_footprint (is_strict address_map.now.opts.parse_mode) T.format
-        (offset_of address_map.now) bytes.now rva)) }
+    ensures grown { let m = offset_of address_map.now in
+        let strict = reads_strictly address_map.now in
+        let reached = (import_data strict T.format m rva).reaches bytes.now in
+        OnErr result (0 < length reached) }
 {
     let mut ranges = Vec::new(alloc);
     match address_map.offset_of(rva) {
@@ -250,20 +257,22 @@ pub fn footprint_imports<'a, 'e, T: Bitfield<'a>>(
     file_alignment: u32,
     opts: &ParseOptions,
 ) -> ResultOf<'e, Vec<(usize, usize)>>
-    ensures ranges { IfOk result
-        (λ v.
-        v.items
-        ≡ import_footprint (is_strict opts.now.parse_mode) T.format
-        (file_offset opts.now sections.now file_alignment) bytes.now
-        directory.virtual_address) }
-    ensures covers { let footprint = import_footprint (is_strict opts.now.parse_mode) T.format
-        (file_offset opts.now sections.now file_alignment) bytes.now directory.virtual_address in
+    ensures ranges { let m = file_offset opts.now sections.now file_alignment in
+        let strict = is_strict opts.now.parse_mode in
+        let rva = directory.virtual_address in
+        IfOk result (λ v. v.items ≡ (import_data strict T.format m rva).reaches bytes.now) }
+    ensures covers { let m = file_offset opts.now sections.now file_alignment in
+        let strict = is_strict opts.now.parse_mode in
+        let rva = directory.virtual_address in
+        let footprint = (import_data strict T.format m rva).reaches bytes.now in
         IfOk result (λ v. (p : ℕ) → Covers v.items p ↔ Covers footprint p) }
     ensures within { IfOk result
         (λ v. All (λ range. (range.0 < range.1) × (range.1 ≤ length bytes.now)) v.items) }
     ensures refused { IfErr result IsMemory }
-    ensures grown { let footprint = import_footprint (is_strict opts.now.parse_mode) T.format
-        (file_offset opts.now sections.now file_alignment) bytes.now directory.virtual_address in
+    ensures grown { let m = file_offset opts.now sections.now file_alignment in
+        let strict = is_strict opts.now.parse_mode in
+        let rva = directory.virtual_address in
+        let footprint = (import_data strict T.format m rva).reaches bytes.now in
         OnErr result ((0 < length footprint) ⊎ HasPieces opts.now file_alignment) }
 {
     let address_map = AddressMap::prepare(alloc, sections, file_alignment, opts)?;

@@ -1,16 +1,15 @@
 //! The imports of two files.
 
-ghost use Rattle.std.specs.Prelude.{◌≡◌, ◌⊎◌, IfErr, IsSomeAnd, map};
-ghost use Rattle.goblin_base.specs.Answers.{AnswersOrMemory, IsMemory};
-ghost use Rattle.goblin_base.specs.Footprints.{Agree, AlikeOrMemory};
+ghost use Rattle.std.specs.Prelude.{◌⊎◌, IfErr, IsSomeAnd, map};
+ghost use Rattle.goblin_base.specs.Answers.{IsMemory};
+ghost use Rattle.goblin_base.specs.Reading.{TwinsOrMemory};
 ghost use Rattle.goblin_pe_sect.specs.Mapping.{file_offset};
 ghost use Rattle.goblin_pe_sect.specs.Options.{is_strict};
 ghost use Rattle.goblin_pe_sect.specs.WindowIndex.{HasPieces};
-ghost use Rattle.goblin_pe_tables.specs.ImportDirectory.{HasRecords, IsImportDataFault};
-ghost use Rattle.goblin_pe_tables.specs.ImportDirectory.{import_data};
-ghost use Rattle.goblin_pe_tables.specs.ImportFootprints.{import_footprint, lookup_footprint};
-ghost use Rattle.goblin_pe_tables.specs.ImportLookup.{IsLookupTableFault, KeepsEntries, entry_view};
-ghost use Rattle.goblin_pe_tables.specs.ImportLookup.{lookup_table};
+ghost use Rattle.goblin_pe_tables.specs.ImportDirectory.{HasRecords};
+ghost use Rattle.goblin_pe_tables.specs.ImportLookup.{KeepsEntries, entry_view};
+ghost use Rattle.goblin_pe_tables.specs.ImportReadings.{import_data};
+ghost use Rattle.goblin_pe_tables.specs.LookupReadings.{lookup_table};
 
 use crate::import::{Bitfield, ImportData, ImportLookupTable, SyntheticImportLookupTableEntry};
 use goblin_base::ResultOf;
@@ -39,14 +38,9 @@ pub fn twin_lookup<'a, 'e, T: Bitfield<'a>>(
     ResultOf<'e, ImportLookupTable<'a>>,
     ResultOf<'e, ImportLookupTable<'a>>,
 )
-    ensures first { let m = file_offset opts.now sections.now file_alignment in
+    ensures twins { let m = file_offset opts.now sections.now file_alignment in
         let strict = is_strict opts.now.parse_mode in
-        AnswersOrMemory (map entry_view) result.0 (lookup_table strict T.format m a.now offset)
-        (IsLookupTableFault strict T.format m a.now offset) }
-    ensures second { let m = file_offset opts.now sections.now file_alignment in
-        let strict = is_strict opts.now.parse_mode in
-        AnswersOrMemory (map entry_view) result.1 (lookup_table strict T.format m b.now offset)
-        (IsLookupTableFault strict T.format m b.now offset) }
+        TwinsOrMemory (map entry_view) (lookup_table strict T.format m offset) a.now b.now result }
     ensures first_grown { let m = file_offset opts.now sections.now file_alignment in
         IfErr result.0
         (λ e.
@@ -59,14 +53,6 @@ pub fn twin_lookup<'a, 'e, T: Bitfield<'a>>(
         IsMemory e
         → KeepsEntries (is_strict opts.now.parse_mode) T.format m b.now offset
         ⊎ HasPieces opts.now file_alignment) }
-    ensures same_value { let m = file_offset opts.now sections.now file_alignment in
-        let strict = is_strict opts.now.parse_mode in
-        Agree (lookup_footprint T.format m a.now offset) a.now b.now
-        → lookup_table strict T.format m a.now offset
-        ≡ lookup_table strict T.format m b.now offset }
-    ensures alike { let m = file_offset opts.now sections.now file_alignment in
-        Agree (lookup_footprint T.format m a.now offset) a.now b.now
-        → AlikeOrMemory (map entry_view) result.0 result.1 }
 {
     let first = SyntheticImportLookupTableEntry::parse_with_opts::<T>(
         alloc,
@@ -106,16 +92,10 @@ pub fn twin_imports<'a, 'e, T: Bitfield<'a>>(
     file_alignment: u32,
     opts: &ParseOptions,
 ) -> (ResultOf<'e, ImportData<'a>>, ResultOf<'e, ImportData<'a>>)
-    ensures first { let m = file_offset opts.now sections.now file_alignment in
+    ensures twins { let m = file_offset opts.now sections.now file_alignment in
         let strict = is_strict opts.now.parse_mode in
-        AnswersOrMemory (λ x. x) result.0
-        (import_data strict T.format m a.now directory.virtual_address)
-        (IsImportDataFault strict T.format m a.now directory.virtual_address) }
-    ensures second { let m = file_offset opts.now sections.now file_alignment in
-        let strict = is_strict opts.now.parse_mode in
-        AnswersOrMemory (λ x. x) result.1
-        (import_data strict T.format m b.now directory.virtual_address)
-        (IsImportDataFault strict T.format m b.now directory.virtual_address) }
+        let rva = directory.virtual_address in
+        TwinsOrMemory (λ x. x) (import_data strict T.format m rva) a.now b.now result }
     ensures first_grown { let place = file_offset opts.now sections.now file_alignment
         directory.virtual_address in
         IfErr result.0
@@ -128,15 +108,6 @@ pub fn twin_imports<'a, 'e, T: Bitfield<'a>>(
         (λ e.
         IsMemory e
         → IsSomeAnd place (HasRecords b.now) ⊎ HasPieces opts.now file_alignment) }
-    ensures same_value { let m = file_offset opts.now sections.now file_alignment in
-        let strict = is_strict opts.now.parse_mode in
-        Agree (import_footprint strict T.format m a.now directory.virtual_address) a.now b.now →
-        import_data strict T.format m a.now directory.virtual_address
-        ≡ import_data strict T.format m b.now directory.virtual_address }
-    ensures alike { let m = file_offset opts.now sections.now file_alignment in
-        let strict = is_strict opts.now.parse_mode in
-        Agree (import_footprint strict T.format m a.now directory.virtual_address) a.now b.now
-        → AlikeOrMemory (λ x. x) result.0 result.1 }
 {
     let first = ImportData::parse_with_opts::<T>(
         alloc,

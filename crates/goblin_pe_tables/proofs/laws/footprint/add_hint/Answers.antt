@@ -1,14 +1,13 @@
-use Rattle.std.proofs.Common.{◌≡◌, ◌<◌, ℕ, ◌+◌, List, [], ◌++◌, length, append-nil, append_assoc, sym, ap, ◌∙◌}
+use Rattle.std.proofs.Common.{◌≡◌, ◌<◌, ℕ, ◌+◌, List, ◌++◌, length, append-nil, append_assoc, sym, ap, ◌∙◌}
 use Rattle.std.proofs.lemmas.Result.{err_from_is_err_and}
 use Rattle.goblin_base.specs.Footprints.{Range, positions, stretch_footprint}
-use Rattle.goblin_pe_tables.specs.ImportFootprints.{hint_footprint}
-use Rattle.goblin_pe_tables.proofs.ImportFootprints.{hint-none, hint-some}
+use Rattle.goblin_pe_tables.proofs.Listed.{hint-none, hint-some, hint_reach}
 use Rattle.goblin_pe_tables.proofs.SomeRanges.{on_err, some-left, some-right}
 use Rattle.goblin_pe_tables.proofs.laws.footprint.add_hint.Goals as goal
 
 pub returns-in_default-clause-added : goal.returns-in_default-clause-added
 returns-in_default-clause-added c =
-    let none : hint_footprint c.args.bytes.now c.args.offset ≡ [] = hint-none c.args.bytes.now c.args.offset c.in_default.ensures.value.0 in
+    let none = hint-none c.args.bytes.now c.args.offset c.in_default.ensures.value.0 in
     rw none (sym (append-nil c.args.ranges.now.items))
 
 pub returns-clause-added : goal.returns-clause-added
@@ -17,7 +16,8 @@ returns-clause-added c =
     let bytes = c.args.bytes.now in
     let p = c.args.offset in
     let hint = c.in-Ok.hint.now in
-    let both : c.add_positions.new.ranges.items ++ stretch_footprint bytes (p + length hint) ≡ old ++ hint_footprint bytes p =
+    let text = stretch_footprint bytes (p + length hint) in
+    let both : c.add_positions.new.ranges.items ++ text ≡ old ++ hint_reach bytes p =
     ap (λ (x : List Range). x ++ stretch_footprint bytes (p + length hint)) c.in_ok-add_positions.ensures.added
     ∙ append_assoc old (positions p (p + length hint)) (stretch_footprint bytes (p + length hint))
     ∙ ap (λ (n : ℕ). old ++ (positions p (p + n) ++ stretch_footprint bytes (p + n))) c.in-Ok.ensures.len
@@ -37,6 +37,7 @@ returns-clause-grown c =
     let bytes = c.args.bytes.now in
     let p = c.args.offset in
     let hint = c.in-Ok.hint.now in
-    let some : 0 < length (stretch_footprint bytes (p + length hint)) → 0 < length (hint_footprint bytes p) =
+    let text = stretch_footprint bytes (p + length hint) in
+    let some : 0 < length text → 0 < length (hint_reach bytes p) =
     λ h. rw (hint-some bytes p hint c.in-Ok.ensures.value) (some-right (positions p (p + 2)) (stretch_footprint bytes (p + 2)) (rw (← c.in-Ok.ensures.len) h)) in
     on_err _ some c.add_stretch.ensures.grown

@@ -1,13 +1,16 @@
 use Rattle.std.proofs.Common.{length, ◌-◌}
 use Rattle.goblin_base.proofs.SlotFootprints.{AtRanges}
-use Rattle.goblin_pe_tables.specs.Addresses.{offset_of}
-use Rattle.goblin_pe_tables.specs.ImportFootprints.{entry_footprint}
-use Rattle.goblin_pe_tables.specs.ImportLookup.{entry_slots}
+use Rattle.readings.proofs.Loops.{reach_of}
+use Rattle.goblin_pe_tables.specs.Addresses.{offset_of, reads_strictly}
+use Rattle.goblin_pe_tables.specs.ImportEntries.{entry_slots}
+use Rattle.goblin_pe_tables.specs.LookupReadings.{kept_entry}
 use Rattle.goblin_pe_tables.proofs.laws.footprint.add_lookup_table.Given as goal
 
 abbrev pub invariant-slots : goal.invariant-slots
 invariant-slots g l =
-    AtRanges (entry_slots g.T.Bitfield.format) (entry_footprint (offset_of l.fn.address_map) l.fn.bytes) l.fn.bytes l.fn.offset l.place l.initial.ranges.items l.ranges.items
+    AtRanges (entry_slots g.T.Bitfield.format)
+    (reach_of (kept_entry (reads_strictly l.fn.address_map) (offset_of l.fn.address_map))
+    l.fn.bytes) l.fn.bytes l.fn.offset l.place l.initial.ranges.items l.ranges.items
 
 abbrev pub decreases-slots : goal.decreases-slots
 decreases-slots g l = length l.fn.bytes - l.place

@@ -1,7 +1,7 @@
 use Rattle.std.proofs.Common.{◌≡◌, [], append-nil, sym, arith}
 use Rattle.goblin_base.specs.Footprints.{stretch_footprint}
 use Rattle.goblin_base.proofs.SlotFootprints.{stretch-none}
-use Rattle.goblin_pe_tables.proofs.ImportFootprints.{stretch-is}
+use Rattle.goblin_pe_tables.proofs.Listed.{stretch-is}
 use Rattle.goblin_pe_tables.proofs.laws.footprint.add_stretch.Goals as goal
 
 pub returns-then-bytes-offset-clause-added : goal.returns-then-bytes-offset-clause-added

@@ -3,7 +3,6 @@ use Rattle.std.proofs.lemmas.List.{map-append}
 use Rattle.std.proofs.lemmas.Result.{err_from_is_err_and}
 use Rattle.goblin_base.specs.declared.error.ErrorOf.TheVariants.{Malformed}
 use Rattle.goblin_base.specs.declared.error.CauseOf.TheVariants.{LookupEnd}
-use Rattle.goblin_base.proofs.SlotTables.{kept-all}
 use Rattle.readings.proofs.Loops.{slot-end, slot-kept, slot-last, slot-missing, slot-next}
 use Rattle.readings.proofs.Loops.{slot-refused, slot-start}
 use Rattle.goblin_pe_tables.specs.Addresses.{offset_of, reads_strictly}
@@ -51,16 +50,6 @@ returns-clause-value g c =
           rw c.from.ensures (slot-end _ _ _ _ _ _ _ _ c.slots.invariant.0 _ (lookup_entry_at g.T.Bitfield.format) w.in_default.ensures.0 mode)
       | in-Ok+then-is_zero w ↦
           rw c.from.ensures (slot-last _ _ _ _ _ _ _ _ c.slots.invariant.0 _ (lookup_entry_at g.T.Bitfield.format) _ w.in-Ok.ensures (sym w.is_zero.ensures ∙ w.if-is_zero.true))
-    ]
-
-pub returns-clause-slots : goal.returns-clause-slots
-returns-clause-slots g c =
-    let at = c.slots.invariant.0 in
-    elim c.match-read_entry.branch [
-      | in_default+then-is_permissive w ↦
-          sym (kept-all _ _ _ _ _ _ _ _ at.read.wide at.read.at at.kept_so_far _ w.in_default.ensures.0 refl)
-      | in-Ok+then-is_zero w ↦
-          sym (kept-all _ _ _ _ _ _ _ _ at.read.wide at.read.at at.kept_so_far _ w.in-Ok.ensures (sym w.is_zero.ensures ∙ w.if-is_zero.true))
     ]
 
 pub returns-in_err-push_kept-clause-grown : goal.returns-in_err-push_kept-clause-grown
