@@ -11,6 +11,7 @@ ghost use Rattle.goblin_pe_head.specs.CoffHeader.{IsTooManySections};
 ghost use Rattle.goblin_pe_tables.specs.ImportDirectory.{IsImportDataFault, import_data};
 ghost use Rattle.goblin_pe_tables.specs.Imports.{IsImportsFault, imports_of};
 ghost use Rattle.goblin_pe_tables.specs.Addresses.{offset_of, reads_strictly};
+ghost use Rattle.goblin_pe.specs.declared.whole.Part.TheVariants.{Absent};
 ghost use Rattle.goblin_pe.specs.Whole.{BecomesPart, HasImports, IsExportPartFault};
 ghost use Rattle.goblin_pe.specs.Whole.{IsFileSectionsFault, IsImportPartFault, IsPartThenFault};
 ghost use Rattle.goblin_pe.specs.Whole.{IsRelocationsPartFault, IsTablesFault, IsWholeFault};
@@ -436,10 +437,11 @@ impl<'a> Whole<'a> {
     ///
     /// # Errors
     /// As [`Whole::read`].
-    #[tactic(auto, unfolding(crate::specs::Whole::whole_file, crate::specs::Whole::IsWholeFault), using(goblin_pe_head::proofs::HeaderFaults::header_there))]
+    #[tactic(auto, unfolding(crate::specs::Whole::whole_file, crate::specs::Whole::IsWholeFault, crate::specs::Whole::part_map), using(goblin_pe_head::proofs::HeaderFaults::header_there))]
     pub fn read_data(alloc: Global, bytes: &'a [u8], opts: &ParseOptions) -> Result<Whole<'a>>
         ensures value { AnswersOrMemory with_imports result (whole_file opts.now bytes.now)
             (IsWholeFault opts.now bytes.now) }
+        ensures absent { IfOk result (λ w. w.imports ≡ Absent) }
         ensures listed { IfOk result (HasImports opts.now) }
         ensures first { IfSome (pe_header (is_strict opts.now.parse_mode) bytes.now) (λ header.
             let count = header.coff_header.number_of_sections in
