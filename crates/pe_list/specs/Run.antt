@@ -3,8 +3,8 @@ use Rattle.std.specs.Prelude.{ℕ, List, take, ◌<◌, length, Option, Result, 
 use Rattle.std.specs.Io.KnownBytes.{Appends}
 use Rattle.goblin_pe.specs.declared.error.ErrorOf.{ErrorOf}
 use Rattle.goblin_pe.specs.declared.error.ErrorOf.TheVariants.{Memory}
-use Rattle.pe_list.specs.declared.program.RunFault.{RunFault}
-use Rattle.pe_list.specs.declared.program.RunFault.TheVariants.{Refused, Input, Output}
+use Rattle.pe_list.specs.declared.fault.RunFault.{RunFault}
+use Rattle.pe_list.specs.declared.fault.RunFault.TheVariants.{Refused, Input, Output}
 
 -- known bytes grow by a front of the text that isn't all of it
 abbrev pub AppendsPart : Option (List ℕ) → Option (List ℕ) → List ℕ → Type 0

@@ -16,12 +16,10 @@
 //! [`push_name`](crate::text::push_name) says. The fields are those of [`Header`],
 //! [`SectionTable`], [`Import`], [`Export`] and [`RelocationBlock`]. A line ends with a line feed.
 
-ghost use Rattle.std.specs.Prelude.{◌≡◌, ◌++◌, ℕ, IfErr, IsSome, List, OnOk, codes, length};
-ghost use Rattle.std.specs.Prelude.{option_map, string_bytes};
+ghost use Rattle.std.specs.Prelude.{◌≡◌, ◌++◌, ℕ, List, OnOk, codes, length, option_map};
+ghost use Rattle.std.specs.Prelude.{string_bytes};
 ghost use Rattle.std.specs.List.{flat_map};
-ghost use Rattle.goblin_pe.specs.Answers.{AnswersOrMemory, IsMemory};
-ghost use Rattle.goblin_pe.specs.Options.{is_strict};
-ghost use Rattle.goblin_pe.specs.PeHeader.{header_value, pe_header};
+ghost use Rattle.goblin_pe.specs.PeHeader.{header_value};
 ghost use Rattle.goblin_pe.specs.BaseRelocations.{block_item, block_items, relocation_bytes};
 ghost use Rattle.goblin_pe.specs.Forwarders.{forwarder_value};
 ghost use Rattle.goblin_pe.specs.Whole.{items_part, part_map};
@@ -29,7 +27,6 @@ ghost use Rattle.pe_list.specs.Lines.{block_count, block_line, export_line, forw
 ghost use Rattle.pe_list.specs.Lines.{header_line, if_there, import_line, optional_fields};
 ghost use Rattle.pe_list.specs.Lines.{part_lines, relocation_lines, section_line, shown_name};
 ghost use Rattle.pe_list.specs.Lines.{whole_lines};
-ghost use Rattle.pe_list.specs.Listing.{IsLayoutFault, listing_of};
 ghost use Rattle.pe_list.specs.Text.{hex_field, name_field};
 
 use crate::text::{push_decimal, push_hex, push_name, push_name_bytes};
@@ -37,30 +34,11 @@ use goblin_pe::export::{Export, Reexport};
 use goblin_pe::header::Header;
 use goblin_pe::import::Import;
 use goblin_pe::optional_header::OptionalHeader;
-use goblin_pe::options::{ParseMode, ParseOptions};
 use goblin_pe::read::before_nul;
 use goblin_pe::relocation::{RelocationBlock, RelocationData};
 use goblin_pe::section_table::SectionTable;
 use goblin_pe::{Error, Part, Whole};
-use std::alloc::{AllocError, Global};
-
-/// The listing of a file: a line for the header, for each section, and for each table of the file
-/// with its entries.
-///
-/// # Errors
-/// Those of [`Whole::read`] in this mode; [`Error::Memory`] where memory is refused, and never of a
-/// file whose header is refused.
-pub fn list(alloc: Global, bytes: &[u8], mode: ParseMode) -> Result<String, Error>
-    ensures value { AnswersOrMemory (λ text. string_bytes text) result (listing_of mode bytes.now)
-        (IsLayoutFault mode bytes.now) }
-    ensures grown { IfErr result (λ e. IsMemory e → IsSome (pe_header (is_strict mode) bytes.now)) }
-{
-    let opts = ParseOptions::default().with_parse_mode(mode);
-    let whole = Whole::read(alloc, bytes, &opts)?;
-    let mut text = String::new(alloc);
-    push_whole(&mut text, &whole)?;
-    Ok(text)
-}
+use std::alloc::AllocError;
 
 /// A value that the listing has a line for.
 trait Listed {
@@ -70,7 +48,11 @@ trait Listed {
         ensures { OnOk result (string_bytes text.new ≡ string_bytes text.old ++ line self.now) };
 }
 
-fn push_whole(text: &mut String, whole: &Whole) -> Result<(), AllocError>
+/// Adds the lines of a whole file.
+///
+/// # Errors
+/// Where memory is refused.
+pub fn push_whole(text: &mut String, whole: &Whole) -> Result<(), AllocError>
     ensures { OnOk result (string_bytes text.new ≡ string_bytes text.old ++ whole_lines whole.now) }
 {
     push_header(text, &whole.header)?;

@@ -3,6 +3,7 @@
 #![tactic(auto)]
 
 mod command;
+mod fault;
 mod lines;
 mod program;
 #[cfg(test)]
@@ -12,7 +13,7 @@ mod transfer;
 mod watched;
 
 use command::{USAGE, mode_of};
-use program::{RunFault, run};
+use program::run;
 use std::process::ExitCode;
 use std::{env, io};
 use watched::Watched;

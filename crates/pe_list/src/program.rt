@@ -1,45 +1,36 @@
 //! A run of the program: the whole input is read, listed, and the listing is written.
 
 ghost use Rattle.std.specs.Prelude.{◌≡◌, ◌≢◌, ◌<◌, length, string_bytes, Err, IfErr, IfOk, IfSome};
-ghost use Rattle.std.specs.Prelude.{IsSomeAnd, IsTrue, None, OnErr, OnOk, Some};
+ghost use Rattle.std.specs.Prelude.{IsSome, IsSomeAnd, IsTrue, None, OnErr, OnOk, Some};
 ghost use Rattle.std.specs.Io.KnownBytes.{Appends, Keeps};
-ghost use Rattle.goblin_pe.specs.Answers.{IsMemory};
+ghost use Rattle.goblin_pe.specs.Answers.{AnswersOrMemory, IsMemory};
+ghost use Rattle.goblin_pe.specs.Options.{is_strict};
+ghost use Rattle.goblin_pe.specs.PeHeader.{pe_header};
 ghost use Rattle.pe_list.specs.Listing.{IsLayoutFault, listing_of};
 ghost use Rattle.pe_list.specs.Run.{AppendsPart, IfRefused};
 
-use crate::lines::list;
+use crate::fault::RunFault;
+use crate::lines::push_whole;
 use crate::transfer::{read_all, write_text};
 use crate::watched::Watched;
-use goblin_pe::Error;
-use goblin_pe::options::ParseMode;
+use goblin_pe::options::{ParseMode, ParseOptions};
+use goblin_pe::{Error, Whole};
 use std::alloc::Global;
 use std::io::{Read, Write};
 
-/// Why a run gave up.
-#[derive(Debug, Drop)]
-pub enum RunFault {
-    /// The file has no listing, or memory was asked for and refused.
-    Refused(Error),
-    /// A read failed.
-    Input,
-    /// A write failed, or took no byte.
-    Output,
-}
-
-impl RunFault {
-    ghost use Rattle.pe_list.specs.Run.{fault_line};
-
-    /// The line that says so.
-    pub fn line(&self) -> &'static str
-        ensures { result.now ≡ fault_line self.now }
-    {
-        match self {
-            RunFault::Refused(Error::Memory(_)) => "out of memory",
-            RunFault::Refused(_) => "refused",
-            RunFault::Input => "read failed",
-            RunFault::Output => "write failed",
-        }
-    }
+// The listing of a file: a line for the header, for each section, and for each table of the file
+// with its entries. It is refused as `Whole::read` refuses the file in this mode; memory is wanted
+// only of a file whose header is there.
+fn list(alloc: Global, bytes: &[u8], mode: ParseMode) -> Result<String, Error>
+    ensures value { AnswersOrMemory (λ text. string_bytes text) result (listing_of mode bytes.now)
+        (IsLayoutFault mode bytes.now) }
+    ensures grown { IfErr result (λ e. IsMemory e → IsSome (pe_header (is_strict mode) bytes.now)) }
+{
+    let opts = ParseOptions::default().with_parse_mode(mode);
+    let whole = Whole::read(alloc, bytes, &opts)?;
+    let mut text = String::new(alloc);
+    push_whole(&mut text, &whole)?;
+    Ok(text)
 }
 
 // The listing of all that the reader has left, which is judged only when all of it was read.

@@ -5,7 +5,7 @@ ghost use Rattle.std.specs.Prelude.{OnErr, OnOk, drop, length, take};
 ghost use Rattle.std.specs.Io.KnownBytes.{Appends, Consumes, IsAtEnd, Keeps};
 ghost use Rattle.pe_list.specs.Run.{AppendsPart, IsOutOfMemory};
 
-use crate::program::RunFault;
+use crate::fault::RunFault;
 use crate::watched::Watched;
 use goblin_pe::Error;
 use std::alloc::Global;

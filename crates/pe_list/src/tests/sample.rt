@@ -1,6 +1,7 @@
 //! What a run over a file writes, and how it ended.
 
-use crate::program::{RunFault, run};
+use crate::fault::RunFault;
+use crate::program::run;
 use crate::watched::Watched;
 use goblin_pe::options::ParseMode;
 use std::alloc::Global;

@@ -1,7 +1,8 @@
 //! Runs over readers and writers that fail.
 
 use super::sample::{LISTING, is_input_fault, is_output_fault};
-use crate::program::{RunFault, run};
+use crate::fault::RunFault;
+use crate::program::run;
 use crate::watched::Watched;
 use fixture::sample::{SAMPLE_LEN, sample};
 use goblin_pe::options::ParseMode;

@@ -2,7 +2,7 @@ use Rattle.std.proofs.Common.{ap, ◌∙◌}
 use Rattle.std.proofs.lemmas.Result.{err_from_is_err_and}
 use Rattle.goblin_pe.specs.declared.options.ParseOptions.{ParseOptions}
 use Rattle.pe_list.proofs.Headers.{header_by}
-use Rattle.pe_list.proofs.lines.list.Goals as goal
+use Rattle.pe_list.proofs.program.list.Goals as goal
 
 pub returns-in_err-push_whole-clause-grown : goal.returns-in_err-push_whole-clause-grown
 returns-in_err-push_whole-clause-grown c =
