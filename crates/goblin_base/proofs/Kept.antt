@@ -1,5 +1,5 @@
 -- What is read in one way, and is kept where it is read in another: steps, lists of values, and tables.
-use Rattle.std.proofs.Common.{◌≡◌, ◌<◌, ℕ, zero, suc, ◌+◌, Bool, true, false, cond, not, List, ◌∷◌, map, Option, Some, None, refl, ap, sym, arith}
+use Rattle.std.proofs.Common.{◌≡◌, ℕ, zero, suc, ◌+◌, Bool, true, false, cond, not, List, ◌∷◌, map, Option, Some, None, refl, ap, sym, arith}
 use Rattle.std.specs.Prelude.{◌≢◌, option_map}
 use Rattle.std.specs.List.{range_with_len}
 use Rattle.std.specs.Option.{is_some}
@@ -16,12 +16,6 @@ pub then-kept : {A B : Type 0} (first second : Option A) (f g : A → Option B) 
 then-kept first second f g kept rest y e =
     let s = step first f y e in
     rw (kept s.value s.is) (rest s.value y s.then)
-
--- the same, where the rest may use what the first step is
-pub then-kept_by : {A B : Type 0} (first second : Option A) (f g : A → Option B) → Keeps first second → ((x : A) → first ≡ Some x → Keeps (f x) (g x)) → Keeps (first >>= f) (second >>= g)
-then-kept_by first second f g kept rest y e =
-    let s = step first f y e in
-    rw (kept s.value s.is) (rest s.value s.is y s.then)
 
 pub map-kept : {A B : Type 0} (f : A → B) (first second : Option A) → Keeps first second → Keeps (option_map f first) (option_map f second)
 map-kept f first second kept y e =

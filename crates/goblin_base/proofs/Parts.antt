@@ -2,19 +2,16 @@
 -- the file.
 use Rattle.std.proofs.Common.{◌≡◌, ◌<◌, ◌≤◌, ◌⊎◌, ◌+◌, ◌-◌, ℕ, zero, suc, Bool, true, false, cond}
 use Rattle.std.proofs.Common.{◌&&◌, nat_le, List, [], ◌∷◌, length, drop, take, Option, Some, None}
-use Rattle.std.proofs.Common.{◌++◌, add-zero, refl, sym, ap, subst, ◌∙◌, inl, inr, arith}
+use Rattle.std.proofs.Common.{refl, sym, ap, subst, ◌∙◌, inl, inr, arith}
 use Rattle.std.specs.Prelude.{option_map, slice_index, slice_range}
 use Rattle.std.specs.List.{find, range_with_len}
 use Rattle.std.proofs.lemmas.Bool.{and_parts, cases_Bool, cases_eq, cases_lt, cond-false, leb-true}
-use Rattle.std.proofs.lemmas.Bool.{le-ltb, lt-ltb}
 use Rattle.std.proofs.lemmas.Grind.{same_number_lists}
 use Rattle.std.proofs.lemmas.List.{get_or-drop, get_or-take, get_or_past, length-drop}
 use Rattle.std.proofs.lemmas.List.{length-take}
 use Rattle.std.proofs.lemmas.List.Elements.{All-cons, All-head, All-nil, All-tail}
 use Rattle.goblin_base.specs.declared.endian.Endian.{Endian}
 use Rattle.goblin_base.specs.declared.error.ErrorOf.{ErrorOf}
-use Rattle.goblin_base.specs.declared.error.ErrorOf.TheVariants.{BadMagic, BufferTooShort}
-use Rattle.goblin_base.specs.declared.error.ErrorOf.TheVariants.{Malformed, Memory, Read}
 use Rattle.goblin_base.specs.Answers.{IsMemory}
 use Rattle.goblin_base.specs.Bytes.{number, text_of}
 use Rattle.goblin_base.specs.Footprints.{Agree, Covers, Range, led_to, positions, slice_footprint}
@@ -25,6 +22,7 @@ use Rattle.goblin_base.specs.Strtab.{IsStringTableFault, string_table}
 use Rattle.goblin_base.proofs.Footprints.{agree-led, agree-slice, same-byte, same-number}
 use Rattle.goblin_base.proofs.Footprints.{same-slice_range, same-within}
 use Rattle.goblin_base.proofs.Inside.{AreInside, positions-in}
+use Rattle.goblin_base.proofs.Readings.{by_cases-not_memory}
 
 -- ---- reads of a part, as of bytes of their own
 
@@ -72,7 +70,8 @@ agree-moved_slice begin end ranges a b h =
       );
       same_bytes = λ i c. elim (cases_lt i (end - begin)) [
         | inl lt ↦
-            byte_of_slice a begin end i lt ∙ h.same_bytes (begin + i) (covers-moved begin i ranges c)
+            byte_of_slice a begin end i lt
+            ∙ h.same_bytes (begin + i) (covers-moved begin i ranges c)
             ∙ sym (byte_of_slice b begin end i lt)
         | inr past ↦
             get_or_past (slice_range a begin end) i 0 (omega (arith, long a, past))
@@ -106,23 +105,6 @@ slice-moved-in begin end bytes ranges h =
       length-take (end - begin) (drop begin bytes),
       length-drop begin bytes,
     )) h
-
-pub positions-moved : (p m : ℕ) → moved_by p (positions 0 m) ≡ positions p (p + m)
-unfolding moved_by positions
-positions-moved p m =
-    elim (cases_lt 0 m) [
-      | inl some ↦
-          rw (lt-ltb 0 m some, lt-ltb p (p + m) (omega (arith, some)))
-          (ap (λ (k : ℕ). (k, p + m) ∷ []) (add-zero p))
-      | inr none ↦ rw (le-ltb 0 m none, le-ltb p (p + m) (omega (arith, none))) refl
-    ]
-
-pub append-moved : (p : ℕ) (xs ys : List Range)
-    → moved_by p (xs ++ ys) ≡ moved_by p xs ++ moved_by p ys
-unfolding moved_by
-append-moved p [] ys = refl
-append-moved p (x ∷ xs) ys =
-    ap (λ (rest : List Range). (p + x.0, p + x.1) ∷ rest) (append-moved p xs ys)
 
 -- ---- the bytes between two offsets
 
@@ -315,8 +297,5 @@ same-string_table a b p n h =
 
 pub string_table-not_memory : (bytes : List ℕ) (p n : ℕ) (e : ErrorOf)
     → IsStringTableFault bytes p n e → ¬ IsMemory e
-string_table-not_memory bytes p n (Memory m) h = absurd h
-string_table-not_memory bytes p n (Malformed c) h = λ m. m
-string_table-not_memory bytes p n (BadMagic k) h = λ m. m
-string_table-not_memory bytes p n (BufferTooShort k what) h = λ m. m
-string_table-not_memory bytes p n (Read fault) h = λ m. m
+string_table-not_memory bytes p n =
+    by_cases-not_memory (IsStringTableFault bytes p n) (λ m h. h)

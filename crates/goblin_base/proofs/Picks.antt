@@ -1,14 +1,12 @@
 -- The laws of readings of which one is picked by a test, and of a value that is checked.
 use Rattle.std.proofs.Common.{◌≡◌, Bool, true, false, cond, List, ℕ}
-use Rattle.std.specs.declared.alloc.AllocError.{AllocError}
 use Rattle.goblin_base.specs.declared.error.ErrorOf.{ErrorOf}
-use Rattle.goblin_base.specs.declared.error.ErrorOf.TheVariants.{BadMagic, BufferTooShort}
-use Rattle.goblin_base.specs.declared.error.ErrorOf.TheVariants.{Malformed, Memory, Read}
 use Rattle.goblin_base.specs.Answers.{FirstFault, IsMemory}
 use Rattle.goblin_base.specs.Footprints.{Agree}
 use Rattle.goblin_base.specs.Reading.{Reading}
 use Rattle.goblin_base.proofs.Inside.{AreInside}
 use Rattle.goblin_base.proofs.Readings.{first_no_memory}
+pub use Rattle.goblin_base.proofs.Readings.{by_cases-not_memory}
 
 module _ {A : Type 0} (r s : Reading A) where
   pub pick-local : (test : Bool) (a b : List ℕ)
@@ -26,15 +24,6 @@ module _ {A : Type 0} (r s : Reading A) where
       → cond test (r.IsCause bytes e) (s.IsCause bytes e) → ¬ IsMemory e
   pick-not_memory true bytes e h = r.not_memory bytes e h
   pick-not_memory false bytes e h = s.not_memory bytes e h
-
--- a predicate that is true of no Memory; for a word by cases it computes that
-pub by_cases-not_memory : (IsCause : ErrorOf → Type 0) → ((m : AllocError) → ¬ IsCause (Memory m))
-    → (e : ErrorOf) → IsCause e → ¬ IsMemory e
-by_cases-not_memory IsCause none (Memory m) h = absurd (none m h)
-by_cases-not_memory IsCause none (Malformed c) h = λ m. m
-by_cases-not_memory IsCause none (BadMagic k) h = λ m. m
-by_cases-not_memory IsCause none (BufferTooShort k what) h = λ m. m
-by_cases-not_memory IsCause none (Read fault) h = λ m. m
 
 pub checked-not_memory : {A : Type 0} (r : Reading A) (IsRefused : A → ErrorOf → Type 0)
     → ((x : A) (e : ErrorOf) → IsRefused x e → ¬ IsMemory e)

@@ -5,6 +5,7 @@ use Rattle.std.proofs.Common.{arith, take_all}
 use Rattle.std.specs.Prelude.{IsSomeAnd, option_map, slice_range}
 use Rattle.std.proofs.lemmas.Bool.{cases_Bool, cond-false, ltb-true}
 use Rattle.std.proofs.lemmas.List.{length-drop}
+use Rattle.std.specs.declared.alloc.AllocError.{AllocError}
 use Rattle.goblin_base.specs.declared.endian.Endian.{Endian}
 use Rattle.goblin_base.specs.declared.error.CauseOf.{CauseOf}
 use Rattle.goblin_base.specs.declared.error.ErrorOf.{ErrorOf}
@@ -12,11 +13,11 @@ use Rattle.goblin_base.specs.declared.error.ErrorOf.TheVariants.{BadMagic, Buffe
 use Rattle.goblin_base.specs.declared.error.ErrorOf.TheVariants.{Malformed, Memory, Read}
 use Rattle.goblin_base.specs.Answers.{◌>>=◌, FirstFault, IsBoundedTextFault, IsMemory}
 use Rattle.goblin_base.specs.Answers.{IsSliceFault, IsTextFault}
-use Rattle.goblin_base.specs.Footprints.{Agree, Range, led_to, rest_footprint, slot_footprint}
+use Rattle.goblin_base.specs.Footprints.{Agree, led_to, rest_footprint, slot_footprint}
 use Rattle.goblin_base.specs.Reading.{Reading, Reads, ReadsOrMemory, Twins, TwinsOrMemory}
 use Rattle.goblin_base.specs.Tables.{IsTableFault, SlotFormat, kept_slots, slot_at}
 use Rattle.goblin_base.specs.Tables.{slot_place, slot_table, stop}
-use Rattle.goblin_base.specs.Values.{IsBadOffset, IsValueFault, value_at}
+use Rattle.goblin_base.specs.Values.{value_at}
 use Rattle.goblin_base.proofs.Footprints.{agree-left, agree-right, alike_answers}
 use Rattle.goblin_base.proofs.Footprints.{alike_or_memory_answers, same-kept_slots, same-led}
 use Rattle.goblin_base.proofs.Footprints.{same-slot_table, same-within}
@@ -60,36 +61,26 @@ pub malformed-not_memory : (cause : CauseOf) (e : ErrorOf) → e ≡ Malformed c
 malformed-not_memory cause e is memory =
     let same : IsMemory (Malformed cause) = subst IsMemory is memory in absurd same
 
+-- a predicate that is true of no Memory; for a word by cases it computes that
+pub by_cases-not_memory : (IsCause : ErrorOf → Type 0) → ((m : AllocError) → ¬ IsCause (Memory m))
+    → (e : ErrorOf) → IsCause e → ¬ IsMemory e
+by_cases-not_memory IsCause none (Memory m) h = absurd (none m h)
+by_cases-not_memory IsCause none (Malformed c) h = λ m. m
+by_cases-not_memory IsCause none (BadMagic k) h = λ m. m
+by_cases-not_memory IsCause none (BufferTooShort k what) h = λ m. m
+by_cases-not_memory IsCause none (Read fault) h = λ m. m
+
 pub slice-not_memory : (bytes : List ℕ) (p n : ℕ) (e : ErrorOf)
     → IsSliceFault bytes p n e → ¬ IsMemory e
-slice-not_memory bytes p n (Memory m) h = absurd h
-slice-not_memory bytes p n (Malformed c) h = λ m. m
-slice-not_memory bytes p n (BadMagic k) h = λ m. m
-slice-not_memory bytes p n (BufferTooShort k what) h = λ m. m
-slice-not_memory bytes p n (Read fault) h = λ m. m
+slice-not_memory bytes p n = by_cases-not_memory (IsSliceFault bytes p n) (λ m h. h)
 
 pub text-not_memory : (bytes : List ℕ) (p : ℕ) (e : ErrorOf)
     → IsTextFault bytes p e → ¬ IsMemory e
-text-not_memory bytes p (Memory m) h = absurd h
-text-not_memory bytes p (Malformed c) h = λ m. m
-text-not_memory bytes p (BadMagic k) h = λ m. m
-text-not_memory bytes p (BufferTooShort k what) h = λ m. m
-text-not_memory bytes p (Read fault) h = λ m. m
+text-not_memory bytes p = by_cases-not_memory (IsTextFault bytes p) (λ m h. h)
 
 pub bounded_text-not_memory : (bytes : List ℕ) (p n : ℕ) (e : ErrorOf)
     → IsBoundedTextFault bytes p n e → ¬ IsMemory e
-bounded_text-not_memory bytes p n (Memory m) h = absurd h
-bounded_text-not_memory bytes p n (Malformed c) h = λ m. m
-bounded_text-not_memory bytes p n (BadMagic k) h = λ m. m
-bounded_text-not_memory bytes p n (BufferTooShort k what) h = λ m. m
-bounded_text-not_memory bytes p n (Read fault) h = λ m. m
-
-bad_offset-not_memory : (e : ErrorOf) → IsBadOffset e → ¬ IsMemory e
-bad_offset-not_memory (Memory m) h = absurd h
-bad_offset-not_memory (Malformed c) h = λ m. m
-bad_offset-not_memory (BadMagic k) h = λ m. m
-bad_offset-not_memory (BufferTooShort k what) h = λ m. m
-bad_offset-not_memory (Read fault) h = λ m. m
+bounded_text-not_memory bytes p n = by_cases-not_memory (IsBoundedTextFault bytes p n) (λ m h. h)
 
 -- ---- a typed value, which may depend on all bytes that follow
 
@@ -123,14 +114,6 @@ value-local {Y} value_of endian a b p h =
           cond-false (nat_lt p (length a)) (value (drop p a)) None past
           ∙ sym (cond-false (nat_lt p (length b)) (value (drop p b)) None (sym test ∙ past))
     ]
-
-pub value-not_memory : (refusal : Endian → List ℕ → ErrorOf → Type 0)
-    → ((endian : Endian) (own : List ℕ) (e : ErrorOf) → refusal endian own e → ¬ IsMemory e)
-    → (endian : Endian) (bytes : List ℕ) (p : ℕ) (e : ErrorOf)
-    → IsValueFault refusal endian bytes p e → ¬ IsMemory e
-value-not_memory refusal own_cause endian bytes p e (inl h) = bad_offset-not_memory e h.1
-value-not_memory refusal own_cause endian bytes p e (inr h) =
-    own_cause endian (drop p bytes) e h.1
 
 -- ---- two reads beside each other
 
@@ -188,14 +171,6 @@ module _ {V A : Type 0} (slots : SlotFormat V) (piece : V → Reading (List A)) 
       some_no_memory bytes (slot_at slots bytes o h.0) e h.3
 
 -- ---- two files
-
--- what a reading has the value of is the same in files that agree on what it reaches
-pub same-by_reading : {A : Type 0} (reading : Reading A) (value : List ℕ → Option A)
-    (ranges : List Range) (a b : List ℕ) → ((bytes : List ℕ) → reading.value bytes ≡ value bytes)
-    → reading.reaches a ≡ ranges → Agree ranges a b → value a ≡ value b
-same-by_reading reading value ranges a b is reaches h =
-    sym (is a)
-    ∙ reading.is_local a b (subst (λ (own : List Range). Agree own a b) (sym reaches) h) ∙ is b
 
 pub twins : {X Y : Type 0} (view : X → Y) (reading : Reading Y) (a b : List ℕ)
     (r q : Result X ErrorOf) → Reads view r reading a → Reads view q reading b

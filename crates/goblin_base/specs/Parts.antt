@@ -11,7 +11,7 @@ use Rattle.goblin_base.specs.Footprints.{Range, led_to, positions}
 unfoldable pub moved_by : ℕ → List Range → List Range
 moved_by p ranges = map (λ range. (p + range.0, p + range.1)) ranges
 
--- the bytes from `begin` up to `end`, where `end` is not before it and lies in the file; they may
+-- the bytes from `begin` up to `end`, where `end` is not before it and lies in the file; there may
 -- be none
 abbrev pub bytes_between : List ℕ → ℕ → ℕ → Option (List ℕ)
 bytes_between bytes begin end =
@@ -29,13 +29,13 @@ abbrev pub least_place : Endian → ℕ → ℕ → (ℕ → Bool) → List ℕ 
 least_place endian n more test bytes =
     find (λ i. test (number endian n bytes i)) (range_with_len 0 (length bytes - (n + more - 1)))
 
--- that place, and the bytes up to the end of those after it
+-- that place, and the bytes up to the end of the `more` bytes after it
 abbrev pub front_through : Endian → ℕ → ℕ → (ℕ → Bool) → List ℕ → Option (ℕ × List ℕ)
 front_through endian n more test bytes =
     option_map (λ i. (i, take (i + (n + more)) bytes)) (least_place endian n more test bytes)
 
--- a search from the front: up to the end of the `width` bytes at the place that is found, and all
--- where none is
+-- a search from the front: up to the end of the `width` bytes at the place found, or all bytes if
+-- none is found
 abbrev pub search_footprint : ℕ → Option ℕ → List ℕ → List Range
 search_footprint width None bytes = positions 0 (length bytes)
 search_footprint width (Some i) bytes = positions 0 (i + width)

@@ -1,18 +1,18 @@
--- What a read of a file comes to, in one definition: its value, where it has one; which cause is
--- true, where it has none; and which positions of the file it reaches.
+-- The result of a read of a file, in one definition: its value, if it has one; which cause is true,
+-- if it has none; and which positions of the file it reaches.
 use Rattle.std.specs.Prelude.{◌≡◌, ◌<◌, ◌≤◌, ℕ, List, Option, Some, Result, length}
 use Rattle.std.specs.List.{All}
 use Rattle.goblin_base.specs.declared.error.ErrorOf.{ErrorOf}
 use Rattle.goblin_base.specs.Answers.{Answers, AnswersOrMemory, IsMemory}
 use Rattle.goblin_base.specs.Footprints.{Agree, Alike, AlikeOrMemory, Range}
 
--- The range is not empty, and does not pass the file.
+-- The range is not empty, and does not run past the file.
 abbrev pub IsInFile : List ℕ → Range → Type 0
 IsInFile bytes range = (range.0 < range.1) × (range.1 ≤ length bytes)
 
--- A read of a file. Each part is a function of the file's bytes. Three laws belong to it. Files
--- that agree on what is reached in the first have the same value. What is reached lies in the
--- file. No cause is a want of memory.
+-- A read of a file. Each part is a function of the file's bytes. It has three laws. Files that
+-- agree on what is reached in the first have the same value. What is reached lies in the file. No
+-- cause is Memory.
 pub record Reading (A : Type 0) : Type 1 where
   pub value : List ℕ → Option A
   pub IsCause : List ℕ → ErrorOf → Type 0
@@ -21,20 +21,20 @@ pub record Reading (A : Type 0) : Type 1 where
   pub is_inside : (bytes : List ℕ) → All (IsInFile bytes) (reaches bytes)
   pub not_memory : (bytes : List ℕ) (e : ErrorOf) → IsCause bytes e → ¬ IsMemory e
 
--- A call that takes no memory answers the reading: its value, as `view` sees the result; or there
+-- A call that takes no memory returns the reading: its value, as `view` sees the result; or there
 -- is no value, and the cause is true.
 abbrev pub Reads : {X Y : Type 0} → (X → Y) → Result X ErrorOf → Reading Y → List ℕ → Type 0
 Reads view result reading bytes =
     Answers view result (reading.value bytes) (reading.IsCause bytes)
 
--- The same for a call that takes memory, which may also be refused with Memory.
+-- A call that takes memory returns the reading, or is refused with Memory.
 abbrev pub ReadsOrMemory : {X Y : Type 0} → (X → Y) → Result X ErrorOf
     → Reading Y → List ℕ → Type 0
 ReadsOrMemory view result reading bytes =
     AnswersOrMemory view result (reading.value bytes) (reading.IsCause bytes)
 
--- A reader on two files. Each answer is its own. Where the files agree on what is reached in the
--- first, the values are the same, and the answers are alike.
+-- A reader on two files. Each answer is the reader's for its file. Where the files agree on what is
+-- reached in the first, the values are the same, and the answers are alike.
 pub record Twins {X Y : Type 0} (view : X → Y) (reading : Reading Y) (a b : List ℕ)
     (both : Result X ErrorOf × Result X ErrorOf) : Type 0 where
   pub first : Reads view both.0 reading a
@@ -42,7 +42,8 @@ pub record Twins {X Y : Type 0} (view : X → Y) (reading : Reading Y) (a b : Li
   pub same : Agree (reading.reaches a) a b → reading.value a ≡ reading.value b
   pub alike : Agree (reading.reaches a) a b → Alike view both.0 both.1
 
--- The same of a reader that takes memory.
+-- Two files read by a reader that takes memory. Each answer is the reader's for its file. Where the
+-- files agree on what is reached in the first, the values are the same, and the answers are alike.
 pub record TwinsOrMemory {X Y : Type 0} (view : X → Y) (reading : Reading Y) (a b : List ℕ)
     (both : Result X ErrorOf × Result X ErrorOf) : Type 0 where
   pub first : ReadsOrMemory view both.0 reading a
@@ -50,18 +51,18 @@ pub record TwinsOrMemory {X Y : Type 0} (view : X → Y) (reading : Reading Y) (
   pub same : Agree (reading.reaches a) a b → reading.value a ≡ reading.value b
   pub alike : Agree (reading.reaches a) a b → AlikeOrMemory view both.0 both.1
 
--- Where the first reading has a value, the second has what becomes of it. So it is with one read
--- in strict mode and again in permissive mode.
+-- Where the first reading has a value, the second has what `becomes` makes of it: for example the
+-- same read in strict mode and in permissive mode.
 pub record RepeatsAs {A : Type 0} (becomes : A → A) (first second : Reading A) : Type 0 where
   pub kept : (bytes : List ℕ) (x : A) → first.value bytes ≡ Some x
       → second.value bytes ≡ Some (becomes x)
 
--- The same, where nothing becomes of it.
+-- Where the first reading has a value, the second has that value.
 abbrev pub Repeats : {A : Type 0} → Reading A → Reading A → Type 0
 Repeats first second = RepeatsAs (λ x. x) first second
 
--- A reader that takes memory, in strict mode and in permissive mode. Each answer is that of its
--- own mode. Where strict mode has a value, permissive mode has what becomes of it.
+-- A reader that takes memory, in strict mode and in permissive mode. Each answer is that of its own
+-- mode. Where strict mode has a value, permissive mode has what `becomes` makes of it.
 pub record InModes {X Y : Type 0} (view : X → Y) (becomes : Y → Y)
     (strict permissive : Reading Y) (bytes : List ℕ)
     (both : Result X ErrorOf × Result X ErrorOf) : Type 0 where

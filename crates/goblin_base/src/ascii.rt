@@ -4,7 +4,7 @@ ghost use Rattle.std.specs.Prelude.{◌≡◌, ◌⊎◌, ◌+◌, ◌<◌, ◌�
 
 use std::simd::prelude::*;
 
-// How many of the 16 bytes from `at` on stand before the first that is a NUL or not ASCII.
+// How many of the 16 bytes from `at` on precede the first that is a NUL or not ASCII.
 fn run_in_lanes(bytes: &[u8], at: usize) -> usize
     requires { at + 16 ≤ length bytes.now }
     ensures within { result ≤ 16 }
@@ -23,7 +23,7 @@ fn run_in_lanes(bytes: &[u8], at: usize) -> usize
     }
 }
 
-// Whether a byte is ASCII and no NUL.
+// Whether a byte is ASCII and not a NUL.
 fn is_plain(byte: u8) -> bool
     ensures yes { IsTrue result → (0 < byte) × (byte < 128) }
     ensures no { ¬ (IsTrue result) → (byte ≡ 0) ⊎ (128 ≤ byte) }
@@ -31,7 +31,7 @@ fn is_plain(byte: u8) -> bool
     0 < byte && byte < 128
 }
 
-// How many bytes stand before the first that is a NUL or not ASCII.
+// How many bytes precede the first that is a NUL or not ASCII.
 pub(crate) fn plain_run(bytes: &[u8]) -> usize
     ensures within { result ≤ length bytes.now }
     ensures plain { (k : ℕ) → k < result

@@ -1,4 +1,4 @@
--- How readings are put together. Each word keeps the laws of a reading. So a definition by these
+-- How readings are put together. Each word keeps the laws of a reading, so a definition with these
 -- words needs no proof of them.
 use Rattle.std.specs.Prelude.{◌≡◌, ℕ, Bool, true, false, List, [], ◌++◌, length, Option, Some, None}
 use Rattle.std.specs.Prelude.{option_map, option_to_list, refl, ◌+◌, drop, slice_range}
@@ -26,7 +26,7 @@ use Rattle.goblin_base.specs.Values as values
 use Rattle.goblin_base.specs.Values.{IsValueFault}
 use Rattle.goblin_base.proofs.Below.{concat_below-agree}
 use Rattle.goblin_base.proofs.Footprints.{agree-below, same-all_at, same-bounded_text_at}
-use Rattle.goblin_base.proofs.Footprints.{same-counted_table, same-counted_table_if, same-number_at}
+use Rattle.goblin_base.proofs.Footprints.{same-counted_table_if, same-number_at}
 use Rattle.goblin_base.proofs.Footprints.{same-record_at, same-slice_at, same-text_at}
 use Rattle.goblin_base.proofs.Inside.{below-in, counted-in, led-in, none-in, rest-in, slice-in}
 use Rattle.goblin_base.proofs.Inside.{stretch-in}
@@ -38,11 +38,11 @@ use Rattle.goblin_base.proofs.Readings.{beside-inside, beside-local, bounded_tex
 use Rattle.goblin_base.proofs.Readings.{kept-local, malformed-not_memory, slice-not_memory}
 use Rattle.goblin_base.proofs.Readings.{table-inside, table-local, table-not_memory}
 use Rattle.goblin_base.proofs.Readings.{text-not_memory, then-inside, then-local}
-use Rattle.goblin_base.proofs.Readings.{then-not_memory, value-local, value-not_memory}
+use Rattle.goblin_base.proofs.Readings.{then-not_memory, value-local}
 
 -- ---- what reads nothing
 
--- a value that may be missing; which cause is then true, and that this cause is no Memory
+-- a value that may be missing; which cause is then true, and that this cause is not Memory
 abbrev pub needs_by : {A : Type 0} → Option A → (IsCause : ErrorOf → Type 0)
     → ((e : ErrorOf) → IsCause e → ¬ IsMemory e) → Reading A
 needs_by value IsCause not_memory = record {
@@ -54,7 +54,7 @@ needs_by value IsCause not_memory = record {
   not_memory = λ bytes. not_memory;
 }
 
--- the same, where there is one cause
+-- a value that may be missing, and the one cause that is then true
 abbrev pub needs : {A : Type 0} → Option A → CauseOf → Reading A
 needs value cause = needs_by value (λ e. e ≡ Malformed cause) (malformed-not_memory cause)
 
@@ -62,11 +62,11 @@ needs value cause = needs_by value (λ e. e ≡ Malformed cause) (malformed-not_
 abbrev pub given : {A : Type 0} → A → Reading A
 given x = needs_by (Some x) (λ e. ⊥) (λ e h. absurd h)
 
--- a value that may be missing, with no cause where it is: only where nothing is refused for it
+-- a value that may be missing, without a cause: only for uses that never refuse because of it
 abbrev pub taken : {A : Type 0} → Option A → Reading A
 taken value = needs_by value (λ e. ⊥) (λ e h. absurd h)
 
--- how many bytes the file has; files that agree on no position have one length, too
+-- how many bytes the file has; files that agree always have the same length
 abbrev pub file_length : Reading ℕ
 file_length = record {
   value = λ bytes. Some (length bytes);
@@ -77,7 +77,7 @@ file_length = record {
   not_memory = λ bytes e h. absurd h;
 }
 
--- ---- what stands at an offset
+-- ---- what is at an offset
 
 -- the number of the n bytes at p
 abbrev pub number_at : Endian → ℕ → ℕ → Reading ℕ
@@ -145,7 +145,7 @@ string_table p n = record {
   not_memory = λ bytes. string_table-not_memory bytes p n;
 }
 
--- the bytes from `begin` up to `end`, which may be none; only where a cause is given by `because`
+-- the bytes from `begin` up to `end`; there may be none. Give it a cause by `because`.
 abbrev pub bytes_between : ℕ → ℕ → Reading (List ℕ)
 bytes_between begin end = record {
   value = λ bytes. parts.bytes_between bytes begin end;
@@ -157,8 +157,8 @@ bytes_between begin end = record {
 }
 
 -- The least place at which the number of n bytes passes the test, with `more` bytes after it, and
--- the bytes up to the end of those. It reaches these, and all where there is no such place. Only
--- where a cause is given by `because`, or for what is read by `or_none`.
+-- the bytes up to the end of those. It reaches these, or all bytes if there is no such place. Give
+-- it a cause by `because`, or read it by `or_none`.
 abbrev pub front_through : Endian → ℕ → ℕ → (ℕ → Bool) → Reading (ℕ × List ℕ)
 front_through endian n more test = record {
   value = parts.front_through endian n more test;
@@ -170,19 +170,17 @@ front_through endian n more test = record {
   not_memory = λ bytes e h. absurd h;
 }
 
--- The value of a type at p, with all that follows it. `refusal` says which cause is true where
--- the bytes from p on are refused; it is no Memory.
+-- The value of a type at p; it reaches all bytes from p on. `refusal` says which causes are true if
+-- the bytes from p on are refused. None of them is Memory.
 abbrev pub value_at : {Y : Type 0} → (Endian → List ℕ → Option (Y × ℕ))
-    → (refusal : Endian → List ℕ → ErrorOf → Type 0)
-    → ((endian : Endian) (own : List ℕ) (e : ErrorOf) → refusal endian own e → ¬ IsMemory e)
-    → Endian → ℕ → Reading Y
-value_at value_of refusal not_memory endian p = record {
+    → (refusal : Endian → List ℕ → ErrorOf → Type 0) → Endian → ℕ → Reading Y
+value_at value_of refusal endian p = record {
   value = λ bytes. values.value_at value_of endian bytes p;
-  IsCause = λ bytes. IsValueFault refusal endian bytes p;
+  IsCause = λ bytes e. IsValueFault refusal endian bytes p e × (¬ IsMemory e);
   reaches = λ bytes. rest_footprint bytes p;
   is_local = λ a b agree. value-local value_of endian a b p agree;
   is_inside = λ bytes. rest-in bytes p;
-  not_memory = λ bytes. value-not_memory refusal not_memory endian bytes p;
+  not_memory = λ bytes e h. h.1;
 }
 
 -- ---- one reading
@@ -202,24 +200,27 @@ turned f r = record {
 abbrev pub mapped : {A B : Type 0} → (A → B) → Reading A → Reading B
 mapped f r = turned (option_map f) r
 
--- what is read, if there is something: it is never refused
+-- the value as an option: it is never refused
 abbrev pub or_none : {A : Type 0} → Reading A → Reading (Option A)
-or_none r = turned (λ x. Some x) r
+or_none r = record (turned (λ x. Some x) r) {
+  IsCause = λ bytes e. ⊥;
+  not_memory = λ bytes e h. absurd h;
+}
 
--- the same read, with this cause where it is refused
+-- a read, with this cause if it is refused
 abbrev pub because : {A : Type 0} → CauseOf → Reading A → Reading A
 because cause r = record r {
   IsCause = λ bytes e. e ≡ Malformed cause;
   not_memory = λ bytes. malformed-not_memory cause;
 }
 
--- The same, where a predicate says which causes are true. None of them is Memory.
+-- A read with a predicate that says which causes are true if it is refused. None of them is Memory.
 abbrev pub because_by : {A : Type 0} → (IsCause : List ℕ → ErrorOf → Type 0)
     → ((bytes : List ℕ) (e : ErrorOf) → IsCause bytes e → ¬ IsMemory e) → Reading A → Reading A
 because_by IsCause not_memory r = record r { IsCause = IsCause; not_memory = not_memory }
 
--- What is made of the value, where something is; else the cause is one that `IsRefused` says of
--- the value. None of them is Memory.
+-- What `f` makes of the value, if anything; else the true causes are those for which `IsRefused`
+-- holds of the value. None of them is Memory.
 abbrev pub checked : {A B : Type 0} → (A → Option B) → (IsRefused : A → ErrorOf → Type 0)
     → ((x : A) (e : ErrorOf) → IsRefused x e → ¬ IsMemory e) → Reading A → Reading B
 checked f IsRefused not_memory r = record {
@@ -236,11 +237,11 @@ in_its_place strict d (Some x) = Some x
 in_its_place true d None = None
 in_its_place false d None = Some d
 
--- strict mode refuses what is missing, permissive mode takes d for it
+-- strict mode refuses what is missing, permissive mode takes d instead
 abbrev pub or_else : {A : Type 0} → Bool → A → Reading A → Reading A
 or_else strict d r = turned (in_its_place strict d) r
 
--- The item as a list. Where there is none, strict mode refuses, and permissive mode leaves it out.
+-- The item as a list. If there is none, strict mode refuses, and permissive mode leaves it out.
 abbrev pub or_left_out : {A : Type 0} → Bool → Reading A → Reading (List A)
 or_left_out strict r = turned (tables.or_left_out strict) r
 
@@ -264,8 +265,8 @@ pair_of (Some x) None = None
 pair_of (Some x) (Some y) = Some (x, y)
 
 infixl 10 ◌beside◌
--- Two reads whose places are known. Each is reached, also where the other is refused. The cause is
--- that of the first where it is refused, and else that of the second.
+-- Two reads whose places are known. Each is read even if the other is refused. The cause is that of
+-- the first if it is refused, else that of the second.
 abbrev pub ◌beside◌ : {A B : Type 0} → Reading A → Reading B → Reading (A × B)
 r beside s = record {
   value = λ bytes. pair_of (r.value bytes) (s.value bytes);
@@ -276,7 +277,7 @@ r beside s = record {
   not_memory = then-not_memory r (λ x. s);
 }
 
--- the one reading where the test is true, the other where it is false
+-- the one reading if the test is true, the other if it is false
 abbrev pub pick : {A : Type 0} → Bool → Reading A → Reading A → Reading A
 pick test r s = record {
   value = λ bytes. cond test (r.value bytes) (s.value bytes);
@@ -289,7 +290,7 @@ pick test r s = record {
 
 -- ---- parts of the bytes, as bytes of their own
 
--- what is read of the bytes from p on
+-- a read of the bytes from p on
 abbrev pub in_rest : {A : Type 0} → ℕ → Reading A → Reading A
 in_rest p r = record {
   value = λ bytes. r.value (drop p bytes);
@@ -302,7 +303,7 @@ in_rest p r = record {
   not_memory = λ bytes. r.not_memory (drop p bytes);
 }
 
--- what is read of the bytes from `begin` up to `end`, or to the end of the file if that is before
+-- a read of the bytes from `begin` up to `end`, or to the end of the file if that comes first
 abbrev pub in_slice : {A : Type 0} → ℕ → ℕ → Reading A → Reading A
 in_slice begin end r = record {
   value = λ bytes. r.value (slice_range bytes begin end);
@@ -319,7 +320,7 @@ in_slice begin end r = record {
 
 -- ---- lists of reads
 
--- n reads, one for each index: each is reached, and the cause is that of the first that is refused
+-- n reads, one for each index: all are read, and the cause is that of the first that is refused
 abbrev pub each : {A : Type 0} → (ℕ → Reading A) → ℕ → Reading (List A)
 each read n = record {
   value = λ bytes. all_at (λ i. (read i).value bytes) n;
@@ -335,7 +336,7 @@ each read n = record {
   not_memory = λ bytes e h. (read h.0).not_memory bytes e h.4;
 }
 
--- the same n reads; what is refused is left out, and is reached, too
+-- n reads, one for each index: what is refused is left out, but reached
 abbrev pub each_kept : {A : Type 0} → (ℕ → Reading A) → ℕ → Reading (List A)
 each_kept read n = record {
   value = λ bytes. Some (concat_below (λ i. option_to_list ((read i).value bytes)) n);
@@ -355,18 +356,8 @@ each_kept read n = record {
 
 -- ---- tables of a given count
 
--- the entries of a table of `count` at o, cut at the first that is not whole
-abbrev pub counted : {V : Type 0} → Format V → ℕ → ℕ → Reading (List V)
-counted format count o = record {
-  value = λ bytes. Some (tables.counted_table format count bytes o);
-  IsCause = λ bytes e. ⊥;
-  reaches = λ bytes. counted_footprint format count bytes o;
-  is_local = λ a b agree. ap (λ xs. Some xs) (same-counted_table format count a b o agree);
-  is_inside = λ bytes. counted-in bytes format count o;
-  not_memory = λ bytes e h. absurd h;
-}
-
--- the same, where the table has an offset; else it has no entries
+-- The entries of a table of `count` at a place, cut at the first incomplete one. A table without a
+-- place has no entries.
 abbrev pub counted_if : {V : Type 0} → Format V → ℕ → Option ℕ → Reading (List V)
 counted_if format count place = record {
   value = λ bytes. Some (tables.counted_table_if format count bytes place);
@@ -382,11 +373,11 @@ counted_if format count place = record {
 
 -- ---- tables of slots
 
--- A table of slots at o ends at its stop. What `piece` reads of the entry of each slot before it
--- is put together. The cause is that of the first entry that is refused. If none is, and the end
--- is needed, but the stop's slot is not in the file, `missing` says the cause, from the slot's
--- place. The table reaches what each entry before the stop leads to, and the slots up to and with
--- the stop.
+-- A table of slots at o ends at its stop. It joins what `piece` reads of the entry of each slot
+-- before the stop. The cause is that of the first entry that is refused. If none is, but the end is
+-- needed and the stop's slot is not in the file, `missing` of the slot's place is the cause. The
+-- table reaches what each entry before the stop leads to, and the slots up to and including the
+-- stop.
 abbrev pub table : {V A : Type 0} → SlotFormat V → Bool → (ℕ → Reading V)
     → (V → Reading (List A)) → ℕ → Reading (List A)
 table slots needs_end missing piece o = record {
@@ -404,7 +395,7 @@ abbrev pub with_slots : {A : Type 0} → List ℕ → Option A → Option (A × 
 with_slots kept None = None
 with_slots kept (Some x) = Some (x, kept)
 
--- the same, with the indexes of the slots of whose entries something is kept
+-- a table of slots, with the indexes of the slots whose entries are kept
 abbrev pub table_with_slots : {V A : Type 0} → SlotFormat V → Bool → (ℕ → Reading V)
     → (V → Reading (List A)) → ℕ → Reading (List A × List ℕ)
 table_with_slots slots needs_end missing piece o =
