@@ -13,8 +13,10 @@ use Rattle.goblin_base.specs.Record.{FieldValue, WritesBack, encoding, record_at
 use Rattle.goblin_base.proofs.RecordRoundTrip.{writes_back, reads_back}
 use Rattle.goblin_base.proofs.Writing.{encoding_append}
 use Rattle.goblin_pe_sect.specs.declared.data_directories.DataDirectory.{DataDirectory}
-use Rattle.goblin_pe_sect.specs.DataDirectories.{directories_at, directory_fields, directory_or_zeros, directory_record, entries_fields, directory_entry_at, entry_ending, EntriesWriteBack, no_directory}
-use Rattle.goblin_pe_sect.proofs.Entries.{directory_entry_at-below, directory_entry_at-past}
+use Rattle.goblin_pe_sect.specs.DataDirectories.{directory_fields, directory_or_zeros, directory_record, entries_fields, entry_ending, no_directory}
+use Rattle.goblin_pe_sect.specs.DirectoryReadings.{EntriesWriteBack}
+use Rattle.goblin_pe_sect.proofs.DirectoryReadings.{value-directories_at}
+use Rattle.goblin_pe_sect.proofs.Entries.{directory_entry_at, directory_entry_at-below, directory_entry_at-past, entries_in_room}
 
 -- a directory that was read is written as it stood
 pub directory_back : WritesBack 8 directory_record directory_fields
@@ -122,8 +124,9 @@ either true b h = inl refl
 either false b h = inr h
 
 pub entries_back : EntriesWriteBack
-unfolding directories_at
-entries_back count bytes p entries h e =
+unfolding entries_in_room
+entries_back count bytes p entries h read =
+    let e = sym (value-directories_at count bytes p) ∙ read in
     let found = cond_some (nat_le count 16 && (count == 0 || nat_le (p + 8 * count) (length bytes))) (map (directory_entry_at count bytes p) (range_with_len 0 16)) entries e in
     let tests = and_parts (nat_le count 16) (count == 0 || nat_le (p + 8 * count) (length bytes)) found.0 in
     let most : count ≤ 16 = leb-true count 16 tests.0 in

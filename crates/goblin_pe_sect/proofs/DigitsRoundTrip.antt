@@ -8,8 +8,8 @@ use Rattle.std.proofs.lemmas.Nat.{div-add-mod'}
 use Rattle.std.proofs.Math.Nat.{pow-zero, pow-suc, mod-lt, div-lt_iff_lt-mul}
 use Rattle.goblin_pe_sect.specs.declared.digits.Digits.{Digits}
 use Rattle.goblin_pe_sect.specs.declared.digits.Digits.TheVariants.{Decimal, Base64}
-use Rattle.goblin_pe_sect.specs.SectionName.{alphabet, digits_sum, last_digits, digit, digit_byte, radix, numeral}
-use Rattle.goblin_pe_sect.proofs.Numerals.{digits_sum-more, radix_range}
+use Rattle.goblin_pe_sect.specs.Digits.{alphabet, digits_sum, last_digits, digit, digit_byte, radix, numeral}
+use Rattle.goblin_pe_sect.proofs.DigitSums.{digits_sum-more, radix_range}
 
 -- the last k digits of a number below r ^ k write it
 pub digits_sum-last_digits : (r k n : ℕ) → 0 < r → n < r ^ k → digits_sum r (last_digits r k n) ≡ n

@@ -1,7 +1,7 @@
--- The reading of data directories has the value, the cause and the footprint of `DataDirectories`.
+-- The data directories by the room in the file: what they are, and which cause is true of them.
 use Rattle.std.proofs.Common.{◌≡◌, ◌+◌, ◌-◌, ◌*◌, ◌<◌, ◌≤◌, ◌&&◌, ◌||◌, ℕ, zero, suc, Bool, true}
 use Rattle.std.proofs.Common.{false, cond, nat_eq, nat_le, nat_lt, List, length, map}
-use Rattle.std.proofs.Common.{Option, Some, None, refl, sym, ap, subst, ◌∙◌, inl, inr, arith}
+use Rattle.std.proofs.Common.{Option, Some, None, refl, set, sym, ap, ◌∙◌, inl, inr, arith}
 use Rattle.std.specs.Prelude.{option_and_then, option_map, slice_range}
 use Rattle.std.specs.List.{range_with_len, slice_get}
 use Rattle.std.proofs.Math.Bool.{and-false}
@@ -12,19 +12,18 @@ use Rattle.std.proofs.lemmas.Option.{slice_get_past, slice_get_read}
 use Rattle.goblin_base.specs.declared.endian.Endian.TheVariants.{Little}
 use Rattle.goblin_base.specs.declared.error.CauseOf.TheVariants.{DirectoryCount}
 use Rattle.goblin_base.specs.declared.error.ErrorOf.{ErrorOf}
-use Rattle.goblin_base.specs.declared.error.ErrorOf.TheVariants.{Malformed, Read}
-use Rattle.goblin_base.specs.Answers.{IsFirstMissing, IsRecordsFault, IsSliceFault, all_at, all_of}
+use Rattle.goblin_base.specs.declared.error.ErrorOf.TheVariants.{Malformed}
+use Rattle.goblin_base.specs.Answers.{IsFirstMissing, IsSliceFault, all_at, all_of}
 use Rattle.goblin_base.specs.Bytes.{slice_at}
 use Rattle.goblin_base.specs.Record.{record_at}
 use Rattle.goblin_base.proofs.Footprints.{same-all_at, same_map}
 use Rattle.goblin_base.proofs.Steps.{all_at-none}
 use Rattle.goblin_pe_sect.specs.declared.data_directories.DataDirectory.{DataDirectory}
-use Rattle.goblin_pe_sect.specs.DataDirectories.{IsDirectoriesFault, directories_at}
-use Rattle.goblin_pe_sect.specs.DataDirectories.{directory_entry_at, directory_record, entry_ending}
-use Rattle.goblin_pe_sect.specs.DirectoryReadings as reading
-use Rattle.goblin_pe_sect.specs.DirectoryReadings.{sixteen}
-use Rattle.goblin_pe_sect.specs.Footprints.{directories_footprint}
-use Rattle.goblin_pe_sect.proofs.Entries.{directory_entry_at-below, directory_entry_at-past}
+use Rattle.goblin_pe_sect.specs.DataDirectories.{directory_record, entry_ending}
+use Rattle.goblin_pe_sect.specs.DirectoryReadings.{directories_at, sixteen}
+use Rattle.goblin_pe_sect.proofs.Entries.{directory_entry_at, directory_entry_at-below}
+use Rattle.goblin_pe_sect.proofs.Entries.{directory_entry_at-past, entries_in_room, entries_more}
+use Rattle.goblin_pe_sect.proofs.Entries.{one_missing}
 
 -- ---- the value
 
@@ -123,79 +122,61 @@ module _ (count : ℕ) (bytes : List ℕ) (p : ℕ) where
       (all_at-none directory count (count - 1) (omega (arith, some))
       (directory_missing (count - 1) (omega (arith, some, past))))
 
-  pub value-directories_at : (reading.directories_at count p).value bytes
-      ≡ directories_at count bytes p
-  unfolding directories_at reading.directories_at
+  pub value-directories_at : (directories_at count p).value bytes ≡ entries_in_room count bytes p
+  unfolding directories_at entries_in_room
   value-directories_at =
       by_room (nat_le count 16) (nat_eq count 0 || nat_le (p + 8 * count) (length bytes))
       (option_map (sixteen p) (all_at directory count))
       (map (directory_entry_at count bytes p) (range_with_len 0 16)) made_there made_none
 
-  -- ---- the footprint, which is the same list
+-- ---- the cause
 
-  pub reaches-directories_at : (reading.directories_at count p).reaches bytes
-      ≡ directories_footprint count bytes p
-  unfolding directories_footprint reading.directories_at
-  reaches-directories_at = refl
+slice_none : (slice : Option (List ℕ)) → option_map (directory_record Little) slice ≡ None
+    → slice ≡ None
+slice_none None e = refl
+slice_none (Some own) e = absurd cc
 
-  -- ---- the cause
+from_records : (count : ℕ) (bytes : List ℕ) (p : ℕ) (e : ErrorOf)
+    → IsFirstMissing (λ i. slice_at bytes (p + 8 * i) 8) count (λ i. IsSliceFault bytes (p + 8 * i) 8) e
+    → IsFirstMissing (directory count bytes p) count (λ i. IsSliceFault bytes (p + 8 * i) 8) e
+from_records count bytes p e (i, below, earlier, none, cause) = (
+  i,
+  below,
+  λ k lt missing. earlier k lt (slice_none (slice_at bytes (p + 8 * k) 8) missing),
+  ap (option_map (directory_record Little)) none,
+  cause,
+)
 
-  record_none : (i : ℕ) → slice_at bytes (p + 8 * i) 8 ≡ None → directory i ≡ None
-  record_none i e = ap (option_map (directory_record Little)) e
+-- the first entry that is not there refuses them all
+pub missing_refused : (count i : ℕ) (bytes : List ℕ) (p at : ℕ)
+    (entries : List (Option (ℕ × DataDirectory))) (e : ErrorOf) → i < count → count ≤ 16
+    → at ≡ p + 8 * i → (directories_at i p).value bytes ≡ Some entries → IsSliceFault bytes at 8 e
+    → ((directories_at count p).value bytes ≡ None) × (directories_at count p).IsCause bytes e
+unfolding directories_at
+missing_refused count i bytes p at entries e lt most is so_far h =
+    let before = sym (value-directories_at i bytes p) ∙ so_far in
+    let none = one_missing count i bytes p at entries e lt most is before h in
+    let few : nat_le count 16 ≡ true = le-leb count 16 most in
+    (value-directories_at count bytes p ∙ none.0, rw few (from_records count bytes p e none.1))
 
-  slice_none : (slice : Option (List ℕ)) → option_map (directory_record Little) slice ≡ None
-      → slice ≡ None
-  slice_none None e = refl
-  slice_none (Some own) e = absurd cc
+-- more than sixteen are refused
+pub many_none : (count : ℕ) (bytes : List ℕ) (p : ℕ) → 16 < count
+    → (directories_at count p).value bytes ≡ None
+unfolding directories_at
+many_none count bytes p many = rw (lt-leb count 16 many) refl
 
-  to_records : (e : ErrorOf)
-      → IsFirstMissing directory count (λ i. IsSliceFault bytes (p + 8 * i) 8) e
-      → IsRecordsFault 8 count bytes p e
-  to_records e (i, below, earlier, none, cause) = (
-    i,
-    below,
-    λ k lt missing. earlier k lt (record_none k missing),
-    slice_none (slice_at bytes (p + 8 * i) 8) none,
-    cause,
-  )
+pub many_cause : (count : ℕ) (bytes : List ℕ) (p : ℕ) → 16 < count
+    → (directories_at count p).IsCause bytes (Malformed (DirectoryCount count))
+unfolding directories_at
+many_cause count bytes p many = rw (lt-leb count 16 many) refl
 
-  from_records : (e : ErrorOf) → IsRecordsFault 8 count bytes p e
-      → IsFirstMissing directory count (λ i. IsSliceFault bytes (p + 8 * i) 8) e
-  from_records e (i, below, earlier, none, cause) = (
-    i,
-    below,
-    λ k lt missing. earlier k lt (slice_none (slice_at bytes (p + 8 * k) 8) missing),
-    record_none i none,
-    cause,
-  )
-
-  to_today : (few : Bool) (e : ErrorOf) → nat_le count 16 ≡ few
-      → cond few (IsFirstMissing directory count (λ i. IsSliceFault bytes (p + 8 * i) 8) e)
-      (e ≡ Malformed (DirectoryCount count)) → IsDirectoriesFault count bytes p e
-  to_today true (Read fault) is h = (leb-true count 16 is, to_records (Read fault) h)
-  to_today true e is h = absurd h.4
-  to_today false e is h =
-      subst (IsDirectoriesFault count bytes p) (sym h) (refl, leb-false count 16 is)
-
-  from_today : (few : Bool) (e : ErrorOf) → nat_le count 16 ≡ few
-      → IsDirectoriesFault count bytes p e
-      → cond few (IsFirstMissing directory count (λ i. IsSliceFault bytes (p + 8 * i) 8) e)
-      (e ≡ Malformed (DirectoryCount count))
-  from_today true (Read fault) is h = from_records (Read fault) h.1
-  from_today true (Malformed (DirectoryCount n)) is h =
-      absurd (omega (arith, leb-true count 16 is, h.1))
-  from_today true e is h = absurd h
-  from_today false (Read fault) is h = absurd (omega (arith, leb-false count 16 is, h.0))
-  from_today false (Malformed (DirectoryCount n)) is h =
-      ap (λ (k : ℕ). Malformed (DirectoryCount k)) h.0
-  from_today false e is h = absurd h
-
-  pub cause-directories_at : (e : ErrorOf) → (reading.directories_at count p).IsCause bytes e
-      → IsDirectoriesFault count bytes p e
-  unfolding reading.directories_at
-  cause-directories_at e h = to_today (nat_le count 16) e refl h
-
-  pub directories_at-cause : (e : ErrorOf) → IsDirectoriesFault count bytes p e
-      → (reading.directories_at count p).IsCause bytes e
-  unfolding reading.directories_at
-  directories_at-cause e h = from_today (nat_le count 16) e refl h
+-- one more entry
+pub one_more : (i : ℕ) (bytes : List ℕ) (p at end : ℕ) (entries : List (Option (ℕ × DataDirectory)))
+    (d : DataDirectory) (x : Option (ℕ × DataDirectory)) → i < 16 → at ≡ p + 8 * i
+    → end ≡ at + 8 → (directories_at i p).value bytes ≡ Some entries
+    → record_at 8 (directory_record Little) bytes at ≡ Some d → x ≡ entry_ending end d
+    → (directories_at (i + 1) p).value bytes ≡ Some (set entries i x)
+one_more i bytes p at end entries d x lt at_is end_is so_far next is =
+    let before = sym (value-directories_at i bytes p) ∙ so_far in
+    value-directories_at (i + 1) bytes p
+    ∙ entries_more i bytes p at end entries d x lt at_is end_is before next is

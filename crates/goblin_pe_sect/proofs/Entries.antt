@@ -15,23 +15,35 @@ use Rattle.goblin_base.specs.declared.error.ErrorOf.{ErrorOf}
 use Rattle.goblin_base.specs.declared.error.ErrorOf.TheVariants.{Read}
 use Rattle.goblin_base.specs.declared.error.ReadFault.TheVariants.{BadOffset, TooBig}
 use Rattle.goblin_base.specs.Bytes.{replaced, slice_at}
-use Rattle.goblin_base.specs.Answers.{IsSliceFault}
+use Rattle.goblin_base.specs.Answers.{IsFirstMissing, IsSliceFault}
 use Rattle.goblin_base.specs.Record.{FieldValue, encoding, record_at, total_width}
 use Rattle.goblin_base.proofs.Records.{record_at-some}
 use Rattle.goblin_base.proofs.Writing.{IsPutting, encoding_append, length-replaced, length_encoding, replaced_then}
 use Rattle.goblin_pe_sect.specs.declared.data_directories.DataDirectory.{DataDirectory}
 use Rattle.goblin_pe_sect.specs.declared.data_directories.DataDirectoryType.{DataDirectoryType}
 use Rattle.goblin_pe_sect.specs.declared.data_directories.DataDirectoryType.TheVariants.{ExportTable}
-use Rattle.goblin_pe_sect.specs.DataDirectories.{IsDirectoriesFault, directories_at, directory_fields, directory_or_zeros, directory_record, entries_fields, directory_entry_at, entry_ending, kinds, present_from, with_kind}
+use Rattle.goblin_pe_sect.specs.DataDirectories.{directory_fields, directory_or_zeros, directory_record, entries_fields, entry_ending, kinds, present_from, with_kind}
 
--- too many entries are refused
-pub too_many : (count : ℕ) (bytes : List ℕ) (p : ℕ) → 16 < count → directories_at count bytes p ≡ None
-unfolding directories_at
-too_many count bytes p many = rw (lt-leb count 16 many) refl
+-- the entry at index i of `count` that stand one after the other from p on, with the offset just
+-- past it; one past the count is none
+abbrev pub directory_entry_at : ℕ → List ℕ → ℕ → ℕ → Option (ℕ × DataDirectory)
+directory_entry_at count bytes p i =
+    if nat_lt i count
+    then entry_ending (p + 8 * i + 8)
+    (directory_record Little (slice_range bytes (p + 8 * i) (p + 8 * i + 8)))
+    else None
+
+-- the sixteen entries of which `count` stand one after the other from p on, by the length of the
+-- file: where these are no more than sixteen, and the file has room for them
+unfoldable pub entries_in_room : ℕ → List ℕ → ℕ → Option (List (Option (ℕ × DataDirectory)))
+entries_in_room count bytes p =
+    if nat_le count 16 && (count == 0 || nat_le (p + 8 * count) (length bytes))
+    then Some (map (directory_entry_at count bytes p) (range_with_len 0 16))
+    else None
 
 -- entries that pass the end are refused
-past_end : (count : ℕ) (bytes : List ℕ) (p : ℕ) → 0 < count → length bytes < p + 8 * count → directories_at count bytes p ≡ None
-unfolding directories_at
+past_end : (count : ℕ) (bytes : List ℕ) (p : ℕ) → 0 < count → length bytes < p + 8 * count → entries_in_room count bytes p ≡ None
+unfolding entries_in_room
 past_end count bytes p some past =
     let more : (count == 0) ≡ false = ne_eqb count 0 (λ e. omega arith) in
     elim (nat_le count 16) as (λ b. (if b && (count == 0 || nat_le (p + 8 * count) (length bytes)) then Some (map (directory_entry_at count bytes p) (range_with_len 0 16)) else None) ≡ None) [
@@ -40,8 +52,8 @@ past_end count bytes p some past =
     ]
 
 -- entries that were read are there
-entries-there : (i : ℕ) (bytes : List ℕ) (p : ℕ) (entries : List (Option (ℕ × DataDirectory))) → directories_at i bytes p ≡ Some entries → (k : ℕ) → k < i → slice_at bytes (p + 8 * k) 8 ≢ None
-unfolding directories_at
+entries-there : (i : ℕ) (bytes : List ℕ) (p : ℕ) (entries : List (Option (ℕ × DataDirectory))) → entries_in_room i bytes p ≡ Some entries → (k : ℕ) → k < i → slice_at bytes (p + 8 * k) 8 ≢ None
+unfolding entries_in_room
 entries-there i bytes p entries h k lt none =
     let test = (cond_some (nat_le i 16 && (i == 0 || nat_le (p + 8 * i) (length bytes))) (map (directory_entry_at i bytes p) (range_with_len 0 16)) entries h).0 in
     let room : p + 8 * i ≤ length bytes = elim (or_cases (i == 0) (nat_le (p + 8 * i) (length bytes)) (and_parts (nat_le i 16) (i == 0 || nat_le (p + 8 * i) (length bytes)) test).1) [
@@ -59,11 +71,11 @@ not_there bytes p past = rw (lt-leb _ _ past, and-false) refl
 
 -- the first that is not there refuses them all
 pub one_missing : (count i : ℕ) (bytes : List ℕ) (p at : ℕ) (entries : List (Option (ℕ × DataDirectory))) (e : ErrorOf) → i < count → count ≤ 16 → at ≡ p + 8 * i
-    → directories_at i bytes p ≡ Some entries → IsSliceFault bytes at 8 e → (directories_at count bytes p ≡ None) × IsDirectoriesFault count bytes p e
+    → entries_in_room i bytes p ≡ Some entries → IsSliceFault bytes at 8 e → (entries_in_room count bytes p ≡ None) × IsFirstMissing (λ i. slice_at bytes (p + 8 * i) 8) count (λ i. IsSliceFault bytes (p + 8 * i) 8) e
 one_missing count i bytes p at entries (Read BadOffset) lt most is so_far h =
-    (past_end count bytes p (omega arith) (omega arith), (most, (i, lt, entries-there i bytes p entries so_far, not_there bytes (p + 8 * i) (omega arith), omega arith)))
+    (past_end count bytes p (omega arith) (omega arith), (i, lt, entries-there i bytes p entries so_far, not_there bytes (p + 8 * i) (omega arith), omega arith))
 one_missing count i bytes p at entries (Read TooBig) lt most is so_far h =
-    (past_end count bytes p (omega arith) (omega arith), (most, (i, lt, entries-there i bytes p entries so_far, not_there bytes (p + 8 * i) (omega arith), omega arith)))
+    (past_end count bytes p (omega arith) (omega arith), (i, lt, entries-there i bytes p entries so_far, not_there bytes (p + 8 * i) (omega arith), omega arith))
 one_missing count i bytes p at entries e lt most is so_far h = absurd h
 
 -- what entries that were read are
@@ -71,8 +83,8 @@ record AreEntries (count : ℕ) (bytes : List ℕ) (p : ℕ) (entries : List (Op
   pub sixteen : length entries ≡ 16
   pub each : (k : ℕ) → k < 16 → get_or entries k None ≡ directory_entry_at count bytes p k
 
-entries_read : (count : ℕ) (bytes : List ℕ) (p : ℕ) (entries : List (Option (ℕ × DataDirectory))) → directories_at count bytes p ≡ Some entries → AreEntries count bytes p entries
-unfolding directories_at
+entries_read : (count : ℕ) (bytes : List ℕ) (p : ℕ) (entries : List (Option (ℕ × DataDirectory))) → entries_in_room count bytes p ≡ Some entries → AreEntries count bytes p entries
+unfolding entries_in_room
 entries_read count bytes p entries h =
     let f = directory_entry_at count bytes p in
     let is : map f (range_with_len 0 16) ≡ entries = (cond_some (nat_le count 16 && (count == 0 || nat_le (p + 8 * count) (length bytes))) (map f (range_with_len 0 16)) entries h).1 in
@@ -89,9 +101,9 @@ directory_entry_at-past count bytes p i le = rw (le-ltb i count le) refl
 
 -- one more entry
 pub entries_more : (i : ℕ) (bytes : List ℕ) (p at end : ℕ) (entries : List (Option (ℕ × DataDirectory))) (d : DataDirectory) (x : Option (ℕ × DataDirectory)) → i < 16
-    → at ≡ p + 8 * i → end ≡ at + 8 → directories_at i bytes p ≡ Some entries → record_at 8 (directory_record Little) bytes at ≡ Some d → x ≡ entry_ending end d
-    → directories_at (i + 1) bytes p ≡ Some (set entries i x)
-unfolding directories_at
+    → at ≡ p + 8 * i → end ≡ at + 8 → entries_in_room i bytes p ≡ Some entries → record_at 8 (directory_record Little) bytes at ≡ Some d → x ≡ entry_ending end d
+    → entries_in_room (i + 1) bytes p ≡ Some (set entries i x)
+unfolding entries_in_room
 entries_more i bytes p at end entries d x lt at_is end_is so_far next is =
     let are = entries_read i bytes p entries so_far in
     let here = record_at-some 8 (directory_record Little) bytes at d next in

@@ -3,16 +3,16 @@ pub mod BlockItems
 pub mod BlocksOf
 pub mod Cuts
 pub mod DataDirectoriesRoundTrip
+pub mod DigitSums
 pub mod DigitsRoundTrip
 pub mod DirectoryReadings
 pub mod Entries
 pub mod EntriesFront
+pub mod EntriesWithin
 pub mod First
-pub mod Footprints
 pub mod Halving
 pub mod Mapped
 pub mod Multiples
-pub mod Numerals
 pub mod PermissiveReads
 pub mod RelocationRecords
 pub mod RelocationsRoundTrip
@@ -22,5 +22,6 @@ pub mod SectionTableRoundTrip
 pub mod Stretches
 pub mod SymbolHeads
 pub mod SymbolsRoundTrip
+pub mod Walked
 pub mod WindowPieces
 pub mod WordItems

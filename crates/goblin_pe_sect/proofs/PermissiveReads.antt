@@ -3,11 +3,15 @@ use Rattle.std.proofs.Common.{ℕ, Bool, true, false, cond, List, Option, Some, 
 use Rattle.std.specs.Prelude.{nat_eq, slice_index}
 use Rattle.goblin_base.specs.declared.endian.Endian.TheVariants.{Little}
 use Rattle.goblin_base.specs.Bytes.{bounded_text_at}
-use Rattle.goblin_base.specs.Record.{record_at}
-use Rattle.goblin_base.proofs.Kept.{Keeps, then-kept}
-use Rattle.goblin_pe_sect.specs.Mapping.{name_or_none}
-use Rattle.goblin_pe_sect.specs.SectionName.{decimal_number, name_value, numeral, text_value}
-use Rattle.goblin_pe_sect.specs.SectionTable.{section_at, section_record}
+use Rattle.goblin_base.specs.Reading.{Reading, Repeats}
+use Rattle.goblin_base.proofs.Kept.{Keeps}
+use Rattle.readings.specs.Reads as reads
+use Rattle.readings.specs.Reads.{mapped, record_at}
+use Rattle.readings.proofs.Modes.{repeats-same, repeats-then}
+use Rattle.goblin_pe_sect.specs.Digits.{numeral}
+use Rattle.goblin_pe_sect.specs.SectionName.{decimal_number, name_value, text_value}
+use Rattle.goblin_pe_sect.specs.SectionReadings.{name_number, real_name, section_at}
+use Rattle.goblin_pe_sect.specs.SectionTable.{Section, section_record}
 use Rattle.goblin_pe_sect.specs.declared.digits.Digits.TheVariants.{Base64}
 
 text_value-kept : (text : Option (List ℕ)) (number_of : List ℕ → Option ℕ) → Keeps (text_value true text number_of) (text_value false text number_of)
@@ -27,12 +31,16 @@ name_value-kept name =
     (text_value false (bounded_text_at name 2 6) (numeral Base64)) (text_value false (bounded_text_at name 1 7) decimal_number) (Some None)
     (text_value-kept (bounded_text_at name 2 6) (numeral Base64)) (text_value-kept (bounded_text_at name 1 7) decimal_number)
 
-pub section_at-kept : (table : ℕ) (bytes : List ℕ) (p : ℕ) → Keeps (section_at true table bytes p) (section_at false table bytes p)
-unfolding section_at
-section_at-kept table bytes p =
-    then-kept (record_at 40 (section_record Little) bytes p) (record_at 40 (section_record Little) bytes p) _ _ (λ section same. same)
-    (λ section. then-kept (name_value true section.name) (name_value false section.name) _ _ (name_value-kept section.name) (λ value made same. same))
+repeats-name_number : (name : List ℕ) → Repeats (name_number true name) (name_number false name)
+repeats-name_number name = record { kept = λ bytes. name_value-kept name }
 
-pub name_or_none-kept : (name : Option (List ℕ)) → Keeps (name_or_none true name) (name_or_none false name)
-name_or_none-kept None text e = absurd cc
-name_or_none-kept (Some name) text e = e
+pub repeats-section_at : (table p : ℕ) → Repeats (section_at true table p) (section_at false table p)
+unfolding section_at
+repeats-section_at table p =
+    let own : Reading Section = record_at 40 (section_record Little) p in
+    let named : Section → Option ℕ → Reading Section =
+    λ (section : Section) (place : Option ℕ). mapped (λ name. record section { real_name = name }) (real_name table place) in
+    repeats-then own own (λ section. reads.◌>>=◌ (name_number true section.name) (named section))
+    (λ section. reads.◌>>=◌ (name_number false section.name) (named section)) (repeats-same own)
+    (λ section. repeats-then (name_number true section.name) (name_number false section.name) (named section) (named section)
+    (repeats-name_number section.name) (λ place. repeats-same (named section place)))

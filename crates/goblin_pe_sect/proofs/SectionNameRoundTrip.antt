@@ -13,7 +13,8 @@ use Rattle.std.specs.Option.{option_map}
 use Rattle.goblin_base.specs.Bytes.{before_nul, bounded_text_at}
 use Rattle.goblin_pe_sect.specs.declared.digits.Digits.{Digits}
 use Rattle.goblin_pe_sect.specs.declared.digits.Digits.TheVariants.{Decimal, Base64}
-use Rattle.goblin_pe_sect.specs.SectionName.{alphabet, last_digits, digit_byte, radix, numeral, name_value, text_value, decimal_number, decimal_width, indirect_name}
+use Rattle.goblin_pe_sect.specs.Digits.{alphabet, last_digits, digit_byte, radix, numeral}
+use Rattle.goblin_pe_sect.specs.SectionName.{name_value, text_value, decimal_number, decimal_width, indirect_name}
 use Rattle.goblin_pe_sect.proofs.DigitsRoundTrip.{all_below, all_below-at, last_digits-below, numeral-written}
 
 -- a byte that is ASCII and no NUL

@@ -6,8 +6,9 @@ use Rattle.goblin_base.specs.Record.{FieldValue, WritesBack, encoding, record_at
 use Rattle.goblin_base.specs.Answers.{◌>>=◌}
 use Rattle.goblin_base.proofs.RecordRoundTrip.{writes_back, reads_back}
 use Rattle.goblin_base.proofs.Steps.{same_value, step}
-use Rattle.goblin_pe_sect.specs.SectionName.{name_value, real_name_at}
-use Rattle.goblin_pe_sect.specs.SectionTable.{Section, SectionWritesBack, section_at, section_fields, section_record, SectionReadsBack}
+use Rattle.goblin_pe_sect.specs.SectionName.{name_value}
+use Rattle.goblin_pe_sect.specs.SectionReadings.{SectionWritesBack, section_at, text_in_table}
+use Rattle.goblin_pe_sect.specs.SectionTable.{Section, section_fields, section_record, SectionReadsBack}
 
 pub section_record_back : WritesBack 40 section_record section_fields
 unfolding section_record section_fields
@@ -21,10 +22,11 @@ section_fields-unnamed section real_name = refl
 pub section_back : SectionWritesBack
 unfolding section_at
 section_back strict table bytes p section h is =
-    let first = step (record_at 40 (section_record Little) bytes p) (λ s. name_value strict s.name >>= (λ v. Some (record s { real_name = real_name_at bytes table v }))) section is in
-    let second = step (name_value strict first.value.name) (λ v. Some (record first.value { real_name = real_name_at bytes table v })) section first.then in
-    let named = record first.value { real_name = real_name_at bytes table second.value } in
-    let same : section_fields first.value ≡ section_fields section = sym (section_fields-unnamed first.value (real_name_at bytes table second.value)) ∙ ap section_fields (same_value named section second.then) in
+    let text : Option ℕ → Option (List ℕ) = λ (place : Option ℕ). (text_in_table table place).value bytes in
+    let first = step (record_at 40 (section_record Little) bytes p) (λ s. name_value strict s.name >>= (λ v. Some (record s { real_name = text v }))) section is in
+    let second = step (name_value strict first.value.name) (λ v. Some (record first.value { real_name = text v })) section first.then in
+    let named = record first.value { real_name = text second.value } in
+    let same : section_fields first.value ≡ section_fields section = sym (section_fields-unnamed first.value (text second.value)) ∙ ap section_fields (same_value named section second.then) in
     section_record_back Little bytes p first.value h first.is ∙ ap (λ (fields : List FieldValue). Some (encoding Little fields)) same
 
 pub section_again : (s : Section) → length s.name ≡ 8 → FieldsFit (section_fields s) → SectionReadsBack s

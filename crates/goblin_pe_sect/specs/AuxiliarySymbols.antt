@@ -43,7 +43,7 @@ begin_and_end_function_fields r =
     octets r.unused1 ∷ uint 2 r.line_number ∷ octets r.unused2 ∷ uint 4 r.pointer_to_next_function
     ∷ octets r.unused3 ∷ []
 
--- what follows a symbol for which another may stand, in a record's 18 bytes
+-- what follows a symbol that another may replace, in a record's 18 bytes
 unfoldable pub weak_external_record : Endian → List ℕ → AuxWeakExternal
 weak_external_record endian bytes = record {
   tag_index = number endian 4 bytes 0;

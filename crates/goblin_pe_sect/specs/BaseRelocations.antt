@@ -5,45 +5,25 @@ use Rattle.std.specs.Prelude.{List, [], ◌∷◌, ◌++◌, length, map, flat_m
 use Rattle.std.specs.Prelude.{None, Result, Ok, Err}
 use Rattle.goblin_base.specs.declared.endian.Endian.{Endian}
 use Rattle.goblin_base.specs.declared.endian.Endian.TheVariants.{Little}
-use Rattle.goblin_base.specs.declared.error.CauseOf.TheVariants.{BlockRange, BlockSize, RelocRange}
+use Rattle.goblin_base.specs.declared.error.CauseOf.TheVariants.{BlockRange, BlockSize}
 use Rattle.goblin_base.specs.declared.error.ErrorOf.{ErrorOf}
 use Rattle.goblin_base.specs.declared.error.ErrorOf.TheVariants.{Malformed, Read}
 use Rattle.goblin_base.specs.declared.error.ReadFault.TheVariants.{TooBig}
 use Rattle.goblin_base.specs.Bytes.{IsBytes, number, slice_at}
 use Rattle.goblin_base.specs.Record.{FieldValue, encoding}
 use Rattle.goblin_base.specs.Record.FieldValue.{octets, uint}
-use Rattle.goblin_base.specs.Answers.{◌>>=◌, FirstFault}
 use Rattle.goblin_base.specs.Tables.{record_items}
-use Rattle.goblin_pe_sect.specs.declared.data_directories.DataDirectory.{DataDirectory}
 use Rattle.goblin_pe_sect.specs.declared.relocation.base.RelocationBlock.{RelocationBlock}
 use Rattle.goblin_pe_sect.specs.declared.relocation.base.RelocationBlockIterator.{RelocationBlockIterator}
 use Rattle.goblin_pe_sect.specs.declared.relocation.base.RelocationData.{RelocationData}
 use Rattle.goblin_pe_sect.specs.declared.relocation.base.RelocationWord.{RelocationWord}
 use Rattle.goblin_pe_sect.specs.declared.relocation.base.RelocationWordIterator.{RelocationWordIterator}
-use Rattle.goblin_pe_sect.specs.Mapping.{IsUnmapped}
 
 -- Source: PE Format, "The .reloc Section (Image Only)".
 
 -- the bytes of a directory that was read
 abbrev pub relocation_bytes : RelocationData → List ℕ
 relocation_bytes relocations = relocations.bytes.now
-
--- the bytes of a directory: those at its address, by a map of addresses to file offsets
-abbrev pub relocation_data : (ℕ → Option ℕ) → List ℕ → DataDirectory → Option (List ℕ)
-relocation_data offset_of bytes directory =
-    offset_of directory.virtual_address >>= (λ o. slice_at bytes o directory.size)
-
--- the refusal is that the directory would pass the file from this offset on
-abbrev pub IsRelocRange : DataDirectory → ℕ → ErrorOf → Type 0
-IsRelocRange directory o (Malformed (RelocRange offset size)) =
-    (offset ≡ o) × (size ≡ directory.size)
-IsRelocRange directory o e = ⊥
-
--- which cause is true of a directory without bytes: its address is not mapped, or they pass the end
-abbrev pub IsRelocationDataFault : (ℕ → Option ℕ) → List ℕ → DataDirectory → ErrorOf → Type 0
-IsRelocationDataFault offset_of bytes directory =
-    FirstFault (offset_of directory.virtual_address) (IsUnmapped directory.virtual_address)
-    (IsRelocRange directory)
 
 -- ---- blocks
 
@@ -76,7 +56,7 @@ with_head directory p (Some head) =
 with_head directory p None = Err (Read TooBig)
 
 -- the block at p of a directory: a head of eight bytes with its address and size, and then its
--- words up to that size; or what is wrong there
+-- words up to that size; or the error
 unfoldable pub block_at : List ℕ → ℕ → Result Block ErrorOf
 block_at directory p = with_head directory (p + 8) (slice_at directory p 8)
 
@@ -86,7 +66,8 @@ abbrev pub then_items : (ℕ → List (Result Block ErrorOf)) → ℕ → Result
 then_items items p (Ok b) = Ok b ∷ items (p + b.size)
 then_items items p (Err e) = Err e ∷ []
 
--- the items of a directory from p on, at most n of them: blocks, and one error where a rest is left
+-- the items of a directory from p on, at most n of them: blocks, and one error if bytes are left
+-- over
 unfoldable pub first_items : ℕ → List ℕ → ℕ → List (Result Block ErrorOf)
 first_items zero directory p = []
 first_items (suc n) directory p =
@@ -102,9 +83,9 @@ block_items directory p = first_items (length directory - p) directory p
 abbrev pub blocks_left : RelocationBlockIterator → List (Result Block ErrorOf)
 blocks_left it = block_items it.bytes.now it.offset
 
--- ---- the same by the bytes
+-- ---- blocks by the bytes of their directory
 
--- this block stands at p of a directory: it has its head at least, all of it is there, and one of
+-- this block is at p of a directory: it has at least its head, all of it is there, and a block of
 -- size 8 has a byte after it
 pub record IsBlockAt (directory : List ℕ) (p : ℕ) (b : Block) : Type 0 where
   pub large : 8 ≤ b.size
@@ -114,7 +95,7 @@ pub record IsBlockAt (directory : List ℕ) (p : ℕ) (b : Block) : Type 0 where
   pub size : number Little 4 directory (p + 4) ≡ b.size
   pub words : slice_range directory (p + 8) (p + b.size) ≡ b.words
 
--- these blocks stand in a directory one after the other, from p up to `end`
+-- these blocks are consecutive in a directory, from p up to `end`
 abbrev pub AreBlocks : List ℕ → ℕ → List Block → ℕ → Type 0
 AreBlocks directory p [] end = end ≡ p
 AreBlocks directory p (b ∷ blocks) end =
@@ -124,9 +105,8 @@ AreBlocks directory p (b ∷ blocks) end =
 abbrev pub block_fields : Block → List FieldValue
 block_fields b = uint 4 b.rva ∷ uint 4 b.size ∷ octets b.words ∷ []
 
--- The items are the one longest list of blocks that stand one after the other at the front of the
--- directory, and one error where a rest is left after them. The encodings of the blocks, joined,
--- are that front.
+-- The items are the longest list of consecutive blocks at the front of the directory, and one error
+-- if bytes are left over after them. The encodings of the blocks, joined, are that front.
 pub record AreBlocksOf (directory : List ℕ) (items : List (Result Block ErrorOf)) : Type 0 where
   pub blocks : List Block
   pub end : ℕ

@@ -1,17 +1,13 @@
--- The data directories of an optional header: what stands in its bytes, and what is written of it.
-use Rattle.std.specs.Prelude.{◌≡◌, ◌<◌, ◌≤◌, ℕ, ◌+◌, ◌-◌, ◌*◌, ◌==◌, ◌&&◌, ◌||◌, nat_le, nat_lt}
-use Rattle.std.specs.Prelude.{if◌then◌else◌, List, [], ◌∷◌, ◌++◌, length, map, drop, replicate}
-use Rattle.std.specs.Prelude.{slice_get, slice_range, Option, Some, None, option_map}
+-- The data directories of an optional header: what is in its bytes, and what is written of it.
+use Rattle.std.specs.Prelude.{◌≡◌, ℕ, ◌==◌, ◌&&◌, if◌then◌else◌, List, [], ◌∷◌, drop}
+use Rattle.std.specs.Prelude.{slice_get, Option, Some, None, option_map}
 use Rattle.std.specs.Prelude.{option_and_then, zip, filter_map, flat_map}
-use Rattle.std.specs.List.{range_with_len}
 use Rattle.goblin_base.specs.declared.endian.Endian.{Endian}
-use Rattle.goblin_base.specs.declared.endian.Endian.TheVariants.{Little}
 use Rattle.goblin_base.specs.declared.error.ErrorOf.{ErrorOf}
-use Rattle.goblin_base.specs.declared.error.ErrorOf.TheVariants.{Malformed, Read}
-use Rattle.goblin_base.specs.declared.error.CauseOf.TheVariants.{DirectoryIndex, DirectoryCount}
-use Rattle.goblin_base.specs.Bytes.{IsBytes, number}
-use Rattle.goblin_base.specs.Answers.{IsRecordsFault}
-use Rattle.goblin_base.specs.Record.{FieldValue, uint, encoding}
+use Rattle.goblin_base.specs.declared.error.ErrorOf.TheVariants.{Malformed}
+use Rattle.goblin_base.specs.declared.error.CauseOf.TheVariants.{DirectoryIndex}
+use Rattle.goblin_base.specs.Bytes.{number}
+use Rattle.goblin_base.specs.Record.{FieldValue, uint}
 use Rattle.goblin_pe_sect.specs.declared.data_directories.DataDirectory.{DataDirectory}
 use Rattle.goblin_pe_sect.specs.declared.data_directories.DataDirectoryType.{DataDirectoryType}
 use Rattle.goblin_pe_sect.specs.declared.data_directories.Dirs.{Dirs}
@@ -44,34 +40,9 @@ directory_record endian bytes = record {
 unfoldable pub directory_fields : DataDirectory → List FieldValue
 directory_fields d = uint 4 d.virtual_address ∷ uint 4 d.size ∷ []
 
--- a directory that ends at an offset, which stands beside it; one of zeros is none
+-- a directory paired with the offset of its end; one of zeros is none
 abbrev pub entry_ending : ℕ → DataDirectory → Option (ℕ × DataDirectory)
 entry_ending end d = if d.virtual_address == 0 && d.size == 0 then None else Some (end, d)
-
--- the entry at index i of `count` that stand one after the other from p on, with the offset just
--- past it; one past the count is none
-abbrev pub directory_entry_at : ℕ → List ℕ → ℕ → ℕ → Option (ℕ × DataDirectory)
-directory_entry_at count bytes p i =
-    if nat_lt i count
-    then entry_ending (p + 8 * i + 8)
-    (directory_record Little (slice_range bytes (p + 8 * i) (p + 8 * i + 8)))
-    else None
-
--- the sixteen entries of which `count` stand one after the other from p on, where these are no more
--- than sixteen and the file has each of them; a count of 0 has them at any offset
-unfoldable pub directories_at : ℕ → List ℕ → ℕ → Option (List (Option (ℕ × DataDirectory)))
-directories_at count bytes p =
-    if nat_le count 16 && (count == 0 || nat_le (p + 8 * count) (length bytes))
-    then Some (map (directory_entry_at count bytes p) (range_with_len 0 16))
-    else None
-
--- which cause is true of `count` entries from p on that are refused: there are too many, or one of
--- them is not there
-abbrev pub IsDirectoriesFault : ℕ → List ℕ → ℕ → ErrorOf → Type 0
-IsDirectoriesFault count bytes p (Malformed (DirectoryCount n)) = (n ≡ count) × (16 < count)
-IsDirectoriesFault count bytes p (Read fault) =
-    (count ≤ 16) × IsRecordsFault 8 count bytes p (Read fault)
-IsDirectoriesFault count bytes p e = ⊥
 
 -- a directory of zeros
 abbrev pub no_directory : DataDirectory
@@ -85,14 +56,6 @@ directory_or_zeros (Some entry) = entry.1
 -- the fields of all entries, in order
 unfoldable pub entries_fields : List (Option (ℕ × DataDirectory)) → List FieldValue
 entries_fields entries = flat_map (λ entry. directory_fields (directory_or_zeros entry)) entries
-
--- Entries that were read are written as they stood, with zeros after them up to the sixteenth.
-abbrev pub EntriesWriteBack : Type 0
-EntriesWriteBack =
-    (count : ℕ) (bytes : List ℕ) (p : ℕ) (entries : List (Option (ℕ × DataDirectory)))
-    → IsBytes bytes → directories_at count bytes p ≡ Some entries
-    → encoding Little (entries_fields entries)
-    ≡ slice_range bytes p (p + 8 * count) ++ replicate (8 * (16 - count)) 0
 
 -- the directory of the entry at index i
 abbrev pub directory_in : List (Option (ℕ × DataDirectory)) → ℕ → Option DataDirectory
@@ -112,12 +75,12 @@ abbrev pub IsNoKind : ℕ → ErrorOf → Type 0
 IsNoKind i (Malformed (DirectoryIndex n)) = n ≡ i
 IsNoKind i e = ⊥
 
--- a kind beside its directory, where there is one
+-- a kind paired with its directory, where there is one
 abbrev pub with_kind : DataDirectoryType × Option (ℕ × DataDirectory)
     → Option (DataDirectoryType × DataDirectory)
 with_kind (kind, entry) = option_map (λ e. (kind, e.1)) entry
 
--- the directories from index i on, each beside its kind, in order, without those that are none; the
+-- the directories from index i on, each paired with its kind, in order, without absent ones; the
 -- sixteenth entry has no kind
 abbrev pub present_from : ℕ → List (Option (ℕ × DataDirectory))
     → List (DataDirectoryType × DataDirectory)

@@ -1,27 +1,37 @@
--- The data directories of an optional header by readings.
-use Rattle.std.specs.Prelude.{ℕ, ◌+◌, ◌*◌, nat_le, List, map, Option, option_and_then, None}
-use Rattle.std.specs.Prelude.{slice_get}
+-- The data directories of an optional header.
+use Rattle.std.specs.Prelude.{◌≡◌, ℕ, ◌+◌, ◌-◌, ◌*◌, nat_le, List, ◌++◌, map, replicate, Option}
+use Rattle.std.specs.Prelude.{None, Some, option_and_then, slice_get, slice_range}
 use Rattle.std.specs.List.{range_with_len}
 use Rattle.goblin_base.specs.declared.endian.Endian.TheVariants.{Little}
 use Rattle.goblin_base.specs.declared.error.CauseOf.TheVariants.{DirectoryCount}
+use Rattle.goblin_base.specs.Bytes.{IsBytes}
 use Rattle.goblin_base.specs.Reading.{Reading}
+use Rattle.goblin_base.specs.Record.{encoding}
 use Rattle.readings.specs.Reads.{each, mapped, needs, pick, record_at}
 use Rattle.goblin_pe_sect.specs.declared.data_directories.DataDirectory.{DataDirectory}
-use Rattle.goblin_pe_sect.specs.DataDirectories.{directory_record, entry_ending}
+use Rattle.goblin_pe_sect.specs.DataDirectories.{directory_record, entries_fields, entry_ending}
 
--- the directory at index i of those that stand one after the other from p on
+-- the directory at index i of consecutive ones from p on
 abbrev pub directory_at : ℕ → ℕ → Reading DataDirectory
 directory_at p i = record_at 8 (directory_record Little) (p + 8 * i)
 
--- the sixteen entries of directories that stand from p on, each with the offset just past it; one
--- past the last directory is none
+-- the sixteen entries of the directories from p on, each with the offset just past it; entries past
+-- the last directory are none
 abbrev pub sixteen : ℕ → List DataDirectory → List (Option (ℕ × DataDirectory))
 sixteen p directories =
     map (λ i. option_and_then (entry_ending (p + 8 * i + 8)) (slice_get directories i))
     (range_with_len 0 16)
 
--- the sixteen entries of which `count` stand from p on; more than sixteen are refused
+-- the sixteen entries, `count` of them from p on; more than sixteen are refused
 unfoldable pub directories_at : ℕ → ℕ → Reading (List (Option (ℕ × DataDirectory)))
 directories_at count p =
     pick (nat_le count 16) (mapped (sixteen p) (each (directory_at p) count))
     (needs None (DirectoryCount count))
+
+-- Entries that were read are written back unchanged, with zeros after them up to the sixteenth.
+abbrev pub EntriesWriteBack : Type 0
+EntriesWriteBack =
+    (count : ℕ) (bytes : List ℕ) (p : ℕ) (entries : List (Option (ℕ × DataDirectory)))
+    → IsBytes bytes → (directories_at count p).value bytes ≡ Some entries
+    → encoding Little (entries_fields entries)
+    ≡ slice_range bytes p (p + 8 * count) ++ replicate (8 * (16 - count)) 0

@@ -2,8 +2,8 @@ pub mod AddressReadings
 pub mod AuxiliarySymbols
 pub mod BaseRelocations
 pub mod DataDirectories
+pub mod Digits
 pub mod DirectoryReadings
-pub mod Footprints
 pub mod Mapping
 pub mod Multiples
 pub mod Options

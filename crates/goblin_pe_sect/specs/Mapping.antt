@@ -1,24 +1,19 @@
--- How an address in memory maps to an offset in the file, and what stands at an address.
+-- How an address in memory maps to an offset in the file.
 use Rattle.std.specs.Prelude.{IsTrue, ℕ, ◌+◌, ◌-◌, ◌==◌, ◌≡◌, ◌<◌, ◌≤◌, min, Bool, ◌&&◌, nat_le}
 use Rattle.std.specs.Prelude.{nat_lt, if◌then◌else◌, List, Option, Some, None, find, slice_get}
 use Rattle.std.specs.Prelude.{option_map}
 use Rattle.std.specs.Int.{is_power_of_two}
-use Rattle.goblin_base.specs.declared.endian.Endian.{Endian}
-use Rattle.goblin_base.specs.declared.endian.Endian.TheVariants.{Little}
-use Rattle.goblin_base.specs.declared.error.CauseOf.TheVariants.{Message, Unmapped, NameRead}
+use Rattle.goblin_base.specs.declared.error.CauseOf.TheVariants.{Message}
 use Rattle.goblin_base.specs.declared.error.ErrorOf.{ErrorOf}
 use Rattle.goblin_base.specs.declared.error.ErrorOf.TheVariants.{Malformed}
-use Rattle.goblin_base.specs.Bytes.{text_at}
-use Rattle.goblin_base.specs.Answers.{IsTextFault, ◌>>=◌, FirstFault}
-use Rattle.goblin_base.specs.Values.{IsValueFault, value_at}
 use Rattle.goblin_pe_sect.specs.declared.options.ParseOptions.{ParseOptions}
 use Rattle.goblin_pe_sect.specs.declared.options.RawPointerRule.{RawPointerRule}
 use Rattle.goblin_pe_sect.specs.declared.options.RawPointerRule.TheVariants.{AsStored, RoundedTo512}
 use Rattle.goblin_pe_sect.specs.Multiples.{greatest_multiple, least_multiple}
 use Rattle.goblin_pe_sect.specs.SectionTable.{Section}
 
--- How addresses are mapped, the PE Format leaves to loaders. The windows are defined here, after
--- those of goblin; the rule that rounds raw pointers is that of the Windows loader.
+-- PE Format leaves the mapping of addresses to loaders. The windows defined here are goblin's; the
+-- rule that rounds raw pointers is the Windows loader's.
 
 -- how many bytes of a section are read from the file at this file alignment: none where it has no
 -- raw data; else those from the greatest multiple of 512 that is at most its raw pointer to the
@@ -41,7 +36,7 @@ read_size s alignment =
 abbrev pub window_end : Section → ℕ → ℕ
 window_end s alignment = s.virtual_address + read_size s alignment
 
--- the start and the end of a section's window; there is none where the alignment is no power of two
+-- the start and the end of a section's window; there is none if the alignment is not a power of two
 abbrev pub window_of : Section → ℕ → Option (ℕ × ℕ)
 window_of s alignment =
     if is_power_of_two alignment then Some (s.virtual_address, window_end s alignment) else None
@@ -60,13 +55,12 @@ pointer_by RoundedTo512 pointer = greatest_multiple 512 pointer
 abbrev pub raw_begin : ParseOptions → Section → ℕ
 raw_begin opts s = pointer_by opts.raw_pointer_rule s.pointer_to_raw_data
 
--- where the file has what stands at an address of a section's window: as far after the raw data's
--- start
+-- the file offset of an address in a section's window: as far after the raw data's start
 abbrev pub offset_in : ParseOptions → Section → ℕ → ℕ
 offset_in opts s rva = raw_begin opts s + (rva - s.virtual_address)
 
 -- the file offset of an address: that of the first section whose window holds it; and the address
--- itself where addresses are not mapped. No address has one where the alignment is no power of two.
+-- itself where addresses are not mapped. No address has one if the alignment is not a power of two.
 unfoldable pub file_offset : ParseOptions → List Section → ℕ → ℕ → Option ℕ
 file_offset opts sections alignment rva =
     if opts.resolve_rva
@@ -75,7 +69,7 @@ file_offset opts sections alignment rva =
     else None)
     else Some rva
 
--- ---- the same in words
+-- ---- what a file offset says about an address
 
 -- the section's window holds the address
 abbrev pub InWindow : ℕ → ℕ → Section → Type 0
@@ -109,50 +103,7 @@ abbrev pub MapsNowhere : List Section → ℕ → ℕ → Type 0
 MapsNowhere sections alignment rva =
     (k : ℕ) (s : Section) → slice_get sections k ≡ Some s → ¬ InWindow alignment rva s
 
--- ---- what stands at an address, over a map of addresses to file offsets
-
--- the text at an address
-abbrev pub name_at : (ℕ → Option ℕ) → List ℕ → ℕ → Option (List ℕ)
-name_at offset_of bytes rva = offset_of rva >>= text_at bytes
-
--- what a reader of a name takes: the text at an address, and where there is none, nothing, unless
--- it reads strictly
-abbrev pub name_or_none : Bool → Option (List ℕ) → Option (Option (List ℕ))
-name_or_none strict (Some name) = Some (Some name)
-name_or_none strict None = if strict then None else Some None
-
--- the value at an address, little-endian
-abbrev pub data_at : {Y : Type 0} → (ℕ → Option ℕ) → (Endian → List ℕ → Option (Y × ℕ)) → List ℕ → ℕ
-    → Option Y
-data_at offset_of value_of bytes rva = offset_of rva >>= value_at value_of Little bytes
-
--- ---- causes
-
 -- the refusal has this message
 abbrev pub IsMessage : List ℕ → ErrorOf → Type 0
 IsMessage message (Malformed (Message text)) = text.now ≡ message
 IsMessage message e = ⊥
-
--- the refusal is that this address is not mapped
-abbrev pub IsUnmapped : ℕ → ErrorOf → Type 0
-IsUnmapped rva (Malformed (Unmapped address)) = address ≡ rva
-IsUnmapped rva e = ⊥
-
--- the refusal is that no text stands at this offset
-abbrev pub IsNameRead : ℕ → ErrorOf → Type 0
-IsNameRead p (Malformed (NameRead offset)) = offset ≡ p
-IsNameRead p e = ⊥
-
--- which cause is true where no text stands at an address
-abbrev pub IsNameAtFault : (ℕ → Option ℕ) → List ℕ → ℕ → ErrorOf → Type 0
-IsNameAtFault offset_of bytes rva = FirstFault (offset_of rva) (IsUnmapped rva) (IsTextFault bytes)
-
--- which cause is true where a strict reader of a name finds none
-abbrev pub IsSafeNameFault : (ℕ → Option ℕ) → ℕ → ErrorOf → Type 0
-IsSafeNameFault offset_of rva = FirstFault (offset_of rva) (IsUnmapped rva) IsNameRead
-
--- which cause is true where no value stands at an address
-abbrev pub IsDataFault : (ℕ → Option ℕ) → (Endian → List ℕ → ErrorOf → Type 0) → List ℕ → ℕ
-    → ErrorOf → Type 0
-IsDataFault offset_of refusal bytes rva =
-    FirstFault (offset_of rva) (IsUnmapped rva) (IsValueFault refusal Little bytes)

@@ -1,4 +1,4 @@
--- The options that are named.
+-- Options with a name.
 use Rattle.std.specs.Prelude.{Bool, true, false}
 use Rattle.goblin_base.specs.declared.permissive.ParseMode.{ParseMode}
 use Rattle.goblin_base.specs.declared.permissive.ParseMode.TheVariants.{Strict, Permissive}

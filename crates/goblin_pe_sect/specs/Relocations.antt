@@ -1,15 +1,18 @@
 -- The relocations of a section of an object.
-use Rattle.std.specs.Prelude.{◌<◌, ◌≤◌, ℕ, ◌*◌, ◌^◌, List, [], ◌∷◌, Option, option_map}
+use Rattle.std.specs.Prelude.{◌<◌, ◌≤◌, ℕ, ◌*◌, ◌^◌, List, [], ◌∷◌}
 use Rattle.goblin_base.specs.declared.endian.Endian.{Endian}
 use Rattle.goblin_base.specs.declared.endian.Endian.TheVariants.{Little}
 use Rattle.goblin_base.specs.declared.error.CauseOf.TheVariants.{Overflow}
 use Rattle.goblin_base.specs.declared.error.ErrorOf.{ErrorOf}
 use Rattle.goblin_base.specs.declared.error.ErrorOf.TheVariants.{Malformed, Read}
-use Rattle.goblin_base.specs.Bytes.{number, slice_at}
+use Rattle.goblin_base.specs.Bytes.{number}
 use Rattle.goblin_base.specs.Answers.{IsSliceFault}
+use Rattle.goblin_base.specs.Reading.{Reading}
 use Rattle.goblin_base.specs.Record.{FieldValue}
 use Rattle.goblin_base.specs.Record.FieldValue.{uint}
 use Rattle.goblin_base.specs.Tables.{records_in}
+use Rattle.goblin_base.proofs.Picks.{by_cases-not_memory}
+use Rattle.readings.specs.Reads.{because_by, mapped, slice_at}
 use Rattle.goblin_pe_sect.specs.declared.relocation.Relocation.{Relocation}
 use Rattle.goblin_pe_sect.specs.declared.relocation.Relocations.{Relocations}
 
@@ -31,17 +34,20 @@ relocation_fields r = uint 4 r.virtual_address ∷ uint 4 r.symbol_table_index �
 abbrev pub relocations_in : List ℕ → List Relocation
 relocations_in bytes = records_in 10 (relocation_record Little) bytes
 
--- the n relocations at p, where the file has each of them
-abbrev pub relocations_at : List ℕ → ℕ → ℕ → Option (List Relocation)
-relocations_at bytes p n = option_map relocations_in (slice_at bytes p (10 * n))
-
--- which cause is true of bytes without n relocations at p: they pass the end, or their size passes
--- 64 bits
+-- which cause is true of bytes without n relocations at p: they run past the end, or their size
+-- overflows 64 bits
 abbrev pub IsRelocationsFault : List ℕ → ℕ → ℕ → ErrorOf → Type 0
 IsRelocationsFault bytes p n (Malformed Overflow) = 2 ^ 64 ≤ 10 * n
 IsRelocationsFault bytes p n (Read fault) =
     (10 * n < 2 ^ 64) × IsSliceFault bytes p (10 * n) (Read fault)
 IsRelocationsFault bytes p n e = ⊥
+
+-- the n relocations at p
+abbrev pub relocations_at : ℕ → ℕ → Reading (List Relocation)
+relocations_at p n =
+    because_by (λ bytes. IsRelocationsFault bytes p n)
+    (λ bytes. by_cases-not_memory (IsRelocationsFault bytes p n) (λ m h. h))
+    (mapped relocations_in (slice_at p (10 * n)))
 
 -- what an iterator over relocations has left
 abbrev pub relocations_left : Relocations → List Relocation

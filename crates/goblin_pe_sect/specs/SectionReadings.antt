@@ -1,32 +1,36 @@
--- A section by readings: its record, and its name from the string table.
-use Rattle.std.specs.Prelude.{ℕ, ◌+◌, Bool, List, Option}
+-- A section: its record, its name from the string table, and its data.
+use Rattle.std.specs.Prelude.{◌≡◌, ℕ, ◌+◌, ◌-◌, Bool, List, ◌++◌, Option, Some, replicate}
 use Rattle.goblin_base.specs.declared.endian.Endian.TheVariants.{Little}
 use Rattle.goblin_base.specs.declared.error.ErrorOf.{ErrorOf}
-use Rattle.goblin_base.specs.declared.error.ErrorOf.TheVariants.{BadMagic, BufferTooShort}
-use Rattle.goblin_base.specs.declared.error.ErrorOf.TheVariants.{Malformed, Memory, Read}
-use Rattle.goblin_base.specs.Answers.{IsMemory}
+use Rattle.goblin_base.specs.Answers.{IsMemory, IsSliceFault}
+use Rattle.goblin_base.specs.Bytes as bytes_of
+use Rattle.goblin_base.specs.Bytes.{IsBytes}
 use Rattle.goblin_base.specs.Reading.{Reading}
-use Rattle.readings.specs.Reads.{◌>>=◌, mapped, needs_by, or_none, record_at, taken, text_at}
+use Rattle.goblin_base.specs.Record.{encoding}
+use Rattle.goblin_base.proofs.Picks.{by_cases-not_memory}
+use Rattle.goblin_base.proofs.Readings.{slice-not_memory}
+use Rattle.readings.specs.Reads.{◌>>=◌, because_by, bytes_between, mapped, needs_by, or_none}
+use Rattle.readings.specs.Reads.{record_at, taken, text_at}
 use Rattle.goblin_pe_sect.specs.SectionName.{IsNameFault, name_value}
-use Rattle.goblin_pe_sect.specs.SectionTable.{Section, section_record}
+use Rattle.goblin_pe_sect.specs.SectionTable.{Section, section_fields, section_record}
 
 pub name-not_memory : (strict : Bool) (name : List ℕ) (e : ErrorOf)
     → IsNameFault strict name e → ¬ IsMemory e
 unfolding IsNameFault
-name-not_memory strict name (Memory m) h = absurd h
-name-not_memory strict name (Malformed c) h = λ m. m
-name-not_memory strict name (BadMagic k) h = λ m. m
-name-not_memory strict name (BufferTooShort k what) h = λ m. m
-name-not_memory strict name (Read fault) h = λ m. m
+name-not_memory strict name = by_cases-not_memory (IsNameFault strict name) (λ m h. h)
 
--- where a section's name stands in the string table, if it stands there
+-- the offset into the string table in a section's name, if it has one
 abbrev pub name_number : Bool → List ℕ → Reading (Option ℕ)
 name_number strict name =
     needs_by (name_value strict name) (IsNameFault strict name) (name-not_memory strict name)
 
--- the name that stands in the string table at `table`, if one is there
+-- the text at an offset into the string table at `table`; none where there is no offset
+abbrev pub text_in_table : ℕ → Option ℕ → Reading (List ℕ)
+text_in_table table offset = taken offset >>= λ n. text_at (table + n)
+
+-- the name from the string table at `table`, if there is one
 abbrev pub real_name : ℕ → Option ℕ → Reading (Option (List ℕ))
-real_name table place = or_none (taken place >>= λ n. text_at (table + n))
+real_name table offset = or_none (text_in_table table offset)
 
 -- The section of the record at an offset, with its name from the string table at `table` where its
 -- own name is indirect.
@@ -34,4 +38,23 @@ unfoldable pub section_at : Bool → ℕ → ℕ → Reading Section
 section_at strict table p =
     record_at 40 (section_record Little) p
     >>= λ section. name_number strict section.name
-    >>= λ place. mapped (λ name. record section { real_name = name }) (real_name table place)
+    >>= λ offset. mapped (λ name. record section { real_name = name }) (real_name table offset)
+
+-- the section's raw data in the file, which may be empty, even at the end
+abbrev pub raw_data : Section → Reading (List ℕ)
+raw_data s =
+    because_by (λ bytes. IsSliceFault bytes s.pointer_to_raw_data s.size_of_raw_data)
+    (λ bytes. slice-not_memory bytes s.pointer_to_raw_data s.size_of_raw_data)
+    (bytes_between s.pointer_to_raw_data (s.pointer_to_raw_data + s.size_of_raw_data))
+
+-- the section's data: its raw data, followed by zeros up to the virtual size
+abbrev pub section_data : Section → Reading (List ℕ)
+section_data s =
+    mapped (λ raw. raw ++ replicate (s.virtual_size - s.size_of_raw_data) 0) (raw_data s)
+
+-- A section that was read has its record's bytes as its encoding.
+abbrev pub SectionWritesBack : Type 0
+SectionWritesBack =
+    (strict : Bool) (table : ℕ) (bytes : List ℕ) (p : ℕ) (section : Section) → IsBytes bytes
+    → (section_at strict table p).value bytes ≡ Some section
+    → bytes_of.slice_at bytes p 40 ≡ Some (encoding Little (section_fields section))

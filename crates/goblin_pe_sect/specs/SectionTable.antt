@@ -1,6 +1,6 @@
 -- What contracts see of a section, and the section record.
-use Rattle.std.specs.Prelude.{◌≡◌, ℕ, ◌+◌, ◌-◌, ◌<◌, ◌++◌, Bool, List, [], ◌∷◌, length, Option}
-use Rattle.std.specs.Prelude.{None, Some, if◌then◌else◌, nat_eq, nat_le, option_map, replicate}
+use Rattle.std.specs.Prelude.{◌≡◌, ℕ, ◌+◌, ◌<◌, Bool, List, [], ◌∷◌, Option}
+use Rattle.std.specs.Prelude.{None, Some, nat_eq}
 use Rattle.std.specs.Prelude.{slice_range}
 use Rattle.std.specs.Option.{option_eq}
 use Rattle.std.specs.Ordering.{on, eq_of_both}
@@ -8,13 +8,11 @@ use Rattle.std.specs.Cmp.{IsPartialEquivalence, on_per, and_per, partial_equiv_f
 use Rattle.std.specs.Cmp.Lexicographic.{pointwise, options_equiv}
 use Rattle.std.proofs.lemmas.Cmp.{nat_eq_equiv, nat_list_eq_equiv}
 use Rattle.goblin_base.specs.declared.endian.Endian.{Endian}
-use Rattle.goblin_base.specs.declared.endian.Endian.TheVariants.{Little}
 use Rattle.goblin_base.specs.declared.error.ErrorOf.{ErrorOf}
-use Rattle.goblin_base.specs.Bytes.{IsBytes, bounded_text_at, number, slice_at}
-use Rattle.goblin_base.specs.Answers.{IsSliceFault, IsBoundedTextFault, ◌>>=◌, FirstFault}
+use Rattle.goblin_base.specs.Bytes.{bounded_text_at, number}
+use Rattle.goblin_base.specs.Answers.{IsBoundedTextFault}
 use Rattle.goblin_base.specs.Record.{FieldValue, encoding, record_at}
 use Rattle.goblin_base.specs.Record.FieldValue.{octets, uint}
-use Rattle.goblin_pe_sect.specs.SectionName.{name_value, IsNameFault, real_name_at}
 
 -- Source: PE Format, "Section Table (Section Headers)" and "Section Data".
 
@@ -57,34 +55,13 @@ section_fields s =
     ∷ uint 2 s.number_of_relocations ∷ uint 2 s.number_of_linenumbers
     ∷ uint 4 s.characteristics ∷ []
 
--- the section of the record at p, with its name from the string table at `table` where its own name
--- is indirect
-unfoldable pub section_at : Bool → ℕ → List ℕ → ℕ → Option Section
-section_at strict table bytes p = do
-  section ← record_at 40 (section_record Little) bytes p
-  value ← name_value strict section.name
-  Some (record section { real_name = real_name_at bytes table value })
-
--- a section that was read has its record's bytes as its encoding
-abbrev pub SectionWritesBack : Type 0
-SectionWritesBack =
-    (strict : Bool) (table : ℕ) (bytes : List ℕ) (p : ℕ) (section : Section) → IsBytes bytes
-    → section_at strict table bytes p ≡ Some section
-    → slice_at bytes p 40 ≡ Some (encoding Little (section_fields section))
-
--- A section that is written, whatever its fields say, is read again from what was written, in the
--- same order of bytes, without its real name, which is no part of the record.
+-- A section that is written, whatever its fields are, reads back from what was written, in the same
+-- byte order, without its real name, which is not part of the record.
 unfoldable pub SectionReadsBack : Section → Type 0
 SectionReadsBack s =
     (endian : Endian)
     → record_at 40 (section_record endian) (encoding endian (section_fields s)) 0
     ≡ Some (record s { real_name = None })
-
--- which cause is true of a section that is refused: there is no record, or its name is refused
-unfoldable pub IsSectionFault : Bool → List ℕ → ℕ → ErrorOf → Type 0
-IsSectionFault strict bytes p =
-    FirstFault (record_at 40 (section_record Little) bytes p) (IsSliceFault bytes p 40) (λ section.
-    FirstFault (name_value strict section.name) (IsNameFault strict section.name) (λ value e. ⊥))
 
 -- the name to use: that of the string table, else the text of the eight bytes
 abbrev pub name_of : Option (List ℕ) → List ℕ → Option (List ℕ)
@@ -95,18 +72,6 @@ name_of None name = bounded_text_at name 0 8
 abbrev pub IsNoName : Option (List ℕ) → List ℕ → ErrorOf → Type 0
 IsNoName (Some real_name) name e = ⊥
 IsNoName None name e = IsBoundedTextFault name 0 8 e
-
--- the section's raw data in the file; there is none where it passes the file
-abbrev pub raw_data : Section → List ℕ → Option (List ℕ)
-raw_data s bytes =
-    if nat_le (s.pointer_to_raw_data + s.size_of_raw_data) (length bytes)
-    then Some (slice_range bytes s.pointer_to_raw_data (s.pointer_to_raw_data + s.size_of_raw_data))
-    else None
-
--- the section's data: its raw data, followed by zeros up to the virtual size
-abbrev pub section_data : Section → List ℕ → Option (List ℕ)
-section_data s bytes =
-    option_map (λ raw. raw ++ replicate (s.virtual_size - s.size_of_raw_data) 0) (raw_data s bytes)
 
 -- the raw data of two sections overlaps: neither ends at or before the other's pointer
 abbrev pub OverlapRawData : Section → Section → Type 0

@@ -12,9 +12,12 @@ use Rattle.goblin_base.specs.declared.error.ErrorOf.{ErrorOf}
 use Rattle.goblin_base.specs.declared.error.ErrorOf.TheVariants.{Malformed, Read}
 use Rattle.goblin_base.specs.Bytes.{bounded_text_at, number, number_bytes}
 use Rattle.goblin_base.specs.Answers.{IsBoundedTextFault, IsSliceFault, ◌>>=◌}
+use Rattle.goblin_base.specs.Reading.{Reading}
 use Rattle.goblin_base.specs.Record.{FieldValue}
 use Rattle.goblin_base.specs.Record.FieldValue.{octets, uint}
 use Rattle.goblin_base.specs.Strtab.{rest_at}
+use Rattle.goblin_base.proofs.Picks.{by_cases-not_memory}
+use Rattle.readings.specs.Reads.{because_by, record_at, slice_at}
 use Rattle.goblin_pe_sect.specs.declared.symbol.Symbol.{Symbol}
 use Rattle.goblin_pe_sect.specs.declared.symbol.SymbolIterator.{SymbolIterator}
 use Rattle.goblin_pe_sect.specs.declared.symbol.SymbolTable.{SymbolTable}
@@ -40,29 +43,32 @@ symbol_fields s =
 
 -- ---- names
 
--- the name that stands in a record: the text of its first eight bytes, where the first is not 0
+-- the name in a record: the text of its first eight bytes, if the first is not 0
 abbrev pub inline_name : List ℕ → Option (List ℕ)
 inline_name bytes = if slice_index bytes 0 == 0 then None else bounded_text_at bytes 0 8
 
--- the symbol in a record's bytes, after the name that stands in it
+-- the symbol in a record's bytes, after the name in it
 abbrev pub named_symbol : List ℕ → Option (List ℕ) × Symbol
 named_symbol bytes = (inline_name bytes, symbol_record Little bytes)
 
--- the same of what a call gives: the name by its bytes
+-- the symbol at an offset, after the name in it
+abbrev pub symbol_at : ℕ → Reading (Option (List ℕ) × Symbol)
+symbol_at p = record_at 18 named_symbol p
+
+-- what contracts see of a symbol and the name in it: the name by its bytes
 abbrev pub named_value : Option (Bor (List ℕ)) × Symbol → Option (List ℕ) × Symbol
 named_value x = (option_map (λ s. s.now) x.0, x.1)
 
--- the number that stands in place of a name: that of the last four of the eight bytes, where the
--- first is 0
+-- the number stored in place of a name: that of the last four of the eight bytes, if the first is 0
 abbrev pub stored_number : List ℕ → Option ℕ
 stored_number name = if slice_index name 0 == 0 then Some (number Little 4 name 4) else None
 
--- the offset in the string table that a stored number says: it counts the four bytes of the table's
--- length, which stand in front
+-- the offset in the string table of a stored number, which also counts the four bytes of the
+-- table's length in front
 abbrev pub stored_offset : ℕ → Option ℕ
 stored_offset n = if nat_le 4 n then Some (n - 4) else None
 
--- where the name stands in the string table
+-- the offset of the name in the string table
 abbrev pub name_offset_of : List ℕ → Option ℕ
 name_offset_of name = stored_number name >>= stored_offset
 
@@ -70,8 +76,8 @@ name_offset_of name = stored_number name >>= stored_offset
 abbrev pub offset_name : ℕ → List ℕ
 offset_name n = replicate 4 0 ++ number_bytes Little 4 n
 
--- the name of a symbol: where a number stands in its place, what the string table has at the offset
--- that it says, and else the text of the eight bytes
+-- the name of a symbol: if a number is stored in its place, what the string table has at that
+-- offset, else the text of the eight bytes
 abbrev pub symbol_name : List ℕ → List ℕ → Option (List ℕ)
 symbol_name table name =
     if slice_index name 0 == 0
@@ -79,7 +85,7 @@ symbol_name table name =
     else bounded_text_at name 0 8
 
 -- which cause is true of a symbol without a name: its number is below 4, the string table has
--- nothing at its offset, or its eight bytes are no text
+-- nothing at its offset, or its eight bytes are not a text
 abbrev pub IsNoSymbolName : List ℕ → List ℕ → ErrorOf → Type 0
 IsNoSymbolName table name (Malformed (SymbolName n)) =
     ((stored_number name ≡ Some n) × (n < 4))
@@ -94,13 +100,19 @@ IsNoSymbolName table name e = ⊥
 abbrev pub table_bytes : SymbolTable → List ℕ
 table_bytes table = table.symbols.now
 
--- which cause is true of bytes without a table of n records at p: they pass the end, or their size
--- passes 64 bits
+-- which cause is true of bytes without a table of n records at p: they run past the end, or their
+-- size overflows 64 bits
 abbrev pub IsSymbolsFault : List ℕ → ℕ → ℕ → ErrorOf → Type 0
 IsSymbolsFault bytes p n (Malformed Overflow) = 2 ^ 64 ≤ 18 * n
 IsSymbolsFault bytes p n (Read fault) =
     (18 * n < 2 ^ 64) × IsSliceFault bytes p (18 * n) (Read fault)
 IsSymbolsFault bytes p n e = ⊥
+
+-- the bytes of the table of n records at p
+abbrev pub symbol_table : ℕ → ℕ → Reading (List ℕ)
+symbol_table p n =
+    because_by (λ bytes. IsSymbolsFault bytes p n)
+    (λ bytes. by_cases-not_memory (IsSymbolsFault bytes p n) (λ m h. h)) (slice_at p (18 * n))
 
 -- the name of a source file in the n records from record i on: their text
 abbrev pub file_name_at : List ℕ → ℕ → ℕ → Option (List ℕ)
@@ -120,7 +132,7 @@ pub data IsHead (table : List ℕ) (n : ℕ) : ℕ → Type 0 where
   first : 0 < n → IsHead table n 0
   next : (h : ℕ) → IsHead table n h → h + 1 + aux table h < n → IsHead table n (h + 1 + aux table h)
 
--- a symbol with its index and the name that stands in it
+-- a symbol with its index and the name in it
 abbrev pub SymbolItem : Type 0
 SymbolItem = ℕ × Option (List ℕ) × Symbol
 
@@ -139,7 +151,7 @@ symbols_from (suc m) (suc skipped) table i = symbols_from m skipped table (i + 1
 abbrev pub symbols_in : List ℕ → List SymbolItem
 symbols_in table = symbols_from (length table / 18) 0 table 0
 
--- what an iterator has left, and an item that it gives, the name by its bytes
+-- what an iterator has left, and an item that it yields, the name by its bytes
 abbrev pub symbols_left : SymbolIterator → List SymbolItem
 symbols_left s = symbols_from (length s.symbols.now / 18 - s.index) 0 s.symbols.now s.index
 

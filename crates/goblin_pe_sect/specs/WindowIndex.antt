@@ -1,5 +1,5 @@
--- The line of addresses, cut into pieces at the windows of sections, and what an index of the
--- pieces answers.
+-- The address space, cut into pieces at the windows of sections, and what an index of the pieces
+-- returns.
 use Rattle.std.specs.Prelude.{ℕ, zero, suc, ◌+◌, ◌-◌, ◌*◌, ◌/◌, ◌≡◌, ◌<◌, ◌≤◌, ◌^◌, ◌==◌, ◌⊎◌, Bool}
 use Rattle.std.specs.Prelude.{false, nat_le, nat_lt, if◌then◌else◌, List, [], Option, Some, None}
 use Rattle.std.specs.Prelude.{length, slice_index, slice_index_or, slice_get, Contains, position}
@@ -20,21 +20,22 @@ pub record Pieces : Type 0 where
   pub begins : List ℕ
   pub owners : List (Option Owner)
 
--- an index has pieces: addresses are mapped, by an alignment that is a power of two
+-- an index has pieces, and a list windows: addresses are mapped, by an alignment that is a power of
+-- two
 abbrev pub HasPieces : ParseOptions → ℕ → Type 0
 HasPieces opts alignment = IsTrue opts.resolve_rva × IsTrue (is_power_of_two alignment)
 
 -- ---- the pieces
 
--- a place where the line is cut: 0, and each start and end of a window that is not empty
+-- a place where the address space is cut: 0, and each start and end of a window that is not empty
 abbrev pub IsBorder : List Section → ℕ → ℕ → Type 0
 IsBorder sections alignment x =
     (x ≡ 0)
     ⊎ ((k : ℕ) × (s : Section) × (slice_get sections k ≡ Some s) × (0 < read_size s alignment)
     × ((x ≡ s.virtual_address) ⊎ (x ≡ window_end s alignment)))
 
--- the pieces begin where the line is cut, in rising order: at most two for each section, and the
--- one at 0
+-- the pieces begin where the address space is cut, in rising order: at most two for each section,
+-- and the one at 0
 pub record IsCut (sections : List Section) (alignment : ℕ) (begins : List ℕ) : Type 0 where
   pub rising : IsStrictlyIncreasing begins
   pub all : (x : ℕ) → IsBorder sections alignment x → Contains begins x
@@ -52,7 +53,7 @@ first_owner opts sections alignment rva =
     option_and_then (λ (i : ℕ). option_map (owner_of_section opts i) (slice_get sections i))
     (position (is_in_window alignment rva) sections)
 
--- ---- what an index answers
+-- ---- what an index returns
 
 -- how many pieces begin at or before an address
 abbrev pub reached : List ℕ → ℕ → ℕ
@@ -67,9 +68,8 @@ halvings_within (suc most) n k =
     else if nat_lt (n / 2) k then 1 + halvings_within most (n - n / 2 - 1) (k - n / 2 - 1)
     else 1 + halvings_within most (n / 2) k
 
--- How many comparisons a search by halving makes until it has found that k of n rising numbers lie
--- at or before the one that it looks for. Each search that splits evenly, the lower half the
--- greater, makes as many; they are never more than n.
+-- The number of comparisons that a binary search makes to find that k of n rising numbers lie at or
+-- before the one sought, if it splits evenly with the larger half below; it is at most n.
 unfoldable pub halvings : ℕ → ℕ → ℕ
 halvings n k = halvings_within n n k
 
@@ -78,11 +78,11 @@ abbrev pub last_owner : List (Option Owner) → ℕ → Option Owner
 last_owner owners zero = None
 last_owner owners (suc k) = slice_index_or owners k None
 
--- where the file has an address of a piece with this owner
+-- the file offset of an address of a piece with this owner
 abbrev pub owner_offset : ℕ → Owner → ℕ
 owner_offset rva o = o.pointer + (rva - o.address)
 
--- the file offset that an index gives an address: by the owner of the last piece that begins at or
+-- the file offset of an address by an index: by the owner of the last piece that begins at or
 -- before it
 unfoldable pub located : Pieces → ℕ → Option ℕ
 located w rva =

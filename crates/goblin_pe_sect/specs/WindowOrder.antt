@@ -1,4 +1,4 @@
--- Tables of sections that differ in the order of their sections alone.
+-- Tables of sections that differ only in the order of their sections.
 use Rattle.std.specs.Prelude.{IsTrue, ℕ, List}
 use Rattle.std.specs.Int.{is_power_of_two}
 use Rattle.std.specs.List.{AllPairs}
@@ -11,7 +11,7 @@ abbrev pub AreApart : ℕ → Section → Section → Type 0
 AreApart alignment s t = (rva : ℕ) → InWindow alignment rva s → ¬ InWindow alignment rva t
 
 -- The second table has the sections of the first in any order, and the windows of any two of them
--- are disjoint. Where the alignment is no power of two there are no windows.
+-- are disjoint. If the alignment is not a power of two, there are no windows.
 pub record IsReordering (alignment : ℕ) (first second : List Section) : Type 0 where
   pub moved : IsPermutation first second
   pub apart : IsTrue (is_power_of_two alignment) → AllPairs (AreApart alignment) first

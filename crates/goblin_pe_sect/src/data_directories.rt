@@ -4,16 +4,18 @@ ghost use Rattle.std.specs.Prelude.{◌≡◌, ◌+◌, ◌-◌, ◌*◌, ◌<�
 ghost use Rattle.std.specs.Prelude.{option_map, IfOk, IfSome, OnOk, OnErr};
 ghost use Rattle.std.specs.Iterator.{UpTo, YieldsFirst, at_most};
 ghost use Rattle.std.specs.Iterator.SizeHint.{IsWithinCount};
+ghost use Rattle.goblin_base.specs.Reading.{Reads};
 ghost use Rattle.goblin_base.specs.Answers.{Answers, Writes, IsSliceFault};
 ghost use Rattle.goblin_base.specs.Bytes.{overwritten};
-ghost use Rattle.goblin_base.specs.Record.{encoding, record_at, ReadsBack, WritesBack, record_over};
+ghost use Rattle.goblin_base.specs.Record.{encoding, ReadsBack, WritesBack, record_over};
+ghost use Rattle.readings.specs.Reads.{record_at};
 ghost use Rattle.goblin_pe_sect.specs.declared.data_directories.DataDirectory.{DataDirectory};
-ghost use Rattle.goblin_pe_sect.specs.DataDirectories.{EntriesWriteBack, IsDirectoriesFault};
-ghost use Rattle.goblin_pe_sect.specs.DataDirectories.{IsNoKind, dirs_left, directories_at};
+ghost use Rattle.goblin_pe_sect.specs.DataDirectories.{IsNoKind, dirs_left};
 ghost use Rattle.goblin_pe_sect.specs.DataDirectories.{directory_fields, directory_in};
 ghost use Rattle.goblin_pe_sect.specs.DataDirectories.{directory_or_zeros, directory_record};
 ghost use Rattle.goblin_pe_sect.specs.DataDirectories.{entries_fields, entry_ending, kinds};
 ghost use Rattle.goblin_pe_sect.specs.DataDirectories.{present_from};
+ghost use Rattle.goblin_pe_sect.specs.DirectoryReadings.{EntriesWriteBack, directories_at};
 
 use goblin_base::{
     Cause, Endian, Error, Field, Record, Result, encode, field_u32, gread_slice, put_bytes,
@@ -50,7 +52,7 @@ const KINDS: [DataDirectoryType; 15] = [
 /// Where a table of an image lies.
 ///
 /// Source: PE Format, "Optional Header Data Directories (Image Only)". Numbers are as stored; the
-/// record has 8 bytes, and `at` says where in it a field stands.
+/// record has 8 bytes, and `at` gives a field's offset in it.
 #[derive(Debug, PartialEq, Copy, Clone, Default)]
 pub struct DataDirectory {
     /// The table's address, relative to the image's base, at 0. That of the certificates is a file
@@ -92,11 +94,10 @@ impl DataDirectory {
     /// Reads the record at the file offset `offset` and moves `offset` past it.
     ///
     /// # Errors
-    /// [`Error::Read`] where the 8 bytes pass the end of the file; `offset` then stays.
+    /// [`Error::Read`] if the 8 bytes run past the end of the file; `offset` is then unchanged.
     pub fn parse(bytes: &[u8], offset: &mut usize) -> Result<DataDirectory>
-        ensures value { Answers (λ d. d) result
-            (record_at 8 (directory_record Endian.Little) bytes.now offset.old)
-            (IsSliceFault bytes.now offset.old 8) }
+        ensures value { Reads (λ d. d) result
+            (record_at 8 (directory_record Endian.Little) offset.old) bytes.now }
         ensures ok { OnOk result (offset.new ≡ offset.old + 8) }
         ensures err { OnErr result (offset.new ≡ offset.old) }
     {
@@ -104,12 +105,12 @@ impl DataDirectory {
         Ok(DataDirectory::in_record(record, Endian::Little))
     }
 
-    /// Writes the record to the front of `bytes`, and answers its size, 8. One that was read is
-    /// written as it stood, and any is read again from what was written, by the same order of
-    /// bytes.
+    /// Writes the record to the front of `bytes`, and returns its size, 8. A record that was read
+    /// is written back unchanged, and any record reads back from what was written, in the same byte
+    /// order.
     ///
     /// # Errors
-    /// [`Error::Read`] where there is no room for 8 bytes; `bytes` are then as they were.
+    /// [`Error::Read`] if there is no room for 8 bytes; `bytes` is then unchanged.
     pub fn try_into_ctx(self, bytes: &mut [u8], endian: Endian) -> Result<usize>
         ensures size { IfOk result (λ n. n ≡ 8) }
         ensures written { let after = record_over 8 (encoding endian (directory_fields self))
@@ -122,7 +123,7 @@ impl DataDirectory {
         Record::try_into_ctx(self, bytes, endian)
     }
 
-    /// The size of the record in bytes, the same in either order: 8.
+    /// The size of the record in bytes: 8 in either byte order.
     pub fn size_with(endian: &Endian) -> usize
         ensures { result ≡ 8 }
     {
@@ -138,14 +139,14 @@ impl DataDirectory {
 pub enum DataDirectoryType {
     /// The exports (`.edata`), at index 0: what other images may import from this one.
     ExportTable,
-    /// The import directory (`.idata`), at index 1: from which libraries the loader takes what.
+    /// The import directory (`.idata`), at index 1: what the loader takes from which libraries.
     ImportTable,
     /// The resources (`.rsrc`), at index 2.
     ResourceTable,
     /// How exceptions are handled (`.pdata`), at index 3.
     ExceptionTable,
-    /// The attribute certificates, at index 4. They are no part of the image in memory: the address
-    /// is a file offset.
+    /// The attribute certificates, at index 4. They are not part of the image in memory: the
+    /// address is a file offset.
     CertificateTable,
     /// The base relocations (`.reloc`), at index 5: what the loader changes where it can't load the
     /// image at its base.
@@ -179,7 +180,7 @@ impl TryFrom<usize> for DataDirectoryType {
     /// The kind with this index.
     ///
     /// # Errors
-    /// [`Error::Malformed`] with [`Cause::DirectoryIndex`] where no kind has it.
+    /// [`Error::Malformed`] with [`Cause::DirectoryIndex`] if no kind has it.
     #[tactic(auto, unfolding(crate::specs::DataDirectories::kinds))]
     fn try_from(index: usize) -> Result<DataDirectoryType> {
         match KINDS.get(index) {
@@ -196,12 +197,12 @@ impl TryFrom<usize> for DataDirectoryType {
 #[derive(Debug, PartialEq, Copy, Clone, Default)]
 pub struct DataDirectories {
     /// The directories by their indexes, each as (the offset just past its record, the record).
-    /// Offsets count as the one does that [`DataDirectories::parse`] was handed: inside an optional
-    /// header, from its front. `None` where the file has no such entry or it is all zeros.
+    /// Offsets count like the one passed to [`DataDirectories::parse`]: inside an optional header,
+    /// from its front. `None` if the file has no such entry or it is all zeros.
     pub data_directories: [Option<(usize, DataDirectory)>; 16],
 }
 
-// A directory whose record ends at an offset, `None` where it is all zeros.
+// A directory whose record ends at an offset, `None` if it is all zeros.
 fn entry(end: usize, directory: DataDirectory) -> Option<(usize, DataDirectory)>
     ensures { result ≡ entry_ending end directory }
 {
@@ -223,17 +224,16 @@ fn directory(entry: Option<(usize, DataDirectory)>) -> DataDirectory
 }
 
 impl DataDirectories {
-    /// Reads `count` entries, which stand one after the other from `offset` on, and moves `offset`
-    /// past them. None are read at any offset.
+    /// Reads `count` entries, which follow one another from `offset` on, and moves `offset` past
+    /// them. None are read at any offset.
     ///
     /// # Errors
-    /// [`Error::Malformed`] with [`Cause::DirectoryCount`] where there are more than sixteen;
-    /// [`Error::Read`] where they pass the end. `offset` then stays.
-    #[tactic(auto, using(crate::proofs::Entries::too_many))]
+    /// [`Error::Malformed`] with [`Cause::DirectoryCount`] if there are more than sixteen;
+    /// [`Error::Read`] if they run past the end. `offset` is then unchanged.
+    #[tactic(auto, using(crate::proofs::DirectoryReadings::many_none, crate::proofs::DirectoryReadings::many_cause))]
     pub fn parse(bytes: &[u8], count: usize, offset: &mut usize) -> Result<DataDirectories>
-        ensures value { Answers (λ d. d.data_directories) result
-            (directories_at count bytes.now offset.old)
-            (IsDirectoriesFault count bytes.now offset.old) }
+        ensures value { Reads (λ d. d.data_directories) result
+            (directories_at count offset.old) bytes.now }
         ensures ok { OnOk result (offset.new ≡ offset.old + 8 * count) }
         ensures err { OnErr result (offset.new ≡ offset.old) }
     {
@@ -251,7 +251,7 @@ impl DataDirectories {
     }
 
     /// The bytes of all sixteen entries, those that are `None` as zeros. In little-endian order,
-    /// entries that were read are written as they stood.
+    /// entries that were read are written back unchanged.
     #[tactic(auto, using(crate::proofs::DataDirectoriesRoundTrip::entries_back))]
     pub fn to_bytes(self, endian: Endian) -> [u8; 128]
         ensures bytes { result ≡ encoding endian (entries_fields self.data_directories) }
@@ -269,10 +269,10 @@ impl DataDirectories {
     }
 
     /// Writes all sixteen entries to the front of `bytes`, those that are `None` as zeros, and
-    /// answers their size, 128.
+    /// returns their size, 128.
     ///
     /// # Errors
-    /// [`Error::Read`] where there is no room for 128 bytes; `bytes` are then as they were.
+    /// [`Error::Read`] if there is no room for 128 bytes; `bytes` is then unchanged.
     pub fn try_into_ctx(self, bytes: &mut [u8], endian: Endian) -> Result<usize>
         ensures size { IfOk result (λ n. n ≡ 128) }
         ensures written { Writes result
@@ -295,8 +295,8 @@ impl DataDirectories {
         }
     }
 
-    /// Where the exports lie (index 0). This getter and the others answer `None` where the file has
-    /// no such entry or it is all zeros.
+    /// Where the exports lie (index 0). This getter and the others return `None` if the file has no
+    /// such entry or it is all zeros.
     pub fn get_export_table(&self) -> Option<&DataDirectory>
         ensures { option_map (λ d. d.now) result ≡ directory_in self.now.data_directories 0 }
     {

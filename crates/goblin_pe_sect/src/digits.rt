@@ -1,23 +1,25 @@
-//! The numbers that section names say, in decimal digits and in those of base 64.
+//! The numbers in section names, in decimal and in base 64 digits.
 
 ghost use Rattle.std.specs.Prelude.{◌≡◌, ◌^◌, ◌+◌, ◌-◌, ◌<◌, ◌≤◌, ◌++◌, ◌∷◌, IfNone, IfSome, None};
 ghost use Rattle.std.specs.Prelude.{Some, drop, length, map, nat_lt, position, take, ◌==◌};
-ghost use Rattle.goblin_pe_sect.specs.SectionName.{alphabet, decimal_number, decimal_width, digit};
-ghost use Rattle.goblin_pe_sect.specs.SectionName.{digit_byte, indirect_name, last_digits, numeral};
-ghost use Rattle.goblin_pe_sect.specs.SectionName.{radix};
+ghost use Rattle.goblin_pe_sect.specs.Digits.{alphabet, digit};
+ghost use Rattle.goblin_pe_sect.specs.SectionName.{decimal_number, decimal_width};
+ghost use Rattle.goblin_pe_sect.specs.Digits.{digit_byte, last_digits, numeral};
+ghost use Rattle.goblin_pe_sect.specs.SectionName.{indirect_name};
+ghost use Rattle.goblin_pe_sect.specs.Digits.{radix};
 
 const DECIMAL: [u8; 10] = *b"0123456789";
 
 const BASE64: [u8; 64] = *b"ABCDEFGHIJKLMNOPQRSTUVWXYZabcdefghijklmnopqrstuvwxyz0123456789+/";
 
-/// The digits in which a section name says a number, the most significant first.
+/// The digits of a number in a section name, the most significant first.
 #[derive(Clone, Copy)]
 pub(crate) enum Digits {
     Decimal,
     Base64,
 }
 
-// Where a byte stands first.
+// The first position of a byte.
 fn place(bytes: &[u8], byte: u8) -> Option<usize>
     ensures { result ≡ position (λ b. b == byte) bytes.now }
 {
@@ -26,7 +28,7 @@ fn place(bytes: &[u8], byte: u8) -> Option<usize>
 
 impl Digits {
     // The digits, in the order of their values.
-    #[tactic(auto, unfolding(crate::specs::SectionName::alphabet))]
+    #[tactic(auto, unfolding(crate::specs::Digits::alphabet))]
     fn alphabet(self) -> &'static [u8]
         ensures { result.now ≡ alphabet self }
     {
@@ -60,7 +62,7 @@ impl Digits {
         self.alphabet()[value]
     }
 
-    /// The number that a text of at most seven digits says.
+    /// The number in a text of at most seven digits.
     pub(crate) fn numeral(self, text: &[u8]) -> Option<usize>
         requires { length text.now ≤ 7 }
         ensures { result ≡ numeral self text.now }
@@ -90,7 +92,7 @@ impl Digits {
     }
 }
 
-/// The decimal number that a text of at most seven bytes says: an optional plus, and then digits.
+/// The decimal number in a text of at most seven bytes: an optional plus, then digits.
 pub(crate) fn decimal_number(text: &[u8]) -> Option<usize>
     requires { length text.now ≤ 7 }
     ensures { result ≡ decimal_number text.now }
@@ -120,8 +122,8 @@ fn decimal_width(number: usize) -> usize
     }
 }
 
-/// The eight bytes of the name that says a number, if one does.
-#[tactic(auto, unfolding(crate::specs::SectionName::indirect_name, crate::specs::SectionName::alphabet))]
+/// The eight bytes of the name that holds a number, if one can.
+#[tactic(auto, unfolding(crate::specs::SectionName::indirect_name, crate::specs::Digits::alphabet))]
 pub(crate) fn indirect_name(number: usize) -> Option<[u8; 8]>
     ensures value { result ≡ indirect_name number }
     ensures none { IfNone result (64 ^ 6 ≤ number) }

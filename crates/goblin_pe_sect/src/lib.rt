@@ -1,5 +1,5 @@
-//! The sections of a PE file, its data directories, symbols and relocations, and where the file has
-//! what stands at an address.
+//! The sections of a PE file, its data directories, symbols and relocations, and the mapping of
+//! addresses to file offsets.
 #![tactic(auto)]
 
 pub mod data_directories;
@@ -14,4 +14,4 @@ pub mod windows;
 pub use data_directories::{DataDirectories, DataDirectory, DataDirectoryType, Dirs};
 pub use options::{ParseMode, ParseOptions, RawPointerRule};
 pub use section_table::SectionTable;
-pub use windows::WindowIndex;
+pub use windows::{WindowIndex, WindowList};

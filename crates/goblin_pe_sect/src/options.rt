@@ -24,18 +24,18 @@ pub struct ParseOptions {
     /// Whether an address is mapped to a file offset by the sections; where not, it is the offset,
     /// as in a memory image or a Terse Executable. By default it is mapped.
     pub resolve_rva: bool,
-    /// Whether attribute certificates are read, by default so. It changes no answer: no reader of
+    /// Whether attribute certificates are read; true by default. It changes no answer: no reader of
     /// these crates reads them.
     pub parse_attribute_certificates: bool,
-    /// Whether thread local storage is read, by default so. It changes no answer: no reader of
+    /// Whether thread local storage is read; true by default. It changes no answer: no reader of
     /// these crates reads it.
     pub parse_tls_data: bool,
-    /// Whether resources are read, by default so. It changes no answer: no reader of these crates
+    /// Whether resources are read; true by default. It changes no answer: no reader of these crates
     /// reads them.
     pub parse_resources: bool,
-    /// How damaged parts are met, by default strictly: the first one refuses the whole.
+    /// What to do with damaged parts; by default strict: the first one refuses the whole.
     pub parse_mode: ParseMode,
-    /// Whether the reader of a whole file reads the imports, by default so.
+    /// Whether the reader of a whole file reads the imports; true by default.
     pub parse_imports: bool,
     /// Where a section's raw data begins for the mapping of addresses: by default at the raw
     /// pointer as it is stored, as in goblin. The Windows loader rounds it down to 512. Every

@@ -4,10 +4,11 @@
 ghost use Rattle.std.specs.Prelude.{◌≡◌, ◌/◌, Some, length, IfSome, IfOk};
 ghost use Rattle.std.specs.Iterator.{UpTo, YieldsFirst, at_most};
 ghost use Rattle.std.specs.Iterator.SizeHint.{IsWithinCount};
-ghost use Rattle.goblin_base.specs.Answers.{Answers, IsSliceFault, Writes};
+ghost use Rattle.goblin_base.specs.Answers.{IsSliceFault, Writes};
+ghost use Rattle.goblin_base.specs.Reading.{Reads};
 ghost use Rattle.goblin_base.specs.Record.{ReadsBack, WritesBack, encoding, record_over};
 ghost use Rattle.goblin_pe_sect.specs.declared.relocation.Relocation.{Relocation};
-ghost use Rattle.goblin_pe_sect.specs.Relocations.{IsRelocationsFault, relocation_fields};
+ghost use Rattle.goblin_pe_sect.specs.Relocations.{relocation_fields};
 ghost use Rattle.goblin_pe_sect.specs.Relocations.{relocation_record, relocations_at};
 ghost use Rattle.goblin_pe_sect.specs.Relocations.{relocations_left};
 
@@ -140,7 +141,7 @@ const _: () = prove!(COFF_RELOCATION_SIZE == 10);
 /// A relocation of a COFF object: which bytes of a section a linker changes, and how.
 ///
 /// Source: PE Format, "COFF Relocations (Object Only)". Numbers are as stored; the record has 10
-/// bytes, and `at` says where in it a field stands.
+/// bytes, and `at` gives a field's offset in it.
 #[derive(Debug, PartialEq, Copy, Clone, Default)]
 pub struct Relocation {
     /// Where the bytes that are changed begin, at 0: their offset in the section, in bytes, plus
@@ -186,12 +187,12 @@ impl Record for Relocation {
 }
 
 impl Relocation {
-    /// Writes the record to the front of `bytes`, and answers its size, 10. One that was read is
-    /// written as it stood, and any is read again from what was written, by the same order of
-    /// bytes.
+    /// Writes the record to the front of `bytes`, and returns its size, 10. A record that was read
+    /// is written back unchanged, and any record reads back from what was written, in the same byte
+    /// order.
     ///
     /// # Errors
-    /// [`Error::Read`] where there is no room for 10 bytes; `bytes` are then as they were.
+    /// [`Error::Read`] if there is no room for 10 bytes; `bytes` is then unchanged.
     pub fn try_into_ctx(self, bytes: &mut [u8], endian: Endian) -> Result<usize>
         ensures size { IfOk result (λ n. n ≡ 10) }
         ensures written { let after = record_over 10 (encoding endian (relocation_fields self))
@@ -204,7 +205,7 @@ impl Relocation {
         Record::try_into_ctx(self, bytes, endian)
     }
 
-    /// The size of the record in bytes, the same in either order: 10.
+    /// The size of the record in bytes: 10 in either byte order.
     pub fn size_with(endian: &Endian) -> usize
         ensures { result ≡ 10 }
     {
@@ -225,11 +226,10 @@ impl<'a> Relocations<'a> {
     /// record says both.
     ///
     /// # Errors
-    /// [`Error::Read`] where they pass the end of the file, or begin at it, also where there are
-    /// none; [`Error::Malformed`] with [`Cause::Overflow`] where their size passes 64 bits.
+    /// [`Error::Read`] if they run past the end of the file, or begin at it, even where there are
+    /// none; [`Error::Malformed`] with [`Cause::Overflow`] if their size overflows 64 bits.
     pub fn parse(bytes: &'a [u8], offset: usize, number: usize) -> Result<Relocations<'a>>
-        ensures { Answers relocations_left result (relocations_at bytes.now offset number)
-            (IsRelocationsFault bytes.now offset number) }
+        ensures { Reads relocations_left result (relocations_at offset number) bytes.now }
     {
         let Some(size) = number.checked_mul(COFF_RELOCATION_SIZE) else {
             return Err(Error::Malformed(Cause::Overflow));

@@ -8,26 +8,29 @@ ghost use Rattle.std.specs.Option.{option_eq, option_map};
 ghost use Rattle.std.specs.Cmp.Lexicographic.{pointwise};
 ghost use Rattle.goblin_base.specs.declared.error.ErrorOf.TheVariants.{Malformed};
 ghost use Rattle.goblin_base.specs.declared.error.CauseOf.TheVariants.{NameText};
-ghost use Rattle.goblin_base.specs.Answers.{Answers, AnswersOrMemory, GivesOrMemory, IsMemory};
+ghost use Rattle.goblin_base.specs.Answers.{Answers, GivesOrMemory, IsMemory};
 ghost use Rattle.goblin_base.specs.Answers.{Writes, IsSliceFault};
 ghost use Rattle.goblin_base.specs.Bytes.{overwritten, replaced};
+ghost use Rattle.goblin_base.specs.Reading.{Reads, ReadsOrMemory};
 ghost use Rattle.goblin_base.specs.Record.{WritesBack, encoding};
+ghost use Rattle.readings.specs.Reads.{mapped, slice_at};
 ghost use Rattle.goblin_pe_sect.specs.Options.{is_strict};
-ghost use Rattle.goblin_pe_sect.specs.Relocations.{relocations_at, relocations_left};
+ghost use Rattle.goblin_pe_sect.specs.Relocations.{relocations_in, relocations_left};
 ghost use Rattle.goblin_pe_sect.specs.SectionName.{name_value, IsNameFault, indirect_name};
-ghost use Rattle.goblin_pe_sect.specs.SectionName.{IsNameOffsetFault, real_name_at, HasBytes};
+ghost use Rattle.goblin_pe_sect.specs.SectionName.{IsNameOffsetFault, HasBytes};
+ghost use Rattle.goblin_pe_sect.specs.SectionReadings.{SectionWritesBack, raw_data, section_at};
+ghost use Rattle.goblin_pe_sect.specs.SectionReadings.{section_data, text_in_table};
 ghost use Rattle.goblin_pe_sect.specs.SectionTable.{Section, section_eq, section_per};
-ghost use Rattle.goblin_pe_sect.specs.SectionTable.{SectionReadsBack, SectionWritesBack};
-ghost use Rattle.goblin_pe_sect.specs.SectionTable.{section_record, section_fields, section_at};
-ghost use Rattle.goblin_pe_sect.specs.SectionTable.{IsSectionFault, name_of, IsNoName, raw_data};
-ghost use Rattle.goblin_pe_sect.specs.SectionTable.{section_data, OverlapRawData};
+ghost use Rattle.goblin_pe_sect.specs.SectionTable.{SectionReadsBack};
+ghost use Rattle.goblin_pe_sect.specs.SectionTable.{section_record, section_fields};
+ghost use Rattle.goblin_pe_sect.specs.SectionTable.{name_of, IsNoName, OverlapRawData};
 
 use crate::digits::{Digits, decimal_number, indirect_name};
 use crate::options::{ParseMode, ParseOptions};
 use crate::relocation::Relocations;
 use goblin_base::{
-    Cause, Endian, Error, Field, ReadFault, Result, field_array, field_u16, field_u32, gread_slice,
-    pread_str, pread_str_until, put_bytes, pwrite_slice, record_bytes,
+    Cause, Endian, Error, Field, ReadFault, Result, encode_fields, field_array, field_u16,
+    field_u32, gread_slice, pread_str, pread_str_until, put_bytes, pwrite_slice,
 };
 use std::alloc::Global;
 use std::borrow::CowSlice;
@@ -57,17 +60,17 @@ const _: () = prove!(SIZEOF_SECTION_TABLE == 40);
 /// A section, as its record describes it.
 ///
 /// Source: PE Format, "Section Table (Section Headers)". Numbers are as stored; a record has 40
-/// bytes, and `at` says where in it a field stands.
+/// bytes, and `at` gives a field's offset in it.
 #[derive(Debug, Default, Drop)]
 pub struct SectionTable {
-    /// The eight bytes of the name, padded with NULs, at 0. A longer name stands in the string
-    /// table, and these then say where. A loader goes by addresses and not by names.
+    /// The eight bytes of the name, padded with NULs, at 0. A longer name is in the string table,
+    /// and these then say where. A loader goes by addresses and not by names.
     pub name: [u8; 8],
-    /// The name from the string table; `None` where the eight bytes are the name, or no text stands
-    /// where they point to. It is no part of the record.
+    /// The name from the string table; `None` if the eight bytes are the name, or there is no text
+    /// where they point to. It is not part of the record.
     pub real_name: Option<String>,
-    /// The section's size in memory, in bytes, at 8: what the raw data lacks of it is zeros. Where
-    /// it is 0, as in objects, the raw size stands for it.
+    /// The section's size in memory, in bytes, at 8: what the raw data lacks of it is zeros. If it
+    /// is 0, as in objects, the raw size is used instead.
     pub virtual_size: u32,
     /// The section's address in memory, relative to the image's base, at 12.
     pub virtual_address: u32,
@@ -87,7 +90,7 @@ pub struct SectionTable {
     /// How many line numbers the section has, at 34. Deprecated.
     pub number_of_linenumbers: u16,
     /// What the section holds and how it may be used, as bits `IMAGE_SCN_*`, at 36. The loader
-    /// protects its pages by them: a section that may be written and executed is worth a look.
+    /// protects its pages by them: a section that is both writable and executable is suspicious.
     pub characteristics: u32,
 }
 
@@ -109,7 +112,7 @@ impl Model for SectionTable {
     } };
 }
 
-// Whether two names that stand elsewhere are the same.
+// Whether two real names are the same.
 fn same_text(a: &Option<String>, b: &Option<String>) -> bool
     ensures { result
         ≡ option_eq (pointwise nat_eq) (option_map string_bytes a.now)
@@ -175,13 +178,12 @@ impl SectionTable {
         offset: &mut usize,
         string_table_offset: usize,
     ) -> Result<SectionTable>
-        ensures value { AnswersOrMemory (λ s. s) result
-            (section_at true string_table_offset bytes.now offset.old)
-            (IsSectionFault true bytes.now offset.old) }
+        ensures value { ReadsOrMemory (λ s. s) result
+            (section_at true string_table_offset offset.old) bytes.now }
         ensures grown { IfErr result
             (λ e.
             IsMemory e
-            → IsSomeAnd (section_at true string_table_offset bytes.now offset.old)
+            → IsSomeAnd ((section_at true string_table_offset offset.old).value bytes.now)
             (λ s. HasBytes s.real_name)) }
         ensures ok { OnOk result (offset.new ≡ offset.old + 40) }
         ensures err { OnErr result (offset.new ≡ offset.old) }
@@ -192,14 +194,14 @@ impl SectionTable {
 
     /// Reads the record at the file offset `offset` and moves `offset` past it. Where its name is
     /// indirect, the real name is a copy of the text that it points to in the string table at
-    /// `string_table_offset`, a file offset, if a text stands there; a copy of an empty text takes
-    /// no memory.
+    /// `string_table_offset`, a file offset, if there is a text; a copy of an empty text takes no
+    /// memory.
     ///
     /// # Errors
-    /// [`Error::Read`] where the 40 bytes pass the end of the file; as
-    /// [`SectionTable::name_offset_with_opts`] where the name is refused; [`Error::Memory`] where
-    /// memory for the real name is refused. `offset` then stays.
-    #[tactic(auto, unfolding(crate::specs::SectionTable::section_at, crate::specs::SectionTable::IsSectionFault, crate::specs::SectionName::IsNameFault))]
+    /// [`Error::Read`] if the 40 bytes run past the end of the file; as
+    /// [`SectionTable::name_offset_with_opts`] where the name is refused; [`Error::Memory`] if
+    /// memory for the real name is refused. `offset` is then unchanged.
+    #[tactic(auto, unfolding(crate::specs::SectionReadings::section_at, crate::specs::SectionName::IsNameFault))]
     pub fn parse_with_opts(
         alloc: Global,
         bytes: &[u8],
@@ -207,12 +209,10 @@ impl SectionTable {
         string_table_offset: usize,
         opts: &ParseOptions,
     ) -> Result<SectionTable>
-        ensures value { let strict = is_strict opts.now.parse_mode in
-            AnswersOrMemory (λ s. s) result
-            (section_at strict string_table_offset bytes.now offset.old)
-            (IsSectionFault strict bytes.now offset.old) }
-        ensures grown { let section = section_at (is_strict opts.now.parse_mode) string_table_offset
-            bytes.now offset.old in
+        ensures value { ReadsOrMemory (λ s. s) result
+            (section_at (is_strict opts.now.parse_mode) string_table_offset offset.old) bytes.now }
+        ensures grown { let strict = is_strict opts.now.parse_mode in
+            let section = (section_at strict string_table_offset offset.old).value bytes.now in
             IfErr result (λ e. IsMemory e → IsSomeAnd section (λ s. HasBytes s.real_name)) }
         ensures ok { OnOk result (offset.new ≡ offset.old + 40) }
         ensures err { OnErr result (offset.new ≡ offset.old) }
@@ -226,11 +226,11 @@ impl SectionTable {
         Ok(section)
     }
 
-    /// A copy with its own text. One without a real name takes no memory, nor does one whose real
-    /// name is empty.
+    /// A copy with its own text. It takes no memory if there is no real name or the real name is
+    /// empty.
     ///
     /// # Errors
-    /// [`Error::Memory`] where memory for the text is refused.
+    /// [`Error::Memory`] if memory for the text is refused.
     pub fn clone(&self, alloc: Global) -> Result<SectionTable>
         ensures value { GivesOrMemory (λ s. s) result self.now }
         ensures grown { OnErr result (HasBytes self.now.real_name) }
@@ -255,16 +255,14 @@ impl SectionTable {
     }
 
     /// The section's raw data in the file `bytes`, as many bytes at its raw pointer as its record
-    /// says, without the zeros that [`SectionTable::data`] adds. It stays where it stands in the
-    /// file, so no memory is taken. It may be empty, also at the end of the file.
+    /// says, without the zeros that [`SectionTable::data`] adds. It borrows the file's bytes, so no
+    /// memory is taken. It may be empty, even at the end of the file.
     ///
     /// # Errors
-    /// [`Error::Read`] where it passes the file: `BadOffset` where it also begins at or past the
-    /// end, else `TooBig`.
+    /// [`Error::Read`] if it runs past the end of the file: `BadOffset` if it also begins at or
+    /// past the end, else `TooBig`.
     pub fn raw_data<'b>(&self, bytes: &'b [u8]) -> Result<&'b [u8]>
-        ensures { let pointer = self.now.pointer_to_raw_data in
-            Answers (λ s. s.now) result (raw_data self.now bytes.now)
-            (IsSliceFault bytes.now pointer self.now.size_of_raw_data) }
+        ensures { Reads (λ s. s.now) result (raw_data self.now) bytes.now }
     {
         let begin = self.pointer_to_raw_data as usize;
         match bytes.get(begin..begin + self.size_of_raw_data as usize) {
@@ -277,19 +275,19 @@ impl SectionTable {
     /// The section's data in the file `bytes`: its raw data, followed by zeros up to the virtual
     /// size where that is greater. It is borrowed where no zeros follow, and then takes no memory;
     /// else it is a copy of as many bytes as the virtual size, which a hostile file may set up to 4
-    /// GiB. `None` where the raw data passes the file.
+    /// GiB. `None` if the raw data runs past the end of the file.
     ///
     /// Source: PE Format, "Section Data".
     ///
     /// # Errors
-    /// [`Error::Memory`] where memory for data with zeros is refused.
+    /// [`Error::Memory`] if memory for data with zeros is refused.
     pub fn data<'b>(
         &self,
         alloc: Global,
         bytes: &'b [u8],
     ) -> Result<Option<CowSlice<'b, u8, Global>>>
         ensures value { GivesOrMemory (λ d. option_map cow_slice_items d) result
-            (section_data self.now bytes.now) }
+            ((section_data self.now).value bytes.now) }
         ensures borrowed { IfOk result
             (λ d.
             IfSome d
@@ -312,7 +310,7 @@ impl SectionTable {
         Ok(Some(CowSlice::Owned(padded)))
     }
 
-    /// Where the section's name stands in the string table, as
+    /// The offset of the section's name in the string table, as
     /// [`SectionTable::name_offset_with_opts`] with the default options.
     ///
     /// # Errors
@@ -324,8 +322,8 @@ impl SectionTable {
         self.name_offset_with_opts(&ParseOptions::default())
     }
 
-    /// Where the section's name stands in the string table, as an offset in bytes from the table's
-    /// length field, which stands at its start; `None` where the eight bytes are the name.
+    /// The offset of the section's name in the string table, in bytes from the table's length
+    /// field, which the table starts with; `None` if the eight bytes are the name.
     ///
     /// A name that begins with a slash is indirect: a decimal number follows one slash, a number of
     /// base 64 two, the most significant digit first.
@@ -345,13 +343,13 @@ impl SectionTable {
         name_value(&self.name, opts.parse_mode)
     }
 
-    /// Makes the eight bytes say that the section's name stands at `idx` in the string table, in
-    /// bytes from the table's start. The real name stays as it is, and so [`SectionTable::name`]
-    /// still answers it.
+    /// Sets the eight bytes to say that the section's name is at `idx` in the string table, in
+    /// bytes from the table's start. The real name stays as it is, so [`SectionTable::name`] still
+    /// returns it.
     ///
     /// # Errors
-    /// [`Error::Malformed`] with [`Cause::NameOffset`] where six digits of base 64 can't say `idx`;
-    /// the section then stays.
+    /// [`Error::Malformed`] with [`Cause::NameOffset`] if six digits of base 64 can't say `idx`;
+    /// the section is then unchanged.
     pub fn set_name_offset(&mut self, idx: usize) -> Result<()>
         ensures name { OnOk result (indirect_name idx ≡ Some self.new.name) }
         ensures others { self.new ≡ record self.old { name = self.new.name } }
@@ -370,8 +368,8 @@ impl SectionTable {
     /// The section's name: the real name, else the text of the eight bytes up to a NUL.
     ///
     /// # Errors
-    /// [`Error::Read`] with `BadInput` where the eight bytes up to a NUL are not UTF-8 and there is
-    /// no real name.
+    /// [`Error::Read`] with `BadInput` if the eight bytes up to a NUL are not UTF-8 and there is no
+    /// real name.
     pub fn name(&self) -> Result<&str>
         ensures { Answers (λ s. s.now) result (name_of self.now.real_name self.now.name)
             (IsNoName self.now.real_name self.now.name) }
@@ -382,27 +380,27 @@ impl SectionTable {
         }
     }
 
-    /// The section's relocations in the file `bytes`, at the file offset and of the number that its
-    /// record says. The number of 0xFFFF is taken as it stands, also where
-    /// [`IMAGE_SCN_LNK_NRELOC_OVFL`] is set.
+    /// The section's relocations in the file `bytes`, at the file offset and as many as its record
+    /// says. The number 0xFFFF is taken literally, even where [`IMAGE_SCN_LNK_NRELOC_OVFL`] is set.
     ///
     /// Source: PE Format, "COFF Relocations (Object Only)".
     ///
     /// # Errors
-    /// [`Error::Read`] where they pass the end of the file, or begin at it, also where there are
+    /// [`Error::Read`] if they run past the end of the file, or begin at it, even where there are
     /// none.
     pub fn relocations<'b>(&self, bytes: &'b [u8]) -> Result<Relocations<'b>>
         ensures { let place = self.now.pointer_to_relocations in
             let count = self.now.number_of_relocations in
-            Answers relocations_left result (relocations_at bytes.now place count)
-            (IsSliceFault bytes.now place (10 * count)) }
+            Reads relocations_left result (mapped relocations_in (slice_at place (10 * count)))
+            bytes.now }
     {
         let offset = self.pointer_to_relocations as usize;
         Relocations::parse(bytes, offset, self.number_of_relocations as usize)
     }
 
     /// Whether the raw data of the two sections overlaps in the file: neither ends at or before the
-    /// offset where the other begins. So empty raw data strictly inside another's overlaps it.
+    /// offset where the other begins. Empty raw data strictly inside another's therefore overlaps
+    /// it.
     pub fn overlaps_with(&self, other: &SectionTable) -> bool
         ensures overlap { IsTrue result ↔ OverlapRawData self.now other.now }
         ensures symmetric { IsTrue result ↔ OverlapRawData other.now self.now }
@@ -415,19 +413,19 @@ impl SectionTable {
 }
 
 impl SectionTable {
-    /// The size of a section record in bytes, the same in either order of bytes: 40.
+    /// The size of a section record in bytes: 40 in either byte order.
     pub fn size_with(_endian: &Endian) -> usize
         ensures { result ≡ 40 }
     {
         SIZEOF_SECTION_TABLE
     }
 
-    /// Writes the record at the front of `bytes` and answers its size, 40. The real name is no part
-    /// of it. A record that was read is written as it stood, and any section is read again from
-    /// what was written, but for its real name, by the same order of bytes.
+    /// Writes the record at the front of `bytes` and returns its size, 40. The real name is not
+    /// part of it. A record that was read is written back unchanged, and any section reads back
+    /// from what was written, except for its real name, in the same byte order.
     ///
     /// # Errors
-    /// [`Error::Read`] where there is no room; `bytes` then stays.
+    /// [`Error::Read`] if there is no room; `bytes` is then unchanged.
     #[tactic(auto, using(crate::proofs::SectionTableRoundTrip::section_back, crate::proofs::SectionTableRoundTrip::section_record_back))]
     pub fn try_into_ctx(&self, bytes: &mut [u8], endian: Endian) -> Result<usize>
         ensures size { IfOk result (λ size. size ≡ 40) }
@@ -468,7 +466,7 @@ impl SectionTable {
             Field::U16(self.number_of_linenumbers),
             Field::U32(self.characteristics),
         ];
-        record_bytes(&fields, endian)
+        encode_fields(&fields, endian)
     }
 }
 
@@ -499,7 +497,7 @@ fn name_value(name: &[u8; 8], mode: ParseMode) -> Result<Option<usize>>
     }
 }
 
-// What a name says that is not UTF-8 after its slashes.
+// What a name that is not UTF-8 after its slashes says.
 fn no_text(mode: ParseMode) -> Result<Option<usize>>
     ensures { result ≡ (if is_strict mode then Err (Malformed NameText) else Ok None) }
 {
@@ -509,7 +507,7 @@ fn no_text(mode: ParseMode) -> Result<Option<usize>>
     }
 }
 
-// A copy of the text at `value` in the string table, if a text stands there.
+// A copy of the text at `value` in the string table, if there is a text.
 fn real_name(
     alloc: Global,
     bytes: &[u8],
@@ -517,8 +515,9 @@ fn real_name(
     value: Option<usize>,
 ) -> Result<Option<String>>
     ensures value { GivesOrMemory (λ name. option_map string_bytes name) result
-        (real_name_at bytes.now string_table_offset value) }
-    ensures grown { OnErr result (HasBytes (real_name_at bytes.now string_table_offset value)) }
+        ((text_in_table string_table_offset value).value bytes.now) }
+    ensures grown { OnErr result
+        (HasBytes ((text_in_table string_table_offset value).value bytes.now)) }
 {
     let Some(offset) = value.and_then(|value| string_table_offset.checked_add(value)) else {
         return Ok(None);

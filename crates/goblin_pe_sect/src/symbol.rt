@@ -6,22 +6,24 @@ ghost use Rattle.std.specs.Iterator.{UpTo, YieldsFirstBy, at_most};
 ghost use Rattle.std.specs.Iterator.SizeHint.{IsWithinCount};
 ghost use Rattle.goblin_base.specs.Answers.{Answers, Writes, IsSliceFault};
 ghost use Rattle.goblin_base.specs.Bytes.{overwritten, slice_at};
+ghost use Rattle.goblin_base.specs.Reading.{Reads};
 ghost use Rattle.goblin_base.specs.Record.{record_at, ReadsBack, WritesBack, encoding, record_over};
 ghost use Rattle.goblin_pe_sect.specs.declared.symbol.Symbol.{Symbol};
 ghost use Rattle.goblin_pe_sect.specs.AuxiliarySymbols.{begin_and_end_function_record};
 ghost use Rattle.goblin_pe_sect.specs.AuxiliarySymbols.{function_definition_record};
 ghost use Rattle.goblin_pe_sect.specs.AuxiliarySymbols.{section_definition_record};
 ghost use Rattle.goblin_pe_sect.specs.AuxiliarySymbols.{weak_external_record};
-ghost use Rattle.goblin_pe_sect.specs.Symbols.{AreSymbolsOf, IsNoSymbolName, IsSymbolsFault};
+ghost use Rattle.goblin_pe_sect.specs.Symbols.{AreSymbolsOf, IsNoSymbolName};
 ghost use Rattle.goblin_pe_sect.specs.Symbols.{file_name_at, inline_name, name_offset_of};
 ghost use Rattle.goblin_pe_sect.specs.Symbols.{named_symbol, named_value, offset_name};
 ghost use Rattle.goblin_pe_sect.specs.Symbols.{stored_number, stored_offset, symbol_fields};
 ghost use Rattle.goblin_pe_sect.specs.Symbols.{symbol_item, symbol_name, symbol_record, symbols_in};
-ghost use Rattle.goblin_pe_sect.specs.Symbols.{symbols_left, table_bytes};
+ghost use Rattle.goblin_pe_sect.specs.Symbols.{symbol_at, symbol_table, symbols_left};
+ghost use Rattle.goblin_pe_sect.specs.Symbols.{table_bytes};
 
 use goblin_base::{
-    Cause, Endian, Error, Field, Record, Result, Strtab, field_array, field_i16, field_u8,
-    field_u16, field_u32, pread_slice, pread_str_until, put_fields, pwrite_slice, record_bytes,
+    Cause, Endian, Error, Field, Record, Result, Strtab, encode_fields, field_array, field_i16,
+    field_u8, field_u16, field_u32, pread_slice, pread_str_until, put_fields, pwrite_slice,
 };
 
 mod auxiliary;
@@ -64,11 +66,11 @@ const LENGTH_FIELD_SIZE: u32 = 4;
 /// A symbol, as its record describes it.
 ///
 /// Source: PE Format, "COFF Symbol Table". Numbers are as stored; a record has 18 bytes, and `at`
-/// says where in it a field stands.
+/// gives a field's offset in it.
 #[derive(Debug, PartialEq, Copy, Clone, Default)]
 pub struct Symbol {
-    /// The eight bytes of the name, padded with NULs, at 0. Where the first is 0, the name stands
-    /// in the string table, at the number in the last four, which counts from the table's length
+    /// The eight bytes of the name, padded with NULs, at 0. Where the first is 0, the name is in
+    /// the string table, at the number in the last four, which counts from the table's length
     /// field.
     pub name: [u8; 8],
     /// What the symbol stands for, by its section and class, at 8: mostly an offset in its section,
@@ -82,7 +84,7 @@ pub struct Symbol {
     pub typ: u16,
     /// Its class, an `IMAGE_SYM_CLASS_*`, at 16.
     pub storage_class: u8,
-    /// How many auxiliary records follow it, at 17. The next symbol stands after these.
+    /// How many auxiliary records follow it, at 17. The next symbol follows these.
     pub number_of_aux_symbols: u8,
 }
 
@@ -124,23 +126,22 @@ impl Record for Symbol {
 }
 
 impl Symbol {
-    /// The record at the file offset `offset`, as the pair (name that stands in it, symbol). The
-    /// name is the text of the record's first eight bytes; `None` where the first byte is 0, and so
-    /// the name stands in the string table, or where they are not UTF-8 up to a NUL.
+    /// The record at the file offset `offset`, as the pair (name in it, symbol). The name is the
+    /// text of the record's first eight bytes; `None` if the first byte is 0, and so the name is in
+    /// the string table, or where they are not UTF-8 up to a NUL.
     ///
     /// Source: PE Format, "Symbol Name Representation".
     ///
     /// # Errors
-    /// [`Error::Read`] where the 18 bytes pass the end of the file.
+    /// [`Error::Read`] if the 18 bytes run past the end of the file.
     pub fn parse<'a>(bytes: &'a [u8], offset: usize) -> Result<(Option<&'a str>, Symbol)>
-        ensures { Answers named_value result (record_at 18 named_symbol bytes.now offset)
-            (IsSliceFault bytes.now offset 18) }
+        ensures { Reads named_value result (symbol_at offset) bytes.now }
     {
         let record = pread_slice(bytes, offset, COFF_SYMBOL_SIZE)?;
         Ok(named(record))
     }
 
-    // The number that stands in place of a name.
+    // The number stored in place of a name.
     fn stored_number(&self) -> Option<u32>
         ensures { result ≡ stored_number self.now.name }
     {
@@ -158,7 +159,7 @@ impl Symbol {
     ///
     /// # Errors
     /// [`Error::Malformed`] with [`Cause::SymbolName`] of the offset where `strtab` has no text
-    /// there, and of the stored number where that is below 4; [`Error::Read`] with `BadInput` where
+    /// there, and of the stored number where that is below 4; [`Error::Read`] with `BadInput` if
     /// the eight bytes are the name and are not UTF-8 up to a NUL.
     pub fn name<'a>(&'a self, strtab: &'a Strtab) -> Result<&'a str>
         ensures { Answers (λ s. s.now) result (symbol_name strtab.now self.now.name)
@@ -176,24 +177,24 @@ impl Symbol {
         }
     }
 
-    /// Where the symbol's name stands in the string table, in bytes after the four that say the
-    /// table's length, so that [`Strtab::get_at`] takes it. `None` where the name's first byte is
-    /// not 0, and so the name stands in the record, or where the stored number, which counts those
-    /// four, is below 4.
+    /// The offset of the symbol's name in the string table, in bytes after the four that say the
+    /// table's length, so that [`Strtab::get_at`] takes it. `None` if the name's first byte is not
+    /// 0, and so the name is in the record, or where the stored number, which counts those four, is
+    /// below 4.
     pub fn name_offset(&self) -> Option<u32>
         ensures { result ≡ name_offset_of self.now.name }
     {
         self.stored_number()?.checked_sub(LENGTH_FIELD_SIZE)
     }
 
-    /// Stores `offset` in place of the name. It counts the four bytes of the string table's
-    /// length, so [`Symbol::name_offset`] is then 4 less, and `None` where it is below 4.
+    /// Stores `offset` in place of the name. It counts the four bytes of the string table's length,
+    /// so [`Symbol::name_offset`] is then 4 less, and `None` if it is below 4.
     #[tactic(auto, using(crate::proofs::SymbolsRoundTrip::offset_name_bytes, crate::proofs::SymbolsRoundTrip::offset_name_says))]
     pub fn set_name_offset(&mut self, offset: u32)
         ensures name { self.new ≡ record self.old { name = offset_name offset } }
         ensures says { name_offset_of self.new.name ≡ stored_offset offset }
     {
-        self.name = record_bytes(&[Field::U32(0), Field::U32(offset)], Endian::Little);
+        self.name = encode_fields(&[Field::U32(0), Field::U32(offset)], Endian::Little);
     }
 
     /// The symbol's base type, an `IMAGE_SYM_TYPE_*`: the low four bits of its type.
@@ -225,8 +226,8 @@ impl Symbol {
             && self.section_number > 0
     }
 
-    /// Whether the symbol's storage class is weak external (105): another symbol stands for it
-    /// where it is not found. An [`AuxWeakExternal`] then follows.
+    /// Whether the symbol's storage class is weak external (105): another symbol replaces it if it
+    /// is not found. An [`AuxWeakExternal`] then follows.
     ///
     /// Source: PE Format, "Storage Class".
     pub fn is_weak_external(&self) -> bool
@@ -256,12 +257,12 @@ impl Symbol {
         self.storage_class == IMAGE_SYM_CLASS_STATIC && self.number_of_aux_symbols > 0
     }
 
-    /// Writes the record to the front of `bytes`, and answers its size, 18. One that was read is
-    /// written as it stood, and any is read again from what was written, by the same order of
-    /// bytes.
+    /// Writes the record to the front of `bytes`, and returns its size, 18. A record that was read
+    /// is written back unchanged, and any record reads back from what was written, in the same byte
+    /// order.
     ///
     /// # Errors
-    /// [`Error::Read`] where there is no room for 18 bytes; `bytes` are then as they were.
+    /// [`Error::Read`] if there is no room for 18 bytes; `bytes` is then unchanged.
     pub fn try_into_ctx(self, bytes: &mut [u8], endian: Endian) -> Result<usize>
         ensures size { IfOk result (λ n. n ≡ 18) }
         ensures written { let after = record_over 18 (encoding endian (symbol_fields self))
@@ -274,7 +275,7 @@ impl Symbol {
         Record::try_into_ctx(self, bytes, endian)
     }
 
-    /// The size of the record in bytes, the same in either order: 18.
+    /// The size of the record in bytes: 18 in either byte order.
     pub fn size_with(endian: &Endian) -> usize
         ensures { result ≡ 18 }
     {
@@ -282,7 +283,7 @@ impl Symbol {
     }
 }
 
-// The name that stands in a record.
+// The name in a record.
 fn inline_name(bytes: &[u8]) -> Option<&str>
     requires { length bytes.now ≡ 18 }
     ensures { option_map (λ s. s.now) result ≡ inline_name bytes.now }
@@ -293,7 +294,7 @@ fn inline_name(bytes: &[u8]) -> Option<&str>
     pread_str_until(bytes, 0, 8).ok()
 }
 
-// The symbol of a record, and the name that stands in it.
+// The symbol of a record, and the name in it.
 fn named(bytes: &[u8]) -> (Option<&str>, Symbol)
     requires { length bytes.now ≡ 18 }
     ensures { named_value result ≡ named_symbol bytes.now }
@@ -315,11 +316,10 @@ impl<'a> SymbolTable<'a> {
     /// The table of the `number` records at the file offset `offset`.
     ///
     /// # Errors
-    /// [`Error::Read`] where they pass the end of the file, or begin at it, also where there are
-    /// none; [`Error::Malformed`] with [`Cause::Overflow`] where their size passes 64 bits.
+    /// [`Error::Read`] if they run past the end of the file, or begin at it, even where there are
+    /// none; [`Error::Malformed`] with [`Cause::Overflow`] if their size overflows 64 bits.
     pub fn parse(bytes: &'a [u8], offset: usize, number: usize) -> Result<SymbolTable<'a>>
-        ensures { Answers table_bytes result (slice_at bytes.now offset (18 * number))
-            (IsSymbolsFault bytes.now offset number) }
+        ensures { Reads table_bytes result (symbol_table offset number) bytes.now }
     {
         let Some(size) = number.checked_mul(COFF_SYMBOL_SIZE) else {
             return Err(Error::Malformed(Cause::Overflow));
@@ -347,8 +347,8 @@ impl<'a> SymbolTable<'a> {
     }
 
     /// The record at `index`, read as a symbol whether or not it is an auxiliary one: the pair
-    /// (name that stands in it, symbol), as [`Symbol::parse`] gives them. `None` where the table
-    /// has no such record.
+    /// (name in it, symbol), as [`Symbol::parse`] returns them. `None` if the table has no such
+    /// record.
     pub fn get(&self, index: usize) -> Option<(Option<&'a str>, Symbol)>
         ensures { option_map named_value result
             ≡ record_at 18 named_symbol (table_bytes self.now) (18 * index) }
@@ -357,7 +357,7 @@ impl<'a> SymbolTable<'a> {
     }
 
     /// The record at `index`, whatever it is, as an auxiliary record of a function definition.
-    /// `None` where the table has no such record.
+    /// `None` if the table has no such record.
     pub fn aux_function_definition(&self, index: usize) -> Option<AuxFunctionDefinition>
         ensures { result
             ≡ record_at 18 (function_definition_record Endian.Little) (table_bytes self.now)
@@ -368,7 +368,7 @@ impl<'a> SymbolTable<'a> {
     }
 
     /// The record at `index`, whatever it is, as an auxiliary record of a function's start or end.
-    /// `None` where the table has no such record.
+    /// `None` if the table has no such record.
     pub fn aux_begin_and_end_function(&self, index: usize) -> Option<AuxBeginAndEndFunction>
         ensures { result
             ≡ record_at 18 (begin_and_end_function_record Endian.Little) (table_bytes self.now)
@@ -378,8 +378,8 @@ impl<'a> SymbolTable<'a> {
         Some(AuxBeginAndEndFunction::in_record(record, Endian::Little))
     }
 
-    /// The record at `index`, whatever it is, as an auxiliary record of a weak external. `None`
-    /// where the table has no such record.
+    /// The record at `index`, whatever it is, as an auxiliary record of a weak external. `None` if
+    /// the table has no such record.
     pub fn aux_weak_external(&self, index: usize) -> Option<AuxWeakExternal>
         ensures { result
             ≡ record_at 18 (weak_external_record Endian.Little) (table_bytes self.now)
@@ -390,7 +390,7 @@ impl<'a> SymbolTable<'a> {
     }
 
     /// The record at `index`, whatever it is, as an auxiliary record of a section definition.
-    /// `None` where the table has no such record.
+    /// `None` if the table has no such record.
     pub fn aux_section_definition(&self, index: usize) -> Option<AuxSectionDefinition>
         ensures { result
             ≡ record_at 18 (section_definition_record Endian.Little) (table_bytes self.now)
@@ -400,8 +400,8 @@ impl<'a> SymbolTable<'a> {
         Some(AuxSectionDefinition::in_record(record, Endian::Little))
     }
 
-    /// The name of a source file, which stands in the `number` records from `index` on: their text
-    /// up to a NUL. `None` where these pass the end of the table, begin at it, or are not UTF-8.
+    /// The name of a source file, from the `number` records from `index` on: their text up to a
+    /// NUL. `None` if these run past the end of the table, begin at it, or are not UTF-8.
     ///
     /// Source: PE Format, "Auxiliary Format 4: Files".
     pub fn aux_file(&self, index: usize, number: usize) -> Option<&'a str>
@@ -413,9 +413,9 @@ impl<'a> SymbolTable<'a> {
         pread_str_until(self.symbols, offset, size).ok()
     }
 
-    /// The symbols as triples (index of the record, name that stands in it, symbol), in order,
-    /// without the auxiliary records. The name is `None` where it stands in the string table, or is
-    /// not UTF-8: [`Symbol::name`] finds the first.
+    /// The symbols as triples (index of the record, name in it, symbol), in order, without the
+    /// auxiliary records. The name is `None` if it is in the string table, or is not UTF-8:
+    /// [`Symbol::name`] finds the first.
     pub fn iter(&self) -> SymbolIterator<'a>
         ensures items { symbols_left result ≡ symbols_in (table_bytes self.now) }
         ensures heads { AreSymbolsOf (table_bytes self.now) (symbols_in (table_bytes self.now)) }
@@ -426,12 +426,11 @@ impl<'a> SymbolTable<'a> {
         }
     }
 
-    /// Writes the records to the front of `bytes` as they stand, whatever the order of bytes, and
-    /// answers their size in bytes.
+    /// Writes the records to the front of `bytes` unchanged, whatever the byte order, and returns
+    /// their size in bytes.
     ///
     /// # Errors
-    /// [`Error::Read`] where there is no room, and where `bytes` are empty; they are then as they
-    /// were.
+    /// [`Error::Read`] if there is no room, or `bytes` is empty; it is then unchanged.
     pub fn try_into_ctx(self, bytes: &mut [u8], _endian: Endian) -> Result<usize>
         ensures size { IfOk result (λ n. n ≡ length (table_bytes self.entry)) }
         ensures written { Writes result (overwritten bytes.old 0 (table_bytes self.entry)) bytes.old
@@ -442,8 +441,7 @@ impl<'a> SymbolTable<'a> {
     }
 }
 
-/// The symbols of a table as triples (index of the record, name that stands in it, symbol), in
-/// order.
+/// The symbols of a table as triples (index of the record, name in it, symbol), in order.
 #[derive(Default, Drop)]
 pub struct SymbolIterator<'a> {
     symbols: &'a [u8],

@@ -1,4 +1,4 @@
-//! Addresses in memory and their offsets in the file, and what stands there.
+//! Addresses in memory, their offsets in the file, and texts and values there.
 //!
 //! Addresses are relative to the image's base (RVAs); offsets are file offsets. Both are in bytes.
 
@@ -7,11 +7,11 @@ ghost use Rattle.std.specs.Prelude.{find};
 ghost use Rattle.std.specs.Int.{is_power_of_two};
 ghost use Rattle.std.specs.Option.{option_copied, option_map};
 ghost use Rattle.goblin_base.specs.Answers.{Answers};
+ghost use Rattle.goblin_base.specs.Reading.{Reads};
+ghost use Rattle.goblin_pe_sect.specs.AddressReadings.{data_at, name_or_none, text_at_address};
 ghost use Rattle.goblin_pe_sect.specs.Mapping.{read_size, window_end, window_of, is_in_window};
 ghost use Rattle.goblin_pe_sect.specs.Mapping.{raw_begin, offset_in, file_offset, InWindow, MapsTo};
-ghost use Rattle.goblin_pe_sect.specs.Mapping.{MapsNowhere, OffsetsApart, name_at, name_or_none};
-ghost use Rattle.goblin_pe_sect.specs.Mapping.{data_at, IsMessage, IsNameAtFault, IsSafeNameFault};
-ghost use Rattle.goblin_pe_sect.specs.Mapping.{IsDataFault};
+ghost use Rattle.goblin_pe_sect.specs.Mapping.{MapsNowhere, OffsetsApart, IsMessage};
 ghost use Rattle.goblin_pe_sect.specs.Multiples.{greatest_multiple, least_multiple};
 ghost use Rattle.goblin_pe_sect.specs.Options.{is_strict, default_options};
 
@@ -80,13 +80,13 @@ pub(crate) fn section_window(section: &SectionTable, file_alignment: u32) -> (us
     (begin, begin + read_size(section, file_alignment))
 }
 
-/// The addresses that the section maps, as the pair (start, end), the end not among them; `None`
-/// where `file_alignment` is no power of two.
+/// The addresses that the section maps, as the pair (start, end), the end not among them; `None` if
+/// `file_alignment` is not a power of two.
 ///
 /// The window begins at the section's address. It is empty where the raw size is 0; else it has the
 /// least of these: the raw data's end rounded up to `file_alignment`, less its start rounded down
 /// to 512; the raw size rounded up to 4,096; and, where the virtual size is not 0, that rounded up
-/// to 4,096. It may pass the raw data and the file.
+/// to 4,096. It may extend past the raw data and the file.
 ///
 /// Source: none; PE Format leaves the mapping to loaders. These are goblin's windows.
 #[tactic(auto, using(crate::proofs::Mapped::power_positive))]
@@ -136,7 +136,7 @@ pub(crate) fn raw_begin(section: &SectionTable, opts: &ParseOptions) -> u32
     }
 }
 
-// Where the file has what stands at an address of the section's window.
+// The file offset of an address in the section's window.
 #[tactic(auto, using(crate::proofs::Mapped::read_size_le))]
 fn offset_in(rva: usize, section: &SectionTable, file_alignment: u32, opts: &ParseOptions) -> usize
     requires { InWindow file_alignment rva section.now }
@@ -171,11 +171,11 @@ fn file_offset(
 /// The file offset of the address `rva`: that of the first section whose window holds it, in the
 /// order of the table. Where windows overlap, the first hides the others.
 ///
-/// The windows are those that [`window`] answers. The offset is the raw pointer, as stored or
+/// The windows are those that [`window`] returns. The offset is the raw pointer, as stored or
 /// rounded down to 512 as `opts` says, plus the distance from the section's address; it may lie
-/// past the file, so who reads there tests it again. Where `opts` says that addresses are offsets,
-/// the answer is the address itself. Else it is `None` where no window holds the address, and where
-/// `file_alignment` is no power of two.
+/// past the file, so test it before reading there. If `opts` says that addresses are offsets, the
+/// result is the address itself. Otherwise it is `None` if no window holds the address or
+/// `file_alignment` is not a power of two.
 ///
 /// Source: none, as for [`window`]; the rounding of raw pointers is that of the Windows loader.
 #[tactic(auto, using(crate::proofs::Mapped::file_offset_first))]
@@ -194,7 +194,7 @@ pub fn find_offset(
     file_offset(rva, sections, file_alignment, opts)
 }
 
-/// The file offset of the address `rva`, as [`find_offset`] gives it.
+/// The file offset of the address `rva`, as [`find_offset`] returns it.
 ///
 /// # Errors
 /// [`Error::Malformed`] with [`Cause::Message`] of `msg` where there is none.
@@ -214,8 +214,9 @@ pub fn find_offset_or(
 /// The text at the address `rva`, up to its first NUL or the end of the file.
 ///
 /// # Errors
-/// In both modes: [`Error::Malformed`] with [`Cause::Unmapped`] where the address has no file
-/// offset, and [`Error::Read`] where no text stands there.
+/// In both modes: [`Error::Malformed`] with [`Cause::Unmapped`] if the address has no file offset,
+/// and [`Error::Read`] if there is no text.
+#[tactic(auto, unfolding(crate::specs::AddressReadings::text_at_address))]
 pub fn try_name<'a>(
     bytes: &'a [u8],
     rva: usize,
@@ -224,7 +225,7 @@ pub fn try_name<'a>(
     opts: &ParseOptions,
 ) -> Result<&'a str>
     ensures { let m = file_offset opts.now sections.now file_alignment in
-        Answers (λ s. s.now) result (name_at m bytes.now rva) (IsNameAtFault m bytes.now rva) }
+        Reads (λ s. s.now) result (text_at_address m rva) bytes.now }
 {
     match find_offset(rva, sections, file_alignment, opts) {
         Some(offset) => pread_str(bytes, offset),
@@ -232,12 +233,13 @@ pub fn try_name<'a>(
     }
 }
 
-/// The text at the address `rva`, as [`try_name`] gives it; `None`, in permissive mode alone, where
+/// The text at the address `rva`, as [`try_name`] returns it; `None`, only in permissive mode, if
 /// there is none.
 ///
 /// # Errors
-/// In strict mode [`Error::Malformed`]: [`Cause::Unmapped`] where the address has no file offset,
-/// [`Cause::NameRead`] where no text stands at that offset.
+/// In strict mode [`Error::Malformed`]: [`Cause::Unmapped`] if the address has no file offset,
+/// [`Cause::NameRead`] if there is no text at that offset.
+#[tactic(auto, unfolding(crate::specs::AddressReadings::name_or_none, crate::specs::AddressReadings::name_at))]
 pub fn safe_try_name<'a>(
     bytes: &'a [u8],
     rva: usize,
@@ -246,30 +248,28 @@ pub fn safe_try_name<'a>(
     opts: &ParseOptions,
 ) -> Result<Option<&'a str>>
     ensures { let m = file_offset opts.now sections.now file_alignment in
-        Answers (option_map (λ s. s.now)) result
-        (name_or_none (is_strict opts.now.parse_mode) (name_at m bytes.now rva))
-        (IsSafeNameFault m rva) }
+        Reads (option_map (λ s. s.now)) result
+        (name_or_none (is_strict opts.now.parse_mode) m rva) bytes.now }
 {
     let offset = find_offset(rva, sections, file_alignment, opts);
     safe_name_at(bytes, rva, offset, opts)
 }
 
-/// The text at `offset`, the file offset of the address `rva`, as [`safe_try_name`] gives it; for
-/// who maps addresses by an index. `None` as an offset means that the address has none, and so no
-/// text.
+/// The text at `offset`, the file offset of the address `rva`, as [`safe_try_name`] returns it; for
+/// callers that map addresses with an index. `None` as an offset means that the address has none,
+/// and therefore no text.
 ///
 /// # Errors
 /// As [`safe_try_name`].
+#[tactic(auto, unfolding(crate::specs::AddressReadings::name_or_none, crate::specs::AddressReadings::name_at))]
 pub fn safe_name_at<'a>(
     bytes: &'a [u8],
     rva: usize,
     offset: Option<usize>,
     opts: &ParseOptions,
 ) -> Result<Option<&'a str>>
-    ensures { let strict = is_strict opts.now.parse_mode in
-        Answers (option_map (λ s. s.now)) result
-        (name_or_none strict (name_at (λ _. offset) bytes.now rva))
-        (IsSafeNameFault (λ _. offset) rva) }
+    ensures { Reads (option_map (λ s. s.now)) result
+        (name_or_none (is_strict opts.now.parse_mode) (λ _. offset) rva) bytes.now }
 {
     let cause = match offset {
         Some(offset) => match pread_str(bytes, offset) {
@@ -298,8 +298,7 @@ pub fn get_data<'a, 'e, T: TryFromCtx<'a>>(
 ) -> ResultOf<'e, T>
     ensures { let m = file_offset default_options sections.now file_alignment in
         let rva = directory.virtual_address in
-        Answers T.plain result (data_at m T.value_of bytes.now rva)
-        (IsDataFault m T.refusal bytes.now rva) }
+        Reads T.plain result (data_at m T.value_of T.refusal rva) bytes.now }
 {
     get_data_with_opts(
         bytes,
@@ -314,9 +313,9 @@ pub fn get_data<'a, 'e, T: TryFromCtx<'a>>(
 /// may take bytes up to the end of the file, whatever the directory's size.
 ///
 /// # Errors
-/// In both modes: [`Error::Malformed`] with [`Cause::Unmapped`] where the address has no file
-/// offset, [`Error::Read`] with `BadOffset` where that lies at or past the end, and else what `T`
-/// refuses.
+/// In both modes: [`Error::Malformed`] with [`Cause::Unmapped`] if the address has no file offset,
+/// [`Error::Read`] with `BadOffset` if that lies at or past the end, and else what `T` refuses.
+#[tactic(auto, unfolding(crate::specs::AddressReadings::data_at))]
 pub fn get_data_with_opts<'a, 'e, T: TryFromCtx<'a>>(
     bytes: &'a [u8],
     sections: &[SectionTable],
@@ -326,8 +325,7 @@ pub fn get_data_with_opts<'a, 'e, T: TryFromCtx<'a>>(
 ) -> ResultOf<'e, T>
     ensures { let m = file_offset opts.now sections.now file_alignment in
         let rva = directory.virtual_address in
-        Answers T.plain result (data_at m T.value_of bytes.now rva)
-        (IsDataFault m T.refusal bytes.now rva) }
+        Reads T.plain result (data_at m T.value_of T.refusal rva) bytes.now }
 {
     let rva = directory.virtual_address as usize;
     let Some(offset) = find_offset(rva, sections, file_alignment, opts) else {

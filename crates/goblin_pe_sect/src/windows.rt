@@ -1,9 +1,8 @@
-//! An index of the windows of sections, which maps addresses to file offsets by a search by
-//! halving.
+//! An index of the windows of sections, which maps addresses to file offsets by binary search.
 //!
 //! A walk over the sections, as [`find_offset`](crate::utils::find_offset) makes it, takes as many
-//! steps for each address as there are sections. Here the line of addresses is cut once, at 0 and
-//! at each start and end of a window that is not empty, and each piece keeps its first section; an
+//! steps for each address as there are sections. Here the address space is cut once, at 0 and at
+//! each start and end of a window that is not empty, and each piece keeps its first section; an
 //! address is then found among n pieces by about log n comparisons.
 
 ghost use Rattle.std.specs.Prelude.{◌≡◌, ℕ, ◌+◌, ◌-◌, ◌*◌, ◌^◌, ◌<◌, ◌≤◌, IsTrue, IfOk, IfErr};
@@ -18,6 +17,7 @@ ghost use Rattle.goblin_pe_sect.specs.WindowIndex.{owner_offset, reached, halvin
 
 mod bounds;
 mod cuts;
+mod list;
 mod owners;
 
 use crate::options::ParseOptions;
@@ -25,12 +25,13 @@ use crate::section_table::SectionTable;
 pub use bounds::Bounds;
 use cuts::cut_points;
 use goblin_base::Result;
+pub use list::WindowList;
 use owners::{Owner, owners_of};
 use std::alloc::Global;
 use std::marker::Model;
 
 // The index in the middle of those from `low` up to, and without, `high`: at most half of the
-// others stand on either side, and below it as many as above it or one more.
+// others are on either side, and below it as many as above it or one more.
 fn middle(low: usize, high: usize) -> usize
     requires { low < high }
     ensures within { (low ≤ result) × (result < high) }
@@ -63,10 +64,10 @@ fn count_reached(bounds: &Bounds, rva: usize) -> (usize, usize)
     (low, probes)
 }
 
-/// The line of addresses, cut into pieces at the windows of sections. Each piece keeps the index,
-/// the address and the raw pointer of the first section whose window covers it, or none; nothing
-/// else is kept of the sections, which may be dropped. The raw pointer is kept as stored or rounded
-/// down to 512, as the options say with which the index was prepared.
+/// The address space, cut into pieces at the windows of sections. Each piece keeps the index, the
+/// address and the raw pointer of the first section whose window covers it, or none; nothing else
+/// is kept of the sections, which may be dropped. The raw pointer is kept as stored or rounded down
+/// to 512, by the options that the index was prepared with.
 #[derive(Drop)]
 pub struct WindowIndex {
     resolves: bool,
@@ -86,8 +87,9 @@ impl Model for WindowIndex {
 }
 
 impl WindowIndex {
-    // An index that has no pieces: no address is mapped, or each is its own offset.
-    fn without_pieces(alloc: Global, resolves: bool) -> WindowIndex
+    /// An index that has no pieces: no address is mapped; or, where `resolves` is false, each is
+    /// its own offset. It takes no memory.
+    pub fn without_pieces(alloc: Global, resolves: bool) -> WindowIndex
         ensures { result ≡ record { resolves = resolves; begins = []; owners = [] } }
     {
         WindowIndex {
@@ -100,10 +102,10 @@ impl WindowIndex {
     /// An index of the sections' windows, which maps every address as
     /// [`find_offset`](crate::utils::find_offset) does with the same arguments. It has at most two
     /// pieces for each section and one more; none where `opts` says that addresses are offsets or
-    /// `file_alignment` is no power of two, and then no memory is taken.
+    /// `file_alignment` is not a power of two, and then no memory is taken.
     ///
     /// # Errors
-    /// [`Error::Memory`](goblin_base::Error::Memory) alone.
+    /// Only [`Error::Memory`](goblin_base::Error::Memory).
     pub fn prepare(
         alloc: Global,
         sections: &[SectionTable],
@@ -159,9 +161,8 @@ impl WindowIndex {
     }
 
     /// The answer of [`WindowIndex::find`], and how many probes were made: calls of
-    /// [`Bounds::reaches`], the only call that tells where a piece begins. Fewer than 2 to the
-    /// power d pieces take at most d probes. It is the number that a search by halving makes for
-    /// this address.
+    /// [`Bounds::reaches`], the only call that says where a piece begins. Fewer than 2 to the power
+    /// d pieces take at most d probes. The number is that of a binary search for this address.
     #[tactic(auto, using(crate::proofs::Halving::none_needed, crate::proofs::Halving::none_counted), unfolding(crate::specs::WindowIndex::located))]
     pub fn find_counted(&self, rva: usize) -> (Option<usize>, usize)
         ensures value { result.0 ≡ located self.now rva }
@@ -177,8 +178,8 @@ impl WindowIndex {
         (self.offset_in_piece(count, rva), probes)
     }
 
-    /// The file offset of the address `rva`, as [`find_offset`](crate::utils::find_offset) with the
-    /// arguments with which the index was prepared; `None` where that answers it.
+    /// The file offset of the address `rva`, as [`find_offset`](crate::utils::find_offset) returns
+    /// it for the arguments that the index was prepared with.
     pub fn find(&self, rva: usize) -> Option<usize>
         ensures { result ≡ located self.now rva }
     {

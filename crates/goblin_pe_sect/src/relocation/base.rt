@@ -3,12 +3,14 @@
 ghost use Rattle.std.specs.Prelude.{◌≡◌, ◌+◌, ◌-◌, ◌/◌, ◌%◌, ◌<◌, ◌≤◌, Some, length, IfOk, IfSome};
 ghost use Rattle.std.specs.Iterator.{UpTo, YieldsFirst, YieldsFirstBy, at_most};
 ghost use Rattle.std.specs.Iterator.SizeHint.{IsWithinCount};
-ghost use Rattle.goblin_base.specs.Answers.{Answers, IsSliceFault, Writes};
+ghost use Rattle.goblin_base.specs.Answers.{IsSliceFault, Writes};
+ghost use Rattle.goblin_base.specs.Reading.{Reads};
 ghost use Rattle.goblin_base.specs.Record.{ReadsBack, WritesBack, encoding, record_over};
 ghost use Rattle.goblin_pe_sect.specs.declared.relocation.base.RelocationWord.{RelocationWord};
-ghost use Rattle.goblin_pe_sect.specs.BaseRelocations.{AreBlocksOf, IsRelocationDataFault};
+ghost use Rattle.goblin_pe_sect.specs.AddressReadings.{relocation_data};
+ghost use Rattle.goblin_pe_sect.specs.BaseRelocations.{AreBlocksOf};
 ghost use Rattle.goblin_pe_sect.specs.BaseRelocations.{block_at, block_item, block_items};
-ghost use Rattle.goblin_pe_sect.specs.BaseRelocations.{blocks_left, relocation_data};
+ghost use Rattle.goblin_pe_sect.specs.BaseRelocations.{blocks_left};
 ghost use Rattle.goblin_pe_sect.specs.BaseRelocations.{relocation_bytes, word_fields, word_items};
 ghost use Rattle.goblin_pe_sect.specs.BaseRelocations.{word_record, words_left};
 ghost use Rattle.goblin_pe_sect.specs.Mapping.{file_offset};
@@ -55,8 +57,7 @@ impl<'a> RelocationData<'a> {
         file_alignment: u32,
     ) -> Result<Self>
         ensures { let offset_of = file_offset default_options sections.now file_alignment in
-            Answers relocation_bytes result (relocation_data offset_of bytes.now dd)
-            (IsRelocationDataFault offset_of bytes.now dd) }
+            Reads relocation_bytes result (relocation_data offset_of dd) bytes.now }
     {
         let opts = ParseOptions::default();
         RelocationData::parse_with_opts(bytes, dd, sections, file_alignment, &opts)
@@ -66,9 +67,10 @@ impl<'a> RelocationData<'a> {
     /// says.
     ///
     /// # Errors
-    /// [`Error::Malformed`], in both modes: [`Cause::Unmapped`] where the address has no file
-    /// offset, [`Cause::RelocRange`] where the bytes there pass the end of the file, or begin at or
-    /// past it.
+    /// [`Error::Malformed`], in both modes: [`Cause::Unmapped`] if the address has no file offset,
+    /// [`Cause::RelocRange`] if the bytes there run past the end of the file, or begin at or past
+    /// it.
+    #[tactic(auto, unfolding(crate::specs::AddressReadings::relocation_data))]
     pub fn parse_with_opts(
         bytes: &'a [u8],
         dd: DataDirectory,
@@ -77,8 +79,7 @@ impl<'a> RelocationData<'a> {
         opts: &ParseOptions,
     ) -> Result<Self>
         ensures { let offset_of = file_offset opts.now sections.now file_alignment in
-            Answers relocation_bytes result (relocation_data offset_of bytes.now dd)
-            (IsRelocationDataFault offset_of bytes.now dd) }
+            Reads relocation_bytes result (relocation_data offset_of dd) bytes.now }
     {
         let rva = dd.virtual_address as usize;
         let Some(offset) = find_offset(rva, sections, file_alignment, opts) else {
@@ -90,8 +91,8 @@ impl<'a> RelocationData<'a> {
         }
     }
 
-    /// The blocks, in order; if there is a rest with which no block begins, one error comes last,
-    /// as [`RelocationBlockIterator`] says.
+    /// The blocks, in order; if bytes are left that do not begin a block, one error comes last, as
+    /// [`RelocationBlockIterator`] says.
     #[tactic(auto, using(crate::proofs::BlocksOf::blocks_of))]
     pub fn blocks(&self) -> RelocationBlockIterator<'a>
         ensures items { blocks_left result ≡ block_items (relocation_bytes self.now) 0 }
@@ -107,8 +108,8 @@ impl<'a> RelocationData<'a> {
 
 /// A block of base relocations, for one page of the image in memory.
 ///
-/// Source: PE Format, "Base Relocation Block". Its head has 8 bytes, and `at` says where in it a
-/// field stands.
+/// Source: PE Format, "Base Relocation Block". Its head has 8 bytes, and `at` gives a field's
+/// offset in it.
 #[derive(Debug, PartialEq, Copy, Clone, Default)]
 pub struct RelocationBlock<'a> {
     /// The page's address, relative to the image's base, at 0. The offset of each word is added to
@@ -157,10 +158,10 @@ impl<'a> RelocationBlock<'a> {
     }
 }
 
-/// The blocks of a base relocation directory, in order. A rest with which no block begins is one
-/// error, which comes last: [`Error::Read`] with `TooBig` where there is no whole head,
-/// [`Error::Malformed`] with [`Cause::BlockSize`] where its size is below that of a head, and with
-/// [`Cause::BlockRange`] where the bytes after the head pass the directory, or begin at its end.
+/// The blocks of a base relocation directory, in order. If bytes are left that do not begin a
+/// block, one error comes last: [`Error::Read`] with `TooBig` if there is no whole head,
+/// [`Error::Malformed`] with [`Cause::BlockSize`] if its size is below that of a head, and with
+/// [`Cause::BlockRange`] if the bytes after the head run past the directory, or begin at its end.
 ///
 /// Source: PE Format, "Base Relocation Block".
 #[derive(Debug, Copy, Clone)]
@@ -210,8 +211,8 @@ impl<'a> Iterator for RelocationBlockIterator<'a> {
 
 impl FusedIterator for RelocationBlockIterator<'_> {}
 
-/// A word of a base relocation block: an address in the block's page, and how a loader changes what
-/// stands there.
+/// A word of a base relocation block: an address in the block's page, and how a loader changes the
+/// bytes there.
 ///
 /// Source: PE Format, "Base Relocation Block" and "Base Relocation Types". The number is as stored;
 /// the record has 2 bytes.
@@ -248,7 +249,7 @@ impl Record for RelocationWord {
 }
 
 impl RelocationWord {
-    /// How what stands there is changed, an `IMAGE_REL_BASED_*`: the high four bits. Type 0 changes
+    /// How the bytes there are changed, an `IMAGE_REL_BASED_*`: the high four bits. Type 0 changes
     /// nothing and fills up a block.
     pub fn reloc_type(&self) -> u8
         ensures { result ≡ self.now.value / 4096 }
@@ -256,19 +257,19 @@ impl RelocationWord {
         (self.value >> 12) as u8
     }
 
-    /// Where it stands, in bytes from the block's address: the low twelve bits.
+    /// The offset of those bytes from the block's address: the low twelve bits.
     pub fn offset(&self) -> u16
         ensures { result ≡ self.now.value % 4096 }
     {
         self.value & 0xFFF
     }
 
-    /// Writes the record to the front of `bytes`, and answers its size, 2. One that was read is
-    /// written as it stood, and any is read again from what was written, by the same order of
-    /// bytes.
+    /// Writes the record to the front of `bytes`, and returns its size, 2. A record that was read
+    /// is written back unchanged, and any record reads back from what was written, in the same byte
+    /// order.
     ///
     /// # Errors
-    /// [`Error::Read`] where there is no room for 2 bytes; `bytes` are then as they were.
+    /// [`Error::Read`] if there is no room for 2 bytes; `bytes` is then unchanged.
     pub fn try_into_ctx(self, bytes: &mut [u8], endian: Endian) -> Result<usize>
         ensures size { IfOk result (λ n. n ≡ 2) }
         ensures written { let after = record_over 2 (encoding endian (word_fields self))
@@ -281,7 +282,7 @@ impl RelocationWord {
         Record::try_into_ctx(self, bytes, endian)
     }
 
-    /// The size of the record in bytes, the same in either order: 2.
+    /// The size of the record in bytes: 2 in either byte order.
     pub fn size_with(endian: &Endian) -> usize
         ensures { result ≡ 2 }
     {
@@ -289,8 +290,8 @@ impl RelocationWord {
     }
 }
 
-/// The words of a block, in order. One byte that is left after them is one [`Error::Read`] with
-/// `TooBig`, which comes last.
+/// The words of a block, in order. If one byte is left after them, one [`Error::Read`] with
+/// `TooBig` comes last.
 ///
 /// Source: PE Format, "Base Relocation Block".
 #[derive(Debug, Copy, Clone)]

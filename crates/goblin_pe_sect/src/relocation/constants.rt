@@ -303,7 +303,7 @@ pub const IMAGE_REL_BASED_HIGH: u16 = 0x01;
 pub const IMAGE_REL_BASED_LOW: u16 = 0x02;
 /// Base relocation: a 32-bit address.
 pub const IMAGE_REL_BASED_HIGHLOW: u16 = 0x03;
-/// Base relocation: the high half of a 32-bit address whose low half stands in the next word.
+/// Base relocation: the high half of a 32-bit address whose low half is in the next word.
 pub const IMAGE_REL_BASED_HIGHADJ: u16 = 0x04;
 /// Base relocation: a MIPS jump.
 pub const IMAGE_REL_BASED_MIPS_JMPADDR: u16 = 0x05;

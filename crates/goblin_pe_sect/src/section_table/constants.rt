@@ -12,11 +12,11 @@ pub const IMAGE_SCN_CNT_INITIALIZED_DATA: u32 = 0x0000_0040;
 pub const IMAGE_SCN_CNT_UNINITIALIZED_DATA: u32 = 0x0000_0080;
 /// Reserved.
 pub const IMAGE_SCN_LNK_OTHER: u32 = 0x0000_0100;
-/// The section has comments or other information. For object files alone.
+/// The section has comments or other information. For object files only.
 pub const IMAGE_SCN_LNK_INFO: u32 = 0x0000_0200;
-/// The section is no part of the image. For object files alone.
+/// The section is not part of the image. For object files only.
 pub const IMAGE_SCN_LNK_REMOVE: u32 = 0x0000_0800;
-/// The section has COMDAT data. For object files alone.
+/// The section has COMDAT data. For object files only.
 pub const IMAGE_SCN_LNK_COMDAT: u32 = 0x0000_1000;
 /// The section has data that is referred to through the global pointer.
 pub const IMAGE_SCN_GPREL: u32 = 0x0000_8000;
@@ -28,7 +28,7 @@ pub const IMAGE_SCN_MEM_16BIT: u32 = 0x0002_0000;
 pub const IMAGE_SCN_MEM_LOCKED: u32 = 0x0004_0000;
 /// Reserved.
 pub const IMAGE_SCN_MEM_PRELOAD: u32 = 0x0008_0000;
-/// The data is aligned to 1 byte. For object files alone, as are the alignments below.
+/// The data is aligned to 1 byte. For object files only, as are the alignments below.
 pub const IMAGE_SCN_ALIGN_1BYTES: u32 = 0x0010_0000;
 /// The data is aligned to 2 bytes.
 pub const IMAGE_SCN_ALIGN_2BYTES: u32 = 0x0020_0000;

@@ -23,7 +23,7 @@ use goblin_base::{
 /// What follows a symbol that defines a function.
 ///
 /// Source: PE Format, "Auxiliary Format 1: Function Definitions". Numbers are as stored; the record
-/// has 18 bytes, and `at` says where in it a field stands.
+/// has 18 bytes, and `at` gives a field's offset in it.
 #[derive(Debug, PartialEq, Copy, Clone, Default)]
 pub struct AuxFunctionDefinition {
     /// The index in the symbol table of the function's start, a record of class
@@ -76,13 +76,13 @@ impl Record for AuxFunctionDefinition {
 }
 
 impl AuxFunctionDefinition {
-    /// Writes the record to the front of `bytes`, and answers its size, 18. One that was read is
-    /// written as it stood, and any is read again from what was written, by the same order of
-    /// bytes.
+    /// Writes the record to the front of `bytes`, and returns its size, 18. A record that was read
+    /// is written back unchanged, and any record reads back from what was written, in the same byte
+    /// order.
     ///
     /// # Errors
-    /// [`Error::Read`](goblin_base::Error::Read) where there is no room for 18 bytes; `bytes` are
-    /// then as they were.
+    /// [`Error::Read`](goblin_base::Error::Read) if there is no room for 18 bytes; `bytes` is then
+    /// unchanged.
     pub fn try_into_ctx(self, bytes: &mut [u8], endian: Endian) -> Result<usize>
         ensures size { IfOk result (λ n. n ≡ 18) }
         ensures written { let after = record_over 18
@@ -98,7 +98,7 @@ impl AuxFunctionDefinition {
         Record::try_into_ctx(self, bytes, endian)
     }
 
-    /// The size of the record in bytes, the same in either order: 18.
+    /// The size of the record in bytes: 18 in either byte order.
     pub fn size_with(endian: &Endian) -> usize
         ensures { result ≡ 18 }
     {
@@ -109,7 +109,7 @@ impl AuxFunctionDefinition {
 /// What follows a symbol of a function's start or end.
 ///
 /// Source: PE Format, "Auxiliary Format 2: .bf and .ef Symbols". Numbers are as stored; the record
-/// has 18 bytes, and `at` says where in it a field stands.
+/// has 18 bytes, and `at` gives a field's offset in it.
 #[derive(Debug, PartialEq, Copy, Clone, Default)]
 pub struct AuxBeginAndEndFunction {
     /// Not used, at 0.
@@ -118,7 +118,7 @@ pub struct AuxBeginAndEndFunction {
     pub line_number: u16,
     /// Not used, at 6.
     pub unused2: [u8; 6],
-    /// At 12, of a start alone: the index in the symbol table of the next function's start, 0 where
+    /// At 12, only for a start: the index in the symbol table of the next function's start, 0 where
     /// this is the last.
     pub pointer_to_next_function: u32,
     /// Not used, at 16.
@@ -161,13 +161,13 @@ impl Record for AuxBeginAndEndFunction {
 }
 
 impl AuxBeginAndEndFunction {
-    /// Writes the record to the front of `bytes`, and answers its size, 18. One that was read is
-    /// written as it stood, and any is read again from what was written, by the same order of
-    /// bytes.
+    /// Writes the record to the front of `bytes`, and returns its size, 18. A record that was read
+    /// is written back unchanged, and any record reads back from what was written, in the same byte
+    /// order.
     ///
     /// # Errors
-    /// [`Error::Read`](goblin_base::Error::Read) where there is no room for 18 bytes; `bytes` are
-    /// then as they were.
+    /// [`Error::Read`](goblin_base::Error::Read) if there is no room for 18 bytes; `bytes` is then
+    /// unchanged.
     pub fn try_into_ctx(self, bytes: &mut [u8], endian: Endian) -> Result<usize>
         ensures size { IfOk result (λ n. n ≡ 18) }
         ensures written { let after = record_over 18
@@ -183,7 +183,7 @@ impl AuxBeginAndEndFunction {
         Record::try_into_ctx(self, bytes, endian)
     }
 
-    /// The size of the record in bytes, the same in either order: 18.
+    /// The size of the record in bytes: 18 in either byte order.
     pub fn size_with(endian: &Endian) -> usize
         ensures { result ≡ 18 }
     {
@@ -191,10 +191,10 @@ impl AuxBeginAndEndFunction {
     }
 }
 
-/// What follows a symbol for which another may stand.
+/// What follows a symbol that another may replace.
 ///
 /// Source: PE Format, "Auxiliary Format 3: Weak Externals". Numbers are as stored; the record has
-/// 18 bytes, and `at` says where in it a field stands.
+/// 18 bytes, and `at` gives a field's offset in it.
 #[derive(Debug, PartialEq, Copy, Clone, Default)]
 pub struct AuxWeakExternal {
     /// The index in the symbol table of the symbol that is taken where this one is not found, at 0.
@@ -237,13 +237,13 @@ impl Record for AuxWeakExternal {
 }
 
 impl AuxWeakExternal {
-    /// Writes the record to the front of `bytes`, and answers its size, 18. One that was read is
-    /// written as it stood, and any is read again from what was written, by the same order of
-    /// bytes.
+    /// Writes the record to the front of `bytes`, and returns its size, 18. A record that was read
+    /// is written back unchanged, and any record reads back from what was written, in the same byte
+    /// order.
     ///
     /// # Errors
-    /// [`Error::Read`](goblin_base::Error::Read) where there is no room for 18 bytes; `bytes` are
-    /// then as they were.
+    /// [`Error::Read`](goblin_base::Error::Read) if there is no room for 18 bytes; `bytes` is then
+    /// unchanged.
     pub fn try_into_ctx(self, bytes: &mut [u8], endian: Endian) -> Result<usize>
         ensures size { IfOk result (λ n. n ≡ 18) }
         ensures written { let after = record_over 18 (encoding endian (weak_external_fields self))
@@ -258,7 +258,7 @@ impl AuxWeakExternal {
         Record::try_into_ctx(self, bytes, endian)
     }
 
-    /// The size of the record in bytes, the same in either order: 18.
+    /// The size of the record in bytes: 18 in either byte order.
     pub fn size_with(endian: &Endian) -> usize
         ensures { result ≡ 18 }
     {
@@ -269,7 +269,7 @@ impl AuxWeakExternal {
 /// What follows a symbol that defines a section.
 ///
 /// Source: PE Format, "Auxiliary Format 5: Section Definitions". Numbers are as stored; the record
-/// has 18 bytes, and `at` says where in it a field stands.
+/// has 18 bytes, and `at` gives a field's offset in it.
 #[derive(Debug, PartialEq, Copy, Clone, Default)]
 pub struct AuxSectionDefinition {
     /// The size of the section's data, in bytes, at 0: the same as in its section record.
@@ -280,8 +280,8 @@ pub struct AuxSectionDefinition {
     pub number_of_line_numbers: u16,
     /// The checksum of COMDAT data, at 8.
     pub checksum: u32,
-    /// The number, counted from 1, of the section with which this one is taken, at 12; it counts
-    /// where [`Self::selection`] is `IMAGE_COMDAT_SELECT_ASSOCIATIVE`.
+    /// The number, counted from 1, of the section that this one is taken with, at 12; it counts if
+    /// [`Self::selection`] is `IMAGE_COMDAT_SELECT_ASSOCIATIVE`.
     pub number: u16,
     /// Which of several COMDAT sections of one name is taken, an `IMAGE_COMDAT_SELECT_*`, at 14.
     pub selection: u8,
@@ -329,13 +329,13 @@ impl Record for AuxSectionDefinition {
 }
 
 impl AuxSectionDefinition {
-    /// Writes the record to the front of `bytes`, and answers its size, 18. One that was read is
-    /// written as it stood, and any is read again from what was written, by the same order of
-    /// bytes.
+    /// Writes the record to the front of `bytes`, and returns its size, 18. A record that was read
+    /// is written back unchanged, and any record reads back from what was written, in the same byte
+    /// order.
     ///
     /// # Errors
-    /// [`Error::Read`](goblin_base::Error::Read) where there is no room for 18 bytes; `bytes` are
-    /// then as they were.
+    /// [`Error::Read`](goblin_base::Error::Read) if there is no room for 18 bytes; `bytes` is then
+    /// unchanged.
     pub fn try_into_ctx(self, bytes: &mut [u8], endian: Endian) -> Result<usize>
         ensures size { IfOk result (λ n. n ≡ 18) }
         ensures written { let after = record_over 18
@@ -351,7 +351,7 @@ impl AuxSectionDefinition {
         Record::try_into_ctx(self, bytes, endian)
     }
 
-    /// The size of the record in bytes, the same in either order: 18.
+    /// The size of the record in bytes: 18 in either byte order.
     pub fn size_with(endian: &Endian) -> usize
         ensures { result ≡ 18 }
     {

@@ -5,7 +5,7 @@
 
 /// A symbol's section: none; it is defined elsewhere, or is common where its value is not 0.
 pub const IMAGE_SYM_UNDEFINED: i16 = 0;
-/// A symbol's section: none; the value is no address.
+/// A symbol's section: none; the value is not an address.
 pub const IMAGE_SYM_ABSOLUTE: i16 = -1;
 /// A symbol's section: none; the symbol is for debuggers.
 pub const IMAGE_SYM_DEBUG: i16 = -2;
@@ -14,7 +14,7 @@ const _: () = prove!(IMAGE_SYM_UNDEFINED == 0 && IMAGE_SYM_ABSOLUTE == -1 && IMA
 
 /// A symbol's base type: none, or not known.
 pub const IMAGE_SYM_TYPE_NULL: u16 = 0;
-/// A symbol's base type: no valid type, as of a function that answers nothing.
+/// A symbol's base type: no valid type, as for a function that returns nothing.
 pub const IMAGE_SYM_TYPE_VOID: u16 = 1;
 /// A symbol's base type: a character, a signed byte.
 pub const IMAGE_SYM_TYPE_CHAR: u16 = 2;
@@ -66,7 +66,7 @@ const _: () = prove!(
 
 /// The bits of a symbol's type that are its base type.
 pub const IMAGE_SYM_TYPE_MASK: u16 = 15;
-/// How many bits below a symbol's derived type stand in its type.
+/// How many bits of a symbol's type are below its derived type.
 pub const IMAGE_SYM_DTYPE_SHIFT: usize = 4;
 
 const _: () = prove!(IMAGE_SYM_TYPE_MASK == 15 && IMAGE_SYM_DTYPE_SHIFT == 4);
@@ -75,7 +75,7 @@ const _: () = prove!(IMAGE_SYM_TYPE_MASK == 15 && IMAGE_SYM_DTYPE_SHIFT == 4);
 pub const IMAGE_SYM_DTYPE_NULL: u16 = 0;
 /// A symbol's derived type: a pointer to the base type.
 pub const IMAGE_SYM_DTYPE_POINTER: u16 = 1;
-/// A symbol's derived type: a function that answers the base type.
+/// A symbol's derived type: a function that returns the base type.
 pub const IMAGE_SYM_DTYPE_FUNCTION: u16 = 2;
 /// A symbol's derived type: an array of the base type.
 pub const IMAGE_SYM_DTYPE_ARRAY: u16 = 3;
@@ -93,7 +93,7 @@ pub const IMAGE_SYM_CLASS_NULL: u8 = 0;
 pub const IMAGE_SYM_CLASS_AUTOMATIC: u8 = 1;
 /// A symbol's class: seen by other files.
 pub const IMAGE_SYM_CLASS_EXTERNAL: u8 = 2;
-/// A symbol's class: seen by its file alone; of value 0 it may stand for a section.
+/// A symbol's class: seen only by its file; with the value 0 it may stand for a section.
 pub const IMAGE_SYM_CLASS_STATIC: u8 = 3;
 /// A symbol's class: a variable in a register.
 pub const IMAGE_SYM_CLASS_REGISTER: u8 = 4;
@@ -131,11 +131,11 @@ pub const IMAGE_SYM_CLASS_BLOCK: u8 = 100;
 pub const IMAGE_SYM_CLASS_FUNCTION: u8 = 101;
 /// A symbol's class: the end of a structure.
 pub const IMAGE_SYM_CLASS_END_OF_STRUCT: u8 = 102;
-/// A symbol's class: a source file, whose name stands in the records that follow it.
+/// A symbol's class: a source file, whose name is in the records that follow it.
 pub const IMAGE_SYM_CLASS_FILE: u8 = 103;
 /// A symbol's class: a section.
 pub const IMAGE_SYM_CLASS_SECTION: u8 = 104;
-/// A symbol's class: defined elsewhere, and where it is not found, another symbol stands for it.
+/// A symbol's class: defined elsewhere; if it is not found, another symbol replaces it.
 pub const IMAGE_SYM_CLASS_WEAK_EXTERNAL: u8 = 105;
 /// A symbol's class: a token of the common language runtime.
 pub const IMAGE_SYM_CLASS_CLR_TOKEN: u8 = 107;
@@ -185,7 +185,7 @@ const _: () = prove!(
         && IMAGE_WEAK_EXTERN_SEARCH_ALIAS == 3
 );
 
-/// Which of several COMDAT sections is taken: there may be one alone.
+/// Which of several COMDAT sections is taken: only one may exist.
 pub const IMAGE_COMDAT_SELECT_NODUPLICATES: u8 = 1;
 /// Which of several COMDAT sections is taken: any.
 pub const IMAGE_COMDAT_SELECT_ANY: u8 = 2;

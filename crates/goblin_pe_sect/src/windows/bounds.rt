@@ -1,11 +1,11 @@
-//! Where the pieces of the line of addresses begin, seen by a call that counts.
+//! Where the pieces of the address space begin, seen by a call that counts.
 
 ghost use Rattle.std.specs.Prelude.{◌≡◌, ◌+◌, ◌<◌, ◌≤◌, ◌↔◌, IsTrue, length, slice_index};
 
 use std::marker::Model;
 
-/// Where the pieces of the line of addresses begin. A search sees a bound by [`Bounds::reaches`]
-/// alone, which counts its calls.
+/// Where the pieces of the address space begin. A search sees a bound only through
+/// [`Bounds::reaches`], which counts its calls.
 #[derive(Drop)]
 pub struct Bounds {
     begins: Vec<usize>,

@@ -1,4 +1,4 @@
-//! Where the line of addresses is cut into pieces.
+//! Where the address space is cut into pieces.
 
 ghost use Rattle.std.specs.Prelude.{◌<◌, IfOk};
 ghost use Rattle.goblin_pe_sect.specs.WindowIndex.{AreNear, IsCut};
@@ -7,8 +7,8 @@ use crate::section_table::SectionTable;
 use crate::utils::section_window;
 use std::alloc::{AllocError, Global};
 
-/// Where the line of addresses is cut, in rising order: at 0 and at each start and end of a window
-/// that is not empty.
+/// Where the address space is cut, in rising order: at 0 and at each start and end of a window that
+/// is not empty.
 pub(super) fn cut_points(
     alloc: Global,
     sections: &[SectionTable],

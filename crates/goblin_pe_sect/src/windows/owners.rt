@@ -1,8 +1,7 @@
-//! Which section each piece of the line of addresses belongs to.
+//! Which section each piece of the address space belongs to.
 //!
-//! The pieces are halved, again and again: each stretch of them is handed the windows that may own
-//! some of its pieces, which are few, and hands them on to its halves. So the steps grow like n log
-//! n.
+//! The pieces are halved again and again: each range of pieces gets the few windows that may own
+//! some of them, and passes them on to its halves, so the steps grow like n log n.
 
 ghost use Rattle.std.specs.Prelude.{◌≡◌, ◌<◌, ◌++◌, IsTrue, IfOk, OnOk, map, find, filter};
 ghost use Rattle.std.specs.Prelude.{position};
@@ -28,16 +27,19 @@ pub struct Owner {
     pub pointer: u32,
 }
 
-// So few windows are walked over for each piece; more are first shared out between halves of the
-// pieces.
+// At most this many windows are walked over for each piece; more are first divided between halves
+// of the pieces.
 const FEW: usize = 16;
 
-// The window of a section, and what an index keeps of the section.
+/// The window of a section, and what is kept of the section.
 #[derive(Copy, Clone)]
-struct Window {
-    begin: usize,
-    end: usize,
-    owner: Owner,
+pub struct Window {
+    /// The first address of the window.
+    pub begin: usize,
+    /// The first address after it.
+    pub end: usize,
+    /// What is kept of the section.
+    pub owner: Owner,
 }
 
 // The window of the section at this index of the table.
@@ -62,9 +64,9 @@ fn window_at(
     }
 }
 
-// The windows of all sections, in the table's order.
+/// The windows of all sections, in the table's order.
 #[tactic(auto, using(crate::proofs::Stretches::next_window))]
-fn windows_of(
+pub(super) fn windows_of(
     alloc: Global,
     sections: &[SectionTable],
     file_alignment: u32,
@@ -90,7 +92,7 @@ fn owner_at(rva: usize, windows: &[Window]) -> Option<Owner>
     Some(window.owner)
 }
 
-// Where the first window stands that holds all addresses from `first` to `last`.
+// The index of the first window that holds all addresses from `first` to `last`.
 fn cover_place(first: usize, last: usize, windows: &[Window]) -> Option<usize>
     ensures { result ≡ position (window_covers first last) windows.now }
 {

@@ -1,7 +1,7 @@
 use Rattle.std.proofs.Common.{ap, ◌∙◌, ℕ, List}
 use Rattle.std.specs.Prelude.{◌==◌, position}
-use Rattle.goblin_pe_sect.specs.SectionName.{alphabet}
-use Rattle.goblin_pe_sect.proofs.Numerals.{position-place}
+use Rattle.goblin_pe_sect.specs.Digits.{alphabet}
+use Rattle.goblin_pe_sect.proofs.DigitSums.{position-place}
 use Rattle.goblin_pe_sect.proofs.digits.Digits.digit.Goals as goal
 
 pub returns-clause-value : goal.returns-clause-value

@@ -1,7 +1,7 @@
 -- So far all bytes are digits, and the number is theirs.
 use Rattle.std.proofs.Common.{◌≡◌, ◌<◌, ◌^◌, map, take, true, nat_lt}
 use Rattle.std.specs.List.{list_all}
-use Rattle.goblin_pe_sect.specs.SectionName.{digit, radix, digits_sum}
+use Rattle.goblin_pe_sect.specs.Digits.{digit, radix, digits_sum}
 use Rattle.goblin_pe_sect.proofs.digits.Digits.numeral.Given as goal
 
 abbrev pub invariant-digits : goal.invariant-digits

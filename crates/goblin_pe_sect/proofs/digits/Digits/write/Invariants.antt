@@ -1,6 +1,6 @@
 -- The digits that are left, written here, give the name that is wanted.
 use Rattle.std.proofs.Common.{◌-◌, ◌≡◌, ◌≤◌, length}
-use Rattle.goblin_pe_sect.proofs.Numerals.{finished}
+use Rattle.goblin_pe_sect.proofs.DigitSums.{finished}
 use Rattle.goblin_pe_sect.proofs.digits.Digits.write.Given as goal
 
 abbrev pub invariant-digits : goal.invariant-digits

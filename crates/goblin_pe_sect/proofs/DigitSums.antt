@@ -9,7 +9,7 @@ use Rattle.std.proofs.Math.Nat.{pow-le-pow_right, pow-suc, pow-zero}
 use Rattle.std.proofs.Math.Seq.{take-suc}
 use Rattle.goblin_pe_sect.specs.declared.digits.Digits.{Digits}
 use Rattle.goblin_pe_sect.specs.declared.digits.Digits.TheVariants.{Decimal, Base64}
-use Rattle.goblin_pe_sect.specs.SectionName.{alphabet, digits_sum, digit, numeral, radix, digit_byte, last_digits}
+use Rattle.goblin_pe_sect.specs.Digits.{alphabet, digits_sum, digit, numeral, radix, digit_byte, last_digits}
 
 alone : (r d : ℕ) → d * r ^ 0 + 0 ≡ 0 * r + d
 alone r d =
