@@ -1,10 +1,7 @@
+pub mod Beside
 pub mod CoffHeaderRoundTrip
-pub mod CoffReadings
 pub mod DosHeaderRoundTrip
-pub mod Footprints
-pub mod HeaderCauses
 pub mod HeaderFaults
-pub mod HeaderReadings
 pub mod OptionalFieldsRoundTrip
 pub mod OptionalHeaderRoundTrip
 pub mod PeHeaderRoundTrip
@@ -13,7 +10,6 @@ pub mod RichEntries
 pub mod RichLaw
 pub mod RichMetadataRoundTrip
 pub mod RichPlaces
-pub mod RichReadings
 pub mod Sections
 pub mod TeHeaderRoundTrip
 pub mod WrittenForm

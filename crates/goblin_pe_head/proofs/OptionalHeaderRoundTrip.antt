@@ -10,18 +10,22 @@ use Rattle.goblin_base.specs.Record.{FieldValue, encoding, record_at}
 use Rattle.goblin_base.proofs.RecordRoundTrip.{IsBytes-slice, front_more, number-lt, slice-is}
 use Rattle.goblin_base.proofs.Numbers.{number-of_slice, number_at-some, slice_at-some}
 use Rattle.goblin_base.proofs.Records.{record_at-some}
-use Rattle.goblin_base.proofs.Steps.{same_value, step}
+use Rattle.goblin_base.proofs.Steps.{mapped, step}
 use Rattle.goblin_pe_sect.specs.declared.data_directories.DataDirectory.{DataDirectory}
-use Rattle.goblin_pe_sect.specs.DataDirectories.{directories_at, entries_fields}
+use Rattle.readings.specs.Reads.{pair_of}
+use Rattle.goblin_pe_sect.specs.DataDirectories.{entries_fields}
+use Rattle.goblin_pe_sect.specs.DirectoryReadings.{directories_at}
 use Rattle.goblin_pe_sect.proofs.DataDirectoriesRoundTrip.{entries_back}
 use Rattle.goblin_pe_head.specs.declared.optional_header.standard_fields.StandardFields32.{StandardFields32}
 use Rattle.goblin_pe_head.specs.declared.optional_header.standard_fields.StandardFields64.{StandardFields64}
 use Rattle.goblin_pe_head.specs.declared.optional_header.windows_fields.WindowsFields32.{WindowsFields32}
 use Rattle.goblin_pe_head.specs.declared.optional_header.FixedFields.{FixedFields}
 use Rattle.goblin_pe_head.specs.declared.optional_header.OptionalHeader.{OptionalHeader}
-use Rattle.goblin_pe_head.specs.OptionalHeader.{fields_32, fields_64, fixed_fields, optional_bytes, optional_header, standard_32_fields, standard_32_record, standard_64_fields, standard_64_record, standard_from_32, standard_from_64, standard_to_32, standard_to_64, windows_32_fields, windows_32_record, windows_64_fields, windows_64_record, windows_from_32, windows_to_32}
+use Rattle.goblin_pe_head.specs.HeaderReadings.{fields_32, fields_64, fixed_fields, optional_header}
+use Rattle.goblin_pe_head.specs.OptionalHeader.{optional_bytes, standard_32_fields, standard_32_record, standard_64_fields, standard_64_record, standard_from_32, standard_from_64, standard_to_32, standard_to_64, windows_32_fields, windows_32_record, windows_64_fields, windows_64_record, windows_from_32, windows_to_32}
 use Rattle.goblin_pe_head.specs.OptionalHeaderLaws.{optional_header-within}
 use Rattle.goblin_pe_head.specs.HeaderLaws.{OptionalWritesBack, filling, optional_size}
+use Rattle.goblin_pe_head.proofs.Beside.{both}
 use Rattle.goblin_pe_head.proofs.OptionalFieldsRoundTrip.{standard_32_back, standard_64_back, windows_32_back, windows_64_back}
 
 -- a field of four bytes fits 32 bits
@@ -88,7 +92,7 @@ header_of f entries = record { standard_fields = f.standard_fields; windows_fiel
 
 abbrev Goal : List ℕ → FixedFields → Type 0
 Goal bytes f =
-    (entries : List (Option (ℕ × DataDirectory))) → directories_at f.windows_fields.number_of_rva_and_sizes bytes f.size ≡ Some entries
+    (entries : List (Option (ℕ × DataDirectory))) → (directories_at f.windows_fields.number_of_rva_and_sizes f.size).value bytes ≡ Some entries
     → IsForm bytes (header_of f entries) (f.size + 8 * f.windows_fields.number_of_rva_and_sizes)
 
 by_magic_32 : (h : OptionalHeader) → h.standard_fields.magic ≡ 0x10B → 96 + 8 * h.windows_fields.number_of_rva_and_sizes ≡ optional_size h
@@ -97,18 +101,18 @@ by_magic_32 h e = rw e refl
 by_magic_64 : (h : OptionalHeader) → h.standard_fields.magic ≡ 0x20B → 112 + 8 * h.windows_fields.number_of_rva_and_sizes ≡ optional_size h
 by_magic_64 h e = rw e refl
 
-entries-are : (bytes : List ℕ) (count p : ℕ) (entries : List (Option (ℕ × DataDirectory))) → IsBytes bytes → directories_at count bytes p ≡ Some entries
+entries-are : (bytes : List ℕ) (count p : ℕ) (entries : List (Option (ℕ × DataDirectory))) → IsBytes bytes → (directories_at count p).value bytes ≡ Some entries
     → encoding Little (entries_fields entries) ≡ take (8 * count) (drop p bytes) ++ replicate (8 * (16 - count)) 0
 entries-are bytes count p entries h e = entries_back count bytes p entries h e ∙ ap (λ (xs : List ℕ). xs ++ replicate (8 * (16 - count)) 0) (slice-is bytes p (8 * count))
 
-read_32 : (bytes : List ℕ) (f : FixedFields) → IsBytes bytes → number_at Little 2 bytes 0 ≡ Some 0x10B → fields_32 bytes ≡ Some f → Goal bytes f
+read_32 : (bytes : List ℕ) (f : FixedFields) → IsBytes bytes → number_at Little 2 bytes 0 ≡ Some 0x10B → fields_32.value bytes ≡ Some f → Goal bytes f
 read_32 bytes f h magic e =
-    let first = step (record_at 28 (standard_32_record Little) bytes 0) _ f e in
-    let second = step (record_at 68 (windows_32_record Little) bytes 28) _ f first.then in
-    let s = first.value in
-    let w = second.value in
-    let s_is = (record_at-some 28 (standard_32_record Little) bytes 0 s first.is).is in
-    let w_is = (record_at-some 68 (windows_32_record Little) bytes 28 w second.is).is in
+    let all = mapped (pair_of (record_at 28 (standard_32_record Little) bytes 0) (record_at 68 (windows_32_record Little) bytes 28)) _ f e in
+    let own = both (record_at 28 (standard_32_record Little) bytes 0) (record_at 68 (windows_32_record Little) bytes 28) all.value all.is in
+    let s = all.value.0 in
+    let w = all.value.1 in
+    let s_is = (record_at-some 28 (standard_32_record Little) bytes 0 s own.first).is in
+    let w_is = (record_at-some 68 (windows_32_record Little) bytes 28 w own.second).is in
     let made : FixedFields = record { standard_fields = standard_from_32 s; windows_fields = windows_from_32 w; size = 96 } in
     let standard : standard_to_32 (standard_from_32 s) ≡ s =
     ap (λ (x : StandardFields32). standard_to_32 (standard_from_32 x)) s_is ∙ standard_32-same (slice_range bytes 0 (0 + 28)) (IsBytes-slice bytes 0 28 h) ∙ sym s_is in
@@ -122,19 +126,19 @@ read_32 bytes f h magic e =
       by_magic_32 header is_magic,
       form_32 header s w is_magic standard windows
           ∙ ap (λ (xs : List ℕ). Some xs) (pieces bytes 28 68 (8 * count) (encoding Little (standard_32_fields s)) (encoding Little (windows_32_fields w)) (encoding Little (entries_fields entries)) (filling header)
-          (record_bytes-are 28 (standard_32_record Little) standard_32_fields bytes 0 s (standard_32_back Little) h first.is)
-          (record_bytes-are 68 (windows_32_record Little) windows_32_fields bytes 28 w (windows_32_back Little) h second.is)
+          (record_bytes-are 28 (standard_32_record Little) standard_32_fields bytes 0 s (standard_32_back Little) h own.first)
+          (record_bytes-are 68 (windows_32_record Little) windows_32_fields bytes 28 w (windows_32_back Little) h own.second)
           (entries-are bytes count 96 entries h found)),
     )) in
-    subst (Goal bytes) (same_value made f second.then) there
+    subst (Goal bytes) all.made there
 
-read_64 : (bytes : List ℕ) (f : FixedFields) → IsBytes bytes → number_at Little 2 bytes 0 ≡ Some 0x20B → fields_64 bytes ≡ Some f → Goal bytes f
+read_64 : (bytes : List ℕ) (f : FixedFields) → IsBytes bytes → number_at Little 2 bytes 0 ≡ Some 0x20B → fields_64.value bytes ≡ Some f → Goal bytes f
 read_64 bytes f h magic e =
-    let first = step (record_at 24 (standard_64_record Little) bytes 0) _ f e in
-    let second = step (record_at 88 (windows_64_record Little) bytes 24) _ f first.then in
-    let s = first.value in
-    let w = second.value in
-    let s_is = (record_at-some 24 (standard_64_record Little) bytes 0 s first.is).is in
+    let all = mapped (pair_of (record_at 24 (standard_64_record Little) bytes 0) (record_at 88 (windows_64_record Little) bytes 24)) _ f e in
+    let own = both (record_at 24 (standard_64_record Little) bytes 0) (record_at 88 (windows_64_record Little) bytes 24) all.value all.is in
+    let s = all.value.0 in
+    let w = all.value.1 in
+    let s_is = (record_at-some 24 (standard_64_record Little) bytes 0 s own.first).is in
     let made : FixedFields = record { standard_fields = standard_from_64 s; windows_fields = w; size = 112 } in
     let standard : standard_to_64 (standard_from_64 s) ≡ s =
     ap (λ (x : StandardFields64). standard_to_64 (standard_from_64 x)) s_is ∙ standard_64-same (slice_range bytes 0 (0 + 24)) (IsBytes-slice bytes 0 24 h) ∙ sym s_is in
@@ -146,11 +150,11 @@ read_64 bytes f h magic e =
       by_magic_64 header is_magic,
       form_64 header s is_magic standard
           ∙ ap (λ (xs : List ℕ). Some xs) (pieces bytes 24 88 (8 * count) (encoding Little (standard_64_fields s)) (encoding Little (windows_64_fields w)) (encoding Little (entries_fields entries)) (filling header)
-          (record_bytes-are 24 (standard_64_record Little) standard_64_fields bytes 0 s (standard_64_back Little) h first.is)
-          (record_bytes-are 88 (windows_64_record Little) windows_64_fields bytes 24 w (windows_64_back Little) h second.is)
+          (record_bytes-are 24 (standard_64_record Little) standard_64_fields bytes 0 s (standard_64_back Little) h own.first)
+          (record_bytes-are 88 (windows_64_record Little) windows_64_fields bytes 24 w (windows_64_back Little) h own.second)
           (entries-are bytes count 112 entries h found)),
     )) in
-    subst (Goal bytes) (same_value made f second.then) there
+    subst (Goal bytes) all.made there
 
 pub bytes_after : (bytes : List ℕ) (p : ℕ) → IsBytes bytes → IsBytes (drop p bytes)
 bytes_after bytes p h i = rw (get_or-drop p bytes i 0) (h (p + i))
@@ -160,31 +164,31 @@ pick true c x y z e = inl (refl, e)
 pick false true x y z e = inr (refl, e)
 pick false false x y z e = absurd cc
 
-fixed-form : (magic : ℕ) (bytes : List ℕ) (f : FixedFields) → IsBytes bytes → number_at Little 2 bytes 0 ≡ Some magic → fixed_fields magic bytes ≡ Some f → Goal bytes f
+fixed-form : (magic : ℕ) (bytes : List ℕ) (f : FixedFields) → IsBytes bytes → number_at Little 2 bytes 0 ≡ Some magic → (fixed_fields magic).value bytes ≡ Some f → Goal bytes f
 unfolding fixed_fields
 fixed-form magic bytes f h is e =
-    elim (pick (nat_eq magic 0x10B) (nat_eq magic 0x20B) (fields_32 bytes) (fields_64 bytes) f e) [
+    elim (pick (nat_eq magic 0x10B) (nat_eq magic 0x20B) (fields_32.value bytes) (fields_64.value bytes) f e) [
       | inl narrow ↦ read_32 bytes f h (is ∙ ap (λ (m : ℕ). Some m) (eqb-true magic 0x10B narrow.0)) narrow.1
       | inr wide ↦ read_64 bytes f h (is ∙ ap (λ (m : ℕ). Some m) (eqb-true magic 0x20B wide.0)) wide.1
     ]
 
-within : (bytes : List ℕ) (h : OptionalHeader) (n : ℕ) → optional_header bytes ≡ Some (h, n) → n ≤ length bytes
+within : (bytes : List ℕ) (h : OptionalHeader) (n : ℕ) → optional_header.value bytes ≡ Some (h, n) → n ≤ length bytes
 within bytes h n e = subst (λ (o : Option (OptionalHeader × ℕ)). IfSome o (λ x. x.1 ≤ length bytes)) e (optional_header-within bytes)
 
 pub optional_back : OptionalWritesBack
 unfolding OptionalWritesBack optional_header
 optional_back bytes h n fits e =
     let first = step (number_at Little 2 bytes 0) _ (h, n) e in
-    let second = step (fixed_fields first.value bytes) _ (h, n) first.then in
+    let second = step ((fixed_fields first.value).value bytes) _ (h, n) first.then in
     let f = second.value in
-    let third = step (directories_at f.windows_fields.number_of_rva_and_sizes bytes f.size) _ (h, n) second.then in
-    let same : (header_of f third.value, f.size + 8 * f.windows_fields.number_of_rva_and_sizes) ≡ (h, n) = same_value _ (h, n) third.then in
+    let third = mapped ((directories_at f.windows_fields.number_of_rva_and_sizes f.size).value bytes) _ (h, n) second.then in
+    let same : (header_of f third.value, f.size + 8 * f.windows_fields.number_of_rva_and_sizes) ≡ (h, n) = third.made in
     let form = fixed-form first.value bytes f fits first.is second.is third.value third.is in
     let here : IsForm bytes h n = subst (λ (x : OptionalHeader × ℕ). IsForm bytes x.0 x.1) same form in
     (here.0, within bytes h n e, here.1)
 
 -- the same of one that was read
-pub read_optional : (bytes : List ℕ) (h : OptionalHeader) (n : ℕ) → IsBytes bytes → optional_header bytes ≡ Some (h, n)
+pub read_optional : (bytes : List ℕ) (h : OptionalHeader) (n : ℕ) → IsBytes bytes → optional_header.value bytes ≡ Some (h, n)
     → (n ≡ optional_size h) × (n ≤ length bytes) × (optional_bytes Little h ≡ Some (take n bytes ++ filling h))
 unfolding OptionalWritesBack
 read_optional = optional_back

@@ -1,57 +1,90 @@
 -- A header that was read is written as its bytes stand, with the missing directories after them, and is read again.
 use Rattle.std.proofs.Common.{◌≡◌, ℕ, ◌+◌, ◌-◌, ◌≤◌, ◌&&◌, Bool, true, false, cond, nat_le, List, [], ◌∷◌, ◌++◌, take, drop, length, Option, Some, None, refl, sym, ap, ◌∙◌, subst, arith, ◌*◌, nat_eq, nat_lt, append_assoc, inl, inr}
-use Rattle.std.specs.Prelude.{◌==◌, IsSomeAnd, option_map, slice_range, if◌then◌else◌, option_and_then}
+use Rattle.std.specs.Prelude.{◌==◌, IsSomeAnd, option_map, slice_range, option_and_then}
 use Rattle.std.proofs.lemmas.Bool.{and_parts, eqb-true, leb-true, le-leb}
 use Rattle.std.proofs.lemmas.List.{append-nil, length-drop}
 use Rattle.std.proofs.lemmas.Option.{cond_some}
 use Rattle.goblin_base.specs.declared.endian.Endian.TheVariants.{Little}
 use Rattle.goblin_base.specs.Bytes.{IsBytes, number_at, number_bytes, overwritten, replaced, slice_at}
+use Rattle.goblin_base.specs.Answers.{◌>>=◌}
+use Rattle.goblin_base.specs.Parts.{bytes_between}
 use Rattle.goblin_base.specs.Record.{encoding, record_at, uint}
 use Rattle.goblin_base.proofs.RecordRoundTrip.{front_more, number_bytes-number, slice-is}
 use Rattle.goblin_base.proofs.Numbers.{number_at-some, slice_at-some}
 use Rattle.goblin_base.proofs.Steps.{mapped, same_value, step}
 use Rattle.goblin_base.proofs.Fronts.{HaveFront, front-drop, front_then, number-front, record-front, slice-front}
-use Rattle.goblin_pe_sect.specs.DataDirectories.{directories_at}
+use Rattle.readings.specs.Reads.{in_its_place, pair_of}
+use Rattle.goblin_pe_sect.specs.DirectoryReadings.{directories_at}
 use Rattle.goblin_pe_sect.proofs.EntriesFront.{directories-front}
+use Rattle.goblin_pe_head.specs.declared.header.coff.CoffHeader.{CoffHeader}
 use Rattle.goblin_pe_head.specs.declared.header.dos.DosHeader.{DosHeader}
 use Rattle.goblin_pe_head.specs.declared.optional_header.OptionalHeader.{OptionalHeader}
 use Rattle.goblin_pe_head.specs.declared.optional_header.FixedFields.{FixedFields}
-use Rattle.goblin_pe_head.specs.DosStub.{stub_at}
 use Rattle.goblin_pe_head.specs.CoffHeader.{coff_fields, coff_header}
-use Rattle.goblin_pe_head.specs.DosHeader.{dos_fields, dos_header, dos_record}
+use Rattle.goblin_pe_head.specs.DosHeader.{dos_fields, dos_record}
+use Rattle.goblin_pe_head.specs.DosStub.{default_stub}
 use Rattle.goblin_pe_head.specs.HeaderLaws.{DosWritesBack, HeaderWritesBack, end_after, filling, filling_after, optional_size, HeaderReadsBack, header_end}
-use Rattle.goblin_pe_head.specs.OptionalHeader.{optional_header, fields_32, fields_64, fixed_fields, standard_32_record, standard_64_record, windows_32_record, windows_64_record}
-use Rattle.goblin_pe_head.specs.PeHeader.{PeHeader, header_at, header_bytes, header_parts, optional_at, optional_part, pe_header, stub_in}
-use Rattle.goblin_pe_head.specs.RichHeader.{rich_at, rich_in}
+use Rattle.goblin_pe_head.specs.HeaderReadings.{SignedParts, coff_parts, dos_header, dos_signature, fields_32, fields_64, fixed_fields, header_of, optional_at, optional_header, parts_at, pe_header, pe_signature, signed_record, stub_in, that_is}
+use Rattle.goblin_pe_head.specs.OptionalHeader.{standard_32_record, standard_64_record, windows_32_record, windows_64_record}
+use Rattle.goblin_pe_head.specs.PeHeader.{PeHeader, header_bytes, header_parts, optional_part}
+use Rattle.goblin_pe_head.specs.RichReadings.{rich_at, rich_in}
+use Rattle.goblin_pe_head.proofs.Beside.{both, strict_in_its_place}
 use Rattle.goblin_pe_head.proofs.CoffHeaderRoundTrip.{coff_back}
 use Rattle.goblin_pe_head.proofs.DosHeaderRoundTrip.{dos_back}
 use Rattle.goblin_pe_head.proofs.OptionalHeaderRoundTrip.{bytes_after, read_optional, pick}
 
 -- the parts of a header that was read in strict mode
 pub record IsHeaderOf (bytes : List ℕ) (h : PeHeader) : Type 0 where
-  pub dos : dos_header bytes ≡ Some h.dos_header
-  pub stub : stub_at bytes h.dos_header.pe_pointer ≡ Some h.dos_stub
-  pub rich : rich_at bytes h.dos_header.pe_pointer ≡ Some h.rich_header
+  pub dos : dos_header.value bytes ≡ Some h.dos_header
+  pub stub : bytes_between bytes 64 h.dos_header.pe_pointer ≡ Some h.dos_stub
+  pub rich : (rich_at h.dos_header.pe_pointer).value bytes ≡ Some h.rich_header
   pub signature : number_at Little 4 bytes h.dos_header.pe_pointer ≡ Some h.signature
   pub coff : record_at 20 (coff_header Little) bytes (h.dos_header.pe_pointer + 4) ≡ Some h.coff_header
-  pub optional : optional_at h.coff_header.size_of_optional_header bytes (h.dos_header.pe_pointer + 24) ≡ Some h.optional_header
+  pub optional : (optional_at h.coff_header.size_of_optional_header (h.dos_header.pe_pointer + 24)).value bytes ≡ Some h.optional_header
 
-pub parts_of : (bytes : List ℕ) (h : PeHeader) → pe_header true bytes ≡ Some h → IsHeaderOf bytes h
-unfolding pe_header stub_in header_at
+-- the parts from a signature on
+record ArePartsOf (bytes : List ℕ) (p : ℕ) (parts : SignedParts) : Type 0 where
+  signature : number_at Little 4 bytes p ≡ Some parts.signature
+  coff : record_at 20 (coff_header Little) bytes (p + 4) ≡ Some parts.coff_header
+  optional : (optional_at parts.coff_header.size_of_optional_header (p + 24)).value bytes ≡ Some parts.optional_header
+
+abbrev parts_with : ℕ → CoffHeader × Option OptionalHeader → SignedParts
+parts_with signature both = record { signature = signature; coff_header = both.0; optional_header = both.1 }
+
+signed_parts : (bytes : List ℕ) (p : ℕ) (parts : SignedParts) → (parts_at p).value bytes ≡ Some parts → ArePartsOf bytes p parts
+unfolding parts_at
+signed_parts bytes p parts e =
+    let all = mapped (pair_of (number_at Little 4 bytes p) ((coff_parts p).value bytes)) _ parts e in
+    let own = both (number_at Little 4 bytes p) ((coff_parts p).value bytes) all.value all.is in
+    let coff = step (record_at 20 (coff_header Little) bytes (p + 4)) _ all.value.1 own.second in
+    let optional = mapped ((optional_at coff.value.size_of_optional_header (p + 24)).value bytes) (λ optional. (coff.value, optional)) all.value.1 coff.then in
+    let whole : ArePartsOf bytes p (parts_with all.value.0 (coff.value, optional.value)) = record { signature = own.first; coff = coff.is; optional = optional.is } in
+    subst (ArePartsOf bytes p) (ap (parts_with all.value.0) optional.made ∙ all.made) whole
+
+pub parts_of : (bytes : List ℕ) (h : PeHeader) → (pe_header true).value bytes ≡ Some h → IsHeaderOf bytes h
+unfolding pe_header stub_in
 parts_of bytes h e =
-    let s1 = step (dos_header bytes) _ h e in
-    let p = s1.value.pe_pointer in
-    let s2 = step (stub_at bytes p) _ h s1.then in
-    let s3 = step (rich_at bytes p) _ h s2.then in
-    let s4 = step (number_at Little 4 bytes p) _ h s3.then in
-    let s5 = step (record_at 20 (coff_header Little) bytes (p + 4)) _ h s4.then in
-    let s6 = step (optional_at s5.value.size_of_optional_header bytes (p + 24)) _ h s5.then in
-    let whole : PeHeader = record { dos_header = s1.value; dos_stub = s2.value; rich_header = s3.value; signature = s4.value; coff_header = s5.value; optional_header = s6.value } in
-    let parts : IsHeaderOf bytes whole = record { dos = s1.is; stub = s2.is; rich = s3.is; signature = s4.is; coff = s5.is; optional = s6.is } in
-    subst (IsHeaderOf bytes) (same_value whole h s6.then) parts
+    let dos = step (dos_header.value bytes) _ h e in
+    let p = dos.value.pe_pointer in
+    let stub = in_its_place true default_stub (bytes_between bytes 64 p) in
+    let rich = (rich_at p).value bytes in
+    let parts = (parts_at p).value bytes in
+    let all = mapped (pair_of stub (pair_of rich parts)) (λ all. header_of dos.value all.0 all.1.0 all.1.1) h dos.then in
+    let front = both stub (pair_of rich parts) all.value all.is in
+    let back = both rich parts all.value.1 front.second in
+    let own = signed_parts bytes p all.value.1.1 back.second in
+    let whole : IsHeaderOf bytes (header_of dos.value all.value.0 all.value.1.0 all.value.1.1) = record {
+      dos = dos.is;
+      stub = sym (strict_in_its_place default_stub (bytes_between bytes 64 p)) ∙ front.first;
+      rich = back.first;
+      signature = own.signature;
+      coff = own.coff;
+      optional = own.optional;
+    } in
+    subst (IsHeaderOf bytes) all.made whole
 
-pub of_parts : (bytes : List ℕ) (h : PeHeader) → IsHeaderOf bytes h → pe_header true bytes ≡ Some h
-unfolding pe_header stub_in header_at
+pub of_parts : (bytes : List ℕ) (h : PeHeader) → IsHeaderOf bytes h → (pe_header true).value bytes ≡ Some h
+unfolding pe_header stub_in parts_at
 of_parts bytes h is = rw (is.dos, is.stub, is.rich, is.signature, is.coff, is.optional) refl
 
 -- what a DOS header that was read is made of
@@ -60,24 +93,29 @@ pub record IsDosOf (bytes : List ℕ) (h : DosHeader) : Type 0 where
   pub own : record_at 64 (dos_record Little) bytes 0 ≡ Some h
   pub signature : number_at Little 4 bytes h.pe_pointer ≡ Some 0x4550
 
-pub dos_of : (bytes : List ℕ) (h : DosHeader) → dos_header bytes ≡ Some h → IsDosOf bytes h
+-- a number that is the one that is wanted
+wanted : (number : Option ℕ) (n found : ℕ) → (number >>= that_is n) ≡ Some found → number ≡ Some n
+wanted number n found e =
+    let own = step number (that_is n) found e in
+    let test = cond_some (own.value == n) own.value found own.then in
+    own.is ∙ ap (λ (x : ℕ). Some x) (eqb-true own.value n test.0)
+
+pub dos_of : (bytes : List ℕ) (h : DosHeader) → dos_header.value bytes ≡ Some h → IsDosOf bytes h
 unfolding dos_header
 dos_of bytes h e =
-    let s1 = step (number_at Little 2 bytes 0) _ h e in
-    let s2 = step (record_at 64 (dos_record Little) bytes 0) _ h s1.then in
-    let s3 = step (number_at Little 4 bytes s2.value.pe_pointer) _ h s2.then in
-    let found = cond_some ((s1.value == 0x5A4D) && (s3.value == 0x4550)) s2.value h s3.then in
-    let tests = and_parts (s1.value == 0x5A4D) (s3.value == 0x4550) found.0 in
-    let magic : s1.value ≡ 0x5A4D = eqb-true _ _ tests.0 in
-    let signature : s3.value ≡ 0x4550 = eqb-true _ _ tests.1 in
-    let same = found.1 in
+    let all = mapped (pair_of (dos_signature.value bytes) (signed_record.value bytes)) (λ both. both.1) h e in
+    let own = both (dos_signature.value bytes) (signed_record.value bytes) all.value all.is in
+    let header = step (record_at 64 (dos_record Little) bytes 0) _ all.value.1 own.second in
+    let signature = mapped ((pe_signature header.value.pe_pointer).value bytes) (λ signature. header.value) all.value.1 header.then in
+    let same : header.value ≡ h = signature.made ∙ all.made in
     record {
-      magic = s1.is ∙ ap (λ (x : ℕ). Some x) magic;
-      own = s2.is ∙ ap (λ (x : DosHeader). Some x) same;
-      signature = ap (λ (x : DosHeader). number_at Little 4 bytes x.pe_pointer) (sym same) ∙ s3.is ∙ ap (λ (x : ℕ). Some x) signature;
+      magic = wanted (number_at Little 2 bytes 0) 0x5A4D all.value.0 own.first;
+      own = header.is ∙ ap (λ (x : DosHeader). Some x) same;
+      signature = ap (λ (x : DosHeader). number_at Little 4 bytes x.pe_pointer) (sym same)
+          ∙ wanted (number_at Little 4 bytes header.value.pe_pointer) 0x4550 signature.value signature.is;
     }
 
-pub of_dos : (bytes : List ℕ) (h : DosHeader) → IsDosOf bytes h → dos_header bytes ≡ Some h
+pub of_dos : (bytes : List ℕ) (h : DosHeader) → IsDosOf bytes h → dos_header.value bytes ≡ Some h
 unfolding dos_header
 of_dos bytes h is = rw (is.magic, is.own, is.signature) refl
 
@@ -87,12 +125,12 @@ record IsOptionalPart (bytes : List ℕ) (p : ℕ) (optional : Option OptionalHe
   pub written : IsSomeAnd (optional_part Little optional) (λ xs. take (p + 24) bytes ++ (xs ++ []) ≡ take (end_after p optional) bytes ++ filling_after optional)
 
 part : (bytes : List ℕ) (p : ℕ) (none : Bool) (optional : Option OptionalHeader) → IsBytes bytes → p + 24 ≤ length bytes
-    → cond none (Some None) (option_map (λ (header : OptionalHeader × ℕ). Some header.0) (optional_header (drop (p + 24) bytes))) ≡ Some optional
+    → cond none (Some None) (option_map (λ (header : OptionalHeader × ℕ). Some header.0) (optional_header.value (drop (p + 24) bytes))) ≡ Some optional
     → IsOptionalPart bytes p optional
 part bytes p true optional h room e = subst (IsOptionalPart bytes p) (same_value None optional e) (record { end = room; written = refl })
 part bytes p false optional h room e =
     let at = p + 24 in
-    let found = mapped (optional_header (drop at bytes)) (λ (header : OptionalHeader × ℕ). Some header.0) optional e in
+    let found = mapped (optional_header.value (drop at bytes)) (λ (header : OptionalHeader × ℕ). Some header.0) optional e in
     let header = found.value.0 in
     let n = found.value.1 in
     let back = read_optional (drop at bytes) header n (bytes_after bytes at h) found.is in
@@ -176,7 +214,7 @@ header_back file h fits e =
 
 -- ---- a header depends on the bytes up to its end alone, so it is read again
 
-dos-front : (n : ℕ) (h : DosHeader) (a b : List ℕ) → HaveFront n a b → 64 ≤ n → h.pe_pointer + 4 ≤ n → dos_header a ≡ Some h → dos_header b ≡ Some h
+dos-front : (n : ℕ) (h : DosHeader) (a b : List ℕ) → HaveFront n a b → 64 ≤ n → h.pe_pointer + 4 ≤ n → dos_header.value a ≡ Some h → dos_header.value b ≡ Some h
 dos-front n h a b front low high e =
     let is = dos_of a h e in
     of_dos b h (record {
@@ -190,7 +228,7 @@ stretch-front n p a b front low high =
     let place : 64 + (p - 64) ≡ p = omega (arith, low) in
     subst (λ (k : ℕ). slice_range a 64 k ≡ slice_range b 64 k) place (slice-front n 64 (p - 64) a b front (omega (arith, low, high)))
 
-stub-front : (n p : ℕ) (stub : List ℕ) (a b : List ℕ) → HaveFront n a b → p ≤ n → stub_at a p ≡ Some stub → stub_at b p ≡ Some stub
+stub-front : (n p : ℕ) (stub : List ℕ) (a b : List ℕ) → HaveFront n a b → p ≤ n → bytes_between a 64 p ≡ Some stub → bytes_between b 64 p ≡ Some stub
 stub-front n p stub a b front high e =
     let found = cond_some (nat_le 64 p && nat_le p (length a)) (slice_range a 64 p) stub e in
     let tests = and_parts (nat_le 64 p) (nat_le p (length a)) found.0 in
@@ -198,72 +236,78 @@ stub-front n p stub a b front high e =
     let same = stretch-front n p a b front (leb-true 64 p tests.0) high in
     rw (tests.0, room) (ap (λ (xs : List ℕ). Some xs) (sym same ∙ found.1))
 
-rich-front : (n p : ℕ) (a b : List ℕ) → HaveFront n a b → 64 ≤ p → p ≤ n → rich_at a p ≡ rich_at b p
-rich-front n p a b front low high = ap (λ (xs : List ℕ). if nat_lt p 68 then Some None else rich_in xs) (stretch-front n p a b front low high)
+rich-front : (n p : ℕ) (a b : List ℕ) → HaveFront n a b → 64 ≤ p → p ≤ n → (rich_at p).value a ≡ (rich_at p).value b
+unfolding rich_at
+rich-front n p a b front low high =
+    ap (λ (stretch : List ℕ). cond (nat_lt p 68) (Some None) (rich_in.value stretch)) (stretch-front n p a b front low high)
 
 -- fields that are there, also in another list of bytes with the same front
 record AreFields (magic : ℕ) (bytes : List ℕ) (f : FixedFields) : Type 0 where
   pub least : 96 ≤ f.size
-  pub same : (n : ℕ) (b : List ℕ) → HaveFront n bytes b → f.size ≤ n → fixed_fields magic b ≡ Some f
+  pub same : (n : ℕ) (b : List ℕ) → HaveFront n bytes b → f.size ≤ n → (fixed_fields magic).value b ≡ Some f
 
-fields_32-front : (bytes : List ℕ) (f : FixedFields) → fields_32 bytes ≡ Some f → AreFields 0x10B bytes f
+fields_32-front : (bytes : List ℕ) (f : FixedFields) → fields_32.value bytes ≡ Some f → AreFields 0x10B bytes f
 unfolding fixed_fields
 fields_32-front bytes f e =
-    let first = step (record_at 28 (standard_32_record Little) bytes 0) _ f e in
-    let second = step (record_at 68 (windows_32_record Little) bytes 28) _ f first.then in
-    let size : 96 ≡ f.size = ap (λ (x : FixedFields). x.size) (same_value _ f second.then) in
+    let first = record_at 28 (standard_32_record Little) bytes 0 in
+    let second = record_at 68 (windows_32_record Little) bytes 28 in
+    let all = mapped (pair_of first second) _ f e in
+    let own = both first second all.value all.is in
+    let size : 96 ≡ f.size = ap (λ (x : FixedFields). x.size) all.made in
     record {
       least = omega (arith, size);
       same = λ n b front le.
-          let one = record-front n 28 (standard_32_record Little) 0 first.value bytes b front (omega arith) (omega (arith, size, le)) first.is in
-          let two = record-front n 68 (windows_32_record Little) 28 second.value bytes b front (omega arith) (omega (arith, size, le)) second.is in
-          rw (one, two) second.then;
+          let one = record-front n 28 (standard_32_record Little) 0 all.value.0 bytes b front (omega arith) (omega (arith, size, le)) own.first in
+          let two = record-front n 68 (windows_32_record Little) 28 all.value.1 bytes b front (omega arith) (omega (arith, size, le)) own.second in
+          rw (one, two) (ap (λ (x : FixedFields). Some x) all.made);
     }
 
-fields_64-front : (bytes : List ℕ) (f : FixedFields) → fields_64 bytes ≡ Some f → AreFields 0x20B bytes f
+fields_64-front : (bytes : List ℕ) (f : FixedFields) → fields_64.value bytes ≡ Some f → AreFields 0x20B bytes f
 unfolding fixed_fields
 fields_64-front bytes f e =
-    let first = step (record_at 24 (standard_64_record Little) bytes 0) _ f e in
-    let second = step (record_at 88 (windows_64_record Little) bytes 24) _ f first.then in
-    let size : 112 ≡ f.size = ap (λ (x : FixedFields). x.size) (same_value _ f second.then) in
+    let first = record_at 24 (standard_64_record Little) bytes 0 in
+    let second = record_at 88 (windows_64_record Little) bytes 24 in
+    let all = mapped (pair_of first second) _ f e in
+    let own = both first second all.value all.is in
+    let size : 112 ≡ f.size = ap (λ (x : FixedFields). x.size) all.made in
     record {
       least = omega (arith, size);
       same = λ n b front le.
-          let one = record-front n 24 (standard_64_record Little) 0 first.value bytes b front (omega arith) (omega (arith, size, le)) first.is in
-          let two = record-front n 88 (windows_64_record Little) 24 second.value bytes b front (omega arith) (omega (arith, size, le)) second.is in
-          rw (one, two) second.then;
+          let one = record-front n 24 (standard_64_record Little) 0 all.value.0 bytes b front (omega arith) (omega (arith, size, le)) own.first in
+          let two = record-front n 88 (windows_64_record Little) 24 all.value.1 bytes b front (omega arith) (omega (arith, size, le)) own.second in
+          rw (one, two) (ap (λ (x : FixedFields). Some x) all.made);
     }
 
-fixed-front : (magic : ℕ) (bytes : List ℕ) (f : FixedFields) → fixed_fields magic bytes ≡ Some f → AreFields magic bytes f
+fixed-front : (magic : ℕ) (bytes : List ℕ) (f : FixedFields) → (fixed_fields magic).value bytes ≡ Some f → AreFields magic bytes f
 unfolding fixed_fields
 fixed-front magic bytes f e =
-    elim (pick (nat_eq magic 0x10B) (nat_eq magic 0x20B) (fields_32 bytes) (fields_64 bytes) f e) [
+    elim (pick (nat_eq magic 0x10B) (nat_eq magic 0x20B) (fields_32.value bytes) (fields_64.value bytes) f e) [
       | inl narrow ↦ subst (λ (m : ℕ). AreFields m bytes f) (sym (eqb-true magic 0x10B narrow.0)) (fields_32-front bytes f narrow.1)
       | inr wide ↦ subst (λ (m : ℕ). AreFields m bytes f) (sym (eqb-true magic 0x20B wide.0)) (fields_64-front bytes f wide.1)
     ]
 
-optional_header-front : (n k : ℕ) (h : OptionalHeader) (a b : List ℕ) → HaveFront n a b → k ≤ n → optional_header a ≡ Some (h, k) → optional_header b ≡ Some (h, k)
+optional_header-front : (n k : ℕ) (h : OptionalHeader) (a b : List ℕ) → HaveFront n a b → k ≤ n → optional_header.value a ≡ Some (h, k) → optional_header.value b ≡ Some (h, k)
 unfolding optional_header
 optional_header-front n k h a b front le e =
     let first = step (number_at Little 2 a 0) _ (h, k) e in
-    let second = step (fixed_fields first.value a) _ (h, k) first.then in
+    let second = step ((fixed_fields first.value).value a) _ (h, k) first.then in
     let f = second.value in
     let count = f.windows_fields.number_of_rva_and_sizes in
-    let third = step (directories_at count a f.size) _ (h, k) second.then in
-    let end : f.size + 8 * count ≡ k = ap (λ (x : OptionalHeader × ℕ). x.1) (same_value _ (h, k) third.then) in
+    let third = mapped ((directories_at count f.size).value a) _ (h, k) second.then in
+    let end : f.size + 8 * count ≡ k = ap (λ (x : OptionalHeader × ℕ). x.1) third.made in
     let fields = fixed-front first.value a f second.is in
     let one = number-front n Little 2 0 first.value a b front (omega (arith, end, le, fields.least)) first.is in
     let two = fields.same n b front (omega (arith, end, le)) in
     let three = directories-front n count f.size third.value a b front (omega (arith, end, le)) third.is in
-    rw (one, two, three) third.then
+    rw (one, two, three) (ap (λ (x : OptionalHeader × ℕ). Some x) third.made)
 
 optional-front : (n p : ℕ) (none : Bool) (optional : Option OptionalHeader) (a b : List ℕ) → IsBytes a → HaveFront n a b → end_after p optional ≤ n
-    → cond none (Some None) (option_map (λ (header : OptionalHeader × ℕ). Some header.0) (optional_header (drop (p + 24) a))) ≡ Some optional
-    → cond none (Some None) (option_map (λ (header : OptionalHeader × ℕ). Some header.0) (optional_header (drop (p + 24) b))) ≡ Some optional
+    → cond none (Some None) (option_map (λ (header : OptionalHeader × ℕ). Some header.0) (optional_header.value (drop (p + 24) a))) ≡ Some optional
+    → cond none (Some None) (option_map (λ (header : OptionalHeader × ℕ). Some header.0) (optional_header.value (drop (p + 24) b))) ≡ Some optional
 optional-front n p true optional a b fits front le e = e
 optional-front n p false optional a b fits front le e =
     let at = p + 24 in
-    let found = mapped (optional_header (drop at a)) (λ (header : OptionalHeader × ℕ). Some header.0) optional e in
+    let found = mapped (optional_header.value (drop at a)) (λ (header : OptionalHeader × ℕ). Some header.0) optional e in
     let h = found.value.0 in
     let k = found.value.1 in
     let size = (read_optional (drop at a) h k (bytes_after a at fits) found.is).0 in
@@ -277,7 +321,7 @@ least_end p None = omega arith
 least_end p (Some h) = omega arith
 
 -- a header depends on the bytes up to its end alone
-pub header-front : (a b : List ℕ) (h : PeHeader) → IsBytes a → pe_header true a ≡ Some h → HaveFront (header_end h) a b → pe_header true b ≡ Some h
+pub header-front : (a b : List ℕ) (h : PeHeader) → IsBytes a → (pe_header true).value a ≡ Some h → HaveFront (header_end h) a b → (pe_header true).value b ≡ Some h
 unfolding optional_at
 header-front a b h fits e front =
     let is = parts_of a h e in
@@ -306,4 +350,4 @@ header_again file old new h fits e written =
     let made = mapped (slice_at old 0 (length xs)) (λ _. replaced old 0 xs) new over in
     let rest = drop (0 + length xs) old in
     let is : take n file ++ (zeros ++ rest) ≡ new = sym (append_assoc (take n file) zeros rest) ∙ made.made in
-    subst (λ (bytes : List ℕ). pe_header true bytes ≡ Some h) is (header-front file (take n file ++ (zeros ++ rest)) h fits e (front_then n file (zeros ++ rest) back.0))
+    subst (λ (bytes : List ℕ). (pe_header true).value bytes ≡ Some h) is (header-front file (take n file ++ (zeros ++ rest)) h fits e (front_then n file (zeros ++ rest) back.0))

@@ -1,19 +1,17 @@
 -- What strict mode reads of headers, permissive mode reads, too.
-use Rattle.std.proofs.Common.{ℕ, ◌+◌, ◌*◌, true, false, List, Option, sym, ◌∙◌}
+use Rattle.std.proofs.Common.{ℕ, ◌+◌, ◌*◌, true, false, List, Option}
 use Rattle.goblin_base.specs.Reading.{Repeats}
 use Rattle.goblin_base.proofs.Kept.{Keeps, all_at-kept}
 use Rattle.readings.specs.Reads.{◌beside◌}
 use Rattle.readings.proofs.Modes.{repeats-beside, repeats-mapped, repeats-or_else, repeats-same}
 use Rattle.readings.proofs.Modes.{repeats-then}
-use Rattle.goblin_pe_sect.specs.SectionTable.{section_at}
-use Rattle.goblin_pe_sect.proofs.PermissiveReads.{section_at-kept}
-use Rattle.goblin_pe_head.specs.CoffHeader.{sections_at}
+use Rattle.goblin_pe_sect.specs.SectionReadings.{section_at}
+use Rattle.goblin_pe_sect.proofs.PermissiveReads.{repeats-section_at}
+use Rattle.goblin_pe_head.specs.CoffReadings as coff
 use Rattle.goblin_pe_head.specs.DosStub.{default_stub}
 use Rattle.goblin_pe_head.specs.HeaderReadings as reading
 use Rattle.goblin_pe_head.specs.HeaderReadings.{SignedParts, header_of}
-use Rattle.goblin_pe_head.specs.PeHeader.{pe_header}
 use Rattle.goblin_pe_head.specs.RichHeader.{Rich}
-use Rattle.goblin_pe_head.proofs.HeaderReadings.{value-pe_header}
 
 -- only the stub differs
 pub repeats-header : Repeats (reading.pe_header true) (reading.pe_header false)
@@ -30,11 +28,15 @@ repeats-header =
     (repeats-beside (reading.stub_in true dos.pe_pointer) (reading.stub_in false dos.pe_pointer)
     rest rest (repeats-or_else default_stub stub stub (repeats-same stub)) (repeats-same rest)))
 
-pub header-kept : (bytes : List ℕ) → Keeps (pe_header true bytes) (pe_header false bytes)
-header-kept bytes header is =
-    sym (value-pe_header false bytes)
-    ∙ repeats-header.kept bytes header (value-pe_header true bytes ∙ is)
+pub header-kept : (bytes : List ℕ)
+    → Keeps ((reading.pe_header true).value bytes) ((reading.pe_header false).value bytes)
+header-kept bytes = repeats-header.kept bytes
 
-pub sections_at-kept : (table n : ℕ) (bytes : List ℕ) (p : ℕ) → Keeps (sections_at true table n bytes p) (sections_at false table n bytes p)
+pub sections_at-kept : (table n : ℕ) (bytes : List ℕ) (p : ℕ)
+    → Keeps ((coff.sections_at true table n p).value bytes)
+    ((coff.sections_at false table n p).value bytes)
+unfolding coff.sections_at
 sections_at-kept table n bytes p =
-    all_at-kept (λ i. section_at true table bytes (p + 40 * i)) (λ i. section_at false table bytes (p + 40 * i)) n (λ i. section_at-kept table bytes (p + 40 * i))
+    all_at-kept (λ i. (section_at true table (p + 40 * i)).value bytes)
+    (λ i. (section_at false table (p + 40 * i)).value bytes) n
+    (λ i. (repeats-section_at table (p + 40 * i)).kept bytes)

@@ -1,12 +1,12 @@
 -- The entries of a Rich header that was read are its data.
-use Rattle.std.proofs.Common.{◌≡◌, ℕ, Bool, cond, zero, suc, ◌+◌, ◌-◌, ◌*◌, ◌/◌, ◌%◌, ◌<◌, ◌≤◌, List, ◌++◌, length, map, take, drop, take_all, refl, sym, ap, subst, ◌∙◌, inl, inr, arith}
+use Rattle.std.proofs.Common.{◌≡◌, ℕ, Bool, zero, suc, ◌+◌, ◌-◌, ◌*◌, ◌/◌, ◌%◌, ◌<◌, ◌≤◌, List, ◌++◌, length, map, take, drop, take_all, refl, sym, ap, subst, ◌∙◌, inl, inr, arith}
 use Rattle.std.specs.Prelude.{◌&&◌, ◌==◌, nat_lt, Option, Some, None, slice_range, flat_map}
 use Rattle.std.specs.List.{range_with_len}
 use Rattle.std.specs.Option.{unwrap_or}
 use Rattle.std.specs.Int.Bits.{bit_xor, xor_assoc, xor_self, xor_zero_r}
 use Rattle.std.proofs.Math.Seq.{take-add}
 use Rattle.std.proofs.lemmas.Bool.{cases_lt, eqb-true, and_parts}
-use Rattle.std.proofs.lemmas.List.{drop-drop, get_or-drop, get_or-take, get_or_past, length-drop, length-take, take-append-drop}
+use Rattle.std.proofs.lemmas.List.{drop-drop, get_or-drop, get_or-take, get_or_past, length-drop, length-take, length-take-le, take-append-drop}
 use Rattle.std.proofs.lemmas.List.Concat.{flat_map-cons}
 use Rattle.std.proofs.lemmas.Option.{cond_some}
 use Rattle.goblin_base.specs.declared.endian.Endian.TheVariants.{Little}
@@ -14,13 +14,13 @@ use Rattle.goblin_base.specs.Bytes.{IsBytes, number_bytes}
 use Rattle.goblin_base.specs.Tables.{record_items, records_in}
 use Rattle.goblin_base.proofs.Parts.{find_is}
 use Rattle.goblin_base.proofs.RecordRoundTrip.{IsBytes-slice, length-slice, slice-is, number_bytes-number}
-use Rattle.goblin_base.proofs.Steps.{same_value, step}
-use Rattle.goblin_pe_head.specs.DosHeader.{dos_header}
-use Rattle.goblin_pe_head.specs.RichHeader.{Rich, dans_place, leading_words, least_below, marker_place, other_place, rich_before, rich_between, rich_header, rich_in, rich_value, word_at}
+use Rattle.goblin_base.proofs.Steps.{same_value}
+use Rattle.goblin_pe_head.specs.HeaderReadings.{rich_header}
+use Rattle.goblin_pe_head.specs.RichHeader.{Rich, leading_words, least_below, marker_place, other_place, rich_between, rich_value, word_at}
 use Rattle.goblin_pe_head.specs.RichMetadata.{AreEntriesOf, metadata_at, metadata_items, stored_entry, word_under}
 use Rattle.goblin_pe_head.specs.declared.header.rich.RichHeader.{RichHeader}
 use Rattle.goblin_pe_head.specs.declared.header.rich.RichMetadata.{RichMetadata}
-use Rattle.goblin_pe_head.proofs.RichPlaces.{long_enough}
+use Rattle.goblin_pe_head.proofs.RichPlaces.{before_marker, between, long_enough, of_file, stored, stored-high}
 
 -- a word under the key twice is the word
 under_twice : (word key : ℕ) → bit_xor (bit_xor word key) key ≡ word
@@ -122,17 +122,6 @@ rich_between-is stretch key j i r inside e =
     let same : i - (j + 4) ≡ i - j - 4 = omega arith in
     subst (IsRichOf stretch) (same_value made r both.1) (record { start = j + 4; end = i; inside = inside; words = rw same words; bytes = refl; padding = refl })
 
-before : (stretch : List ℕ) (marker : Option ℕ) (r : Rich) → ((i : ℕ) → marker ≡ Some i → i ≤ length stretch) → rich_before stretch marker ≡ Some (Some r) → IsRichOf stretch r
-before stretch None r h e = absurd cc
-before stretch (Some i) r h e =
-    let key = word_at stretch (i + 4) in
-    let s = step (dans_place key stretch) (λ j. rich_between stretch key j i) (Some r) e in
-    rich_between-is stretch key s.value i r (h i refl) s.then
-
-in_stretch : (stretch : List ℕ) (r : Rich) → rich_in stretch ≡ Some (Some r) → IsRichOf stretch r
-unfolding rich_in marker_place
-in_stretch stretch r e = before stretch (marker_place stretch) r (λ i is. let lt = least_below-lt (length stretch - 7) _ i is in omega (arith, lt)) e
-
 -- the data after the padding are entries
 entries_after : (stretch : List ℕ) (r : Rich) → IsBytes stretch → IsRichOf stretch r → AreEntriesOf r.key (drop r.padding_size r.bytes) (metadata_items r.key (drop r.padding_size r.bytes))
 entries_after stretch r h is =
@@ -142,16 +131,24 @@ entries_after stretch r h is =
     let words : length (drop r.padding_size r.bytes) % 4 ≡ 0 = omega (arith, length-drop r.padding_size r.bytes, size, is.words, is.padding, most) in
     words_are_entries r.key (drop r.padding_size r.bytes) (IsBytes-drop r.padding_size r.bytes own) words
 
+in_stretch : (stretch : List ℕ) (marker : Option ℕ) (r : Rich) → IsBytes stretch → marker_place stretch ≡ marker → before_marker stretch marker ≡ Some (Some r)
+    → AreEntriesOf r.key (drop r.padding_size r.bytes) (metadata_items r.key (drop r.padding_size r.bytes))
+in_stretch stretch None r h is e = absurd cc
+in_stretch stretch (Some i) r h is e =
+    let own = stored stretch i in
+    let s = between stretch i (Some r) e in
+    let long : length own ≡ i + 8 = length-take-le (i + 8) stretch (stored-high stretch i is) in
+    entries_after own r (IsBytes-take (i + 8) stretch h) (rich_between-is own (word_at own (i + 4)) s.start i r (omega (arith, long)) s.made)
+
 -- the entries of a Rich header that was read are its data after the padding
-pub rich_entries : (header : RichHeader) (bytes : List ℕ) → IsBytes bytes → rich_header bytes ≡ Some (Some (rich_value header))
+pub rich_entries : (header : RichHeader) (bytes : List ℕ) → IsBytes bytes → rich_header.value bytes ≡ Some (Some (rich_value header))
     → AreEntriesOf header.key (drop header.padding_size header.bytes.now) (metadata_items header.key (slice_range header.bytes.now header.padding_size (length header.bytes.now)))
-unfolding rich_header
 rich_entries header bytes h e =
-    let s = step (dos_header bytes) (λ dos. cond (nat_lt dos.pe_pointer 68) (Some None) (rich_in (slice_range bytes 64 dos.pe_pointer))) (Some (rich_value header)) e in
-    let p = s.value.pe_pointer in
+    let s = of_file bytes (Some (rich_value header)) e in
+    let p = s.dos.pe_pointer in
     let stretch = slice_range bytes 64 p in
-    let is = in_stretch stretch (rich_value header) (long_enough (nat_lt p 68) (rich_in stretch) (rich_value header) s.then) in
+    let found = long_enough (nat_lt p 68) (before_marker stretch (marker_place stretch)) (rich_value header) s.found_in in
     let n = header.padding_size in
     let own = header.bytes.now in
     let all : slice_range own n (length own) ≡ drop n own = take_all (length own - n) (drop n own) (omega (arith, length-drop n own)) in
-    rw all (entries_after stretch (rich_value header) (IsBytes-range bytes 64 p h) is)
+    rw all (in_stretch stretch (marker_place stretch) (rich_value header) (IsBytes-range bytes 64 p h) refl found)

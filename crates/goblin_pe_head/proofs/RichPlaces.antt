@@ -1,15 +1,20 @@
 -- The least places of the words of a Rich header.
-use Rattle.std.proofs.Common.{◌≡◌, ℕ, Bool, true, false, cond, zero, suc, ◌+◌, ◌-◌, ◌*◌, ◌%◌, ◌<◌, ◌≤◌, ◌⊎◌, ◌&&◌, nat_lt, List, length, drop, refl, subst, ap, sym, ◌∙◌, inl, inr, arith}
-use Rattle.std.specs.Prelude.{◌==◌, Option, Some, None, IsSomeAnd, slice_range}
+use Rattle.std.proofs.Common.{◌≡◌, ℕ, Bool, true, false, cond, zero, suc, ◌+◌, ◌-◌, ◌*◌, ◌%◌, ◌<◌, ◌≤◌, ◌⊎◌, ◌&&◌, nat_lt, List, length, drop, take, refl, subst, ap, sym, ◌∙◌, inl, inr, arith}
+use Rattle.std.specs.Prelude.{◌==◌, Option, Some, None, IsSomeAnd, option_map, slice_range}
 use Rattle.std.specs.List.{find, range_with_len}
 use Rattle.std.specs.Int.Bits.{bit_xor}
 use Rattle.std.proofs.lemmas.Bool.{cases_eq, eqb-true, eq-eqb, ltb-true}
-use Rattle.std.proofs.lemmas.List.{length-take}
-use Rattle.goblin_base.proofs.Parts.{find_is}
-use Rattle.goblin_base.proofs.Steps.{step}
+use Rattle.std.proofs.lemmas.List.{length-take, length-take-le, take-take}
+use Rattle.goblin_base.specs.declared.endian.Endian.TheVariants.{Little}
+use Rattle.goblin_base.proofs.Fronts.{HaveFront, slice-front}
+use Rattle.goblin_base.proofs.Numbers.{number-slice, read_number}
+use Rattle.goblin_base.proofs.Parts.{find_is, least_place-high}
+use Rattle.goblin_base.proofs.Steps.{mapped, step}
 use Rattle.goblin_pe_head.specs.declared.header.dos.DosHeader.{DosHeader}
-use Rattle.goblin_pe_head.specs.DosHeader.{dos_header}
-use Rattle.goblin_pe_head.specs.RichHeader.{IsDansAt, IsLeast, IsMarked, IsMarkerAt, Rich, RichIsMarked, RichIsUnmarked, dans_place, leading_words, least_below, marker_place, rich_before, rich_between, rich_header, rich_in, word_at}
+use Rattle.goblin_pe_head.specs.HeaderLaws.{IsDansAt, IsLeast, IsMarked, IsMarkerAt, RichIsMarked, RichIsUnmarked}
+use Rattle.goblin_pe_head.specs.HeaderReadings.{dos_header, rich_header}
+use Rattle.goblin_pe_head.specs.RichHeader.{Rich, dans_place, is_rich, leading_words, least_below, marker_place, rich_between, word_at}
+use Rattle.goblin_pe_head.specs.RichReadings.{rich_at, rich_before, rich_in}
 
 fails : (passes : Bool) (a : ℕ) (later : Option ℕ) → cond passes (Some a) later ≡ None → (passes ≡ false) × (later ≡ None)
 fails true a later e = absurd cc
@@ -37,19 +42,16 @@ is_marker : (stretch : List ℕ) (k : ℕ) → IsMarkerAt stretch k → (k < len
 is_marker stretch k holds = (omega (arith, holds.0), eq-eqb (word_at stretch k) 0x68636952 holds.1)
 
 first_marker : (stretch : List ℕ) (i : ℕ) → marker_place stretch ≡ Some i → IsLeast (IsMarkerAt stretch) i
-unfolding marker_place
 first_marker stretch i e =
     least_is (IsMarkerAt stretch) (λ i. word_at stretch i == 0x68636952) (length stretch - 7) i
     (λ k lt passes. (omega (arith, lt), eqb-true (word_at stretch k) 0x68636952 passes)) (is_marker stretch) e
 
 no_marker : (stretch : List ℕ) → marker_place stretch ≡ None → (k : ℕ) → ¬ IsMarkerAt stretch k
-unfolding marker_place
 no_marker stretch e k holds =
     let is = is_marker stretch k holds in
     absurd (cc (is.1, find_none (λ i. word_at stretch i == 0x68636952) (length stretch - 7) 0 k e (omega arith) (omega (arith, is.0))))
 
 first_dans : (key : ℕ) (stretch : List ℕ) (j : ℕ) → dans_place key stretch ≡ Some j → IsLeast (IsDansAt key stretch) j
-unfolding dans_place
 first_dans key stretch j e =
     least_is (IsDansAt key stretch) (λ j. bit_xor (word_at stretch j) key == 0x536E6144) (length stretch - 3) j
     (λ k lt passes. (omega (arith, lt), eqb-true (bit_xor (word_at stretch k) key) 0x536E6144 passes))
@@ -65,34 +67,82 @@ record IsMarkedIn (stretch : List ℕ) (r : Rich) : Type 0 where
   key : r.key ≡ word_at stretch (end + 4)
   dans : dans_place r.key stretch ≡ Some start
 
+-- the bytes through the key of the marker at i
+abbrev pub stored : List ℕ → ℕ → List ℕ
+stored stretch i = take (i + 8) stretch
+
+abbrev with_front : ℕ → List ℕ → ℕ → ℕ × List ℕ
+with_front width stretch i = (i, take (i + width) stretch)
+
+pub stored-high : (stretch : List ℕ) (i : ℕ) → marker_place stretch ≡ Some i → i + 8 ≤ length stretch
+stored-high stretch i is = least_place-high Little 4 4 is_rich stretch i is
+
+-- the key is the same in the bytes through it
+key_is : (stretch : List ℕ) (i : ℕ) → marker_place stretch ≡ Some i → word_at (stored stretch i) (i + 4) ≡ word_at stretch (i + 4)
+key_is stretch i is =
+    let high = stored-high stretch i is in
+    let long : length (stored stretch i) ≡ i + 8 = length-take-le (i + 8) stretch high in
+    let front : HaveFront (i + 8) (stored stretch i) stretch = record {
+      in_a = omega (arith, long);
+      in_b = high;
+      same = take-take (i + 8) (i + 8) stretch (omega arith);
+    } in
+    number-slice Little 4 (stored stretch i) (i + 4)
+    ∙ ap (read_number Little 4) (slice-front (i + 8) (i + 4) 4 (stored stretch i) stretch front (omega arith))
+    ∙ sym (number-slice Little 4 stretch (i + 4))
+
+-- the Rich header of a stretch, by the place of its marker
+abbrev pub before_marker : List ℕ → Option ℕ → Option (Option Rich)
+before_marker stretch marker = (rich_before (option_map (with_front 8 stretch) marker)).value stretch
+
+-- the other marker of a Rich header, and what lies between them
+pub record IsBetween (stretch : List ℕ) (i : ℕ) (found : Option Rich) : Type 0 where
+  pub start : ℕ
+  pub dans : dans_place (word_at (stored stretch i) (i + 4)) stretch ≡ Some start
+  pub made : rich_between (stored stretch i) (word_at (stored stretch i) (i + 4)) start i ≡ Some found
+
+pub between : (stretch : List ℕ) (i : ℕ) (found : Option Rich) → before_marker stretch (Some i) ≡ Some found → IsBetween stretch i found
+between stretch i found e =
+    let own = stored stretch i in
+    let key = word_at own (i + 4) in
+    let s = step (option_map (with_front 4 stretch) (dans_place key stretch)) (λ start. rich_between own key start.0 i) found e in
+    let m = mapped (dans_place key stretch) (with_front 4 stretch) s.value s.is in
+    record {
+      start = m.value;
+      dans = m.is;
+      made = ap (λ (start : ℕ × List ℕ). rich_between own key start.0 i) m.made ∙ s.then;
+    }
+
 same_rich : (test : Bool) (r s : Rich) → cond test (Some (Some r)) None ≡ Some (Some s) → r ≡ s
 same_rich true r s e = cc
 same_rich false r s e = absurd cc
 
-marked_before : (stretch : List ℕ) (marker : Option ℕ) (r : Rich) → marker_place stretch ≡ marker → rich_before stretch marker ≡ Some (Some r) → IsMarkedIn stretch r
+marked_before : (stretch : List ℕ) (marker : Option ℕ) (r : Rich) → marker_place stretch ≡ marker → before_marker stretch marker ≡ Some (Some r) → IsMarkedIn stretch r
 marked_before stretch None r is e = absurd cc
 marked_before stretch (Some i) r is e =
-    let key = word_at stretch (i + 4) in
-    let s = step (dans_place key stretch) (λ j. rich_between stretch key j i) (Some r) e in
-    let j = s.value in
-    let own = slice_range stretch (j + 4) i in
-    let header : Rich = record { key = key; bytes = own; padding_size = 4 * leading_words key own; start_offset = 64 + j; end_offset = 64 + i } in
-    subst (IsMarkedIn stretch) (same_rich (nat_lt (j + 4) i && ((i - j - 4) % 4 == 0)) header r s.then)
-    (record { end = i; start = j; end_offset = refl; start_offset = refl; marker = is; key = refl; dans = s.is })
+    let own = stored stretch i in
+    let key = word_at own (i + 4) in
+    let s = between stretch i (Some r) e in
+    let j = s.start in
+    let between_them = slice_range own (j + 4) i in
+    let header : Rich = record { key = key; bytes = between_them; padding_size = 4 * leading_words key between_them; start_offset = 64 + j; end_offset = 64 + i } in
+    subst (IsMarkedIn stretch) (same_rich (nat_lt (j + 4) i && ((i - j - 4) % 4 == 0)) header r s.made)
+    (record { end = i; start = j; end_offset = refl; start_offset = refl; marker = is; key = key_is stretch i is; dans = s.dans })
 
 never_none : (test : Bool) (r : Rich) → cond test (Some (Some r)) None ≡ Some None → ⊥
 never_none true r e = absurd cc
 never_none false r e = absurd cc
 
-none_before : (stretch : List ℕ) (marker : Option ℕ) → rich_before stretch marker ≡ Some None → marker ≡ None
+none_before : (stretch : List ℕ) (marker : Option ℕ) → before_marker stretch marker ≡ Some None → marker ≡ None
 none_before stretch None e = refl
 none_before stretch (Some i) e =
-    let key = word_at stretch (i + 4) in
-    let s = step (dans_place key stretch) (λ j. rich_between stretch key j i) None e in
-    let j = s.value in
-    let own = slice_range stretch (j + 4) i in
-    let header : Rich = record { key = key; bytes = own; padding_size = 4 * leading_words key own; start_offset = 64 + j; end_offset = 64 + i } in
-    absurd (never_none (nat_lt (j + 4) i && ((i - j - 4) % 4 == 0)) header s.then)
+    let own = stored stretch i in
+    let key = word_at own (i + 4) in
+    let s = between stretch i None e in
+    let j = s.start in
+    let between_them = slice_range own (j + 4) i in
+    let header : Rich = record { key = key; bytes = between_them; padding_size = 4 * leading_words key between_them; start_offset = 64 + j; end_offset = 64 + i } in
+    absurd (never_none (nat_lt (j + 4) i && ((i - j - 4) % 4 == 0)) header s.made)
 
 pub long_enough : (short : Bool) (found : Option (Option Rich)) (r : Rich) → cond short (Some None) found ≡ Some (Some r) → found ≡ Some (Some r)
 long_enough true found r e = absurd cc
@@ -102,13 +152,34 @@ short_or_none : (short : Bool) (found : Option (Option Rich)) → cond short (So
 short_or_none true found e = inl refl
 short_or_none false found e = inr e
 
-pub rich_marked : RichIsMarked
-unfolding RichIsMarked rich_header rich_in
-rich_marked bytes r e =
-    let s = step (dos_header bytes) (λ dos. cond (nat_lt dos.pe_pointer 68) (Some None) (rich_before (slice_range bytes 64 dos.pe_pointer) (marker_place (slice_range bytes 64 dos.pe_pointer)))) (Some r) e in
+pub in_stretch : (stretch : List ℕ) → rich_in.value stretch ≡ before_marker stretch (marker_place stretch)
+unfolding rich_in
+in_stretch stretch = refl
+
+-- the Rich header of a file is that of the stretch before its PE signature
+pub record IsInStretch (bytes : List ℕ) (found : Option Rich) : Type 0 where
+  pub dos : DosHeader
+  pub is : dos_header.value bytes ≡ Some dos
+  pub found_in : cond (nat_lt dos.pe_pointer 68) (Some None) (before_marker (slice_range bytes 64 dos.pe_pointer) (marker_place (slice_range bytes 64 dos.pe_pointer))) ≡ Some found
+
+pub of_file : (bytes : List ℕ) (found : Option Rich) → rich_header.value bytes ≡ Some found → IsInStretch bytes found
+unfolding rich_header rich_at
+of_file bytes found e =
+    let s = step (dos_header.value bytes) _ found e in
     let p = s.value.pe_pointer in
+    record {
+      dos = s.value;
+      is = s.is;
+      found_in = ap (λ (own : Option (Option Rich)). cond (nat_lt p 68) (Some None) own) (sym (in_stretch (slice_range bytes 64 p))) ∙ s.then;
+    }
+
+pub rich_marked : RichIsMarked
+unfolding RichIsMarked
+rich_marked bytes r e =
+    let s = of_file bytes (Some r) e in
+    let p = s.dos.pe_pointer in
     let stretch = slice_range bytes 64 p in
-    let is = marked_before stretch (marker_place stretch) r refl (long_enough (nat_lt p 68) (rich_before stretch (marker_place stretch)) r s.then) in
+    let is = marked_before stretch (marker_place stretch) r refl (long_enough (nat_lt p 68) (before_marker stretch (marker_place stretch)) r s.found_in) in
     let marked : IsMarked bytes p r = record {
       end = is.end;
       start = is.start;
@@ -121,12 +192,12 @@ rich_marked bytes r e =
     subst (λ (o : Option DosHeader). IsSomeAnd o (λ dos. IsMarked bytes dos.pe_pointer r)) (sym s.is) marked
 
 pub rich_unmarked : RichIsUnmarked
-unfolding RichIsUnmarked rich_header rich_in
+unfolding RichIsUnmarked
 rich_unmarked bytes e =
-    let s = step (dos_header bytes) (λ dos. cond (nat_lt dos.pe_pointer 68) (Some None) (rich_before (slice_range bytes 64 dos.pe_pointer) (marker_place (slice_range bytes 64 dos.pe_pointer)))) None e in
-    let p = s.value.pe_pointer in
+    let s = of_file bytes None e in
+    let p = s.dos.pe_pointer in
     let stretch = slice_range bytes 64 p in
-    let none : (i : ℕ) → ¬ IsMarkerAt stretch i = elim (short_or_none (nat_lt p 68) (rich_before stretch (marker_place stretch)) s.then) [
+    let none : (i : ℕ) → ¬ IsMarkerAt stretch i = elim (short_or_none (nat_lt p 68) (before_marker stretch (marker_place stretch)) s.found_in) [
       | inl short ↦ λ i holds. absurd (omega (arith, ltb-true p 68 short, length-take (p - 64) (drop 64 bytes), holds.0))
       | inr found ↦ no_marker stretch (none_before stretch (marker_place stretch) found)
     ] in

@@ -1,6 +1,5 @@
--- The DOS stub, which stands between the DOS header and the PE signature.
-use Rattle.std.specs.Prelude.{◌≡◌, ◌<◌, ◌≤◌, ℕ, nat_le, ◌&&◌, if◌then◌else◌, List, [], ◌∷◌, ◌++◌}
-use Rattle.std.specs.Prelude.{length, codes, replicate, slice_range, Option, Some, None}
+-- The DOS stub, between the DOS header and the PE signature.
+use Rattle.std.specs.Prelude.{◌≡◌, ◌<◌, ◌≤◌, ℕ, List, [], ◌∷◌, ◌++◌, length, codes, replicate}
 use Rattle.goblin_base.specs.declared.error.ErrorOf.{ErrorOf}
 use Rattle.goblin_base.specs.declared.error.ErrorOf.TheVariants.{Malformed}
 use Rattle.goblin_base.specs.declared.error.CauseOf.TheVariants.{StubBeforeStart, StubPastEnd}
@@ -21,13 +20,7 @@ default_stub =
 abbrev pub stub_bytes : DosStub → List ℕ
 stub_bytes stub = stub.bytes.now
 
--- the stub of a file whose PE signature stands at p: the bytes from the end of the DOS header, at
--- 64, up to p
-abbrev pub stub_at : List ℕ → ℕ → Option (List ℕ)
-stub_at bytes p =
-    if nat_le 64 p && nat_le p (length bytes) then Some (slice_range bytes 64 p) else None
-
--- which cause is true of a file that has no stub: the signature stands within the DOS header, or
+-- which cause is true of a file that has no stub: the signature lies within the DOS header, or
 -- after it and past the end
 abbrev pub IsStubFault : List ℕ → ℕ → ErrorOf → Type 0
 IsStubFault bytes p (Malformed (StubBeforeStart pointer)) = (pointer ≡ p) × (p < 64)

@@ -1,19 +1,24 @@
--- What is written of headers that were read, and what is read of it again.
-use Rattle.std.specs.Prelude.{◌≡◌, ◌≤◌, ℕ, ◌+◌, ◌-◌, ◌*◌, ◌==◌, if◌then◌else◌, List, [], ◌++◌}
+-- How headers that were read are written, and how that reads back; and the places of the markers of
+-- a Rich header.
+use Rattle.std.specs.Prelude.{◌≡◌, ◌≤◌, ◌<◌, ℕ, ◌+◌, ◌-◌, ◌*◌, ◌==◌, if◌then◌else◌, List, [], ◌++◌}
 use Rattle.std.specs.Prelude.{length, replicate, take, Option, Some, None, option_and_then, true}
+use Rattle.std.specs.Prelude.{IsSomeAnd, slice_range}
+use Rattle.std.specs.Int.Bits.{bit_xor}
 use Rattle.goblin_base.specs.declared.endian.Endian.TheVariants.{Little}
 use Rattle.goblin_base.specs.Bytes.{IsBytes, overwritten, slice_at}
 use Rattle.goblin_base.specs.Record.{encoding}
 use Rattle.goblin_pe_head.specs.declared.header.dos.DosHeader.{DosHeader}
 use Rattle.goblin_pe_head.specs.declared.optional_header.OptionalHeader.{OptionalHeader}
-use Rattle.goblin_pe_head.specs.DosHeader.{dos_fields, dos_header}
-use Rattle.goblin_pe_head.specs.OptionalHeader.{optional_bytes, optional_header}
-use Rattle.goblin_pe_head.specs.PeHeader.{PeHeader, header_bytes, pe_header}
+use Rattle.goblin_pe_head.specs.DosHeader.{dos_fields}
+use Rattle.goblin_pe_head.specs.HeaderReadings.{dos_header, optional_header, pe_header, rich_header}
+use Rattle.goblin_pe_head.specs.OptionalHeader.{optional_bytes}
+use Rattle.goblin_pe_head.specs.PeHeader.{PeHeader, header_bytes}
+use Rattle.goblin_pe_head.specs.RichHeader.{Rich, word_at}
 
 -- The DOS header of a file is written as the first 64 bytes of the file.
 unfoldable pub DosWritesBack : Type 0
 DosWritesBack =
-    (file : List ℕ) (h : DosHeader) → IsBytes file → dos_header file ≡ Some h
+    (file : List ℕ) (h : DosHeader) → IsBytes file → dos_header.value file ≡ Some h
     → slice_at file 0 64 ≡ Some (encoding Little (dos_fields h))
 
 -- how many bytes an optional header takes in its file: the fields that its magic asks for, and as
@@ -32,7 +37,7 @@ filling h = replicate (8 * (16 - h.windows_fields.number_of_rva_and_sizes)) 0
 unfoldable pub OptionalWritesBack : Type 0
 OptionalWritesBack =
     (bytes : List ℕ) (h : OptionalHeader) (n : ℕ) → IsBytes bytes
-    → optional_header bytes ≡ Some (h, n)
+    → optional_header.value bytes ≡ Some (h, n)
     → (n ≡ optional_size h) × (n ≤ length bytes)
     × (optional_bytes Little h ≡ Some (take n bytes ++ filling h))
 
@@ -54,14 +59,53 @@ filling_after (Some h) = filling h
 -- missing directories after them.
 unfoldable pub HeaderWritesBack : Type 0
 HeaderWritesBack =
-    (file : List ℕ) (h : PeHeader) → IsBytes file → pe_header true file ≡ Some h
+    (file : List ℕ) (h : PeHeader) → IsBytes file → (pe_header true).value file ≡ Some h
     → (header_end h ≤ length file)
     × (header_bytes Little h
     ≡ Some (take (header_end h) file ++ filling_after h.optional_header))
 
--- It is read again from any bytes over which it was written.
+-- It reads back from any bytes that it was written over.
 unfoldable pub HeaderReadsBack : Type 0
 HeaderReadsBack =
-    (file old new : List ℕ) (h : PeHeader) → IsBytes file → pe_header true file ≡ Some h
+    (file old new : List ℕ) (h : PeHeader) → IsBytes file → (pe_header true).value file ≡ Some h
     → option_and_then (overwritten old 0) (header_bytes Little h) ≡ Some new
-    → pe_header true new ≡ Some h
+    → (pe_header true).value new ≡ Some h
+
+-- ---- the places of the markers of a Rich header
+
+-- the marker `Rich` is here, with a key of four bytes after it
+abbrev pub IsMarkerAt : List ℕ → ℕ → Type 0
+IsMarkerAt stretch i = (i + 8 ≤ length stretch) × (word_at stretch i ≡ 0x68636952)
+
+-- a word that is `DanS` under the key is here
+abbrev pub IsDansAt : ℕ → List ℕ → ℕ → Type 0
+IsDansAt key stretch j = (j + 4 ≤ length stretch) × (bit_xor (word_at stretch j) key ≡ 0x536E6144)
+
+-- it holds here, and nowhere before
+pub record IsLeast (P : ℕ → Type 0) (i : ℕ) : Type 0 where
+  pub holds : P i
+  pub least : (k : ℕ) → k < i → ¬ P k
+
+-- The markers of a Rich header before a PE signature at p: each is at the least possible offset in
+-- the stretch, and the key after the one is that of the other.
+pub record IsMarked (bytes : List ℕ) (p : ℕ) (r : Rich) : Type 0 where
+  pub end : ℕ
+  pub start : ℕ
+  pub end_offset : r.end_offset ≡ 64 + end
+  pub start_offset : r.start_offset ≡ 64 + start
+  pub marker : IsLeast (IsMarkerAt (slice_range bytes 64 p)) end
+  pub key : r.key ≡ word_at (slice_range bytes 64 p) (end + 4)
+  pub dans : IsLeast (IsDansAt r.key (slice_range bytes 64 p)) start
+
+-- A file whose Rich header is read has a DOS header, and these markers.
+unfoldable pub RichIsMarked : Type 0
+RichIsMarked =
+    (bytes : List ℕ) (r : Rich) → rich_header.value bytes ≡ Some (Some r)
+    → IsSomeAnd (dos_header.value bytes) (λ dos. IsMarked bytes dos.pe_pointer r)
+
+-- A file without one has no marker with a key after it.
+unfoldable pub RichIsUnmarked : Type 0
+RichIsUnmarked =
+    (bytes : List ℕ) → rich_header.value bytes ≡ Some None
+    → IsSomeAnd (dos_header.value bytes)
+    (λ dos. (i : ℕ) → ¬ IsMarkerAt (slice_range bytes 64 dos.pe_pointer) i)

@@ -1,20 +1,24 @@
--- The header of a PE file by readings: its parts, each at its offset.
-use Rattle.std.specs.Prelude.{ℕ, ◌+◌, ◌*◌, ◌==◌, Bool, List, Option, None, Some}
+-- The header of a PE file: its parts, each at its offset.
+use Rattle.std.specs.Prelude.{◌≡◌, ℕ, ◌+◌, ◌*◌, ◌==◌, if◌then◌else◌, Bool, List, Option, None, Some}
 use Rattle.goblin_base.specs.declared.endian.Endian.TheVariants.{Little}
+use Rattle.goblin_base.specs.declared.error.CauseOf.{CauseOf}
+use Rattle.goblin_base.specs.declared.error.CauseOf.TheVariants.{DosMagic, NoDosSignature}
+use Rattle.goblin_base.specs.declared.error.CauseOf.TheVariants.{NoPePointer, NoPeSignature}
+use Rattle.goblin_base.specs.declared.error.CauseOf.TheVariants.{PeMagic}
+use Rattle.goblin_base.specs.declared.error.ErrorOf.TheVariants.{Malformed}
 use Rattle.goblin_base.specs.Reading.{Reading}
 use Rattle.goblin_base.proofs.Picks.{by_cases-not_memory}
-use Rattle.readings.specs.Reads.{◌>>=◌, ◌beside◌, because_by, bytes_between, checked, given}
-use Rattle.readings.specs.Reads.{in_rest}
-use Rattle.readings.specs.Reads.{mapped, needs_by, number_at, or_else, pick, record_at}
+use Rattle.goblin_base.proofs.Readings.{malformed-not_memory}
+use Rattle.readings.specs.Reads.{◌>>=◌, ◌beside◌, because, because_by, bytes_between, checked}
+use Rattle.readings.specs.Reads.{given, in_rest, mapped, needs_by, number_at, or_else, pick}
+use Rattle.readings.specs.Reads.{record_at}
 use Rattle.goblin_pe_sect.specs.DirectoryReadings.{directories_at}
 use Rattle.goblin_pe_head.specs.declared.header.coff.CoffHeader.{CoffHeader}
 use Rattle.goblin_pe_head.specs.declared.header.dos.DosHeader.{DosHeader}
 use Rattle.goblin_pe_head.specs.declared.optional_header.FixedFields.{FixedFields}
 use Rattle.goblin_pe_head.specs.declared.optional_header.OptionalHeader.{OptionalHeader}
 use Rattle.goblin_pe_head.specs.CoffHeader.{coff_header}
-use Rattle.goblin_pe_head.specs.DosHeader.{IsDosMagic, IsNoDosSignature, IsNoPePointer}
-use Rattle.goblin_pe_head.specs.DosHeader.{IsNoSignature}
-use Rattle.goblin_pe_head.specs.DosHeader.{IsPeMagic, dos_record, that_is}
+use Rattle.goblin_pe_head.specs.DosHeader.{dos_record}
 use Rattle.goblin_pe_head.specs.DosStub.{IsStubFault, default_stub}
 use Rattle.goblin_pe_head.specs.OptionalHeader.{IsBadMagic, standard_32_record, standard_64_record}
 use Rattle.goblin_pe_head.specs.OptionalHeader.{standard_from_32, standard_from_64}
@@ -24,32 +28,36 @@ use Rattle.goblin_pe_head.specs.PeHeader.{PeHeader, zero_dos_header}
 use Rattle.goblin_pe_head.specs.RichHeader.{Rich}
 use Rattle.goblin_pe_head.specs.RichReadings.{rich_at}
 
+-- Source: PE Format, "File Headers".
+
 -- ---- the DOS header
 
--- the two bytes at the front, which have to be the DOS signature
+-- the number, where it is the one that is wanted
+abbrev pub that_is : ℕ → ℕ → Option ℕ
+that_is wanted n = if n == wanted then Some n else None
+
+-- a number that must be `wanted`; another is refused with the cause that `cause` makes of it
+abbrev pub only : ℕ → (ℕ → CauseOf) → Reading ℕ → Reading ℕ
+only wanted cause r =
+    checked (that_is wanted) (λ n e. e ≡ Malformed (cause n))
+    (λ n. malformed-not_memory (cause n)) r
+
+-- the two bytes at the front, which must be the DOS signature
 abbrev pub dos_signature : Reading ℕ
-dos_signature =
-    checked (that_is 0x5A4D) IsDosMagic (λ n. by_cases-not_memory (IsDosMagic n) (λ m h. h))
-    (because_by IsNoDosSignature (λ bytes. by_cases-not_memory (IsNoDosSignature bytes) (λ m h. h))
-    (number_at Little 2 0))
+dos_signature = only 0x5A4D (λ n. DosMagic n) (because NoDosSignature (number_at Little 2 0))
 
 -- the four bytes at p, whatever they are
 abbrev pub signature_at : ℕ → Reading ℕ
-signature_at p =
-    because_by (λ bytes. IsNoSignature bytes p)
-    (λ bytes. by_cases-not_memory (IsNoSignature bytes p) (λ m h. h)) (number_at Little 4 p)
+signature_at p = because (NoPeSignature p) (number_at Little 4 p)
 
--- the four bytes at p, which have to be the PE signature
+-- the four bytes at p, which must be the PE signature
 abbrev pub pe_signature : ℕ → Reading ℕ
-pe_signature p =
-    checked (that_is 0x4550) IsPeMagic (λ n. by_cases-not_memory (IsPeMagic n) (λ m h. h))
-    (signature_at p)
+pe_signature p = only 0x4550 (λ n. PeMagic n) (signature_at p)
 
 -- the record at the front, with the PE signature where it points
 abbrev pub signed_record : Reading DosHeader
 signed_record =
-    because_by IsNoPePointer (λ bytes. by_cases-not_memory (IsNoPePointer bytes) (λ m h. h))
-    (record_at 64 (dos_record Little) 0)
+    because NoPePointer (record_at 64 (dos_record Little) 0)
     >>= λ header. mapped (λ signature. header) (pe_signature header.pe_pointer)
 
 -- the DOS header of a file: its record at 0, with the DOS signature there and the PE signature
@@ -75,7 +83,8 @@ stub_in strict p = or_else strict default_stub (stub_at p)
 
 -- ---- the optional header
 
--- the fields before the directories, in an optional header for 32 bits and in one for 64
+-- the fields before the directories of an optional header for 32 bits, which is PE32: the standard
+-- fields, and the Windows fields after them
 abbrev pub fields_32 : Reading FixedFields
 fields_32 =
     mapped
@@ -87,6 +96,7 @@ fields_32 =
     })
     (record_at 28 (standard_32_record Little) 0 beside record_at 68 (windows_32_record Little) 28)
 
+-- those of an optional header for 64 bits, which is PE32+
 abbrev pub fields_64 : Reading FixedFields
 fields_64 =
     mapped
@@ -98,14 +108,15 @@ fields_64 =
     })
     (record_at 24 (standard_64_record Little) 0 beside record_at 88 (windows_64_record Little) 24)
 
--- the fields that the magic asks for; another magic has none
+-- the fields that the magic asks for: 0x10B for PE32, 0x20B for PE32+; another magic has none
 unfoldable pub fixed_fields : ℕ → Reading FixedFields
 fixed_fields magic =
     pick (magic == 0x10B) fields_32
     (pick (magic == 0x20B) fields_64
     (needs_by None (IsBadMagic magic) (by_cases-not_memory (IsBadMagic magic) (λ m h. h))))
 
--- the optional header at the front of bytes, and how many bytes it takes
+-- the optional header at the front of bytes, always little-endian, and how many bytes it takes: its
+-- magic, its fields, and the data directories after them, as many as the last field says
 unfoldable pub optional_header : Reading (OptionalHeader × ℕ)
 optional_header =
     number_at Little 2 0 >>= λ magic. fixed_fields magic >>= λ fields.
@@ -121,7 +132,7 @@ optional_header =
     ))
     (directories_at count fields.size)
 
--- the optional header at p, which is there where its size is not 0; the size says nothing else
+-- the optional header at p, which exists if its size is not 0; the size says nothing else
 unfoldable pub optional_at : ℕ → ℕ → Reading (Option OptionalHeader)
 optional_at size p =
     pick (size == 0) (given None) (mapped (λ header. Some header.0) (in_rest p optional_header))
@@ -134,7 +145,7 @@ pub record SignedParts : Type 0 where
   pub coff_header : CoffHeader
   pub optional_header : Option OptionalHeader
 
--- the COFF header after a signature at p, and the optional header after that
+-- the COFF file header after a signature at p, and the optional header after that
 abbrev pub coff_parts : ℕ → Reading (CoffHeader × Option OptionalHeader)
 coff_parts p =
     record_at 20 (coff_header Little) (p + 4)

@@ -1,25 +1,23 @@
 -- The optional header: standard fields and Windows fields by its magic, and then the directories.
 use Rattle.std.specs.List.{concat}
-use Rattle.std.specs.Prelude.{◌≡◌, ◌≢◌, ◌⊎◌, ℕ, ◌+◌, ◌*◌, ◌%◌, ◌^◌, ◌==◌, if◌then◌else◌, List, []}
-use Rattle.std.specs.Prelude.{◌∷◌, nat_lt, Option, Some, None, Result, option_map}
+use Rattle.std.specs.Prelude.{◌≡◌, ◌≢◌, ◌⊎◌, ℕ, ◌%◌, ◌^◌, ◌==◌, if◌then◌else◌, List, [], ◌∷◌}
+use Rattle.std.specs.Prelude.{nat_lt, Option, Some, None, Result, option_map}
 use Rattle.goblin_base.specs.declared.endian.Endian.{Endian}
-use Rattle.goblin_base.specs.declared.endian.Endian.TheVariants.{Little}
 use Rattle.goblin_base.specs.declared.error.ErrorOf.{ErrorOf}
 use Rattle.goblin_base.specs.declared.error.ErrorOf.TheVariants.{BadMagic, Malformed}
 use Rattle.goblin_base.specs.declared.error.CauseOf.TheVariants.{FieldTooWide}
 use Rattle.goblin_base.specs.declared.container.Container.{Container}
 use Rattle.goblin_base.specs.declared.container.Container.TheVariants as container
-use Rattle.goblin_base.specs.Answers.{Answers, IsSliceFault, ◌>>=◌, FirstFault}
-use Rattle.goblin_base.specs.Bytes.{number, number_at}
-use Rattle.goblin_base.specs.Record.{FieldValue, encoding, record_at}
+use Rattle.goblin_base.specs.Answers.{Answers, ◌>>=◌}
+use Rattle.goblin_base.specs.Bytes.{number}
+use Rattle.goblin_base.specs.Record.{FieldValue, encoding}
 use Rattle.goblin_base.specs.Record.FieldValue.{uint}
-use Rattle.goblin_pe_sect.specs.DataDirectories.{IsDirectoriesFault, directories_at, entries_fields}
+use Rattle.goblin_pe_sect.specs.DataDirectories.{entries_fields}
 use Rattle.goblin_pe_head.specs.declared.optional_header.standard_fields.StandardFields32.{StandardFields32}
 use Rattle.goblin_pe_head.specs.declared.optional_header.standard_fields.StandardFields64.{StandardFields64}
 use Rattle.goblin_pe_head.specs.declared.optional_header.standard_fields.StandardFields.{StandardFields}
 use Rattle.goblin_pe_head.specs.declared.optional_header.windows_fields.WindowsFields32.{WindowsFields32}
 use Rattle.goblin_pe_head.specs.declared.optional_header.windows_fields.WindowsFields64.{WindowsFields64}
-use Rattle.goblin_pe_head.specs.declared.optional_header.FixedFields.{FixedFields}
 use Rattle.goblin_pe_head.specs.declared.optional_header.OptionalHeader.{OptionalHeader}
 use Rattle.goblin_pe_head.specs.declared.optional_header.WrittenHeader.{WrittenHeader}
 use Rattle.goblin_pe_head.specs.declared.optional_header.WrittenHeader.TheVariants.{Absent, Narrow}
@@ -166,7 +164,8 @@ standard_from_32 s = record {
   base_of_data = s.base_of_data;
 }
 
--- the same from those for 64 bits, which do not say where the data begins
+-- the standard fields of either width, from those for 64 bits, which do not say where the data
+-- begins
 unfoldable pub standard_from_64 : StandardFields64 → StandardFields
 standard_from_64 s = record {
   magic = s.magic;
@@ -274,83 +273,14 @@ windows_to_32 s = do
     number_of_rva_and_sizes = s.number_of_rva_and_sizes;
   })
 
--- what the conversion to 32 bits answers
+-- what the conversion to 32 bits returns
 abbrev pub NarrowsWindows : WindowsFields64 → Result WindowsFields32 ErrorOf → Type 0
 NarrowsWindows s made = Answers (λ w. w) made (windows_to_32 s) IsTooWide
-
--- the fields before the directories, in an optional header for 32 bits and in one for 64
-abbrev pub fields_32 : List ℕ → Option FixedFields
-fields_32 bytes = do
-  standard ← record_at 28 (standard_32_record Little) bytes 0
-  windows ← record_at 68 (windows_32_record Little) bytes 28
-  Some (record {
-    standard_fields = standard_from_32 standard;
-    windows_fields = windows_from_32 windows;
-    size = 96;
-  })
-
-abbrev pub fields_64 : List ℕ → Option FixedFields
-fields_64 bytes = do
-  standard ← record_at 24 (standard_64_record Little) bytes 0
-  windows ← record_at 88 (windows_64_record Little) bytes 24
-  Some (record {
-    standard_fields = standard_from_64 standard;
-    windows_fields = windows;
-    size = 112;
-  })
-
--- the fields that the magic asks for; another magic has none
-unfoldable pub fixed_fields : ℕ → List ℕ → Option FixedFields
-fixed_fields magic bytes =
-    if magic == 0x10B then fields_32 bytes else if magic == 0x20B then fields_64 bytes else None
-
--- the optional header at the front of bytes, which is little-endian always, and how many bytes it
--- takes
-unfoldable pub optional_header : List ℕ → Option (OptionalHeader × ℕ)
-optional_header bytes = do
-  magic ← number_at Little 2 bytes 0
-  fields ← fixed_fields magic bytes
-  directories ← directories_at fields.windows_fields.number_of_rva_and_sizes bytes fields.size
-  Some (
-    record { standard_fields = fields.standard_fields; windows_fields = fields.windows_fields; data_directories = record { data_directories = directories } },
-    fields.size + 8 * fields.windows_fields.number_of_rva_and_sizes,
-  )
 
 -- the refusal is that no optional header has this magic
 abbrev pub IsBadMagic : ℕ → ErrorOf → Type 0
 IsBadMagic magic (BadMagic m) = (m ≡ magic) × (magic ≢ 0x10B) × (magic ≢ 0x20B)
 IsBadMagic magic e = ⊥
-
--- which cause is true of fields that have no value, by their width
-abbrev pub IsFieldsFault_32 : List ℕ → ErrorOf → Type 0
-IsFieldsFault_32 bytes =
-    FirstFault (record_at 28 (standard_32_record Little) bytes 0) (IsSliceFault bytes 0 28) (λ
-    standard.
-    FirstFault (record_at 68 (windows_32_record Little) bytes 28) (IsSliceFault bytes 28 68)
-    (λ windows e. ⊥))
-
-abbrev pub IsFieldsFault_64 : List ℕ → ErrorOf → Type 0
-IsFieldsFault_64 bytes =
-    FirstFault (record_at 24 (standard_64_record Little) bytes 0) (IsSliceFault bytes 0 24) (λ
-    standard.
-    FirstFault (record_at 88 (windows_64_record Little) bytes 24) (IsSliceFault bytes 24 88)
-    (λ windows e. ⊥))
-
--- which cause is true where the fields that the magic asks for are refused
-unfoldable pub IsFixedFault : ℕ → List ℕ → ErrorOf → Type 0
-IsFixedFault magic bytes e =
-    IsBadMagic magic e ⊎ ((magic ≡ 0x10B) × IsFieldsFault_32 bytes e)
-    ⊎ ((magic ≡ 0x20B) × IsFieldsFault_64 bytes e)
-
--- which cause is true of bytes at whose front there is no optional header: that of the first part
--- that is not there
-unfoldable pub IsOptionalFault : List ℕ → ErrorOf → Type 0
-IsOptionalFault bytes =
-    FirstFault (number_at Little 2 bytes 0) (IsSliceFault bytes 0 2) (λ magic.
-    FirstFault (fixed_fields magic bytes) (IsFixedFault magic bytes) (λ fields.
-    let count = fields.windows_fields.number_of_rva_and_sizes in
-    FirstFault (directories_at count bytes fields.size) (IsDirectoriesFault count bytes fields.size)
-    (λ directories e. ⊥)))
 
 -- for how many bits the image is, by the magic
 abbrev pub container_of : ℕ → Option Container
@@ -370,7 +300,8 @@ bytes_32 endian h =
     ∷ []
     )) (windows_to_32 h.windows_fields)
 
--- the same where it asks for 64 bits
+-- What is written of an optional header whose magic asks for 64 bits: standard fields, Windows
+-- fields and sixteen directories.
 abbrev pub bytes_64 : Endian → OptionalHeader → List ℕ
 bytes_64 endian h = concat (
     encoding endian (standard_64_fields (standard_to_64 h.standard_fields))

@@ -1,25 +1,19 @@
--- The whole header of a file: its parts, each at its offset.
+-- The header of a PE file: its parts and its written form.
 use Rattle.std.specs.List.{concat}
-use Rattle.std.specs.Prelude.{◌≡◌, ◌<◌, ◌+◌, ℕ, Bool, ◌==◌, if◌then◌else◌, List, [], ◌∷◌, drop}
-use Rattle.std.specs.Prelude.{length, replicate, Option, Some, None, option_map, unwrap_or}
+use Rattle.std.specs.Prelude.{ℕ, List, [], ◌∷◌, replicate, Option, Some, None, option_map}
 use Rattle.goblin_base.specs.declared.endian.Endian.{Endian}
 use Rattle.goblin_base.specs.declared.endian.Endian.TheVariants.{Little}
 use Rattle.goblin_base.specs.declared.error.ErrorOf.{ErrorOf}
-use Rattle.goblin_base.specs.declared.error.ErrorOf.TheVariants.{Malformed}
-use Rattle.goblin_base.specs.declared.error.CauseOf.TheVariants.{NoPeSignature}
-use Rattle.goblin_base.specs.Bytes.{number_at}
-use Rattle.goblin_base.specs.Answers.{IsSliceFault, ◌>>=◌, FirstFault}
-use Rattle.goblin_base.specs.Record.{encoding, record_at, uint}
+use Rattle.goblin_base.specs.Record.{encoding, uint}
 use Rattle.goblin_pe_head.specs.declared.header.coff.CoffHeader.{CoffHeader}
 use Rattle.goblin_pe_head.specs.declared.header.dos.DosHeader.{DosHeader}
 use Rattle.goblin_pe_head.specs.declared.header.pe_header.Header.{Header}
 use Rattle.goblin_pe_head.specs.declared.optional_header.OptionalHeader.{OptionalHeader}
-use Rattle.goblin_pe_head.specs.DosStub.{default_stub, stub_at, stub_bytes, IsStubFault}
-use Rattle.goblin_pe_head.specs.CoffHeader.{coff_fields, coff_header}
-use Rattle.goblin_pe_head.specs.DosHeader.{dos_fields, dos_header, IsDosFault, IsNoSignature}
-use Rattle.goblin_pe_head.specs.OptionalHeader.{optional_bytes, optional_header, IsOptionalFault}
-use Rattle.goblin_pe_head.specs.OptionalHeader.{IsUnwritten}
-use Rattle.goblin_pe_head.specs.RichHeader.{Rich, rich_value, rich_at, IsRichAtFault}
+use Rattle.goblin_pe_head.specs.CoffHeader.{coff_fields}
+use Rattle.goblin_pe_head.specs.DosHeader.{dos_fields}
+use Rattle.goblin_pe_head.specs.DosStub.{default_stub, stub_bytes}
+use Rattle.goblin_pe_head.specs.OptionalHeader.{IsUnwritten, optional_bytes}
+use Rattle.goblin_pe_head.specs.RichHeader.{Rich, rich_value}
 
 -- Source: PE Format, "File Headers".
 
@@ -42,41 +36,6 @@ header_value h = record {
   coff_header = h.coff_header;
   optional_header = h.optional_header;
 }
-
--- the stub before a PE signature at p; where there is none, permissive mode takes the default one
-unfoldable pub stub_in : Bool → List ℕ → ℕ → Option (List ℕ)
-stub_in strict bytes p =
-    if strict then stub_at bytes p else Some (unwrap_or (stub_at bytes p) default_stub)
-
--- the optional header at p, which is there where its size is not 0; the size says nothing else
-unfoldable pub optional_at : ℕ → List ℕ → ℕ → Option (Option OptionalHeader)
-optional_at size bytes p =
-    if size == 0
-    then Some None
-    else option_map (λ header. Some header.0) (optional_header (drop p bytes))
-
--- the header whose signature stands at p, with the parts before it
-unfoldable pub header_at : DosHeader → List ℕ → Option Rich → List ℕ → ℕ → Option PeHeader
-header_at dos stub rich bytes p = do
-  signature ← number_at Little 4 bytes p
-  coff ← record_at 20 (coff_header Little) bytes (p + 4)
-  optional ← optional_at coff.size_of_optional_header bytes (p + 24)
-  Some (record {
-    dos_header = dos;
-    dos_stub = stub;
-    rich_header = rich;
-    signature = signature;
-    coff_header = coff;
-    optional_header = optional;
-  })
-
--- the header of a file
-unfoldable pub pe_header : Bool → List ℕ → Option PeHeader
-pe_header strict bytes = do
-  dos ← dos_header bytes
-  stub ← stub_in strict bytes dos.pe_pointer
-  rich ← rich_at bytes dos.pe_pointer
-  header_at dos stub rich bytes dos.pe_pointer
 
 -- a DOS header of zeros
 unfoldable pub zero_dos_header : DosHeader
@@ -122,34 +81,12 @@ default_header = record {
   optional_header = None;
 }
 
--- the header of bytes that begin with a signature, whatever it is, after a DOS header of zeros and
--- the default stub
-unfoldable pub header_without_dos : List ℕ → Option PeHeader
-header_without_dos bytes = header_at zero_dos_header default_stub None bytes 0
-
--- which cause is true where one of the parts from the signature at p on has no value
-unfoldable pub IsHeaderAtFault : List ℕ → ℕ → ErrorOf → Type 0
-IsHeaderAtFault bytes p =
-    FirstFault (number_at Little 4 bytes p) (IsNoSignature bytes p) (λ signature.
-    FirstFault (record_at 20 (coff_header Little) bytes (p + 4)) (IsSliceFault bytes (p + 4) 20) (λ
-    coff.
-    FirstFault (optional_at coff.size_of_optional_header bytes (p + 24))
-    (IsOptionalFault (drop (p + 24) bytes)) (λ optional e. ⊥)))
-
--- which cause is true of a file that has no header: that of the first part that is not there
-unfoldable pub IsHeaderFault : Bool → List ℕ → ErrorOf → Type 0
-IsHeaderFault strict bytes =
-    FirstFault (dos_header bytes) (IsDosFault bytes) (λ dos.
-    FirstFault (stub_in strict bytes dos.pe_pointer) (IsStubFault bytes dos.pe_pointer) (λ stub.
-    FirstFault (rich_at bytes dos.pe_pointer) (IsRichAtFault bytes dos.pe_pointer) (λ rich.
-    IsHeaderAtFault bytes dos.pe_pointer)))
-
 -- the written form of the optional header, if any; where there is none, no bytes
 abbrev pub optional_part : Endian → Option OptionalHeader → Option (List ℕ)
 optional_part endian None = Some []
 optional_part endian (Some h) = optional_bytes endian h
 
--- the parts of a header one after the other, the signature little-endian always, the optional
+-- the parts of a header one after the other, the signature always little-endian, the optional
 -- header as these bytes
 unfoldable pub header_parts : Endian → PeHeader → List ℕ → List ℕ
 header_parts endian h optional = concat (

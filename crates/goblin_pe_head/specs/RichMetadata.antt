@@ -37,8 +37,8 @@ metadata_at key bytes p = record {
   use_count = word_under key bytes (p + 4);
 }
 
--- the entries of these bytes, one after the other, and one refusal where a rest is left that is no
--- whole entry
+-- the consecutive entries of these bytes, and one refusal if the bytes left over are not a whole
+-- entry
 unfoldable pub metadata_items : ℕ → List ℕ → List (Result RichMetadata ErrorOf)
 metadata_items key bytes = record_items 8 (λ entry. metadata_at key entry 0) bytes
 

@@ -1,19 +1,15 @@
--- The header of a Terse Executable, and its sections. Both still say where things stood before the
--- headers of the PE file were stripped.
-use Rattle.std.specs.Prelude.{◌≡◌, ◌<◌, ◌≤◌, ◌⊎◌, ℕ, ◌+◌, ◌-◌, ◌*◌, ◌/◌, ◌%◌, ◌^◌, ◌==◌}
-use Rattle.std.specs.Prelude.{if◌then◌else◌, nat_le, List, [], ◌∷◌, length, Option, Some, None}
-use Rattle.std.specs.Prelude.{option_map, true, Bool}
+-- The header of a Terse Executable: its record; and what becomes of addresses and pointers, which
+-- still say where things were before the headers of the PE file were stripped.
+use Rattle.std.specs.Prelude.{◌≡◌, ℕ, ◌+◌, ◌-◌, ◌%◌, ◌^◌, ◌==◌, if◌then◌else◌, nat_le, List, []}
+use Rattle.std.specs.Prelude.{◌∷◌, Option, Some, None}
 use Rattle.goblin_base.specs.declared.endian.Endian.{Endian}
-use Rattle.goblin_base.specs.declared.endian.Endian.TheVariants.{Little}
 use Rattle.goblin_base.specs.declared.error.ErrorOf.{ErrorOf}
 use Rattle.goblin_base.specs.declared.error.ErrorOf.TheVariants.{Malformed}
 use Rattle.goblin_base.specs.declared.error.CauseOf.TheVariants.{StrippedSize}
 use Rattle.goblin_base.specs.Bytes.{number}
-use Rattle.goblin_base.specs.Answers.{IsFirstMissing, IsSliceFault, ◌>>=◌, FirstFault, all_at}
-use Rattle.goblin_base.specs.Record.{FieldValue, record_at, uint}
-use Rattle.goblin_pe_sect.specs.SectionTable.{Section, section_at, IsSectionFault}
+use Rattle.goblin_base.specs.Record.{FieldValue, uint}
+use Rattle.goblin_pe_sect.specs.SectionTable.{Section}
 use Rattle.goblin_pe_head.specs.declared.header.te.TeHeader.{TeHeader}
-use Rattle.goblin_pe_head.specs.CoffHeader.{IsTooManySections}
 
 -- Source: UEFI Platform Initialization Specification, volume 1, "TE Image".
 
@@ -43,8 +39,8 @@ te_fields h =
     ∷ uint 4 h.reloc_dir.virtual_address
     ∷ uint 4 h.reloc_dir.size ∷ uint 4 h.debug_dir.virtual_address ∷ uint 4 h.debug_dir.size ∷ []
 
--- By how much everything moved to the front: what was stripped, less the 40 bytes that stand in its
--- place. There is no such number where less was stripped.
+-- By how much everything moved to the front: what was stripped, less the 40 bytes that replace it.
+-- There is no such number if less was stripped.
 abbrev pub displacement : TeHeader → Option ℕ
 displacement h = if nat_le 40 h.stripped_size then Some (h.stripped_size - 40) else None
 
@@ -61,24 +57,9 @@ te_adjusted d h = record h {
   debug_dir = record h.debug_dir { virtual_address = moved d h.debug_dir.virtual_address };
 }
 
--- the header at p, adjusted; there is none where less was stripped than stands in its place
-unfoldable pub te_header : List ℕ → ℕ → Option TeHeader
-te_header bytes p = do
-  header ← record_at 40 (te_record Little) bytes p
-  d ← displacement header
-  Some (te_adjusted d header)
-
--- the refusal is that less was stripped than stands in its place
+-- the refusal names how much was stripped
 abbrev pub IsStrippedFault : TeHeader → ErrorOf → Type 0
-IsStrippedFault h (Malformed (StrippedSize size)) =
-    (size ≡ h.stripped_size) × (h.stripped_size < 40)
-IsStrippedFault h e = ⊥
-
--- which cause is true of a header that is refused
-unfoldable pub IsTeFault : List ℕ → ℕ → ErrorOf → Type 0
-IsTeFault bytes p =
-    FirstFault (record_at 40 (te_record Little) bytes p) (IsSliceFault bytes p 40) (λ header.
-    FirstFault (displacement header) (IsStrippedFault header) (λ d e. ⊥))
+IsStrippedFault h e = e ≡ Malformed (StrippedSize h.stripped_size)
 
 -- a pointer less d, where it points to something; 0 points to nothing
 abbrev pub pointer_moved : ℕ → ℕ → ℕ
@@ -93,35 +74,7 @@ section_adjusted d s = record s {
   pointer_to_linenumbers = pointer_moved d s.pointer_to_linenumbers;
 }
 
--- a section as it stands, or as it is in a file from whose front something was stripped
+-- a section as stored, or as it is in a file whose front was stripped
 abbrev pub section_moved : Option ℕ → Section → Section
 section_moved None = λ s. s
 section_moved (Some d) = section_adjusted d
-
--- n sections, moved so, whose records stand one after the other from p on, with their names from
--- the string table at `table`
-abbrev pub moved_sections_at : Option ℕ → Bool → ℕ → ℕ → List ℕ → ℕ → Option (List Section)
-moved_sections_at move strict table n bytes p =
-    all_at (λ i. option_map (section_moved move) (section_at strict table bytes (p + 40 * i))) n
-
--- as many sections as the header says, adjusted; a string table would begin at the front of the
--- file
-unfoldable pub te_sections_at : TeHeader → List ℕ → ℕ → Option (List Section)
-te_sections_at h bytes p =
-    displacement h >>= λ d. moved_sections_at (Some d) true 0 h.number_of_sections bytes p
-
--- which cause is true of n sections, moved so, where one has no value: that of the first
-abbrev pub IsMovedSectionsFault : Option ℕ → Bool → ℕ → ℕ → List ℕ → ℕ → ErrorOf → Type 0
-IsMovedSectionsFault move strict table n bytes p =
-    IsFirstMissing
-    (λ i. option_map (section_moved move) (section_at strict table bytes (p + 40 * i))) n
-    (λ i. IsSectionFault strict bytes (p + 40 * i))
-
--- which cause is true of sections that are refused: the file is too short for as many; else less
--- was stripped than stands in its place; and else that of the first that is missing
-abbrev pub IsTeSectionsFault : TeHeader → List ℕ → ℕ → ErrorOf → Type 0
-IsTeSectionsFault h bytes p e =
-    IsTooManySections h.number_of_sections bytes e
-    ⊎ ((h.number_of_sections ≤ length bytes / 40)
-    × FirstFault (displacement h) (IsStrippedFault h)
-    (λ d. IsMovedSectionsFault (Some d) true 0 h.number_of_sections bytes p) e)

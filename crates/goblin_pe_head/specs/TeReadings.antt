@@ -1,52 +1,49 @@
--- A Terse Executable by readings: its header, its sections, and both as an image.
-use Rattle.std.specs.Prelude.{ℕ, ◌+◌, ◌*◌, true, List, Option, Some}
-use Rattle.std.proofs.Common.{inl, inr}
+-- A Terse Executable: its header, its sections, and both as an image.
+use Rattle.std.specs.Prelude.{ℕ, ◌+◌, ◌*◌, true, Bool, List, Option, None, Some, option_map}
 use Rattle.goblin_base.specs.declared.endian.Endian.TheVariants.{Little}
-use Rattle.goblin_base.specs.declared.error.ErrorOf.{ErrorOf}
-use Rattle.goblin_base.specs.Answers as answers
-use Rattle.goblin_base.specs.Answers.{IsMemory}
+use Rattle.goblin_base.specs.declared.error.CauseOf.TheVariants.{StrippedSize}
 use Rattle.goblin_base.specs.Reading.{Reading}
-use Rattle.goblin_base.proofs.Picks.{by_cases-not_memory}
-use Rattle.goblin_base.proofs.Readings.{first_no_memory}
-use Rattle.readings.specs.Reads.{◌>>=◌, because_by, checked, each, mapped, record_at, taken}
+use Rattle.goblin_base.proofs.Readings.{malformed-not_memory}
+use Rattle.readings.specs.Reads.{◌>>=◌, checked, each, mapped, needs, record_at}
 use Rattle.goblin_pe_sect.specs.SectionReadings.{section_at}
 use Rattle.goblin_pe_sect.specs.SectionTable.{Section}
 use Rattle.goblin_pe_head.specs.declared.header.te.TeHeader.{TeHeader}
-use Rattle.goblin_pe_head.specs.CoffHeader.{IsTooManySections}
-use Rattle.goblin_pe_head.specs.CoffReadings.{section-not_memory}
-use Rattle.goblin_pe_head.specs.TeHeader.{IsMovedSectionsFault, IsStrippedFault, IsTeSectionsFault}
-use Rattle.goblin_pe_head.specs.TeHeader.{displacement, section_moved, te_adjusted, te_record}
+use Rattle.goblin_pe_head.specs.CoffReadings.{with_room}
+use Rattle.goblin_pe_head.specs.TeHeader.{IsStrippedFault, displacement, section_adjusted}
+use Rattle.goblin_pe_head.specs.TeHeader.{te_adjusted, te_record}
 
--- a header whose addresses are those in the stripped file; there is none where less was stripped
--- than stands in its place
+-- Source: UEFI Platform Initialization Specification, volume 1, "TE Image".
+
+-- a header whose addresses are those in the stripped file; there is none if less was stripped than
+-- replaces it
 abbrev pub adjusted : TeHeader → Option TeHeader
-adjusted header = answers.◌>>=◌ (displacement header) (λ d. Some (te_adjusted d header))
+adjusted header = option_map (λ d. te_adjusted d header) (displacement header)
 
 -- the header at p, adjusted
 unfoldable pub te_header : ℕ → Reading TeHeader
 te_header p =
     checked adjusted IsStrippedFault
-    (λ header. by_cases-not_memory (IsStrippedFault header) (λ m h. h))
+    (λ header. malformed-not_memory (StrippedSize header.stripped_size))
     (record_at 40 (te_record Little) p)
 
-pub te_sections-not_memory : (h : TeHeader) (p : ℕ) (bytes : List ℕ) (e : ErrorOf)
-    → IsTeSectionsFault h bytes p e → ¬ IsMemory e
-te_sections-not_memory h p bytes e (inl many) =
-    by_cases-not_memory (IsTooManySections h.number_of_sections bytes) (λ m h. h) e many
-te_sections-not_memory h p bytes e (inr fault) =
-    first_no_memory (displacement h) (IsStrippedFault h)
-    (λ d. IsMovedSectionsFault (Some d) true 0 h.number_of_sections bytes p) e
-    (by_cases-not_memory (IsStrippedFault h) (λ m h. h) e)
-    (λ d missing. section-not_memory true bytes (p + 40 * missing.0) e missing.4) fault.1
+-- the section at p: as stored, or as it is in a file whose front was stripped
+abbrev pub moved_section : Option ℕ → Bool → ℕ → ℕ → Reading Section
+moved_section None strict table p = section_at strict table p
+moved_section (Some d) strict table p = mapped (section_adjusted d) (section_at strict table p)
+
+-- n sections, each as `moved_section` has it, whose records follow one another from p on, with
+-- their names from the string table at `table`
+abbrev pub moved_sections : Option ℕ → Bool → ℕ → ℕ → ℕ → Reading (List Section)
+moved_sections move strict table n p =
+    each (λ i. moved_section move strict table (p + 40 * i)) n
 
 -- as many sections as the header says, adjusted; a string table would begin at the front of the
 -- file
 unfoldable pub te_sections_at : TeHeader → ℕ → Reading (List Section)
 te_sections_at h p =
-    because_by (λ bytes. IsTeSectionsFault h bytes p) (te_sections-not_memory h p)
-    (taken (displacement h) >>= λ d.
-    each (λ i. mapped (section_moved (Some d)) (section_at true 0 (p + 40 * i)))
-    h.number_of_sections)
+    with_room h.number_of_sections
+    (needs (displacement h) (StrippedSize h.stripped_size)
+    >>= λ d. moved_sections (Some d) true 0 h.number_of_sections p)
 
 -- the header at p, and the sections after it
 unfoldable pub te_image : ℕ → Reading (TeHeader × List Section)

@@ -4,22 +4,20 @@
 //! magic says which. The data directories follow.
 
 ghost use Rattle.std.specs.Prelude.{◌≡◌, ◌≤◌, length, IfOk, IsSomeAnd, None, option_and_then};
+ghost use Rattle.goblin_base.specs.Reading.{Reads};
 ghost use Rattle.goblin_base.specs.Answers.{Answers, Writes, IsSliceFault, FirstFault};
 ghost use Rattle.goblin_base.specs.Bytes.{overwritten};
 ghost use Rattle.goblin_pe_head.specs.declared.optional_header.OptionalHeader.{OptionalHeader};
-ghost use Rattle.goblin_pe_head.specs.OptionalHeader.{bytes_32, bytes_64, container_of, fields_32};
-ghost use Rattle.goblin_pe_head.specs.OptionalHeader.{fields_64, fixed_fields, optional_bytes};
-ghost use Rattle.goblin_pe_head.specs.OptionalHeader.{optional_header, windows_to_32};
-ghost use Rattle.goblin_pe_head.specs.OptionalHeader.{written_bytes, IsBadMagic, IsFieldsFault_32};
-ghost use Rattle.goblin_pe_head.specs.OptionalHeader.{IsFieldsFault_64, IsFixedFault};
-ghost use Rattle.goblin_pe_head.specs.OptionalHeader.{IsOptionalFault, IsTooWide, IsUnwritten};
 ghost use Rattle.goblin_pe_head.specs.HeaderLaws.{OptionalWritesBack};
+ghost use Rattle.goblin_pe_head.specs.HeaderReadings as reading;
+ghost use Rattle.goblin_pe_head.specs.OptionalHeader.{IsBadMagic, IsTooWide, IsUnwritten, bytes_32};
+ghost use Rattle.goblin_pe_head.specs.OptionalHeader.{bytes_64, container_of, optional_bytes};
+ghost use Rattle.goblin_pe_head.specs.OptionalHeader.{windows_to_32, written_bytes};
 ghost use Rattle.goblin_pe_head.specs.OptionalHeaderLaws.{optional_header-within};
-ghost use Rattle.goblin_pe_head.specs.OptionalHeaderLaws.{optional_fault-no_memory};
 
 use goblin_base::{
-    Container, Endian, Error, Field, Record, Result, TryFromCtx, encode, pread_slice, pread_u16,
-    pwrite_slice, record_bytes,
+    Container, Endian, Error, Field, Record, Result, TryFromCtx, encode, encode_fields,
+    pread_slice, pread_u16, pwrite_slice,
 };
 use goblin_pe_sect::DataDirectories;
 
@@ -57,8 +55,8 @@ const _: () = prove!(
 /// The optional header of an image of either width.
 ///
 /// Source: PE Format, "Optional Header (Image Only)". An image must have one; an object has none.
-/// `at` says of fields where they stand from its front, first in an image for 32 bits, then in one
-/// for 64 bits.
+/// `at` gives a field's offset from its front, first in an image for 32 bits, then in one for 64
+/// bits.
 #[derive(Debug, PartialEq, Copy, Clone)]
 pub struct OptionalHeader {
     /// The standard fields, at 0: what any loader of COFF files wants to know.
@@ -105,7 +103,7 @@ impl WrittenHeader {
 
 // The fields of an optional header for 32 bits.
 fn fields_32(bytes: &[u8]) -> Result<FixedFields>
-    ensures { Answers (λ f. f) result (fields_32 bytes.now) (IsFieldsFault_32 bytes.now) }
+    ensures { Reads (λ f. f) result reading.fields_32 bytes.now }
 {
     let standard = pread_slice(bytes, 0, SIZEOF_STANDARD_FIELDS_32)?;
     let windows = pread_slice(bytes, SIZEOF_STANDARD_FIELDS_32, SIZEOF_WINDOWS_FIELDS_32)?;
@@ -121,7 +119,7 @@ fn fields_32(bytes: &[u8]) -> Result<FixedFields>
 
 // The fields of an optional header for 64 bits.
 fn fields_64(bytes: &[u8]) -> Result<FixedFields>
-    ensures { Answers (λ f. f) result (fields_64 bytes.now) (IsFieldsFault_64 bytes.now) }
+    ensures { Reads (λ f. f) result reading.fields_64 bytes.now }
 {
     let standard = pread_slice(bytes, 0, SIZEOF_STANDARD_FIELDS_64)?;
     let windows = pread_slice(bytes, SIZEOF_STANDARD_FIELDS_64, SIZEOF_WINDOWS_FIELDS_64)?;
@@ -136,10 +134,9 @@ fn fields_64(bytes: &[u8]) -> Result<FixedFields>
 }
 
 // The fields that the magic asks for.
-#[tactic(auto, unfolding(crate::specs::OptionalHeader::fixed_fields, crate::specs::OptionalHeader::IsFixedFault))]
+#[tactic(auto, unfolding(crate::specs::HeaderReadings::fixed_fields))]
 fn fixed_fields(magic: u16, bytes: &[u8]) -> Result<FixedFields>
-    ensures { Answers (λ f. f) result (fixed_fields magic bytes.now)
-        (IsFixedFault magic bytes.now) }
+    ensures { Reads (λ f. f) result (reading.fixed_fields magic) bytes.now }
 {
     match magic {
         MAGIC_32 => fields_32(bytes),
@@ -153,22 +150,20 @@ impl TryFromCtx<'_> for OptionalHeader {
 
     ghost plain = { λ header. header };
 
-    ghost value_of = { λ _ bytes. optional_header bytes };
+    ghost value_of = { λ _ bytes. reading.optional_header.value bytes };
 
-    ghost refusal = { λ _ bytes e. IsOptionalFault bytes e };
+    ghost refusal = { λ _ bytes e. reading.optional_header.IsCause bytes e };
 
     ghost within = { λ _ bytes. optional_header-within bytes };
 
-    ghost no_memory = { λ _ bytes e. optional_fault-no_memory bytes e };
-
-    /// Reads the optional header at the front of `bytes`, always little-endian, and answers the
-    /// pair (header, how many bytes it takes with its directories). The magic alone says its width.
+    /// Reads the optional header at the front of `bytes`, always little-endian, and returns the
+    /// pair (header, how many bytes it takes with its directories). Only the magic says its width.
     ///
     /// # Errors
-    /// [`Error::Read`] where a part passes the end; [`Error::BadMagic`] of a magic other than
+    /// [`Error::Read`] if a part runs past the end; [`Error::BadMagic`] of a magic other than
     /// [`MAGIC_32`] and [`MAGIC_64`]; [`Error::Malformed`] with `DirectoryCount` of more than
     /// sixteen directories.
-    #[tactic(auto, unfolding(crate::specs::OptionalHeader::optional_header, crate::specs::OptionalHeader::IsOptionalFault))]
+    #[tactic(auto, unfolding(crate::specs::HeaderReadings::optional_header))]
     fn try_from_ctx(bytes: &[u8], _endian: Endian) -> Result<(OptionalHeader, usize)> {
         let magic = pread_u16(bytes, 0, Endian::Little)?;
         let fields = fixed_fields(magic, bytes)?;
@@ -215,7 +210,7 @@ impl OptionalHeader {
             Field::Bytes(&windows),
             Field::Bytes(&directories),
         ];
-        Ok(record_bytes(&parts, endian))
+        Ok(encode_fields(&parts, endian))
     }
 
     // What is written where the magic asks for 64 bits.
@@ -231,14 +226,14 @@ impl OptionalHeader {
             Field::Bytes(&windows),
             Field::Bytes(&directories),
         ];
-        record_bytes(&parts, endian)
+        encode_fields(&parts, endian)
     }
 
     /// The bytes that are written of it.
     ///
     /// # Errors
     /// [`Error::BadMagic`] of a magic other than [`MAGIC_32`] and [`MAGIC_64`];
-    /// [`Error::Malformed`] with `FieldTooWide` where the magic is [`MAGIC_32`] and a Windows field
+    /// [`Error::Malformed`] with `FieldTooWide` if the magic is [`MAGIC_32`] and a Windows field
     /// does not fit 32 bits.
     #[tactic(auto, unfolding(crate::specs::OptionalHeader::optional_bytes, crate::specs::OptionalHeader::IsUnwritten))]
     pub(crate) fn to_bytes(&self, endian: Endian) -> Result<WrittenHeader>
@@ -252,15 +247,15 @@ impl OptionalHeader {
         }
     }
 
-    /// Writes the optional header to the front of `bytes` and answers how many bytes it takes, 224
+    /// Writes the optional header to the front of `bytes` and returns how many bytes it takes, 224
     /// or 240: the fields that its magic asks for and always sixteen directories, those that are
     /// `None` as zeros. Standard fields are written modulo 2^32. In little-endian order, a header
-    /// that was read is written as it stood.
+    /// that was read is written back unchanged.
     ///
     /// # Errors
     /// In this order: [`Error::BadMagic`] of a magic other than [`MAGIC_32`] and [`MAGIC_64`];
-    /// [`Error::Malformed`] with `FieldTooWide` where the magic is [`MAGIC_32`] and a Windows field
-    /// does not fit 32 bits; [`Error::Read`] where there is no room. `bytes` are then as they were.
+    /// [`Error::Malformed`] with `FieldTooWide` if the magic is [`MAGIC_32`] and a Windows field
+    /// does not fit 32 bits; [`Error::Read`] if there is no room. `bytes` is then unchanged.
     #[tactic(auto, using(crate::proofs::OptionalHeaderRoundTrip::optional_back))]
     pub fn try_into_ctx(self, bytes: &mut [u8], endian: Endian) -> Result<usize>
         ensures size { IfOk result

@@ -3,16 +3,16 @@
 
 ghost use Rattle.std.specs.Prelude.{◌≡◌, ◌+◌, ◌*◌, ◌/◌, ◌<◌, length, option_map, true, IfErr, OnOk};
 ghost use Rattle.std.specs.Prelude.{OnErr, IsErrAnd, IfOk};
-ghost use Rattle.goblin_base.specs.Answers.{Answers, AnswersOrMemory, IsMemory, IsSliceFault};
-ghost use Rattle.goblin_base.specs.Answers.{Writes};
-ghost use Rattle.goblin_base.specs.Record.{record_at, ReadsBack, WritesBack, encoding, record_over};
+ghost use Rattle.goblin_base.specs.Reading.{Reads, ReadsOrMemory};
+ghost use Rattle.goblin_base.specs.Answers.{IsMemory, IsSliceFault, Writes};
+ghost use Rattle.goblin_base.specs.Record.{ReadsBack, WritesBack, encoding, record_over};
+ghost use Rattle.readings.specs.Reads.{record_at};
 ghost use Rattle.goblin_pe_sect.specs.Options.{is_strict};
 ghost use Rattle.goblin_pe_sect.specs.Symbols.{table_bytes};
 ghost use Rattle.goblin_pe_head.specs.declared.header.coff.CoffHeader.{CoffHeader};
-ghost use Rattle.goblin_pe_head.specs.CoffHeader.{IsNoStrings, IsNoSymbols, strings_of, symbols_of};
-ghost use Rattle.goblin_pe_head.specs.CoffHeader.{coff_fields, coff_header, symbols_end};
-ghost use Rattle.goblin_pe_head.specs.CoffHeader.{string_table_offset, sections_at};
-ghost use Rattle.goblin_pe_head.specs.CoffHeader.{IsSectionsFault, IsTooManySections};
+ghost use Rattle.goblin_pe_head.specs.CoffHeader.{IsTooManySections, coff_fields, coff_header};
+ghost use Rattle.goblin_pe_head.specs.CoffHeader.{string_table_offset, symbols_end};
+ghost use Rattle.goblin_pe_head.specs.CoffReadings as reading;
 
 use crate::header::sections::read_sections;
 use goblin_base::{
@@ -35,7 +35,7 @@ const LENGTH_FIELD_SIZE: usize = 4;
 /// The header of a COFF file, or of the COFF part of an image.
 ///
 /// Source: PE Format, "COFF File Header (Object and Image)". Numbers are as stored; the record has
-/// 20 bytes, and `at` says where in it a field stands. An object begins with it; in an image it
+/// 20 bytes, and `at` gives a field's offset in it. An object begins with it; in an image it
 /// follows the PE signature.
 #[derive(Debug, PartialEq, Copy, Clone, Default)]
 pub struct CoffHeader {
@@ -53,8 +53,9 @@ pub struct CoffHeader {
     pub pointer_to_symbol_table: u32,
     /// How many records the symbol table has, the auxiliary ones too, at 12.
     pub number_of_symbol_table: u32,
-    /// The size of the optional header, in bytes, at 16; 0 where there is none, as in an object. It
-    /// alone says where the section table begins, and nothing of the optional header's own layout.
+    /// The size of the optional header, in bytes, at 16; 0 where there is none, as in an object.
+    /// Only this says where the section table begins; it says nothing about the optional header's
+    /// own layout.
     pub size_of_optional_header: u16,
     /// What kind of file it is, as bits `IMAGE_FILE_*` (PE Format, "Characteristics"), at 18.
     pub characteristics: u16,
@@ -103,11 +104,10 @@ impl CoffHeader {
     /// Reads the record at the file offset `offset` and moves `offset` past it.
     ///
     /// # Errors
-    /// [`Error::Read`] where the 20 bytes pass the end of the file; `offset` then stays.
+    /// [`Error::Read`] if the 20 bytes run past the end of the file; `offset` is then unchanged.
     pub fn parse(bytes: &[u8], offset: &mut usize) -> Result<CoffHeader>
-        ensures value { Answers (λ h. h) result
-            (record_at 20 (coff_header Endian.Little) bytes.now offset.old)
-            (IsSliceFault bytes.now offset.old 20) }
+        ensures value { Reads (λ h. h) result (record_at 20 (coff_header Endian.Little) offset.old)
+            bytes.now }
         ensures ok { OnOk result (offset.new ≡ offset.old + 20) }
         ensures err { OnErr result (offset.new ≡ offset.old) }
     {
@@ -127,9 +127,8 @@ impl CoffHeader {
     ) -> Result<Vec<SectionTable>>
         ensures value { let table = symbols_end self.now in
             let count = self.now.number_of_sections in
-            AnswersOrMemory (λ v. v.items) result
-            (sections_at true table count bytes.now offset.old)
-            (IsSectionsFault true table count bytes.now offset.old) }
+            ReadsOrMemory (λ v. v.items) result
+            (reading.sections_at true table count offset.old) bytes.now }
         ensures first { length bytes.now / 40 < self.now.number_of_sections
             → IsErrAnd result (IsTooManySections self.now.number_of_sections bytes.now) }
         ensures grown { IfErr result (λ e. IsMemory e → 0 < self.now.number_of_sections) }
@@ -139,17 +138,17 @@ impl CoffHeader {
         self.sections_with_opts(alloc, bytes, offset, &ParseOptions::default())
     }
 
-    /// Reads the section table, whose records stand one after the other from the file offset
-    /// `offset` on, and moves `offset` past it. In an image it follows the optional header.
-    /// Indirect names are looked up in the string table after the symbol table.
+    /// Reads the section table, whose records follow one another from the file offset `offset` on,
+    /// and moves `offset` past it. In an image it follows the optional header. Indirect names are
+    /// looked up in the string table after the symbol table.
     ///
     /// Source: PE Format, "Section Table (Section Headers)".
     ///
     /// # Errors
     /// [`Error::BufferTooShort`] of the number of sections where the whole file has no room for
-    /// that many records, tested first; as [`SectionTable::parse_with_opts`] where a record passes
-    /// the end or its name is refused; [`Error::Memory`] where memory is refused. `offset` then
-    /// stays.
+    /// that many records, tested first; as [`SectionTable::parse_with_opts`] where a record runs
+    /// past the end or its name is refused; [`Error::Memory`] if memory is refused. `offset` is
+    /// then unchanged.
     pub fn sections_with_opts(
         &self,
         alloc: Global,
@@ -160,9 +159,8 @@ impl CoffHeader {
         ensures value { let strict = is_strict opts.now.parse_mode in
             let table = symbols_end self.now in
             let count = self.now.number_of_sections in
-            AnswersOrMemory (λ v. v.items) result
-            (sections_at strict table count bytes.now offset.old)
-            (IsSectionsFault strict table count bytes.now offset.old) }
+            ReadsOrMemory (λ v. v.items) result
+            (reading.sections_at strict table count offset.old) bytes.now }
         ensures first { length bytes.now / 40 < self.now.number_of_sections
             → IsErrAnd result (IsTooManySections self.now.number_of_sections bytes.now) }
         ensures grown { IfErr result (λ e. IsMemory e → 0 < self.now.number_of_sections) }
@@ -177,16 +175,16 @@ impl CoffHeader {
         read_sections(alloc, bytes, offset, count, table, opts, None)
     }
 
-    /// The symbol table; `None` where the pointer to it is 0.
+    /// The symbol table; `None` if the pointer to it is 0.
     ///
     /// Source: PE Format, "COFF Symbol Table".
     ///
     /// # Errors
-    /// [`Error::Read`] where its records pass the end of the file, or begin at it, also where there
-    /// are none.
+    /// [`Error::Read`] if its records run past the end of the file, or begin at it, even where
+    /// there are none.
+    #[tactic(auto, unfolding(crate::specs::CoffReadings::symbols_of))]
     pub fn symbols<'a>(&self, bytes: &'a [u8]) -> Result<Option<SymbolTable<'a>>>
-        ensures { Answers (option_map table_bytes) result (symbols_of self.now bytes.now)
-            (IsNoSymbols self.now bytes.now) }
+        ensures { Reads (option_map table_bytes) result (reading.symbols_of self.now) bytes.now }
     {
         if self.pointer_to_symbol_table == 0 {
             return Ok(None);
@@ -196,19 +194,18 @@ impl CoffHeader {
         Ok(Some(symbols))
     }
 
-    /// The string table, which follows the symbol table; `None` where the pointer to that is 0. Its
-    /// first four bytes say its length, themselves counted. They are no part of what is answered,
-    /// so offsets count from after them. It stays where it stands in the file, so no memory is
-    /// taken.
+    /// The string table, which follows the symbol table; `None` if the pointer to that is 0. Its
+    /// first four bytes say its length, including themselves. They are not part of the result, so
+    /// offsets count from after them. It borrows the file's bytes, so no memory is taken.
     ///
     /// Source: PE Format, "COFF String Table".
     ///
     /// # Errors
-    /// [`Error::Read`] where the four bytes pass the end of the file; [`Error::Malformed`] with
-    /// [`Cause::CoffLength`] where the length is below 4; and as [`Strtab::parse`].
+    /// [`Error::Read`] if the four bytes run past the end of the file; [`Error::Malformed`] with
+    /// [`Cause::CoffLength`] if the length is below 4; and as [`Strtab::parse`].
+    #[tactic(auto, unfolding(crate::specs::CoffReadings::strings_of, crate::specs::CoffReadings::strings_at))]
     pub fn strings<'a>(&self, alloc: Global, bytes: &'a [u8]) -> Result<Option<Strtab<'a>>>
-        ensures { Answers (λ t. t) result (strings_of self.now bytes.now)
-            (IsNoStrings self.now bytes.now) }
+        ensures { Reads (λ t. t) result (reading.strings_of self.now) bytes.now }
     {
         let Some(offset) = self.string_table_offset() else {
             return Ok(None);
@@ -222,9 +219,9 @@ impl CoffHeader {
         Ok(Some(strings))
     }
 
-    /// The file offset of the string table, which stands after the symbol table; `None` where the
-    /// pointer to that is 0. The four bytes of its length stand there, and the texts after them. It
-    /// may lie past the file.
+    /// The file offset of the string table, which follows the symbol table; `None` if the pointer
+    /// to that is 0. The four bytes of its length are there, followed by the texts. It may lie past
+    /// the file.
     ///
     /// Source: PE Format, "COFF String Table".
     #[tactic(auto, unfolding(crate::specs::CoffHeader::string_table_offset))]
@@ -238,8 +235,8 @@ impl CoffHeader {
     }
 
     /// The file offset after the last record of the symbol table: the pointer to that, plus 18
-    /// bytes for each record. The string table stands there, if there is one. The names of sections
-    /// are looked up from there on in any case, also where the pointer is 0.
+    /// bytes for each record. The string table is there, if there is one. The names of sections are
+    /// looked up from there on in any case, even where the pointer is 0.
     pub fn symbols_end(&self) -> usize
         ensures { result ≡ symbols_end self.now }
     {
@@ -247,12 +244,12 @@ impl CoffHeader {
         self.pointer_to_symbol_table as usize + COFF_SYMBOL_SIZE * symbols
     }
 
-    /// Writes the record to the front of `bytes`, and answers its size, 20. One that was read is
-    /// written as it stood, and any is read again from what was written, by the same order of
-    /// bytes.
+    /// Writes the record to the front of `bytes`, and returns its size, 20. A record that was read
+    /// is written back unchanged, and any record reads back from what was written, in the same byte
+    /// order.
     ///
     /// # Errors
-    /// [`Error::Read`] where there is no room for 20 bytes; `bytes` are then as they were.
+    /// [`Error::Read`] if there is no room for 20 bytes; `bytes` is then unchanged.
     pub fn try_into_ctx(self, bytes: &mut [u8], endian: Endian) -> Result<usize>
         ensures size { IfOk result (λ n. n ≡ 20) }
         ensures written { let after = record_over 20 (encoding endian (coff_fields self))
@@ -265,7 +262,7 @@ impl CoffHeader {
         Record::try_into_ctx(self, bytes, endian)
     }
 
-    /// The size of the record in bytes, the same in either order: 20.
+    /// The size of the record in bytes: 20 in either byte order.
     pub fn size_with(endian: &Endian) -> usize
         ensures { result ≡ 20 }
     {

@@ -1,15 +1,17 @@
-//! The header of a DOS program, with which a PE file begins.
+//! The header of a DOS program, which a PE file begins with.
 
 ghost use Rattle.std.specs.Prelude.{◌≡◌, ◌+◌, ◌≤◌, length, IfOk};
-ghost use Rattle.goblin_base.specs.Answers.{Answers, Writes, IsSliceFault};
+ghost use Rattle.goblin_base.specs.Reading.{Reads};
+ghost use Rattle.goblin_base.specs.Answers.{Writes, IsSliceFault};
 ghost use Rattle.goblin_base.specs.Bytes.{overwritten};
 ghost use Rattle.goblin_base.specs.Record.{ReadsBack, WritesBack, encoding};
+ghost use Rattle.goblin_pe_head.specs.DosHeader.{dos_fields, dos_record};
 ghost use Rattle.goblin_pe_head.specs.HeaderLaws.{DosWritesBack};
-ghost use Rattle.goblin_pe_head.specs.DosHeader.{dos_record, dos_fields, dos_header, IsDosFault};
+ghost use Rattle.goblin_pe_head.specs.HeaderReadings as reading;
 
 use goblin_base::{
-    Cause, Endian, Error, Field, Result, field_u16, field_u32, pread_slice, pread_u16, pread_u32,
-    pwrite_slice, record_bytes,
+    Cause, Endian, Error, Field, Result, encode_fields, field_u16, field_u32, pread_slice,
+    pread_u16, pread_u32, pwrite_slice,
 };
 
 /// The signature of a DOS header, `MZ`.
@@ -18,7 +20,7 @@ pub const DOS_MAGIC: u16 = 0x5A4D;
 pub const PE_MAGIC: u32 = 0x0000_4550;
 /// The size of the signature of a PE header, in bytes.
 pub const SIZEOF_PE_MAGIC: usize = 4;
-/// Where in the DOS header the file offset of the PE signature stands.
+/// The offset in the DOS header of the file offset of the PE signature.
 pub const PE_POINTER_OFFSET: u32 = 0x3C;
 
 const _: () = prove!(
@@ -28,11 +30,11 @@ const _: () = prove!(
 // The size of a DOS header, in bytes.
 pub(crate) const SIZEOF_DOS_HEADER: usize = 64;
 
-/// The header of a DOS program, with which a PE file begins.
+/// The header of a DOS program, which a PE file begins with.
 ///
 /// Source: PE Format, "MS-DOS Stub (Image Only)"; the fields are those of a DOS executable. Numbers
-/// are as stored, little-endian in a file; the record has 64 bytes, and `at` says at which file
-/// offset a field stands. A loader of PE files looks at the signature and the pointer alone.
+/// are as stored, little-endian in a file; the record has 64 bytes, and `at` gives a field's file
+/// offset. A loader of PE files looks only at the signature and the pointer.
 #[derive(Debug, PartialEq, Copy, Clone, Default)]
 pub struct DosHeader {
     /// [`DOS_MAGIC`], at 0x00.
@@ -71,7 +73,7 @@ pub struct DosHeader {
     pub oem_info: u16,
     /// Reserved, at 0x28.
     pub reserved2: [u16; 10],
-    /// The file offset of the PE signature, at 0x3C. It may lie anywhere in the file, also inside
+    /// The file offset of the PE signature, at 0x3C. It may lie anywhere in the file, even inside
     /// the DOS header, and need not be aligned; a whole header is read in strict mode only where
     /// this is at least 0x40.
     pub pe_pointer: u32,
@@ -162,20 +164,19 @@ impl DosHeader {
             Field::U16(self.reserved2[9]),
             Field::U32(self.pe_pointer),
         ];
-        record_bytes(&fields, endian)
+        encode_fields(&fields, endian)
     }
 
     /// Reads the DOS header of a PE file, which begins with the DOS signature and points to the PE
     /// signature.
     ///
     /// # Errors
-    /// [`Error::Malformed`] with [`Cause::NoDosSignature`] or [`Cause::DosMagic`] where the file
-    /// does not begin with the DOS signature, [`Cause::NoPePointer`] where it is shorter than the
-    /// header, [`Cause::NoPeSignature`] or [`Cause::PeMagic`] where the PE signature does not stand
-    /// at the pointer.
-    #[tactic(auto, unfolding(crate::specs::DosHeader::dos_header, crate::specs::DosHeader::IsDosFault))]
+    /// [`Error::Malformed`] with [`Cause::NoDosSignature`] or [`Cause::DosMagic`] if the file does
+    /// not begin with the DOS signature, [`Cause::NoPePointer`] if it is shorter than the header,
+    /// [`Cause::NoPeSignature`] or [`Cause::PeMagic`] if the PE signature is not at the pointer.
+    #[tactic(auto, unfolding(crate::specs::HeaderReadings::dos_header))]
     pub fn parse(bytes: &[u8]) -> Result<DosHeader>
-        ensures value { Answers (λ h. h) result (dos_header bytes.now) (IsDosFault bytes.now) }
+        ensures value { Reads (λ h. h) result reading.dos_header bytes.now }
         ensures pointer { IfOk result (λ h. h.pe_pointer + 4 ≤ length bytes.now) }
     {
         let Ok(magic) = pread_u16(bytes, 0, Endian::Little) else {
@@ -198,13 +199,12 @@ impl DosHeader {
         Ok(header)
     }
 
-    /// Writes the record at the front of `bytes` and answers its size, 64. A header that was read
-    /// is written as it stood, and any header is read again from what was written, by the same
-    /// order of bytes. In little-endian order that of a file is written as the file's first 64
-    /// bytes.
+    /// Writes the record at the front of `bytes` and returns its size, 64. A header that was read
+    /// is written back unchanged, and any header reads back from what was written, in the same byte
+    /// order. In little-endian order, the header of a file is written as the file's first 64 bytes.
     ///
     /// # Errors
-    /// [`Error::Read`] where there is no room for 64 bytes; `bytes` are then as they were.
+    /// [`Error::Read`] if there is no room for 64 bytes; `bytes` is then unchanged.
     #[tactic(auto, using(crate::proofs::DosHeaderRoundTrip::dos_back, crate::proofs::PeHeaderRoundTrip::dos_file))]
     pub fn try_into_ctx(self, bytes: &mut [u8], endian: Endian) -> Result<usize>
         ensures size { IfOk result (λ n. n ≡ 64) }
@@ -219,7 +219,7 @@ impl DosHeader {
         Ok(SIZEOF_DOS_HEADER)
     }
 
-    /// The size of the record in bytes, the same in either order: 64.
+    /// The size of the record in bytes: 64 in either byte order.
     pub fn size_with(_endian: &Endian) -> usize
         ensures { result ≡ 64 }
     {

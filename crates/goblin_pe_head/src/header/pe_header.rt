@@ -1,19 +1,19 @@
 //! The whole header of a PE file.
 
-ghost use Rattle.std.specs.Prelude.{◌≡◌, ◌+◌, ◌≤◌, IfOk, IfSome, IsSomeAnd, Some, drop, length};
+ghost use Rattle.std.specs.Prelude.{◌≡◌, ◌+◌, ◌≤◌, IfOk, IfSome, IsSomeAnd, Some, length};
 ghost use Rattle.std.specs.Prelude.{option_and_then, option_map, true};
 ghost use Rattle.goblin_base.specs.declared.endian.Endian.{Endian};
+ghost use Rattle.goblin_base.specs.Reading.{Reads};
 ghost use Rattle.goblin_base.specs.Answers.{Answers, Writes, IsSliceFault, FirstFault};
 ghost use Rattle.goblin_base.specs.Bytes.{overwritten, replaced};
 ghost use Rattle.goblin_pe_sect.specs.Options.{is_strict};
+ghost use Rattle.goblin_pe_head.specs.DosStub.{stub_bytes};
 ghost use Rattle.goblin_pe_head.specs.HeaderLaws.{HeaderReadsBack, HeaderWritesBack};
-ghost use Rattle.goblin_pe_head.specs.DosStub.{stub_bytes, IsStubFault};
-ghost use Rattle.goblin_pe_head.specs.OptionalHeader.{IsOptionalFault, written_bytes};
-ghost use Rattle.goblin_pe_head.specs.PeHeader.{default_header, header_at, header_bytes};
-ghost use Rattle.goblin_pe_head.specs.PeHeader.{header_parts, header_value, header_without_dos};
-ghost use Rattle.goblin_pe_head.specs.PeHeader.{optional_at, optional_part, pe_header, stub_in};
-ghost use Rattle.goblin_pe_head.specs.PeHeader.{IsHeaderAtFault, IsHeaderFault, IsUnwrittenPart};
-ghost use Rattle.goblin_pe_head.specs.RichHeader.{PaddingFits, rich_header, rich_value};
+ghost use Rattle.goblin_pe_head.specs.HeaderReadings as reading;
+ghost use Rattle.goblin_pe_head.specs.OptionalHeader.{written_bytes};
+ghost use Rattle.goblin_pe_head.specs.PeHeader.{IsUnwrittenPart, default_header, header_bytes};
+ghost use Rattle.goblin_pe_head.specs.PeHeader.{header_parts, header_value, optional_part};
+ghost use Rattle.goblin_pe_head.specs.RichHeader.{PaddingFits, rich_value};
 
 use crate::header::{
     CoffHeader, DosHeader, DosStub, RichHeader, SIZEOF_COFF_HEADER, SIZEOF_DOS_HEADER,
@@ -21,17 +21,17 @@ use crate::header::{
 };
 use crate::optional_header::{OptionalHeader, WrittenHeader};
 use goblin_base::{
-    Cause, Endian, Error, Field, Permissive, Result, TryFromCtx, encode, pread_slice, pread_u32,
-    put_bytes, record_bytes,
+    Cause, Endian, Error, Field, Permissive, Result, TryFromCtx, encode, encode_fields,
+    pread_slice, pread_u32, put_bytes,
 };
 use goblin_pe_sect::ParseOptions;
 
 // The size of the parts of a header that always have the same, in bytes.
 const SIZEOF_HEADERS: usize = SIZEOF_DOS_HEADER + SIZEOF_PE_MAGIC + SIZEOF_COFF_HEADER;
 
-/// The header of a PE file: all that stands before its section table.
+/// The header of a PE file: everything before its section table.
 ///
-/// Source: PE Format, "File Headers". Its parts stand in the file in the order of the fields, but
+/// Source: PE Format, "File Headers". Its parts are in the file in the order of the fields, except
 /// for the Rich header, which lies in the stub.
 #[derive(Debug, PartialEq, Copy, Clone)]
 pub struct Header<'a> {
@@ -39,15 +39,15 @@ pub struct Header<'a> {
     pub dos_header: DosHeader,
     /// The DOS stub, from file offset 0x40 to the PE signature, or the default one in its place.
     pub dos_stub: DosStub<'a>,
-    /// The Rich header in the stub; `None` where it has no marker.
+    /// The Rich header in the stub; `None` if it has no marker.
     pub rich_header: Option<RichHeader<'a>>,
-    /// The PE signature, to which the DOS header points. The DOS header's reader compares it;
+    /// The PE signature, which the DOS header points to. The DOS header's reader compares it;
     /// [`Header::parse_without_dos`] takes any.
     pub signature: u32,
     /// The COFF header, 4 bytes after the signature's start.
     pub coff_header: CoffHeader,
-    /// The optional header, 24 bytes after the signature's start; `None` where the COFF header
-    /// gives it no size.
+    /// The optional header, 24 bytes after the signature's start; `None` if the COFF header gives
+    /// it no size.
     pub optional_header: Option<OptionalHeader>,
 }
 
@@ -69,22 +69,20 @@ impl Default for Header<'_> {
 }
 
 // The stub before the PE signature; where there is none, permissive mode takes the default one.
-#[tactic(auto, unfolding(crate::specs::PeHeader::stub_in))]
+#[tactic(auto, unfolding(crate::specs::HeaderReadings::stub_in))]
 fn stub_in<'a>(bytes: &'a [u8], pe_pointer: u32, opts: &ParseOptions) -> Result<DosStub<'a>>
-    ensures { Answers stub_bytes result
-        (stub_in (is_strict opts.now.parse_mode) bytes.now pe_pointer)
-        (IsStubFault bytes.now pe_pointer) }
+    ensures { Reads stub_bytes result (reading.stub_in (is_strict opts.now.parse_mode) pe_pointer)
+        bytes.now }
 {
     let is_permissive = opts.parse_mode.is_permissive();
     DosStub::parse(bytes, pe_pointer).or_permissive_and_default(is_permissive, "DOS stub")
 }
 
 // The optional header at an offset, where its size is not 0.
-#[tactic(auto, unfolding(crate::specs::PeHeader::optional_at))]
+#[tactic(auto, unfolding(crate::specs::HeaderReadings::optional_at))]
 fn optional_at(size: u16, bytes: &[u8], offset: usize) -> Result<Option<OptionalHeader>>
     requires { offset ≤ length bytes.now }
-    ensures { Answers (λ header. header) result (optional_at size bytes.now offset)
-        (IsOptionalFault (drop offset bytes.now)) }
+    ensures { Reads (λ header. header) result (reading.optional_at size offset) bytes.now }
 {
     if size == 0 {
         return Ok(None);
@@ -99,11 +97,10 @@ impl<'a> Header<'a> {
     /// # Errors
     /// As [`Header::parse_with_opts`] in strict mode.
     pub fn parse(bytes: &'a [u8]) -> Result<Self>
-        ensures value { Answers header_value result (pe_header true bytes.now)
-            (IsHeaderFault true bytes.now) }
+        ensures value { Reads header_value result (reading.pe_header true) bytes.now }
         ensures padding { IfOk result (λ header. IfSome header.rich_header PaddingFits) }
-        ensures rich { IfOk result
-            (λ header. rich_header bytes.now ≡ Some (option_map rich_value header.rich_header)) }
+        ensures rich { IfOk result (λ header.
+            reading.rich_header.value bytes.now ≡ Some (option_map rich_value header.rich_header)) }
     {
         Header::parse_with_opts(bytes, &ParseOptions::default())
     }
@@ -113,16 +110,15 @@ impl<'a> Header<'a> {
     ///
     /// # Errors
     /// As [`DosHeader::parse`]; in strict mode as [`DosStub::parse`]; as [`RichHeader::parse`];
-    /// [`Error::Read`] where the COFF header passes the end of the file; as the reader of
+    /// [`Error::Read`] if the COFF header runs past the end of the file; as the reader of
     /// [`OptionalHeader`].
-    #[tactic(auto, unfolding(crate::specs::PeHeader::pe_header, crate::specs::PeHeader::IsHeaderFault, crate::specs::RichHeader::rich_header))]
+    #[tactic(auto, unfolding(crate::specs::HeaderReadings::pe_header, crate::specs::HeaderReadings::header_at, crate::specs::HeaderReadings::rich_header))]
     pub fn parse_with_opts(bytes: &'a [u8], opts: &ParseOptions) -> Result<Self>
-        ensures value { Answers header_value result
-            (pe_header (is_strict opts.now.parse_mode) bytes.now)
-            (IsHeaderFault (is_strict opts.now.parse_mode) bytes.now) }
+        ensures value { Reads header_value result
+            (reading.pe_header (is_strict opts.now.parse_mode)) bytes.now }
         ensures padding { IfOk result (λ header. IfSome header.rich_header PaddingFits) }
-        ensures rich { IfOk result
-            (λ header. rich_header bytes.now ≡ Some (option_map rich_value header.rich_header)) }
+        ensures rich { IfOk result (λ header.
+            reading.rich_header.value bytes.now ≡ Some (option_map rich_value header.rich_header)) }
     {
         let dos_header = DosHeader::parse(bytes)?;
         let dos_stub = stub_in(bytes, dos_header.pe_pointer, opts)?;
@@ -131,22 +127,22 @@ impl<'a> Header<'a> {
         Header::parse_at(bytes, offset, dos_header, dos_stub, rich_header)
     }
 
-    /// Reads a header without a DOS header, whose signature, any four bytes, stands at the front of
-    /// `bytes`. Its DOS header is zeros, its stub the default one, and it has no Rich header.
+    /// Reads a header without a DOS header: its signature is the first four bytes of `bytes`,
+    /// whatever they are. Its DOS header is zeros, its stub the default one, and it has no Rich
+    /// header.
     ///
     /// # Errors
-    /// [`Error::Malformed`] with [`Cause::NoPeSignature`] where there are no four bytes;
-    /// [`Error::Read`] where the COFF header passes the end; as the reader of [`OptionalHeader`].
-    #[tactic(auto, unfolding(crate::specs::PeHeader::header_without_dos, crate::specs::PeHeader::zero_dos_header))]
+    /// [`Error::Malformed`] with [`Cause::NoPeSignature`] if there are no four bytes;
+    /// [`Error::Read`] if the COFF header runs past the end; as the reader of [`OptionalHeader`].
+    #[tactic(auto, unfolding(crate::specs::HeaderReadings::header_without_dos, crate::specs::PeHeader::zero_dos_header))]
     pub fn parse_without_dos(bytes: &'a [u8]) -> Result<Self>
-        ensures { Answers header_value result (header_without_dos bytes.now)
-            (IsHeaderAtFault bytes.now 0) }
+        ensures { Reads header_value result reading.header_without_dos bytes.now }
     {
         Header::parse_at(bytes, 0, DosHeader::default(), DosStub::default(), None)
     }
 
-    // Reads the parts from the signature on, which stands at `offset`.
-    #[tactic(auto, unfolding(crate::specs::PeHeader::header_at, crate::specs::PeHeader::IsHeaderAtFault))]
+    // Reads the parts from the signature at `offset` on.
+    #[tactic(auto, unfolding(crate::specs::HeaderReadings::header_at, crate::specs::HeaderReadings::parts_at))]
     fn parse_at(
         bytes: &'a [u8],
         offset: usize,
@@ -156,8 +152,7 @@ impl<'a> Header<'a> {
     ) -> Result<Self>
         ensures value { let stub = stub_bytes dos_stub.entry in
             let rich = option_map rich_value rich_header.entry in
-            Answers header_value result (header_at dos_header stub rich bytes.now offset)
-            (IsHeaderAtFault bytes.now offset) }
+            Reads header_value result (reading.header_at dos_header stub rich offset) bytes.now }
         ensures rich { IfOk result (λ header. header.rich_header ≡ rich_header.entry) }
     {
         let Ok(signature) = pread_u32(bytes, offset, Endian::Little) else {
@@ -176,19 +171,18 @@ impl<'a> Header<'a> {
         })
     }
 
-    /// Writes the header to the front of `bytes` and answers how many bytes it takes: the DOS
+    /// Writes the header to the front of `bytes` and returns how many bytes it takes: the DOS
     /// header, the stub, the signature, the COFF header, and the optional header where there is
     /// one, with sixteen directories always. The signature is little-endian in either order. The
     /// Rich header is part of the stub.
     ///
-    /// In little-endian order, a header that [`Header::parse`] read is written as it stood,
-    /// followed by zeros for the missing directories, and is read again from what was written.
+    /// In little-endian order, a header that [`Header::parse`] read is written back unchanged,
+    /// followed by zeros for the missing directories, and reads back from what was written.
     ///
     /// # Errors
     /// In this order: [`Error::BadMagic`] of an optional header of unknown magic;
-    /// [`Error::Malformed`] with [`Cause::FieldTooWide`] where a Windows field does not fit an
-    /// optional header for 32 bits; [`Error::Read`] where there is no room. `bytes` are then as
-    /// they were.
+    /// [`Error::Malformed`] with [`Cause::FieldTooWide`] if a Windows field does not fit an
+    /// optional header for 32 bits; [`Error::Read`] if there is no room. `bytes` is then unchanged.
     #[tactic(auto, unfolding(crate::specs::PeHeader::header_bytes), using(crate::proofs::PeHeaderRoundTrip::header_back, crate::proofs::PeHeaderRoundTrip::header_again))]
     pub fn try_into_ctx(self, bytes: &mut [u8], endian: Endian) -> Result<usize>
         ensures size { IfOk result
@@ -233,7 +227,7 @@ impl<'a> Header<'a> {
             ≡ replaced bytes.old 0 (header_parts endian (header_value self.now) optional.now) }
     {
         let stub = self.dos_stub.bytes;
-        let signature: [u8; SIZEOF_PE_MAGIC] = record_bytes(
+        let signature: [u8; SIZEOF_PE_MAGIC] = encode_fields(
             &[Field::U32(self.signature)],
             Endian::Little,
         );

@@ -1,20 +1,21 @@
-//! The Rich header, in which a linker says which tools made a file.
+//! The Rich header, where a linker records which tools made a file.
 
 ghost use Rattle.std.specs.Prelude.{◌≡◌, ◌≤◌, ◌<◌, ◌+◌, ◌*◌, ◌/◌, ◌^◌, List, ℕ, Some, length, drop};
 ghost use Rattle.std.specs.Prelude.{option_map, IfOk, IfSome};
 ghost use Rattle.std.specs.Iterator.{UpTo, YieldsFirst, at_most};
 ghost use Rattle.std.specs.Iterator.SizeHint.{IsWithinCount};
-ghost use Rattle.goblin_base.specs.Answers.{Answers, IsSliceFault, Writes};
+ghost use Rattle.goblin_base.specs.Reading.{Reads};
+ghost use Rattle.goblin_base.specs.Answers.{IsSliceFault, Writes};
 ghost use Rattle.goblin_base.specs.Bytes.{IsBytes};
 ghost use Rattle.goblin_base.specs.Record.{ReadsBack, WritesBack, encoding, record_over};
 ghost use Rattle.goblin_pe_head.specs.declared.header.rich.RichMetadata.{RichMetadata};
-ghost use Rattle.goblin_pe_head.specs.RichHeader.{PaddingFits, RichIsMarked, RichIsUnmarked};
-ghost use Rattle.goblin_pe_head.specs.RichHeader.{marker_place, dans_place, other_place};
-ghost use Rattle.goblin_pe_head.specs.RichHeader.{leading_words, rich_in, rich_at, rich_header};
-ghost use Rattle.goblin_pe_head.specs.RichHeader.{IsRichAtFault, rich_value, IsStretchFault};
-ghost use Rattle.goblin_pe_head.specs.RichHeader.{IsRichFault};
+ghost use Rattle.goblin_pe_head.specs.HeaderLaws.{RichIsMarked, RichIsUnmarked};
+ghost use Rattle.goblin_pe_head.specs.HeaderReadings as reading;
+ghost use Rattle.goblin_pe_head.specs.RichHeader.{PaddingFits, dans_place, leading_words};
+ghost use Rattle.goblin_pe_head.specs.RichHeader.{marker_place, other_place, rich_value};
 ghost use Rattle.goblin_pe_head.specs.RichMetadata.{AreEntriesOf, metadata_at, metadata_fields};
 ghost use Rattle.goblin_pe_head.specs.RichMetadata.{metadata_items, metadata_left, metadata_record};
+ghost use Rattle.goblin_pe_head.specs.RichReadings as rich_reading;
 
 use crate::header::{DOS_STUB_OFFSET, DosHeader};
 use goblin_base::{
@@ -23,7 +24,7 @@ use goblin_base::{
 use goblin_pe_sect::options::ParseOptions;
 use std::iter::FusedIterator;
 
-/// The word with which a Rich header begins, `DanS`. It is stored under the key.
+/// The word that a Rich header begins with, `DanS`. It is stored under the key.
 pub const DANS_MARKER: u32 = 0x536E_6144;
 /// The size of [`DANS_MARKER`], in bytes.
 pub const DANS_MARKER_SIZE: usize = 4;
@@ -47,16 +48,16 @@ const RICH_METADATA_SIZE: usize = 8;
 
 /// The Rich header: which tools made a file, and how often each was used.
 ///
-/// Source: no document of Microsoft's; the layout is what linkers write. It lies in the DOS stub,
+/// Source: not documented by Microsoft; the layout is what linkers write. It lies in the DOS stub,
 /// as words of four bytes, little-endian: [`DANS_MARKER`], padding, the entries, [`RICH_MARKER`],
 /// and a key. Each word before the last marker is stored as its exclusive or with the key. No
-/// loader looks at it, so nothing holds it to the truth.
+/// loader looks at it, so nothing enforces that it is true.
 #[derive(Debug, PartialEq, Copy, Clone, Default)]
 pub struct RichHeader<'a> {
     /// The key, under which the words are stored. Linkers make it a checksum of the DOS header, the
     /// stub and the entries; that is not tested here.
     pub key: u32,
-    /// What stands between the two markers, as it is stored: the padding and the entries.
+    /// The bytes between the two markers, as stored: the padding and the entries.
     pub bytes: &'a [u8],
     /// The size of the padding before the entries, in bytes. Its words are zeros under the key.
     pub padding_size: usize,
@@ -69,19 +70,18 @@ pub struct RichHeader<'a> {
 impl<'a> RichHeader<'a> {
     /// Finds the Rich header of a file: between the DOS header and the PE signature, the first
     /// [`RICH_MARKER`] with a key after it, and the first word that is [`DANS_MARKER`] under that
-    /// key. A word may begin at any byte. `None` where the file has no such marker.
+    /// key. A word may begin at any byte. `None` if the file has no such marker.
     ///
     /// # Errors
     /// As [`DosHeader::parse`] where the file has no DOS header; [`Error::Malformed`] with
-    /// [`Cause::NoDans`] where no word is [`DANS_MARKER`] under the key, with [`Cause::RichBounds`]
-    /// where the data would not end after it starts, both counted from offset 0x40; [`Error::Read`]
-    /// with [`ReadFault::TooBig`] where the data is no whole number of words.
+    /// [`Cause::NoDans`] if no word is [`DANS_MARKER`] under the key, with [`Cause::RichBounds`] if
+    /// the data would not end after it starts, both counted from offset 0x40; [`Error::Read`] with
+    /// [`ReadFault::TooBig`] if the data is not a whole number of words.
     pub fn parse(bytes: &'a [u8]) -> Result<Option<Self>>
-        ensures value { Answers (option_map rich_value) result (rich_header bytes.now)
-            (IsRichFault bytes.now) }
+        ensures value { Reads (option_map rich_value) result reading.rich_header bytes.now }
         ensures padding { IfOk result (λ rich. IfSome rich PaddingFits) }
 
-        // Each marker stands at the least offset where it can.
+        // Each marker is at the least possible offset.
         ensures marked { RichIsMarked }
         ensures unmarked { RichIsUnmarked }
     {
@@ -92,13 +92,12 @@ impl<'a> RichHeader<'a> {
     ///
     /// # Errors
     /// As [`RichHeader::parse`], in both modes.
-    #[tactic(auto, unfolding(crate::specs::RichHeader::rich_header, crate::specs::RichHeader::IsRichFault), using(crate::proofs::RichPlaces::rich_marked, crate::proofs::RichPlaces::rich_unmarked))]
+    #[tactic(auto, unfolding(crate::specs::HeaderReadings::rich_header), using(crate::proofs::RichPlaces::rich_marked, crate::proofs::RichPlaces::rich_unmarked))]
     pub fn parse_with_opts(bytes: &'a [u8], _opts: &ParseOptions) -> Result<Option<Self>>
-        ensures value { Answers (option_map rich_value) result (rich_header bytes.now)
-            (IsRichFault bytes.now) }
+        ensures value { Reads (option_map rich_value) result reading.rich_header bytes.now }
         ensures padding { IfOk result (λ rich. IfSome rich PaddingFits) }
 
-        // Each marker stands at the least offset where it can.
+        // Each marker is at the least possible offset.
         ensures marked { RichIsMarked }
         ensures unmarked { RichIsUnmarked }
     {
@@ -107,10 +106,11 @@ impl<'a> RichHeader<'a> {
     }
 
     // Finds the Rich header before a PE signature.
+    #[tactic(auto, unfolding(crate::specs::RichReadings::rich_at))]
     pub(super) fn parse_at(bytes: &'a [u8], pe_pointer: u32) -> Result<Option<Self>>
         requires { pe_pointer ≤ length bytes.now }
-        ensures value { Answers (option_map rich_value) result (rich_at bytes.now pe_pointer)
-            (IsRichAtFault bytes.now pe_pointer) }
+        ensures value { Reads (option_map rich_value) result (rich_reading.rich_at pe_pointer)
+            bytes.now }
         ensures padding { IfOk result (λ rich. IfSome rich PaddingFits) }
     {
         let start = DOS_STUB_OFFSET as usize;
@@ -131,7 +131,7 @@ impl<'a> RichHeader<'a> {
 
         // The entries of a Rich header that was read are its data.
         ensures law { (bytes : List ℕ) → IsBytes bytes
-            → rich_header bytes ≡ Some (Some (rich_value self.now))
+            → reading.rich_header.value bytes ≡ Some (Some (rich_value self.now))
             → AreEntriesOf self.now.key (drop self.now.padding_size self.now.bytes.now)
             (metadata_left result) }
     {
@@ -144,9 +144,9 @@ impl<'a> RichHeader<'a> {
 
 /// An entry of a Rich header: a tool, and how often it was used.
 ///
-/// Source: no document of Microsoft's; the layout is what linkers write. Numbers are as stored; the
-/// record has 8 bytes, and `at` says where in it a field stands. In a file its two words are stored
-/// under the header's key.
+/// Source: not documented by Microsoft; the layout is what linkers write. Numbers are as stored;
+/// the record has 8 bytes, and `at` gives a field's offset in it. In a file its two words are
+/// stored under the header's key.
 #[derive(Debug, PartialEq, Copy, Clone, Default)]
 pub struct RichMetadata {
     /// The build of the tool, at 0.
@@ -203,12 +203,12 @@ impl RichMetadata {
         }
     }
 
-    /// Writes the entry to the front of `bytes`, under no key, and answers its size, 8. One that
-    /// was read so is written as it stood, and any is read again from what was written, by the same
-    /// order of bytes.
+    /// Writes the entry to the front of `bytes`, under no key, and returns its size, 8. An entry
+    /// that was read under no key is written back unchanged, and any entry reads back from what was
+    /// written, in the same byte order.
     ///
     /// # Errors
-    /// [`Error::Read`] where there is no room for 8 bytes; `bytes` are then as they were.
+    /// [`Error::Read`] if there is no room for 8 bytes; `bytes` is then unchanged.
     pub fn try_into_ctx(self, bytes: &mut [u8], endian: Endian) -> Result<usize>
         ensures size { IfOk result (λ n. n ≡ 8) }
         ensures written { let after = record_over 8 (encoding endian (metadata_fields self))
@@ -221,7 +221,7 @@ impl RichMetadata {
         Record::try_into_ctx(self, bytes, endian)
     }
 
-    /// The size of the record in bytes, the same in either order: 8.
+    /// The size of the record in bytes: 8 in either byte order.
     pub fn size_with(endian: &Endian) -> usize
         ensures { result ≡ 8 }
     {
@@ -229,8 +229,8 @@ impl RichMetadata {
     }
 }
 
-/// The entries of a Rich header, in order. Bytes that are left after them and are no whole entry
-/// are one [`Error::Read`] with [`ReadFault::TooBig`], which comes last.
+/// The entries of a Rich header, in order. Bytes left after them that are not a whole entry yield
+/// one [`Error::Read`] with [`ReadFault::TooBig`], which comes last.
 #[derive(Debug, Clone, Drop)]
 pub struct RichMetadataIterator<'a> {
     key: u32,
@@ -273,17 +273,18 @@ impl Iterator for RichMetadataIterator<'_> {
 impl FusedIterator for RichMetadataIterator<'_> {}
 
 // The Rich header in the bytes between the DOS header and the PE signature.
-#[tactic(auto, unfolding(crate::specs::RichHeader::rich_in, crate::specs::RichHeader::IsStretchFault))]
+#[tactic(auto, unfolding(crate::specs::RichReadings::rich_in))]
 fn rich_in<'a>(stretch: &'a [u8]) -> Result<Option<RichHeader<'a>>>
     requires { length stretch.now + 64 < 2 ^ 32 }
-    ensures value { Answers (option_map rich_value) result (rich_in stretch.now)
-        (IsStretchFault stretch.now) }
+    ensures value { Reads (option_map rich_value) result rich_reading.rich_in stretch.now }
     ensures padding { IfOk result (λ rich. IfSome rich PaddingFits) }
 {
     let Some(end) = marker_place(stretch) else {
         return Ok(None);
     };
-    let key = field_u32(stretch, end + RICH_MARKER_SIZE, Endian::Little);
+    // The bytes through the key.
+    let stored = &stretch[..end + RICH_MARKER_SIZE + WORD_SIZE];
+    let key = field_u32(stored, end + RICH_MARKER_SIZE, Endian::Little);
     let Some(front) = dans_place(stretch, key) else {
         return Err(Error::Malformed(Cause::NoDans));
     };
@@ -291,7 +292,7 @@ fn rich_in<'a>(stretch: &'a [u8]) -> Result<Option<RichHeader<'a>>>
     if start >= end {
         return Err(Error::Malformed(Cause::RichBounds(start, end)));
     }
-    let bytes = &stretch[start..end];
+    let bytes = &stored[start..end];
     if !bytes.len().is_multiple_of(WORD_SIZE) {
         return Err(Error::Read(ReadFault::TooBig));
     }
@@ -304,8 +305,7 @@ fn rich_in<'a>(stretch: &'a [u8]) -> Result<Option<RichHeader<'a>>>
     }))
 }
 
-// Where the marker first stands with a key after it.
-#[tactic(auto, unfolding(crate::specs::RichHeader::marker_place))]
+// The first position of the marker with a key after it.
 fn marker_place(stretch: &[u8]) -> Option<usize>
     ensures value { result ≡ marker_place stretch.now }
     ensures room { IfSome result (λ i. i + 8 ≤ length stretch.now) }
@@ -314,8 +314,7 @@ fn marker_place(stretch: &[u8]) -> Option<usize>
         == RICH_MARKER)
 }
 
-// Where a word first is the other marker under the key.
-#[tactic(auto, unfolding(crate::specs::RichHeader::dans_place))]
+// The first position of a word that is the other marker under the key.
 fn dans_place(stretch: &[u8], key: u32) -> Option<usize>
     ensures value { result ≡ dans_place key stretch.now }
     ensures room { IfSome result (λ j. j + 4 ≤ length stretch.now) }

@@ -1,9 +1,10 @@
 //! The loop that reads section tables.
 
 ghost use Rattle.std.specs.Prelude.{◌≡◌, ◌+◌, ◌*◌, ◌<◌, IfErr, OnErr, OnOk};
-ghost use Rattle.goblin_base.specs.Answers.{AnswersOrMemory, IsMemory};
+ghost use Rattle.goblin_base.specs.Answers.{IsMemory};
+ghost use Rattle.goblin_base.specs.Reading.{ReadsOrMemory};
 ghost use Rattle.goblin_pe_sect.specs.Options.{is_strict};
-ghost use Rattle.goblin_pe_head.specs.TeHeader.{IsMovedSectionsFault, moved_sections_at};
+ghost use Rattle.goblin_pe_head.specs.TeReadings as reading;
 
 use crate::header::te::adjust;
 use goblin_base::Result;
@@ -11,8 +12,8 @@ use goblin_pe_sect::options::ParseOptions;
 use goblin_pe_sect::section_table::SectionTable;
 use std::alloc::Global;
 
-// Reads `count` sections, whose records stand one after the other from `offset` on, and moves
-// `offset` past them; with a displacement, each as it is in the stripped file.
+// Reads `count` sections, whose records follow one another from `offset` on, and moves `offset`
+// past them; with a displacement, each as it is in the stripped file.
 pub(super) fn read_sections(
     alloc: Global,
     bytes: &[u8],
@@ -23,11 +24,9 @@ pub(super) fn read_sections(
     displacement: Option<u32>,
 ) -> Result<Vec<SectionTable>>
     ensures value { let strict = is_strict opts.now.parse_mode in
-        let sections = moved_sections_at displacement strict string_table_offset count bytes.now
-        offset.old in
-        let fault = IsMovedSectionsFault displacement strict string_table_offset count bytes.now
-        offset.old in
-        AnswersOrMemory (λ v. v.items) result sections fault }
+        ReadsOrMemory (λ v. v.items) result
+        (reading.moved_sections displacement strict string_table_offset count offset.old)
+        bytes.now }
     ensures grown { IfErr result (λ e. IsMemory e → 0 < count) }
     ensures ok { OnOk result (offset.new ≡ offset.old + 40 * count) }
     ensures err { OnErr result (offset.new ≡ offset.old) }

@@ -1,9 +1,11 @@
 //! The DOS stub: the program between the DOS header and the PE signature.
 
 ghost use Rattle.std.specs.Prelude.{◌≡◌, length, IfOk};
-ghost use Rattle.goblin_base.specs.Answers.{Answers, Writes, IsSliceFault};
+ghost use Rattle.goblin_base.specs.Reading.{Reads};
+ghost use Rattle.goblin_base.specs.Answers.{Writes, IsSliceFault};
 ghost use Rattle.goblin_base.specs.Bytes.{overwritten};
-ghost use Rattle.goblin_pe_head.specs.DosStub.{default_stub, stub_at, stub_bytes, IsStubFault};
+ghost use Rattle.goblin_pe_head.specs.DosStub.{default_stub, stub_bytes};
+ghost use Rattle.goblin_pe_head.specs.HeaderReadings as reading;
 
 use goblin_base::{Cause, Endian, Error, Result, pwrite_slice};
 
@@ -40,15 +42,14 @@ impl Default for DosStub<'_> {
 }
 
 impl<'a> DosStub<'a> {
-    /// Borrows the stub of a file whose PE signature stands at the file offset `pe_pointer`. It has
-    /// no bytes where the signature follows the DOS header, at 0x40.
+    /// Borrows the stub of a file whose PE signature is at the file offset `pe_pointer`. It is
+    /// empty if the signature follows the DOS header, at 0x40.
     ///
     /// # Errors
-    /// [`Error::Malformed`] with [`Cause::StubBeforeStart`] where `pe_pointer` is below 0x40, else
-    /// with [`Cause::StubPastEnd`] where it is past the end of the file.
+    /// [`Error::Malformed`] with [`Cause::StubBeforeStart`] if `pe_pointer` is below 0x40, else
+    /// with [`Cause::StubPastEnd`] if it is past the end of the file.
     pub fn parse(bytes: &'a [u8], pe_pointer: u32) -> Result<Self>
-        ensures { Answers stub_bytes result (stub_at bytes.now pe_pointer)
-            (IsStubFault bytes.now pe_pointer) }
+        ensures { Reads stub_bytes result (reading.stub_at pe_pointer) bytes.now }
     {
         if pe_pointer < DOS_STUB_OFFSET {
             return Err(Error::Malformed(Cause::StubBeforeStart(pe_pointer)));
@@ -62,12 +63,12 @@ impl<'a> DosStub<'a> {
         })
     }
 
-    /// Writes the stub to the front of `bytes`, the same in either order, and answers how many
-    /// bytes it has.
+    /// Writes the stub to the front of `bytes`, in either byte order, and returns how many bytes it
+    /// has.
     ///
     /// # Errors
-    /// [`Error::Read`] where there is no room for it, also of a stub without bytes where `bytes`
-    /// are empty; they are then as they were.
+    /// [`Error::Read`] if there is no room for it, even for an empty stub where `bytes` is empty;
+    /// it is then unchanged.
     pub fn try_into_ctx(self, bytes: &mut [u8], _endian: Endian) -> Result<usize>
         ensures size { IfOk result (λ n. n ≡ length (stub_bytes self.entry)) }
         ensures written { Writes result (overwritten bytes.old 0 (stub_bytes self.entry)) bytes.old

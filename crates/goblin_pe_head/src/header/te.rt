@@ -3,15 +3,14 @@
 
 ghost use Rattle.std.specs.Prelude.{◌≡◌, ◌+◌, ◌*◌, ◌/◌, ◌<◌, ◌≤◌, length, IfErr, IsErrAnd, OnOk};
 ghost use Rattle.std.specs.Prelude.{OnErr, IfOk};
-ghost use Rattle.goblin_base.specs.Answers.{Answers, AnswersOrMemory, IsMemory, IsSliceFault};
-ghost use Rattle.goblin_base.specs.Answers.{Writes};
+ghost use Rattle.goblin_base.specs.Reading.{Reads, ReadsOrMemory};
+ghost use Rattle.goblin_base.specs.Answers.{Answers, IsMemory, IsSliceFault, Writes};
 ghost use Rattle.goblin_base.specs.Record.{ReadsBack, WritesBack, encoding, record_over};
 ghost use Rattle.goblin_pe_head.specs.declared.header.te.TeHeader.{TeHeader};
 ghost use Rattle.goblin_pe_head.specs.CoffHeader.{IsTooManySections};
-ghost use Rattle.goblin_pe_head.specs.TeHeader.{displacement, moved, pointer_moved, section_moved};
-ghost use Rattle.goblin_pe_head.specs.TeHeader.{te_adjusted, te_fields, te_header, te_record};
-ghost use Rattle.goblin_pe_head.specs.TeHeader.{te_sections_at, IsStrippedFault, IsTeFault};
-ghost use Rattle.goblin_pe_head.specs.TeHeader.{IsTeSectionsFault};
+ghost use Rattle.goblin_pe_head.specs.TeHeader.{IsStrippedFault, displacement, moved};
+ghost use Rattle.goblin_pe_head.specs.TeHeader.{pointer_moved, section_moved, te_fields, te_record};
+ghost use Rattle.goblin_pe_head.specs.TeReadings as reading;
 
 use crate::header::sections::read_sections;
 use goblin_base::{
@@ -34,9 +33,9 @@ const SIZEOF_TE_HEADER: usize = 40;
 /// The header of a Terse Executable.
 ///
 /// Source: UEFI Platform Initialization Specification, volume 1, "TE Image". Numbers are as stored,
-/// but for the four that [`TeHeader::parse`] adjusts; the record has 40 bytes, and `at` says where
-/// in it a field stands. It stands in place of the headers of a PE file, of which it keeps what
-/// a loader of firmware needs; its addresses still count the bytes that were stripped.
+/// but for the four that [`TeHeader::parse`] adjusts; the record has 40 bytes, and `at` gives a
+/// field's offset in it. It replaces the headers of a PE file and keeps what a loader of firmware
+/// needs of them; its addresses still count the bytes that were stripped.
 #[derive(Debug, PartialEq, Copy, Clone, Default)]
 pub struct TeHeader {
     /// [`TE_MAGIC`], at 0. No reader tests it.
@@ -47,8 +46,8 @@ pub struct TeHeader {
     pub number_of_sections: u8,
     /// The subsystem that runs the image, at 5.
     pub subsystem: u8,
-    /// How many bytes were stripped from the front of the PE file, at 6. This header stands for
-    /// them, so all that follows moved to the front by this less 40.
+    /// How many bytes were stripped from the front of the PE file, at 6. This header replaces them,
+    /// so everything after it moved forward by this minus 40.
     pub stripped_size: u16,
     /// The address of the entry point, relative to the image's base, at 8; in a header that was
     /// parsed, adjusted.
@@ -136,12 +135,11 @@ impl TeHeader {
     /// not looked at.
     ///
     /// # Errors
-    /// [`Error::Read`] where the 40 bytes pass the end of the file; [`Error::Malformed`] with
-    /// [`Cause::StrippedSize`] where fewer than 40 bytes were stripped. `offset` then stays.
-    #[tactic(auto, unfolding(crate::specs::TeHeader::te_header, crate::specs::TeHeader::te_adjusted, crate::specs::TeHeader::IsTeFault))]
+    /// [`Error::Read`] if the 40 bytes run past the end of the file; [`Error::Malformed`] with
+    /// [`Cause::StrippedSize`] if fewer than 40 bytes were stripped. `offset` is then unchanged.
+    #[tactic(auto, unfolding(crate::specs::TeReadings::te_header, crate::specs::TeHeader::te_adjusted))]
     pub fn parse(bytes: &[u8], offset: &mut usize) -> Result<TeHeader>
-        ensures value { Answers (λ h. h) result (te_header bytes.now offset.old)
-            (IsTeFault bytes.now offset.old) }
+        ensures value { Reads (λ h. h) result (reading.te_header offset.old) bytes.now }
         ensures ok { OnOk result (offset.new ≡ offset.old + 40) }
         ensures err { OnErr result (offset.new ≡ offset.old) }
     {
@@ -157,28 +155,27 @@ impl TeHeader {
         Ok(header)
     }
 
-    /// Reads the section table, whose records stand one after the other from the file offset
-    /// `offset` on, and moves `offset` past it. The address of each section, and each of its three
-    /// pointers that is not 0, is adjusted as in [`TeHeader::parse`]. An indirect name would stand
-    /// in a string table at the front of the file.
+    /// Reads the section table, whose records follow one another from the file offset `offset` on,
+    /// and moves `offset` past it. The address of each section, and each of its three pointers that
+    /// is not 0, is adjusted as in [`TeHeader::parse`]. An indirect name would be in a string table
+    /// at the front of the file.
     ///
     /// Source: PE Format, "Section Table (Section Headers)".
     ///
     /// # Errors
     /// [`Error::BufferTooShort`] of the number of sections where the whole file has no room for
-    /// that many records, tested first; [`Error::Malformed`] with [`Cause::StrippedSize`] where
-    /// fewer than 40 bytes were stripped; as [`SectionTable::parse`] where a record passes the end
-    /// or its name is refused; [`Error::Memory`] where memory is refused. `offset` then stays.
-    #[tactic(auto, unfolding(crate::specs::TeHeader::te_sections_at))]
+    /// that many records, tested first; [`Error::Malformed`] with [`Cause::StrippedSize`] if fewer
+    /// than 40 bytes were stripped; as [`SectionTable::parse`] where a record runs past the end or
+    /// its name is refused; [`Error::Memory`] if memory is refused. `offset` is then unchanged.
+    #[tactic(auto, unfolding(crate::specs::TeReadings::te_sections_at))]
     pub fn sections(
         &self,
         alloc: Global,
         bytes: &[u8],
         offset: &mut usize,
     ) -> Result<Vec<SectionTable>>
-        ensures value { AnswersOrMemory (λ v. v.items) result
-            (te_sections_at self.now bytes.now offset.old)
-            (IsTeSectionsFault self.now bytes.now offset.old) }
+        ensures value { ReadsOrMemory (λ v. v.items) result
+            (reading.te_sections_at self.now offset.old) bytes.now }
         ensures first { length bytes.now / 40 < self.now.number_of_sections
             → IsErrAnd result (IsTooManySections self.now.number_of_sections bytes.now) }
         ensures grown { IfErr result (λ e. IsMemory e → 0 < self.now.number_of_sections) }
@@ -195,12 +192,12 @@ impl TeHeader {
         read_sections(alloc, bytes, offset, count, 0, &opts, Some(displacement))
     }
 
-    /// Writes the record to the front of `bytes`, its numbers as they are, and answers its size,
-    /// 40. One that was read as it is stored is written as it stood, and any is so read again from
-    /// what was written, by the same order of bytes.
+    /// Writes the record to the front of `bytes`, its numbers as they are, and returns its size,
+    /// 40. A record that was read as stored is written back unchanged, and any record reads back as
+    /// stored from what was written, in the same byte order.
     ///
     /// # Errors
-    /// [`Error::Read`] where there is no room for 40 bytes; `bytes` are then as they were.
+    /// [`Error::Read`] if there is no room for 40 bytes; `bytes` is then unchanged.
     pub fn try_into_ctx(self, bytes: &mut [u8], endian: Endian) -> Result<usize>
         ensures size { IfOk result (λ n. n ≡ 40) }
         ensures written { let after = record_over 40 (encoding endian (te_fields self)) bytes.old in
@@ -212,7 +209,7 @@ impl TeHeader {
         Record::try_into_ctx(self, bytes, endian)
     }
 
-    /// The size of the record in bytes, the same in either order: 40.
+    /// The size of the record in bytes: 40 in either byte order.
     pub fn size_with(endian: &Endian) -> usize
         ensures { result ≡ 40 }
     {

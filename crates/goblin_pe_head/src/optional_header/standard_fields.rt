@@ -22,7 +22,7 @@ const _: () = prove!(SIZEOF_STANDARD_FIELDS_32 == 28 && SIZEOF_STANDARD_FIELDS_6
 /// The standard fields of an optional header for 32 bits.
 ///
 /// Source: PE Format, "Optional Header Standard Fields (Image Only)". Numbers are as stored; the
-/// record has 28 bytes, and `at` says where in it a field stands.
+/// record has 28 bytes, and `at` gives a field's offset in it.
 #[derive(Debug, PartialEq, Copy, Clone, Default)]
 pub struct StandardFields32 {
     /// What the optional header is, [`MAGIC_32`](super::MAGIC_32), at 0.
@@ -42,8 +42,8 @@ pub struct StandardFields32 {
     pub address_of_entry_point: u32,
     /// The address at which the code begins, relative to the image's base, at 20.
     pub base_of_code: u32,
-    /// The address at which the data begins, relative to the image's base, at 24. In images for 32
-    /// bits alone.
+    /// The address at which the data begins, relative to the image's base, at 24. Only in images
+    /// for 32 bits.
     pub base_of_data: u32,
 }
 
@@ -91,13 +91,13 @@ impl Record for StandardFields32 {
 }
 
 impl StandardFields32 {
-    /// Writes the record to the front of `bytes`, and answers its size, 28. One that was read is
-    /// written as it stood, and any is read again from what was written, by the same order of
-    /// bytes.
+    /// Writes the record to the front of `bytes`, and returns its size, 28. A record that was read
+    /// is written back unchanged, and any record reads back from what was written, in the same byte
+    /// order.
     ///
     /// # Errors
-    /// [`Error::Read`](goblin_base::Error::Read) where there is no room for 28 bytes; `bytes` are
-    /// then as they were.
+    /// [`Error::Read`](goblin_base::Error::Read) if there is no room for 28 bytes; `bytes` is then
+    /// unchanged.
     pub fn try_into_ctx(self, bytes: &mut [u8], endian: Endian) -> Result<usize>
         ensures size { IfOk result (λ n. n ≡ 28) }
         ensures written { let after = record_over 28 (encoding endian (standard_32_fields self))
@@ -110,7 +110,7 @@ impl StandardFields32 {
         Record::try_into_ctx(self, bytes, endian)
     }
 
-    /// The size of the record in bytes, the same in either order: 28.
+    /// The size of the record in bytes: 28 in either byte order.
     pub fn size_with(endian: &Endian) -> usize
         ensures { result ≡ 28 }
     {
@@ -121,7 +121,7 @@ impl StandardFields32 {
 /// The standard fields of an optional header for 64 bits.
 ///
 /// Source: PE Format, "Optional Header Standard Fields (Image Only)". Numbers are as stored; the
-/// record has 24 bytes, and `at` says where in it a field stands.
+/// record has 24 bytes, and `at` gives a field's offset in it.
 #[derive(Debug, PartialEq, Copy, Clone, Default)]
 pub struct StandardFields64 {
     /// What the optional header is, [`MAGIC_64`](super::MAGIC_64), at 0.
@@ -185,13 +185,13 @@ impl Record for StandardFields64 {
 }
 
 impl StandardFields64 {
-    /// Writes the record to the front of `bytes`, and answers its size, 24. One that was read is
-    /// written as it stood, and any is read again from what was written, by the same order of
-    /// bytes.
+    /// Writes the record to the front of `bytes`, and returns its size, 24. A record that was read
+    /// is written back unchanged, and any record reads back from what was written, in the same byte
+    /// order.
     ///
     /// # Errors
-    /// [`Error::Read`](goblin_base::Error::Read) where there is no room for 24 bytes; `bytes` are
-    /// then as they were.
+    /// [`Error::Read`](goblin_base::Error::Read) if there is no room for 24 bytes; `bytes` is then
+    /// unchanged.
     pub fn try_into_ctx(self, bytes: &mut [u8], endian: Endian) -> Result<usize>
         ensures size { IfOk result (λ n. n ≡ 24) }
         ensures written { let after = record_over 24 (encoding endian (standard_64_fields self))
@@ -204,7 +204,7 @@ impl StandardFields64 {
         Record::try_into_ctx(self, bytes, endian)
     }
 
-    /// The size of the record in bytes, the same in either order: 24.
+    /// The size of the record in bytes: 24 in either byte order.
     pub fn size_with(endian: &Endian) -> usize
         ensures { result ≡ 24 }
     {
@@ -214,12 +214,12 @@ impl StandardFields64 {
 
 /// The standard fields of an optional header of either width.
 ///
-/// Source: PE Format, "Optional Header Standard Fields (Image Only)". `at` says where a field
-/// stands from the front of the optional header, in both widths.
+/// Source: PE Format, "Optional Header Standard Fields (Image Only)". `at` gives a field's offset
+/// from the front of the optional header, in both widths.
 #[derive(Debug, PartialEq, Copy, Clone, Default)]
 pub struct StandardFields {
     /// What the optional header is, at 0: [`MAGIC_32`](super::MAGIC_32) or
-    /// [`MAGIC_64`](super::MAGIC_64). It alone says the width of the header and of import entries.
+    /// [`MAGIC_64`](super::MAGIC_64). Only this says the width of the header and of import entries.
     pub magic: u16,
     /// The linker's major version, at 2.
     pub major_linker_version: u8,

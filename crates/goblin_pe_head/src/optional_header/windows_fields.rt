@@ -16,11 +16,11 @@ use goblin_base::{
 
 /// The size of the Windows fields for 32 bits, in bytes.
 pub const SIZEOF_WINDOWS_FIELDS_32: usize = 68;
-/// Where the checksum stands in the Windows fields for 32 bits, in bytes from their front.
+/// The offset of the checksum in the Windows fields for 32 bits, in bytes from their front.
 pub const OFFSET_WINDOWS_FIELDS_32_CHECKSUM: usize = 36;
 /// The size of the Windows fields for 64 bits, in bytes.
 pub const SIZEOF_WINDOWS_FIELDS_64: usize = 88;
-/// Where the checksum stands in the Windows fields for 64 bits, in bytes from their front.
+/// The offset of the checksum in the Windows fields for 64 bits, in bytes from their front.
 pub const OFFSET_WINDOWS_FIELDS_64_CHECKSUM: usize = 40;
 
 const _: () = prove!(
@@ -33,8 +33,8 @@ const _: () = prove!(
 /// The Windows fields of an optional header for 32 bits.
 ///
 /// Source: PE Format, "Optional Header Windows-Specific Fields (Image Only)". Numbers are as
-/// stored; the record has 68 bytes, and `at` says where in it a field stands. It begins at 28 in
-/// the optional header.
+/// stored; the record has 68 bytes, and `at` gives a field's offset in it. It begins at 28 in the
+/// optional header.
 #[derive(Debug, PartialEq, Copy, Clone, Default)]
 pub struct WindowsFields32 {
     /// The address at which the image is best loaded, a multiple of 64 KiB, at 0. Where the loader
@@ -158,12 +158,12 @@ impl Record for WindowsFields32 {
 }
 
 impl WindowsFields32 {
-    /// Writes the record to the front of `bytes`, and answers its size, 68. One that was read is
-    /// written as it stood, and any is read again from what was written, by the same order of
-    /// bytes.
+    /// Writes the record to the front of `bytes`, and returns its size, 68. A record that was read
+    /// is written back unchanged, and any record reads back from what was written, in the same byte
+    /// order.
     ///
     /// # Errors
-    /// [`Error::Read`] where there is no room for 68 bytes; `bytes` are then as they were.
+    /// [`Error::Read`] if there is no room for 68 bytes; `bytes` is then unchanged.
     pub fn try_into_ctx(self, bytes: &mut [u8], endian: Endian) -> Result<usize>
         ensures size { IfOk result (λ n. n ≡ 68) }
         ensures written { let after = record_over 68 (encoding endian (windows_32_fields self))
@@ -176,7 +176,7 @@ impl WindowsFields32 {
         Record::try_into_ctx(self, bytes, endian)
     }
 
-    /// The size of the record in bytes, the same in either order: 68.
+    /// The size of the record in bytes: 68 in either byte order.
     pub fn size_with(endian: &Endian) -> usize
         ensures { result ≡ 68 }
     {
@@ -187,8 +187,8 @@ impl WindowsFields32 {
 /// The Windows fields of an optional header for 64 bits.
 ///
 /// Source: PE Format, "Optional Header Windows-Specific Fields (Image Only)". Numbers are as
-/// stored; the record has 88 bytes, and `at` says where in it a field stands. It begins at 24 in
-/// the optional header.
+/// stored; the record has 88 bytes, and `at` gives a field's offset in it. It begins at 24 in the
+/// optional header.
 #[derive(Debug, PartialEq, Copy, Clone, Default)]
 pub struct WindowsFields64 {
     /// The address at which the image is best loaded, a multiple of 64 KiB, at 0. Where the loader
@@ -312,12 +312,12 @@ impl Record for WindowsFields64 {
 }
 
 impl WindowsFields64 {
-    /// Writes the record to the front of `bytes`, and answers its size, 88. One that was read is
-    /// written as it stood, and any is read again from what was written, by the same order of
-    /// bytes.
+    /// Writes the record to the front of `bytes`, and returns its size, 88. A record that was read
+    /// is written back unchanged, and any record reads back from what was written, in the same byte
+    /// order.
     ///
     /// # Errors
-    /// [`Error::Read`] where there is no room for 88 bytes; `bytes` are then as they were.
+    /// [`Error::Read`] if there is no room for 88 bytes; `bytes` is then unchanged.
     pub fn try_into_ctx(self, bytes: &mut [u8], endian: Endian) -> Result<usize>
         ensures size { IfOk result (λ n. n ≡ 88) }
         ensures written { let after = record_over 88 (encoding endian (windows_64_fields self))
@@ -330,7 +330,7 @@ impl WindowsFields64 {
         Record::try_into_ctx(self, bytes, endian)
     }
 
-    /// The size of the record in bytes, the same in either order: 88.
+    /// The size of the record in bytes: 88 in either byte order.
     pub fn size_with(endian: &Endian) -> usize
         ensures { result ≡ 88 }
     {
@@ -388,7 +388,7 @@ impl TryFrom<WindowsFields64> for WindowsFields32 {
     /// The same fields.
     ///
     /// # Errors
-    /// [`Error::Malformed`] with [`Cause::FieldTooWide`] where one of the five wide fields does not
+    /// [`Error::Malformed`] with [`Cause::FieldTooWide`] if one of the five wide fields does not
     /// fit 32 bits.
     #[tactic(auto, unfolding(crate::specs::OptionalHeader::windows_to_32))]
     fn try_from(fields: WindowsFields64) -> Result<WindowsFields32> {

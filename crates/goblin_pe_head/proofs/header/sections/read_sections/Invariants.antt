@@ -2,11 +2,11 @@
 use Rattle.std.proofs.Common.{◌≡◌, ◌+◌, ◌*◌}
 use Rattle.std.specs.Prelude.{Some}
 use Rattle.goblin_pe_sect.specs.Options.{is_strict}
-use Rattle.goblin_pe_head.specs.TeHeader.{moved_sections_at}
+use Rattle.goblin_pe_head.specs.TeReadings.{moved_sections}
 use Rattle.goblin_pe_head.proofs.header.sections.read_sections.Given as goal
 
 abbrev pub invariant-records : goal.invariant-records
 invariant-records l = record {
   end : l.end ≡ l.offset + 40 * l.counter;
-  read : moved_sections_at l.displacement (is_strict l.opts.parse_mode) l.string_table_offset l.counter l.bytes l.offset ≡ Some l.sections.items;
+  read : (moved_sections l.displacement (is_strict l.opts.parse_mode) l.string_table_offset l.counter l.offset).value l.bytes ≡ Some l.sections.items;
 }

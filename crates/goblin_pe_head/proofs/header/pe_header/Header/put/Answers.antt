@@ -11,7 +11,7 @@ returns c =
     let old = c.args.bytes.now in
     let stub = c.args.self.now.dos_stub.bytes.now in
     let dos = c.to_bytes.result in
-    let signature = c.record_bytes-signature.result in
+    let signature = c.encode_fields-signature.result in
     let coff = c.encode-coff.result in
     let optional = c.args.optional.now in
     let at = 64 + length stub in
@@ -28,4 +28,4 @@ returns c =
     let after_2 = written_then two three five at (at + 4) signature (coff ++ (optional ++ [])) (omega arith) (omega (arith, c.requires, long_2)) c.put_bytes-3.ensures after_3 in
     let after_1 = written_then one two five 64 at stub (signature ++ (coff ++ (optional ++ []))) (omega arith) (omega (arith, c.requires, long_1)) c.put_bytes-2.ensures after_2 in
     let all : five ≡ replaced old 0 (dos ++ (stub ++ (signature ++ (coff ++ (optional ++ []))))) = written_then old one five 0 64 dos (stub ++ (signature ++ (coff ++ (optional ++ [])))) (omega arith) (omega (arith, c.requires)) c.put_bytes.ensures after_1 in
-    rw (sym c.to_bytes.ensures.made, sym c.record_bytes-signature.ensures.made, sym c.encode-coff.ensures.made) all
+    rw (sym c.to_bytes.ensures.made, sym c.encode_fields-signature.ensures.made, sym c.encode-coff.ensures.made) all
