@@ -13,12 +13,11 @@ use Rattle.goblin_base.specs.Tables.{Format, SlotFormat, each_below, ends_table,
 use Rattle.goblin_base.proofs.Below.{join-parts, least-before}
 use Rattle.goblin_base.proofs.Records.{record_at-some}
 use Rattle.goblin_base.proofs.Steps.{mapped, same_value, step}
+use Rattle.goblin_pe_sect.specs.AddressReadings as address
 use Rattle.goblin_pe_tables.specs.declared.import.directory_entry.ImportDirectoryEntry.{ImportDirectoryEntry}
 use Rattle.goblin_pe_tables.specs.ImportBound.{AreFew}
-use Rattle.goblin_pe_tables.specs.ImportDirectory.{import_data, libraries_at, library_of}
 use Rattle.goblin_pe_tables.specs.ImportReadings as directory
 use Rattle.goblin_pe_tables.specs.ImportRecords.{ImportedLibrary, import_slots, lookup_offset}
-use Rattle.goblin_pe_tables.specs.ImportLookup.{address_table, kept_entry, lookup_table}
 use Rattle.goblin_pe_tables.specs.ImportEntries.{EntryValue, LookupEntry, entry_slots}
 use Rattle.goblin_pe_tables.specs.ImportEntries.LookupEntry.{ByOrdinal}
 use Rattle.goblin_pe_tables.specs.LookupReadings as reading
@@ -94,7 +93,7 @@ one_or false x other bytes xs few e = few e
 
 pub kept_entry-few : (strict : Bool) (offset_of : ℕ → Option ℕ) (bytes : List ℕ)
     (entry : EntryValue) (xs : List LookupEntry)
-    → kept_entry strict offset_of bytes entry ≡ Some xs → length xs ≤ 1
+    → (reading.kept_entry strict offset_of entry).value bytes ≡ Some xs → length xs ≤ 1
 unfolding reading.kept_entry
 kept_entry-few strict offset_of bytes entry xs e =
     one_or entry.is_ordinal (ByOrdinal entry.ordinal)
@@ -132,9 +131,9 @@ module _ (strict : Bool) (format : Format EntryValue) (offset_of : ℕ → Optio
   abbrev entries : ℕ
   entries = length bytes / format.width
 
-  lookup_table-few : (o : ℕ) (xs : List LookupEntry) → lookup_table strict format offset_of bytes o ≡ Some xs → length xs ≤ entries
+  lookup_table-few : (o : ℕ) (xs : List LookupEntry) → (reading.lookup_table strict format offset_of o).value bytes ≡ Some xs → length xs ≤ entries
   lookup_table-few o xs e =
-      let few = slot_table-count length refl length-append (entry_slots format) strict (kept_entry strict offset_of bytes) bytes o 1 some (kept_entry-few strict offset_of bytes) xs e in
+      let few = slot_table-count length refl length-append (entry_slots format) strict (λ entry. (reading.kept_entry strict offset_of entry).value bytes) bytes o 1 some (kept_entry-few strict offset_of bytes) xs e in
       omega (arith, few)
 
   lookup_if-few : (place : Option ℕ) (both : Option (List LookupEntry) × List ℕ)
@@ -146,17 +145,17 @@ module _ (strict : Bool) (format : Format EntryValue) (offset_of : ℕ → Optio
       (same_value (None, []) both e) (omega arith)
   lookup_if-few (Some o) both e =
       let m = mapped ((reading.lookup_with_slots strict format offset_of o).value bytes) _ both e in
-      let table = with_slots-value _ (lookup_table strict format offset_of bytes o) m.value m.is in
+      let table = with_slots-value _ ((reading.lookup_table strict format offset_of o).value bytes) m.value m.is in
       subst (λ (t : Option (List LookupEntry) × List ℕ). length (unwrap_or t.0 []) ≤ entries)
       m.made (lookup_table-few o m.value.0 table)
 
   library_of-few : (r : ImportDirectoryEntry) (library : ImportedLibrary)
-      → library_of strict format offset_of bytes r ≡ Some library
+      → (directory.library_of strict format offset_of r).value bytes ≡ Some library
       → length (kept_entries library) ≤ entries
   unfolding directory.library_of
   library_of-few r library e =
       let place = lookup_offset offset_of r in
-      let name = in_its_place strict [] ((directory.name_at offset_of r.name_rva).value bytes) in
+      let name = in_its_place strict [] ((address.name_at offset_of r.name_rva).value bytes) in
       let look = (directory.lookup_if strict format offset_of place).value bytes in
       let m = mapped (pair_of (pair_of name look) _) _ library e in
       let there = pair_of-right name look m.value.0 (pair_of-left (pair_of name look) _ m.value m.is) in
@@ -173,10 +172,10 @@ module _ (strict : Bool) (format : Format EntryValue) (offset_of : ℕ → Optio
       by_item true None xs few e = absurd cc
       by_item false None xs few e = subst (λ (ls : List ImportedLibrary). kept_count ls ≤ entries) (same_value [] xs e) (omega arith)
 
-  libraries_at-few : (o : ℕ) (xs : List ImportedLibrary) → libraries_at strict format offset_of bytes o ≡ Some xs → kept_count xs ≤ length bytes / 20 * entries
+  libraries_at-few : (o : ℕ) (xs : List ImportedLibrary) → (directory.libraries_at strict format offset_of o).value bytes ≡ Some xs → kept_count xs ≤ length bytes / 20 * entries
   libraries_at-few o xs e =
-      slot_table-count kept_count refl (sum_by-append (λ library. length (kept_entries library))) import_slots strict (λ r. or_left_out strict (library_of strict format offset_of bytes r)) bytes o entries (omega arith)
-      (λ r ys is. kept-few (library_of strict format offset_of bytes r) ys (library_of-few r) is) xs e
+      slot_table-count kept_count refl (sum_by-append (λ library. length (kept_entries library))) import_slots strict (λ r. or_left_out strict ((directory.library_of strict format offset_of r).value bytes)) bytes o entries (omega arith)
+      (λ r ys is. kept-few ((directory.library_of strict format offset_of r).value bytes) ys (library_of-few r) is) xs e
 
   none_kept : (xs : List ImportedLibrary) → Some [] ≡ Some xs → kept_count xs ≤ length bytes / 20 * entries
   none_kept xs e = subst (λ (ls : List ImportedLibrary). kept_count ls ≤ length bytes / 20 * entries) (same_value [] xs e) (omega arith)
@@ -198,7 +197,7 @@ module _ (strict : Bool) (format : Format EntryValue) (offset_of : ℕ → Optio
 
   -- the entries that the lookup tables of import data keep
   pub import_data-few : (rva : ℕ) (libraries : List ImportedLibrary)
-      → import_data strict format offset_of bytes rva ≡ Some libraries
+      → (directory.import_data strict format offset_of rva).value bytes ≡ Some libraries
       → kept_count libraries ≤ length bytes / 20 * entries
   unfolding directory.import_data
   import_data-few rva libraries e =

@@ -1,21 +1,22 @@
 -- The name of a library: the text that a reader of names takes, and the empty one where it takes none.
 use Rattle.std.proofs.Common.{◌≡◌, ℕ, Bool, true, false, List, [], Option, Some, None, ap, refl}
-use Rattle.std.specs.Prelude.{unwrap_or}
+use Rattle.std.specs.Prelude.{option_map, unwrap_or}
 use Rattle.goblin_base.proofs.Steps.{same_value}
 use Rattle.readings.specs.Reads.{in_its_place}
-use Rattle.goblin_pe_sect.specs.Mapping.{name_or_none}
 
 or_empty : Option (List ℕ) → Option (List ℕ)
 or_empty name = Some (unwrap_or name [])
 
 pub taken : (strict : Bool) (text : Option (List ℕ)) (name : Option (List ℕ))
-    → name_or_none strict text ≡ Some name → in_its_place strict [] text ≡ Some (unwrap_or name [])
+    → in_its_place strict None (option_map (λ own. Some own) text) ≡ Some name
+    → in_its_place strict [] text ≡ Some (unwrap_or name [])
 unfolding or_empty
 taken strict (Some own) name e = ap or_empty (same_value (Some own) name e)
 taken true None name e = absurd cc
 taken false None name e = ap or_empty (same_value None name e)
 
-pub missing : (strict : Bool) (text : Option (List ℕ)) → name_or_none strict text ≡ None
+pub missing : (strict : Bool) (text : Option (List ℕ))
+    → in_its_place strict None (option_map (λ own. Some own) text) ≡ None
     → in_its_place strict [] text ≡ None
 missing strict (Some own) e = absurd cc
 missing true None e = refl

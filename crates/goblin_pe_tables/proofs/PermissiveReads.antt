@@ -1,20 +1,18 @@
 -- What strict mode reads of imports, permissive mode reads, too.
-use Rattle.std.proofs.Common.{◌≡◌, ◌+◌, ℕ, true, false, List, [], ◌∷◌, Option, None, Some, sym, ◌∙◌}
+use Rattle.std.proofs.Common.{◌+◌, ℕ, true, false, List, [], ◌∷◌, Option, None, Some}
 use Rattle.goblin_base.specs.Reading.{Repeats}
 use Rattle.goblin_base.specs.Tables.{Format}
-use Rattle.goblin_base.proofs.Kept.{Keeps}
 use Rattle.readings.specs.Reads.{given, text_at}
 use Rattle.readings.proofs.Modes.{repeats-beside, repeats-mapped, repeats-or_else}
 use Rattle.readings.proofs.Modes.{repeats-or_left_out, repeats-pick, repeats-same, repeats-table}
 use Rattle.readings.proofs.Modes.{repeats-table_with_slots}
-use Rattle.goblin_pe_tables.specs.ImportDirectory as directory
 use Rattle.goblin_pe_tables.specs.ImportDirectory.{address_table_rva, import_slots, lookup_offset}
-use Rattle.goblin_pe_tables.specs.ImportLookup as lookup
 use Rattle.goblin_pe_tables.specs.ImportLookup.{EntryValue, entry_slots}
 use Rattle.goblin_pe_tables.specs.ImportEntries.LookupEntry.{ByOrdinal}
 use Rattle.goblin_pe_sect.specs.AddressReadings.{at_address}
 use Rattle.goblin_pe_tables.specs.ImportReadings.{kept_library, libraries_at}
-use Rattle.goblin_pe_tables.specs.ImportReadings.{library_of, lookup_if, name_at, record_here}
+use Rattle.goblin_pe_sect.specs.AddressReadings.{name_at}
+use Rattle.goblin_pe_tables.specs.ImportReadings.{library_of, lookup_if, record_here}
 use Rattle.goblin_pe_tables.specs.LookupReadings.{address_table, hint_name, kept_entry, kept_name}
 use Rattle.goblin_pe_tables.specs.LookupReadings.{lookup_entry_at, lookup_table, lookup_with_slots}
 use Rattle.goblin_pe_tables.specs.declared.import.directory_entry.ImportDirectoryEntry.{ImportDirectoryEntry}
@@ -41,9 +39,9 @@ module _ (offset_of : ℕ → Option ℕ) where
       (name_repeats entry.rva (offset_of entry.rva))
 
   module _ (format : Format EntryValue) where
-    lookup_repeats : (o : ℕ)
+    pub lookup_table-repeats : (o : ℕ)
         → Repeats (lookup_table true format offset_of o) (lookup_table false format offset_of o)
-    lookup_repeats o =
+    lookup_table-repeats o =
         repeats-table (entry_slots format) (lookup_entry_at format) (lookup_entry_at format) _ _ o
         entry_repeats
 
@@ -71,20 +69,9 @@ module _ (offset_of : ℕ → Option ℕ) where
         (lookup_if_repeats (lookup_offset offset_of r)))
         (repeats-same (at_address offset_of (address_table_rva r) (address_table format))))
 
-    libraries_repeat : (o : ℕ)
+    pub libraries_at-repeats : (o : ℕ)
         → Repeats (libraries_at true format offset_of o) (libraries_at false format offset_of o)
-    libraries_repeat o =
+    libraries_at-repeats o =
         repeats-table import_slots record_here record_here (kept_library true format offset_of)
         (kept_library false format offset_of) o
         (λ r. repeats-or_left_out _ _ (library_repeats r))
-
-    -- the same of the values, as contracts say them
-    pub lookup_table-kept : (bytes : List ℕ) (o : ℕ)
-        → Keeps (lookup.lookup_table true format offset_of bytes o)
-        (lookup.lookup_table false format offset_of bytes o)
-    lookup_table-kept bytes o = (lookup_repeats o).kept bytes
-
-    pub libraries_at-kept : (bytes : List ℕ) (o : ℕ)
-        → Keeps (directory.libraries_at true format offset_of bytes o)
-        (directory.libraries_at false format offset_of bytes o)
-    libraries_at-kept bytes o = (libraries_repeat o).kept bytes

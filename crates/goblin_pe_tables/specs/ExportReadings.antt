@@ -1,22 +1,20 @@
--- The exports by readings: the value, the cause and the footprint of each read in one definition,
--- over a map of addresses to file offsets.
+-- The exports: the export directory, its tables, and a row for each name pointer, over a map of
+-- addresses to file offsets.
 use Rattle.std.specs.Prelude.{ℕ, ◌==◌, if◌then◌else◌, List, [], length, slice_get}
-use Rattle.std.specs.Prelude.{Option, Some, None, option_and_then}
+use Rattle.std.specs.Prelude.{Option, Some, None}
 use Rattle.goblin_base.specs.declared.endian.Endian.TheVariants.{Little}
 use Rattle.goblin_base.specs.declared.error.CauseOf.TheVariants.{ExportTable}
 use Rattle.goblin_base.specs.Reading.{Reading}
-use Rattle.readings.specs.Reads.{◌>>=◌, ◌beside◌, because, because_by, counted_if, each_kept}
-use Rattle.readings.specs.Reads.{file_length, given, mapped, needs_by, or_none, record_at, text_at}
-use Rattle.readings.specs.Reads.{taken, turned}
+use Rattle.readings.specs.Reads.{◌>>=◌, ◌beside◌, because, counted_if, each_kept}
+use Rattle.readings.specs.Reads.{file_length, given, mapped, needs_by, or_none, record_at}
+use Rattle.readings.specs.Reads.{taken}
 use Rattle.goblin_pe_sect.specs.declared.data_directories.DataDirectory.{DataDirectory}
 use Rattle.goblin_pe_tables.specs.ExportRecords.{ExportRow, ExportTables, IsCountFault, addresses}
 use Rattle.goblin_pe_tables.specs.ExportRecords.{count-not_memory, counts_fit}
 use Rattle.goblin_pe_tables.specs.ExportRecords.{export_directory_record, name_pointers, ordinals}
 use Rattle.goblin_pe_tables.specs.ExportRecords.{rva_of}
-use Rattle.goblin_pe_tables.specs.ForwarderLaws.{forwarder_at-not_memory}
-use Rattle.goblin_pe_tables.specs.Forwarders.{Forwarder, IsForwarderAtFault, forwarder_of}
-use Rattle.goblin_pe_sect.specs.AddressReadings.{at_address}
-use Rattle.goblin_pe_tables.specs.ImportReadings.{name_at}
+use Rattle.goblin_pe_tables.specs.Forwarders.{Forwarder, forwarder_at}
+use Rattle.goblin_pe_sect.specs.AddressReadings.{at_address, name_at}
 use Rattle.goblin_pe_tables.specs.declared.export.tables.ExportAddressTableEntry.{ExportAddressTableEntry}
 use Rattle.goblin_pe_tables.specs.declared.export.tables.ExportAddressTableEntry.TheVariants.{ExportRVA}
 use Rattle.goblin_pe_tables.specs.declared.export.tables.ExportAddressTableEntry.TheVariants.{ForwarderRVA}
@@ -28,7 +26,7 @@ use Rattle.goblin_pe_tables.specs.declared.export.tables.ExportDirectoryTable.{E
 abbrev pub record_here : ℕ → Reading ExportDirectoryTable
 record_here p = because (ExportTable p) (record_at 40 (export_directory_record Little) p)
 
--- a record, where no table is said to have more entries than the file has bytes
+-- a record, if it counts no more entries of any table than the file has bytes
 unfoldable pub fitting : ExportDirectoryTable → Reading ExportDirectoryTable
 fitting t =
     file_length
@@ -53,7 +51,7 @@ export_tables offset_of d t =
     beside counted_if ordinals t.number_of_name_pointers (offset_of t.ordinal_table_rva)
     beside counted_if (addresses d) t.address_table_entries (offset_of t.export_address_table_rva))
 
--- the same, where the record's counts fit
+-- what a record leads to, where its counts fit the file
 unfoldable pub tables_if : (ℕ → Option ℕ) → DataDirectory → ExportDirectoryTable
     → Reading ExportTables
 tables_if offset_of d t = fitting t >>= export_tables offset_of d
@@ -65,18 +63,12 @@ export_data offset_of d =
 
 -- ---- the exports
 
--- the forwarder whose text stands at an offset
-abbrev pub forwarder_here : ℕ → Reading Forwarder
-forwarder_here p =
-    because_by (λ bytes. IsForwarderAtFault bytes p) (λ bytes. forwarder_at-not_memory bytes p)
-    (turned (option_and_then forwarder_of) (text_at p))
-
--- What an entry stands for in another library: nothing, or what its forwarder says, where that is
--- there.
+-- What an entry stands for in another library: nothing, or what its forwarder says, if there is
+-- one.
 unfoldable pub reexport_of : (ℕ → Option ℕ) → ExportAddressTableEntry → Reading (Option Forwarder)
 reexport_of offset_of (ExportRVA rva) = given None
 reexport_of offset_of (ForwarderRVA rva) =
-    mapped (λ f. Some f) (at_address offset_of rva forwarder_here)
+    mapped (λ f. Some f) (at_address offset_of rva forwarder_at)
 
 -- the row of a name pointer and an address: it stays without a name that can't be read
 unfoldable pub row_of : (ℕ → Option ℕ) → ℕ → ExportAddressTableEntry → Reading ExportRow
@@ -90,11 +82,11 @@ row_of offset_of pointer address =
     })
     (or_none (name_at offset_of pointer) beside reexport_of offset_of address)
 
--- an entry of a table that was read; without it there is no row, so no cause is said
+-- an entry of a table that was read; without it there is no row, so there is no cause
 abbrev pub entry_of : {A : Type 0} → List A → ℕ → Reading A
 entry_of entries x = taken (slice_get entries x)
 
--- The row of the name pointer at index x. Its ordinal stands at x too, and numbers its address.
+-- The row of the name pointer at index x. Its ordinal is at x too, and numbers its address.
 unfoldable pub export_row : (ℕ → Option ℕ) → ExportTables → ℕ → Reading ExportRow
 export_row offset_of tables x =
     entry_of tables.export_name_pointer_table x
@@ -103,8 +95,8 @@ export_row offset_of tables x =
     >>= (λ ordinal.
     entry_of tables.export_address_table ordinal >>= row_of offset_of pointer))
 
--- The exports that export data lists: the rows that are there, in the order of the name pointers.
--- There are none in an empty file.
+-- The exports that export data lists: the existing rows, in the order of the name pointers. An
+-- empty file has none.
 unfoldable pub exports : (ℕ → Option ℕ) → ExportTables → Reading (List ExportRow)
 exports offset_of tables =
     mapped (λ read. if read.0 == 0 then [] else read.1)

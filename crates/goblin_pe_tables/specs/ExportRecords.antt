@@ -7,12 +7,11 @@ use Rattle.std.proofs.Common.{inl, inr}
 use Rattle.goblin_base.specs.declared.endian.Endian.{Endian}
 use Rattle.goblin_base.specs.declared.endian.Endian.TheVariants.{Little}
 use Rattle.goblin_base.specs.declared.error.ErrorOf.{ErrorOf}
-use Rattle.goblin_base.specs.declared.error.ErrorOf.TheVariants.{BadMagic, BufferTooShort}
-use Rattle.goblin_base.specs.declared.error.ErrorOf.TheVariants.{Malformed, Memory, Read}
 use Rattle.goblin_base.specs.Answers.{IsMemory, IsTooShort}
 use Rattle.goblin_base.specs.Bytes.{number}
 use Rattle.goblin_base.specs.Record.{FieldValue, uint}
 use Rattle.goblin_base.specs.Tables.{Format}
+use Rattle.goblin_base.proofs.Picks.{by_cases-not_memory}
 use Rattle.goblin_pe_sect.specs.declared.data_directories.DataDirectory.{DataDirectory}
 use Rattle.goblin_pe_tables.specs.declared.export.tables.ExportAddressTableEntry.{ExportAddressTableEntry}
 use Rattle.goblin_pe_tables.specs.declared.export.tables.ExportAddressTableEntry.TheVariants.{ExportRVA}
@@ -49,7 +48,7 @@ export_directory_fields t =
     ∷ uint 4 t.export_address_table_rva ∷ uint 4 t.name_pointer_rva ∷ uint 4 t.ordinal_table_rva
     ∷ []
 
--- no table is said to have more than n entries
+-- it counts at most n entries of each table
 abbrev pub counts_fit : ℕ → ExportDirectoryTable → Bool
 counts_fit n t = nat_le t.number_of_name_pointers n && nat_le t.address_table_entries n
 
@@ -63,11 +62,7 @@ IsCountFault n t e =
 
 too_short-not_memory : (count : ℕ) (kind : List ℕ) (n : ℕ) (e : ErrorOf)
     → IsTooShort count kind n e → ¬ IsMemory e
-too_short-not_memory count kind n (Memory m) h = absurd h
-too_short-not_memory count kind n (Malformed c) h = λ m. m
-too_short-not_memory count kind n (BadMagic k) h = λ m. m
-too_short-not_memory count kind n (BufferTooShort k what) h = λ m. m
-too_short-not_memory count kind n (Read fault) h = λ m. m
+too_short-not_memory count kind n = by_cases-not_memory (IsTooShort count kind n) (λ m h. h)
 
 pub count-not_memory : (n : ℕ) (t : ExportDirectoryTable) (e : ErrorOf)
     → IsCountFault n t e → ¬ IsMemory e
@@ -123,6 +118,6 @@ pub record ExportRow : Type 0 where
   pub size : ℕ
   pub reexport : Option Forwarder
 
--- tables and exports, as their reader hands them out
+-- tables and exports, as their reader returns them
 abbrev pub export_read_view : ExportTables × Vec ExportRow Global → ExportTables × List ExportRow
 export_read_view read = (read.0, read.1.items)

@@ -29,6 +29,6 @@ HasExports offset_of bytes tables =
     (x : ℕ) × (x < length tables.export_name_pointer_table)
     × IsSome (export_row offset_of bytes tables x)
 
--- the exports that export data lists, which has a list in any case
+-- the exports that export data lists; there always is a list
 abbrev pub exports : (ℕ → Option ℕ) → List ℕ → ExportTables → List ExportRow
 exports offset_of bytes tables = unwrap_or ((reading.exports offset_of tables).value bytes) []

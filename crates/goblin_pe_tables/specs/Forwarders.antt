@@ -11,7 +11,11 @@ use Rattle.goblin_base.specs.declared.error.ErrorOf.TheVariants.{Malformed}
 use Rattle.goblin_base.specs.declared.error.CauseOf.TheVariants.{Forwarder as NoForwarder}
 use Rattle.goblin_base.specs.declared.error.CauseOf.TheVariants.{ForwarderOrdinal}
 use Rattle.goblin_base.specs.Bytes.{text_at}
-use Rattle.goblin_base.specs.Answers.{IsTextFault, ◌>>=◌, FirstFault}
+use Rattle.goblin_base.specs.Answers.{◌>>=◌}
+use Rattle.goblin_base.specs.Reading.{Reading}
+use Rattle.goblin_base.proofs.Picks.{by_cases-not_memory}
+use Rattle.readings.specs.Reads as reads
+use Rattle.readings.specs.Reads.{checked}
 use Rattle.goblin_pe_tables.specs.declared.export.forwarder.Reexport.{Reexport}
 use Rattle.goblin_pe_tables.specs.declared.export.forwarder.Reexport.TheVariants.{DLLName}
 use Rattle.goblin_pe_tables.specs.declared.export.forwarder.Reexport.TheVariants.{DLLOrdinal}
@@ -38,12 +42,12 @@ pub data IsForwarder (text : List ℕ) : Forwarder → Type 0 where
       → digits_value 10 (without_leading_plus digits) < 2 ^ 32
       → IsForwarder text (ByOrdinal (digits_value 10 (without_leading_plus digits)) lib)
 
--- ---- the same as a function of the text
+-- ---- the forwarder in a text
 
 abbrev pub is_dot : ℕ → Bool
 is_dot c = c == 46
 
--- the ordinal that a text writes
+-- the ordinal in a text
 unfoldable pub ordinal_of : List ℕ → Option ℕ
 ordinal_of text =
     let digits = without_leading_plus text in
@@ -52,7 +56,7 @@ ordinal_of text =
     then Some (digits_value 10 digits)
     else None
 
--- what a library and what stands after its dot name
+-- what a library and the text after its dot name
 unfoldable pub export_of : List ℕ → List ℕ → Option Forwarder
 export_of lib [] = None
 export_of lib (c ∷ rest) =
@@ -60,16 +64,12 @@ export_of lib (c ∷ rest) =
     then option_map (λ n. ByOrdinal n lib) (ordinal_of rest)
     else Some (ByName (c ∷ rest) lib)
 
--- what a text names; nothing stands after a dot that is not there
+-- what a text names; without a dot nothing follows it
 unfoldable pub forwarder_of : List ℕ → Option Forwarder
 forwarder_of text = export_of (before_first is_dot text) (after_first is_dot text)
 
--- what the text at an offset names
-abbrev pub forwarder_at : List ℕ → ℕ → Option Forwarder
-forwarder_at bytes p = text_at bytes p >>= forwarder_of
-
--- the same at the front of bytes, and how many of them it takes: its text, and the NUL after it if
--- there is one
+-- the forwarder at the front of bytes, and how many of them it takes: its text, and the NUL after
+-- it if there is one
 abbrev pub forwarder_in : Endian → List ℕ → Option (Forwarder × ℕ)
 forwarder_in endian bytes = do
   text ← text_at bytes 0
@@ -81,14 +81,16 @@ abbrev pub forwarder_value : Reexport → Forwarder
 forwarder_value (DLLName export lib) = ByName export.now lib.now
 forwarder_value (DLLOrdinal ordinal lib) = ByOrdinal ordinal lib.now
 
--- which cause is true of a text that is no forwarder: nothing stands after its first dot, or no
--- ordinal after the '#' there
+-- which cause is true of a text that is not a forwarder: nothing follows its first dot, or no
+-- ordinal follows the '#' there
 abbrev pub IsForwarderFault : List ℕ → ErrorOf → Type 0
 IsForwarderFault text (Malformed NoForwarder) = after_first is_dot text ≡ []
 IsForwarderFault text (Malformed ForwarderOrdinal) =
     (digits : List ℕ) × (after_first is_dot text ≡ 35 ∷ digits) × (ordinal_of digits ≡ None)
 IsForwarderFault text e = ⊥
 
--- the same at an offset, where there may be no text
-abbrev pub IsForwarderAtFault : List ℕ → ℕ → ErrorOf → Type 0
-IsForwarderAtFault bytes p = FirstFault (text_at bytes p) (IsTextFault bytes p) IsForwarderFault
+-- the forwarder that the text at an offset names
+abbrev pub forwarder_at : ℕ → Reading Forwarder
+forwarder_at p =
+    checked forwarder_of IsForwarderFault
+    (λ text. by_cases-not_memory (IsForwarderFault text) (λ m h. h)) (reads.text_at p)

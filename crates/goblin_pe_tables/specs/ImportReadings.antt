@@ -1,45 +1,18 @@
--- The import directory by readings: the value, the cause and the footprint of each read in one
--- definition, over a map of addresses to file offsets.
+-- The import directory: its records, and the library that each leads to, over a map of addresses to
+-- file offsets.
 use Rattle.std.specs.Prelude.{ℕ, ◌==◌, Bool, ◌&&◌, not, cond, List, [], Option, Some, None}
 use Rattle.goblin_base.specs.declared.endian.Endian.TheVariants.{Little}
 use Rattle.goblin_base.specs.declared.error.CauseOf.TheVariants.{ImportRecordEnd}
-use Rattle.goblin_base.specs.declared.error.ErrorOf.{ErrorOf}
-use Rattle.goblin_base.specs.declared.error.ErrorOf.TheVariants.{BadMagic, BufferTooShort}
-use Rattle.goblin_base.specs.declared.error.ErrorOf.TheVariants.{Malformed, Memory, Read}
-use Rattle.goblin_base.specs.Answers.{IsMemory}
 use Rattle.goblin_base.specs.Reading.{Reading}
 use Rattle.goblin_base.specs.Tables.{Format}
-use Rattle.readings.specs.Reads.{◌>>=◌, ◌beside◌, because, given, mapped, needs_by, or_else}
-use Rattle.readings.specs.Reads.{or_left_out, record_at, table, text_at}
-use Rattle.goblin_pe_sect.specs.AddressReadings.{at_address, offset_at}
-use Rattle.goblin_pe_sect.specs.Mapping.{IsNameRead}
+use Rattle.readings.specs.Reads.{◌>>=◌, ◌beside◌, because, given, mapped, or_else, or_left_out}
+use Rattle.readings.specs.Reads.{record_at, table}
+use Rattle.goblin_pe_sect.specs.AddressReadings.{at_address, name_at, offset_at}
 use Rattle.goblin_pe_tables.specs.ImportEntries.{EntryValue, LookupEntry}
 use Rattle.goblin_pe_tables.specs.ImportRecords.{ImportedLibrary, address_table_rva}
 use Rattle.goblin_pe_tables.specs.ImportRecords.{import_record, import_slots, lookup_offset}
 use Rattle.goblin_pe_tables.specs.LookupReadings.{address_table, lookup_with_slots}
 use Rattle.goblin_pe_tables.specs.declared.import.directory_entry.ImportDirectoryEntry.{ImportDirectoryEntry}
-
--- ---- at an address
-
-pub name_read-not_memory : (p : ℕ) (e : ErrorOf) → IsNameRead p e → ¬ IsMemory e
-name_read-not_memory p (Memory m) h = absurd h
-name_read-not_memory p (Malformed c) h = λ m. m
-name_read-not_memory p (BadMagic k) h = λ m. m
-name_read-not_memory p (BufferTooShort k what) h = λ m. m
-name_read-not_memory p (Read fault) h = λ m. m
-
--- the text at an offset, as a name
-abbrev pub name_here : ℕ → Reading (List ℕ)
-name_here p = record (text_at p) {
-  IsCause = λ bytes. IsNameRead p;
-  not_memory = λ bytes. name_read-not_memory p;
-}
-
--- the text at an address
-unfoldable pub name_at : (ℕ → Option ℕ) → ℕ → Reading (List ℕ)
-name_at offset_of rva = at_address offset_of rva name_here
-
--- ---- the directory
 
 -- the record at an offset
 abbrev pub record_here : ℕ → Reading ImportDirectoryEntry
@@ -53,7 +26,7 @@ lookup_if strict format offset_of (Some o) =
     mapped (λ both. (Some both.0, both.1)) (lookup_with_slots strict format offset_of o)
 
 -- What a record leads to: its name, its lookup table and its address table. Permissive mode takes
--- the empty name where there is none.
+-- the empty name if there is none.
 unfoldable pub library_of : Bool → Format EntryValue → (ℕ → Option ℕ) → ImportDirectoryEntry
     → Reading ImportedLibrary
 library_of strict format offset_of r =
@@ -73,22 +46,23 @@ abbrev pub kept_library : Bool → Format EntryValue → (ℕ → Option ℕ) �
     → Reading (List ImportedLibrary)
 kept_library strict format offset_of r = or_left_out strict (library_of strict format offset_of r)
 
--- The libraries of the directory at an offset: those of the records before the first that is not
--- in the file or is a last one. Strict mode needs that record, and a library of each. Permissive
+-- The libraries of the directory at an offset: those of the records before the first that is not in
+-- the file or ends the directory. Strict mode needs that record, and a library for each. Permissive
 -- mode leaves out records that lead to none.
 abbrev pub libraries_at : Bool → Format EntryValue → (ℕ → Option ℕ) → ℕ
     → Reading (List ImportedLibrary)
 libraries_at strict format offset_of o =
     table import_slots strict record_here (kept_library strict format offset_of) o
 
--- the same; permissive mode takes a directory at the front of the file for an empty one
+-- The libraries of the directory at an offset. Permissive mode treats a directory at the front of
+-- the file as empty.
 unfoldable pub libraries_past_front : Bool → Format EntryValue → (ℕ → Option ℕ) → ℕ
     → Reading (List ImportedLibrary)
 libraries_past_front strict format offset_of o =
     cond (not strict && o == 0) (given []) (libraries_at strict format offset_of o)
 
--- The libraries of the directory at an address. Permissive mode takes an address without an offset
--- for one that leads to the front of the file.
+-- The libraries of the directory at an address. Permissive mode treats an address without an offset
+-- as one that leads to the front of the file.
 unfoldable pub import_data : Bool → Format EntryValue → (ℕ → Option ℕ) → ℕ
     → Reading (List ImportedLibrary)
 import_data strict format offset_of rva =

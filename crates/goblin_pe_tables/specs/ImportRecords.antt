@@ -47,13 +47,13 @@ pub record ImportedLibrary : Type 0 where
   pub import_lookup_slots : List ℕ
   pub import_address_table : List ℕ
 
--- the offset of a record's lookup table: that of its own address, and where it has none, that of
--- the address table's
+-- the offset of a record's lookup table: that of its own address or, if it has none, of the address
+-- table's
 abbrev pub lookup_offset : (ℕ → Option ℕ) → ImportDirectoryEntry → Option ℕ
 lookup_offset offset_of r =
     option_or (offset_of r.import_lookup_table_rva) (offset_of r.import_address_table_rva)
 
--- the address of a record's address table: that of its lookup table where it names none
+-- the address of a record's address table: that of its lookup table if it is 0
 abbrev pub address_table_rva : ImportDirectoryEntry → ℕ
 address_table_rva r =
     if r.import_address_table_rva == 0

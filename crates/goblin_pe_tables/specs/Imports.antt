@@ -16,7 +16,7 @@ use Rattle.goblin_pe_tables.specs.ImportDirectory.{ImportedLibrary}
 
 -- Source: PE Format, "The .idata Section".
 
--- an import, its texts as their bytes; and whether its name is a text of the file, not a copy
+-- an import, its texts as their bytes; and whether its name is a text in the file, not a copy
 pub record ImportValue : Type 0 where
   pub name : List ℕ
   pub is_borrowed : Bool
@@ -32,7 +32,7 @@ abbrev pub ordinal_name : ℕ → List ℕ
 ordinal_name ordinal = codes "ORDINAL " ++ decimal ordinal
 
 -- the import of an entry, from this library, with its slot's index and offset, and with this size;
--- the name of an import by name stands in the file
+-- the name of an import by name is in the file
 unfoldable pub import_of : List ℕ → ℕ → ℕ → ℕ → LookupEntry → ImportValue
 import_of dll slot offset size (ByOrdinal ordinal) =
     record {
@@ -57,7 +57,7 @@ import_of dll slot offset size (ByName rva named) =
       slot = slot;
     }
 
--- the offset of a slot of an address table of entries of `size` bytes, where it does not pass 64
+-- the offset of a slot of an address table of entries of `size` bytes, if it does not overflow 64
 -- bits
 abbrev pub import_offset : ℕ → ℕ → ℕ → Option ℕ
 import_offset rva size slot =
@@ -71,7 +71,7 @@ import_at size dll rva entries slots position = do
   offset ← import_offset rva size slot
   Some (import_of dll slot offset size entry)
 
--- the imports of the entries that a lookup table keeps, where none has an offset that passes 64
+-- the imports of the entries that a lookup table keeps, if none has an offset that overflows 64
 -- bits
 unfoldable pub imports_by : ℕ → List ℕ → ℕ → List LookupEntry → List ℕ → Option (List ImportValue)
 imports_by size dll rva entries slots =
@@ -102,12 +102,12 @@ unfoldable pub imports_of : ℕ → List ImportedLibrary → Option (List Import
 imports_of size libraries =
     each_below (λ i. slice_get libraries i >>= library_imports size) (length libraries)
 
--- the refusal is that an offset passes 64 bits
+-- the refusal is that an offset overflows 64 bits
 abbrev pub IsOverflow : ErrorOf → Type 0
 IsOverflow (Malformed Overflow) = Unit {0}
 IsOverflow e = ⊥
 
--- the first library that has not as many entries as slots
+-- the first library whose entries and slots differ in number
 abbrev pub first_without_slots : List ImportedLibrary → Option ImportedLibrary
 first_without_slots libraries = find (λ library. not (has_slots library)) libraries
 
@@ -117,8 +117,8 @@ IsSlotCount library (Malformed (SlotCount entries slots)) =
     (entries ≡ length (kept_entries library)) × (slots ≡ length library.import_lookup_slots)
 IsSlotCount library e = ⊥
 
--- which cause is true of imports that are refused: the counts of the first library that has not as
--- many entries as slots, and where each has, an offset that passes 64 bits
+-- which cause is true of imports that are refused: the counts of the first library whose entries
+-- and slots differ in number, and if there is none, an offset that overflows 64 bits
 abbrev pub IsImportsFault : List ImportedLibrary → ErrorOf → Type 0
 IsImportsFault libraries e =
     IsSomeAnd (first_without_slots libraries) (λ library. IsSlotCount library e)

@@ -1,5 +1,4 @@
--- Lookup tables and address tables by readings: the value, the cause and the footprint of each read
--- in one definition, over a map of addresses to file offsets.
+-- The lookup table and the address table of a library, over a map of addresses to file offsets.
 use Rattle.std.specs.Prelude.{ℕ, ◌+◌, Bool, true, cond, List, [], ◌∷◌, Option, Some, None}
 use Rattle.goblin_base.specs.declared.endian.Endian.TheVariants.{Little}
 use Rattle.goblin_base.specs.declared.error.CauseOf.TheVariants.{HintEntry, LookupEnd}
@@ -14,7 +13,7 @@ use Rattle.goblin_pe_tables.specs.ImportEntries.LookupEntry.{ByName, ByOrdinal}
 abbrev pub entry_at : Format EntryValue → ℕ → Reading EntryValue
 entry_at format p = record_at format.width format.value_of p
 
--- The hint at an offset, and the name after it. Permissive mode takes the empty name where no text
+-- The hint at an offset, and the name after it. Permissive mode takes the empty name if no text
 -- follows the hint.
 unfoldable pub hint_name : Bool → ℕ → Reading HintName
 hint_name strict p =
@@ -22,7 +21,7 @@ hint_name strict p =
     (because (HintEntry p) (number_at Little 2 p) beside or_else strict [] (text_at (p + 2)))
 
 -- What is kept of an entry whose address has this offset: the hint and the name there. Nothing is
--- kept where the address has none.
+-- kept if the address has none.
 unfoldable pub kept_name : Bool → ℕ → Option ℕ → Reading (List LookupEntry)
 kept_name strict rva None = given []
 kept_name strict rva (Some p) = or_left_out strict (mapped (ByName rva) (hint_name strict p))
@@ -46,7 +45,7 @@ lookup_with_slots strict format offset_of o =
     table_with_slots (entry_slots format) strict (lookup_entry_at format)
     (kept_entry strict offset_of) o
 
--- the same without the indexes
+-- only the lookup table at an offset, without the indexes of the slots
 abbrev pub lookup_table : Bool → Format EntryValue → (ℕ → Option ℕ) → ℕ
     → Reading (List LookupEntry)
 lookup_table strict format offset_of o =

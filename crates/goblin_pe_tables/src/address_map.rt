@@ -1,35 +1,140 @@
-//! Where addresses lie in the file, by an index that is prepared once.
+//! Where addresses lie in the file, by windows or an index, prepared once.
 
-ghost use Rattle.std.specs.Prelude.{◌≡◌, ◌↔◌, IfErr, IsTrue, option_map};
-ghost use Rattle.goblin_base.specs.Answers.{Answers, GivesOrMemory};
-ghost use Rattle.goblin_pe_sect.specs.Mapping.{IsSafeNameFault, name_at, name_or_none};
+ghost use Rattle.std.specs.Prelude.{◌≡◌, ◌↔◌, ℕ, IfErr, IfOk, IsTrue, Option, option_map};
+ghost use Rattle.std.specs.Int.{is_power_of_two};
+ghost use Rattle.goblin_base.specs.Answers.{GivesOrMemory, IsMemory};
+ghost use Rattle.goblin_base.specs.Reading.{Reads};
+ghost use Rattle.goblin_pe_sect.specs.AddressReadings.{name_or_none};
+ghost use Rattle.goblin_pe_sect.specs.Mapping.{file_offset};
 ghost use Rattle.goblin_base.specs.declared.permissive.ParseMode.TheVariants.{Permissive};
-ghost use Rattle.goblin_pe_tables.specs.Addresses.{offset_of, reads_strictly};
+ghost use Rattle.goblin_pe_tables.specs.Addresses.{looked_up, offset_of, reads_strictly};
 ghost use Rattle.goblin_pe_sect.specs.WindowIndex.{HasPieces};
 
 use goblin_base::Result;
 use goblin_pe_sect::options::ParseOptions;
 use goblin_pe_sect::section_table::SectionTable;
-use goblin_pe_sect::utils::safe_name_at;
-use goblin_pe_sect::windows::WindowIndex;
+use goblin_pe_sect::utils::{find_offset, safe_name_at};
+use goblin_pe_sect::windows::{WindowIndex, WindowList};
 use std::alloc::Global;
 use std::marker::Model;
 
-/// Where addresses lie in the file, and how what stands there is read: the sections, the file
-/// alignment and the options by which addresses are mapped, and the index that maps them.
+// At most this many windows are walked over for each address; for more, an index is made.
+const FEW: usize = 16;
+
+// How addresses are looked up.
+#[derive(Copy, Clone)]
+enum Manner {
+    // By a walk over the sections themselves, for which nothing is prepared.
+    Sections,
+    // By a walk over the windows of few sections.
+    Windows,
+    // By binary search in an index.
+    Index,
+}
+
+// How addresses are looked up, and what is prepared for it: windows or an index. The other stays
+// empty and takes no memory.
+#[derive(Drop)]
+struct LookUp {
+    manner: Manner,
+    windows: WindowList,
+    index: WindowIndex,
+}
+
+impl LookUp {
+    // By the sections themselves.
+    #[tactic(auto, unfolding(crate::specs::Addresses::looked_up, crate::specs::Addresses::located_by))]
+    fn unprepared(alloc: Global) -> LookUp
+        ensures { (offset_of : ℕ → Option ℕ) (rva : ℕ)
+            → looked_up result offset_of rva ≡ offset_of rva }
+    {
+        LookUp {
+            manner: Manner::Sections,
+            windows: WindowList::without_windows(alloc),
+            index: WindowIndex::without_pieces(alloc, true),
+        }
+    }
+
+    // By the windows of few sections.
+    #[tactic(auto, unfolding(crate::specs::Addresses::looked_up, crate::specs::Addresses::located_by))]
+    fn by_windows(
+        alloc: Global,
+        sections: &[SectionTable],
+        file_alignment: u32,
+        opts: &ParseOptions,
+    ) -> Result<LookUp>
+        ensures mapped { let offset_of = file_offset opts.now sections.now file_alignment in
+            IfOk result
+            (λ l.
+            IsTrue opts.now.resolve_rva → (rva : ℕ)
+            → looked_up l offset_of rva ≡ offset_of rva) }
+        ensures refused { IfErr result IsMemory }
+        ensures grown { IfErr result (λ e. IsTrue (is_power_of_two file_alignment)) }
+    {
+        Ok(LookUp {
+            manner: Manner::Windows,
+            windows: WindowList::prepare(alloc, sections, file_alignment, opts)?,
+            index: WindowIndex::without_pieces(alloc, true),
+        })
+    }
+
+    // By an index of many sections.
+    #[tactic(auto, unfolding(crate::specs::Addresses::looked_up, crate::specs::Addresses::located_by))]
+    fn by_index(
+        alloc: Global,
+        sections: &[SectionTable],
+        file_alignment: u32,
+        opts: &ParseOptions,
+    ) -> Result<LookUp>
+        ensures mapped { let offset_of = file_offset opts.now sections.now file_alignment in
+            IfOk result (λ l. (rva : ℕ) → looked_up l offset_of rva ≡ offset_of rva) }
+        ensures refused { IfErr result IsMemory }
+        ensures grown { IfErr result (λ e. HasPieces opts.now file_alignment) }
+    {
+        Ok(LookUp {
+            manner: Manner::Index,
+            windows: WindowList::without_windows(alloc),
+            index: WindowIndex::prepare(alloc, sections, file_alignment, opts)?,
+        })
+    }
+
+    // By whatever suits this number of sections.
+    fn prepare(
+        alloc: Global,
+        sections: &[SectionTable],
+        file_alignment: u32,
+        opts: &ParseOptions,
+    ) -> Result<LookUp>
+        ensures mapped { let offset_of = file_offset opts.now sections.now file_alignment in
+            IfOk result (λ l. (rva : ℕ) → looked_up l offset_of rva ≡ offset_of rva) }
+        ensures refused { IfErr result IsMemory }
+        ensures grown { IfErr result (λ e. HasPieces opts.now file_alignment) }
+    {
+        if !opts.resolve_rva {
+            return Ok(LookUp::unprepared(alloc));
+        }
+        if sections.len() <= FEW {
+            LookUp::by_windows(alloc, sections, file_alignment, opts)
+        } else {
+            LookUp::by_index(alloc, sections, file_alignment, opts)
+        }
+    }
+}
+
+/// How addresses are mapped to file offsets, and how the bytes there are read: the sections, the
+/// file alignment, the options, and what is prepared for the mapping.
 #[derive(Drop)]
 pub struct AddressMap<'s> {
     sections: &'s [SectionTable],
     file_alignment: u32,
     opts: ParseOptions,
-    index: WindowIndex,
+    look_up: LookUp,
 }
 
 impl<'s> Model for AddressMap<'s> {
     ghost use Rattle.std.specs.Prelude.{◌≡◌, ℕ};
     ghost use Rattle.goblin_pe_sect.specs.Mapping.{file_offset};
-    ghost use Rattle.goblin_pe_sect.specs.WindowIndex.{located};
-    ghost use Rattle.goblin_pe_tables.specs.Addresses.{MapOfAddresses};
+    ghost use Rattle.goblin_pe_tables.specs.Addresses.{MapOfAddresses, looked_up};
 
     ghost Value = { MapOfAddresses };
 
@@ -37,15 +142,17 @@ impl<'s> Model for AddressMap<'s> {
         record { sections = x.sections.now; file_alignment = x.file_alignment; opts = x.opts } };
 
     ghost invariant = { λ x.
-        (rva : ℕ) → located x.index rva ≡ file_offset x.opts x.sections.now x.file_alignment rva };
+        let offset_of = file_offset x.opts x.sections.now x.file_alignment in
+        (rva : ℕ) → looked_up x.look_up offset_of rva ≡ offset_of rva };
 }
 
 impl<'s> AddressMap<'s> {
-    /// Prepares the index of the sections' windows. No memory is taken where `opts` says that
-    /// addresses are offsets or `file_alignment` is no power of two.
+    /// Prepares the windows of the sections, or an index of them where they are many. No memory is
+    /// taken where `opts` says that addresses are offsets or `file_alignment` is not a power of
+    /// two.
     ///
     /// # Errors
-    /// [`Error::Memory`](goblin_base::Error::Memory) alone.
+    /// Only [`Error::Memory`](goblin_base::Error::Memory).
     pub fn prepare(
         alloc: Global,
         sections: &'s [SectionTable],
@@ -56,16 +163,38 @@ impl<'s> AddressMap<'s> {
             (record { sections = sections.now; file_alignment = file_alignment; opts = opts.now }) }
         ensures grown { IfErr result (λ e. HasPieces opts.now file_alignment) }
     {
-        let index = WindowIndex::prepare(alloc, sections, file_alignment, opts)?;
+        let look_up = LookUp::prepare(alloc, sections, file_alignment, opts)?;
         Ok(AddressMap {
             sections,
             file_alignment,
             opts: *opts,
-            index,
+            look_up,
         })
     }
 
-    /// The options by which addresses are mapped and what stands there is read.
+    /// A map with nothing prepared: each address is looked up by a walk over the sections. It takes
+    /// no memory; use it for a file in which no address is looked up.
+    pub fn unprepared(
+        alloc: Global,
+        sections: &'s [SectionTable],
+        file_alignment: u32,
+        opts: &ParseOptions,
+    ) -> AddressMap<'s>
+        ensures { result ≡ record {
+          sections = sections.now;
+          file_alignment = file_alignment;
+          opts = opts.now;
+        } }
+    {
+        AddressMap {
+            sections,
+            file_alignment,
+            opts: *opts,
+            look_up: LookUp::unprepared(alloc),
+        }
+    }
+
+    /// The options for mapping addresses and for reading there.
     pub fn opts(&self) -> &ParseOptions
         ensures { result.now ≡ self.now.opts }
     {
@@ -80,21 +209,27 @@ impl<'s> AddressMap<'s> {
     }
 
     /// The file offset of an address.
+    #[tactic(auto, unfolding(crate::specs::Addresses::looked_up, crate::specs::Addresses::located_by))]
     pub fn offset_of(&self, rva: u32) -> Option<usize>
         ensures { result ≡ offset_of self.now rva }
     {
-        self.index.find(rva as usize)
+        match self.look_up.manner {
+            Manner::Sections => {
+                find_offset(rva as usize, self.sections, self.file_alignment, &self.opts)
+            }
+            Manner::Windows => self.look_up.windows.find(rva),
+            Manner::Index => self.look_up.index.find(rva as usize),
+        }
     }
 
-    /// The text at an address: in permissive mode `None` where there is none.
+    /// The text at an address: in permissive mode `None` if there is none.
     ///
     /// # Errors
     /// As [`safe_try_name`](goblin_pe_sect::utils::safe_try_name).
+    #[tactic(auto, unfolding(goblin_pe_sect::specs::AddressReadings::name_or_none, goblin_pe_sect::specs::AddressReadings::name_at))]
     pub fn name_at<'a>(&self, bytes: &'a [u8], rva: u32) -> Result<Option<&'a str>>
-        ensures { let m = offset_of self.now in
-            Answers (option_map (λ s. s.now)) result
-            (name_or_none (reads_strictly self.now) (name_at m bytes.now rva))
-            (IsSafeNameFault m rva) }
+        ensures { Reads (option_map (λ s. s.now)) result
+            (name_or_none (reads_strictly self.now) (offset_of self.now) rva) bytes.now }
     {
         safe_name_at(bytes, rva as usize, self.offset_of(rva), &self.opts)
     }

@@ -43,7 +43,8 @@ fn text_at(bytes: &[u8], offset: Option<usize>) -> Option<&str>
 
 // The forwarder at an offset, where there are both.
 fn forwarder_at(bytes: &[u8], offset: Option<usize>) -> Option<Reexport<'_>>
-    ensures { option_map forwarder_value result ≡ option_and_then (forwarder_at bytes.now) offset }
+    ensures { option_map forwarder_value result
+        ≡ option_and_then (λ p. (forwarder_at p).value bytes.now) offset }
 {
     Reexport::parse(bytes, offset?).ok()
 }
@@ -57,8 +58,8 @@ fn rva_of(address: &ExportAddressTableEntry) -> u32
     }
 }
 
-// What an entry of the address table stands for in another library, if it is a forwarder; nothing
-// where that can't be read.
+// What an entry of the address table stands for in another library, if it is a forwarder that can
+// be read.
 #[tactic(auto, unfolding(crate::specs::ExportReadings::reexport_of))]
 fn reexport_of<'a>(
     bytes: &'a [u8],
@@ -83,12 +84,12 @@ fn reexport_of<'a>(
 /// Source: PE Format, "The .edata Section (Image Only)".
 #[derive(Debug, Drop)]
 pub struct ExportData<'a> {
-    /// The library's own name, as it was linked; `None` where no text stands at its address.
+    /// The library's own name, as it was linked; `None` if there is no text at its address.
     pub name: Option<&'a str>,
     /// The record itself, as it stands in the file.
     pub export_directory_table: ExportDirectoryTable,
-    /// The addresses of the exports' names. The format asks for them in the order of the names, by
-    /// which the loader searches; no reader here relies on that.
+    /// The addresses of the exports' names. The format requires them in the order of the names, for
+    /// the loader's search; no reader here relies on that.
     pub export_name_pointer_table: ExportNamePointerTable,
     /// For each name pointer the index of its address in the address table, without the ordinal
     /// base.
@@ -137,16 +138,16 @@ impl<'a> ExportData<'a> {
     }
 
     /// Reads the export data of an export directory: the record at its address, and what the record
-    /// leads to. A table is empty where its address has no file offset, and is cut at the first
-    /// entry that is not whole. An address is a forwarder's where it lies in the directory, by the
-    /// directory's address and size. The library's name is `None` where it can't be read. Both
-    /// modes give the same answer.
+    /// leads to. A table is empty if its address has no file offset, and is cut at the first
+    /// incomplete entry. An address is a forwarder's if it lies in the directory, by the
+    /// directory's address and size. The library's name is `None` if it can't be read. Both modes
+    /// give the same answer.
     ///
     /// # Errors
-    /// [`Error::Malformed`]: [`Cause::Unmapped`] where the directory's address has no file offset,
-    /// [`Cause::ExportTable`] where the record there passes the end of the file;
-    /// [`Error::BufferTooShort`] where the record counts more name pointers, or else more
-    /// addresses, than the file has bytes; [`Error::Memory`] where memory is refused.
+    /// [`Error::Malformed`]: [`Cause::Unmapped`] if the directory's address has no file offset,
+    /// [`Cause::ExportTable`] if the record there runs past the end of the file;
+    /// [`Error::BufferTooShort`] if the record counts more name pointers, or else more addresses,
+    /// than the file has bytes; [`Error::Memory`] if memory is refused.
     pub fn parse_with_opts(
         alloc: Global,
         bytes: &'a [u8],
@@ -170,7 +171,7 @@ impl<'a> ExportData<'a> {
     ///
     /// # Errors
     /// As [`ExportData::parse_with_opts`].
-    #[tactic(auto, unfolding(crate::specs::ExportReadings::export_data, crate::specs::ExportReadings::tables_if, crate::specs::ExportReadings::fitting, crate::specs::ExportReadings::export_tables, crate::specs::ImportReadings::name_at,))]
+    #[tactic(auto, unfolding(crate::specs::ExportReadings::export_data, crate::specs::ExportReadings::tables_if, crate::specs::ExportReadings::fitting, crate::specs::ExportReadings::export_tables, goblin_pe_sect::specs::AddressReadings::name_at,))]
     pub fn parse_by(
         alloc: Global,
         bytes: &'a [u8],
@@ -205,23 +206,23 @@ impl<'a> ExportData<'a> {
     }
 }
 
-/// An export that has a name pointer. Those without one, which are imported by ordinal alone, stand
+/// An export that has a name pointer. Those without one, which can only be imported by ordinal, are
 /// in the address table of [`ExportData`].
 ///
 /// Source: PE Format, "The .edata Section (Image Only)".
 #[derive(Debug, Default, Drop)]
 pub struct Export<'a> {
-    /// The export's name; `None` where no text stands at its address.
+    /// The export's name; `None` if there is no text at its address.
     pub name: Option<&'a str>,
-    /// The file offset of `rva`, as [`find_offset`](goblin_pe_sect::utils::find_offset) gives it:
-    /// `None` where no section maps it or the file alignment is no power of two; where the options
+    /// The file offset of `rva`, as [`find_offset`](goblin_pe_sect::utils::find_offset) returns it:
+    /// `None` if no section maps it or the file alignment is not a power of two; where the options
     /// say that addresses are offsets, `rva` itself.
     pub offset: Option<usize>,
     /// The export's address, relative to the image's base; of a forwarder that of its text.
     pub rva: usize,
     /// How many bytes it has: the tables don't say it, so 0.
     pub size: usize,
-    /// What it stands for in another library, which the loader then loads; `None` where it is no
+    /// What it stands for in another library, which the loader then loads; `None` if it is not a
     /// forwarder.
     pub reexport: Option<Reexport<'a>>,
 }
@@ -242,8 +243,8 @@ impl<'a> Model for Export<'a> {
     } };
 }
 
-// How many ordinals number an address that is no forwarder's: so many exports there are at least,
-// where each has a name pointer.
+// How many ordinals number an address that is not a forwarder's: if each has a name pointer, there
+// are at least this many exports.
 fn plain_count(tables: &ExportData) -> usize
     ensures { result ≤ length tables.now.export_ordinal_table }
 {
@@ -257,7 +258,7 @@ fn plain_count(tables: &ExportData) -> usize
     count
 }
 
-// Adds a row that is there; with the first, room is made for so many.
+// Adds a row if there is one; the first makes room for `room` rows.
 fn add_row<'a>(exports: &mut Vec<Export<'a>>, row: Option<Export<'a>>, room: usize) -> Result<()>
     ensures added { let more = option_to_list row.entry in
         OnOk result (exports.new.items ≡ exports.old.items ++ more) }
@@ -276,7 +277,7 @@ fn add_row<'a>(exports: &mut Vec<Export<'a>>, row: Option<Export<'a>>, room: usi
 impl<'a> Export<'a> {
     // The export of the name pointer at an index, where its ordinal, its address and, of a
     // forwarder, the text are there.
-    #[tactic(auto, unfolding(crate::specs::ExportReadings::export_row, crate::specs::ExportReadings::row_of, crate::specs::ImportReadings::name_at,))]
+    #[tactic(auto, unfolding(crate::specs::ExportReadings::export_row, crate::specs::ExportReadings::row_of, goblin_pe_sect::specs::AddressReadings::name_at,))]
     fn of_pointer(
         bytes: &'a [u8],
         tables: &ExportData,
@@ -304,7 +305,7 @@ impl<'a> Export<'a> {
     /// options.
     ///
     /// # Errors
-    /// [`Error::Memory`] alone.
+    /// Only [`Error::Memory`].
     pub fn parse(
         alloc: Global,
         bytes: &'a [u8],
@@ -324,13 +325,13 @@ impl<'a> Export<'a> {
     }
 
     /// The exports that export data lists, one for each name pointer, in their order. There is none
-    /// for a name pointer whose ordinal is missing, or whose ordinal numbers no address, or whose
-    /// address is a forwarder's that can't be read. An export whose name can't be read stays,
-    /// without it. An empty file has no exports. Both modes give the same answer.
+    /// for a name pointer whose ordinal is missing, whose ordinal has no address, or whose
+    /// forwarder can't be read. An export whose name can't be read is kept without it. An empty
+    /// file has no exports. Both modes give the same answer.
     ///
     /// # Errors
-    /// [`Error::Memory`] alone, and never on an empty file, for which no memory is taken. Else it
-    /// comes where there is an export, or where addresses are mapped.
+    /// Only [`Error::Memory`], never for an empty file, which takes no memory, and otherwise only
+    /// if there is an export or addresses are mapped.
     #[tactic(auto, unfolding(crate::specs::ExportReadings::exports))]
     pub fn parse_with_opts(
         alloc: Global,

@@ -5,14 +5,13 @@
 //! import: the lookup table says which, and the loader puts its address into the other.
 
 ghost use Rattle.std.specs.Prelude.{◌≡◌, ◌⊎◌, IfErr, IsSomeAnd, false, option_to_list, true};
-ghost use Rattle.goblin_base.specs.Answers.{AnswersOrMemory, IsMemory};
+ghost use Rattle.goblin_base.specs.Answers.{IsMemory};
 ghost use Rattle.goblin_base.specs.Reading.{ReadsOrMemory};
 ghost use Rattle.goblin_pe_sect.specs.Mapping.{file_offset};
 ghost use Rattle.goblin_pe_sect.specs.Options.{default_options, is_strict};
 ghost use Rattle.goblin_pe_sect.specs.WindowIndex.{HasPieces};
 ghost use Rattle.goblin_pe_tables.specs.Addresses.{offset_of, reads_strictly};
-ghost use Rattle.goblin_pe_tables.specs.ImportDirectory.{HasRecords, IsImportDataFault};
-ghost use Rattle.goblin_pe_tables.specs.ImportDirectory.{import_data};
+ghost use Rattle.goblin_pe_tables.specs.ImportDirectory.{HasRecords};
 ghost use Rattle.goblin_pe_tables.specs.ImportReadings as reading;
 
 use crate::address_map::AddressMap;
@@ -59,7 +58,7 @@ impl<'a> Model for ImportData<'a> {
     ghost view = { λ imports. imports.import_data.items };
 }
 
-// The library of a record; in permissive mode `None` where there is none.
+// The library of a record; in permissive mode `None` if there is none.
 fn kept_library<'a, 'e, T: Bitfield<'a>>(
     alloc: Global,
     bytes: &'a [u8],
@@ -127,8 +126,7 @@ impl<'a> ImportData<'a> {
     ) -> ResultOf<'e, ImportData<'a>>
         ensures value { let m = file_offset default_options sections.now file_alignment in
             let rva = directory.virtual_address in
-            AnswersOrMemory (λ x. x) result (import_data true T.format m bytes.now rva)
-            (IsImportDataFault true T.format m bytes.now rva) }
+            ReadsOrMemory (λ x. x) result (reading.import_data true T.format m rva) bytes.now }
         ensures grown { let place = file_offset default_options sections.now file_alignment
             directory.virtual_address in
             IfErr result
@@ -143,18 +141,18 @@ impl<'a> ImportData<'a> {
 
     /// The imports of the directory at the address of `directory`, whose tables have entries of
     /// type `T`: the libraries of its records, up to the first record that has no name or no
-    /// address table. The directory's size is not looked at, nor does the loader look at it.
+    /// address table. Neither this reader nor the loader looks at the directory's size.
     ///
-    /// In permissive mode a record is left out where its library is refused for another cause than
-    /// memory, the directory ends where it meets the end of the file, and it is empty where its
-    /// address has no file offset, or the offset 0.
+    /// In permissive mode a record is left out if its library is refused for another cause than
+    /// memory, the directory ends at the end of the file, and it is empty if its address has no
+    /// file offset or the offset 0.
     ///
     /// # Errors
-    /// In strict mode [`Error::Malformed`] with [`Cause::Unmapped`] where the directory's address
-    /// has no file offset, and with [`Cause::ImportRecordEnd`] where it meets the end of the file;
-    /// and as [`SyntheticImportDirectoryEntry::parse_with_opts`] of a record. In both modes
-    /// [`Error::Memory`] where memory is refused, which is asked for where addresses are mapped,
-    /// and where the directory has a record.
+    /// In strict mode [`Error::Malformed`] with [`Cause::Unmapped`] if the directory's address has
+    /// no file offset, and with [`Cause::ImportRecordEnd`] if it reaches the end of the file; and
+    /// as [`SyntheticImportDirectoryEntry::parse_with_opts`] of a record. In both modes
+    /// [`Error::Memory`] if memory is refused; it is asked for only if addresses are mapped or the
+    /// directory has a record.
     pub fn parse_with_opts<'e, T: Bitfield<'a>>(
         alloc: Global,
         bytes: &'a [u8],
@@ -166,8 +164,7 @@ impl<'a> ImportData<'a> {
         ensures value { let m = file_offset opts.now sections.now file_alignment in
             let strict = is_strict opts.now.parse_mode in
             let rva = directory.virtual_address in
-            AnswersOrMemory (λ x. x) result (import_data strict T.format m bytes.now rva)
-            (IsImportDataFault strict T.format m bytes.now rva) }
+            ReadsOrMemory (λ x. x) result (reading.import_data strict T.format m rva) bytes.now }
         ensures permissive { is_strict opts.now.parse_mode ≡ false → IfErr result IsMemory }
         ensures grown { let place = file_offset opts.now sections.now file_alignment
             directory.virtual_address in

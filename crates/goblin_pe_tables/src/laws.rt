@@ -1,5 +1,5 @@
-//! Laws over two reads of imports and of exports, and which bytes of a file import data depend on:
-//! what `goblin_pe::laws` says of them holds here.
+//! Laws about two reads of imports and of exports, and the bytes of a file that import data depends
+//! on; `goblin_pe::laws` explains them.
 
 mod exports;
 mod footprint;

@@ -1,5 +1,6 @@
-//! Reads the tables to which the directories of a PE file lead: imports, exports and forwarders. It
-//! stands beside `goblin_pe_head`; `goblin_pe` passes its modules on, but for `address_map`.
+//! Reads the tables that the directories of a PE file lead to: imports, exports and forwarders. It
+//! does not depend on `goblin_pe_head`. `goblin_pe` re-exports its modules, except for
+//! `address_map`.
 #![tactic(auto)]
 
 pub mod address_map;

@@ -2,9 +2,9 @@
 
 ghost use Rattle.std.specs.Prelude.{◌≡◌, ◌↔◌, List, ℕ, Some};
 ghost use Rattle.goblin_base.specs.Answers.{Answers};
+ghost use Rattle.goblin_base.specs.Reading.{Reads};
 ghost use Rattle.goblin_pe_tables.specs.ForwarderLaws.{forwarder_in-within};
-ghost use Rattle.goblin_pe_tables.specs.ForwarderLaws.{forwarder_fault-no_memory};
-ghost use Rattle.goblin_pe_tables.specs.Forwarders.{Forwarder, IsForwarder, IsForwarderAtFault};
+ghost use Rattle.goblin_pe_tables.specs.Forwarders.{Forwarder, IsForwarder};
 ghost use Rattle.goblin_pe_tables.specs.Forwarders.{IsForwarderFault, forwarder_at, forwarder_in};
 ghost use Rattle.goblin_pe_tables.specs.Forwarders.{forwarder_of, forwarder_value, ordinal_of};
 
@@ -64,18 +64,17 @@ impl<'a> Reexport<'a> {
         Ok(Reexport::DLLName { export: tail, lib })
     }
 
-    /// Reads the forwarder whose text stands at the file offset `offset`. The library ends at the
-    /// first dot. What follows the dot is the export's name, unless it begins with `#`: then an
-    /// optional `+` and decimal digits follow, which say the ordinal.
+    /// Reads the forwarder whose text is at the file offset `offset`. The library ends at the first
+    /// dot. What follows the dot is the export's name, unless it begins with `#`: then an optional
+    /// `+` and the decimal digits of the ordinal follow.
     ///
     /// # Errors
-    /// [`Error::Read`] where no text stands there; [`Error::Malformed`]: [`Cause::Forwarder`] where
-    /// it has no dot with something after it, [`Cause::ForwarderOrdinal`] where no ordinal below
-    /// 2^32 follows the `#`.
+    /// [`Error::Read`] if there is no text; [`Error::Malformed`]: [`Cause::Forwarder`] if it has no
+    /// dot with something after it, [`Cause::ForwarderOrdinal`] if no ordinal below 2^32 follows
+    /// the `#`.
     #[tactic(auto, using(crate::proofs::Grammar::by_grammar))]
     pub fn parse(bytes: &'a [u8], offset: usize) -> Result<Reexport<'a>>
-        ensures value { Answers forwarder_value result (forwarder_at bytes.now offset)
-            (IsForwarderAtFault bytes.now offset) }
+        ensures value { Reads forwarder_value result (forwarder_at offset) bytes.now }
         ensures grammar { (text : List ℕ) (f : Forwarder) → (forwarder_of text ≡ Some f)
             ↔ IsForwarder text f }
     {
@@ -91,14 +90,12 @@ impl<'a> TryFromCtx<'a> for Reexport<'a> {
 
     ghost value_of = { forwarder_in };
 
-    ghost refusal = { λ _ bytes e. IsForwarderAtFault bytes 0 e };
+    ghost refusal = { λ _ bytes e. (forwarder_at 0).IsCause bytes e };
 
     ghost within = { forwarder_in-within };
 
-    ghost no_memory = { λ _ bytes e. forwarder_fault-no_memory bytes e };
-
     /// Reads the forwarder at the front of `bytes`. It takes its text and the NUL after it, if
-    /// there is one. The order of bytes makes no difference.
+    /// there is one. The byte order makes no difference.
     ///
     /// # Errors
     /// As [`Reexport::parse`].

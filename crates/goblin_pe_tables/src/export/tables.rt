@@ -35,10 +35,10 @@ const SIZEOF_NAME_POINTER: usize = 4;
 
 const SIZEOF_ORDINAL: usize = 2;
 
-/// The record with which an image's exports begin.
+/// The record that an image's exports begin with.
 ///
 /// Source: PE Format, "Export Directory Table". Numbers are as stored; the record has 40 bytes, and
-/// `at` says where in it a field stands. Addresses are relative to the image's base.
+/// `at` gives a field's offset in it. Addresses are relative to the image's base.
 #[derive(Debug, PartialEq, Copy, Clone, Default)]
 pub struct ExportDirectoryTable {
     /// Reserved, 0, at 0.
@@ -117,7 +117,7 @@ impl ExportDirectoryTable {
     /// Reads the record at the file offset `offset`.
     ///
     /// # Errors
-    /// [`Error::Malformed`] with [`Cause::ExportTable`] where the 40 bytes pass the end of the
+    /// [`Error::Malformed`] with [`Cause::ExportTable`] if the 40 bytes run past the end of the
     /// file.
     pub fn parse(bytes: &[u8], offset: usize) -> Result<ExportDirectoryTable>
         ensures { Reads (λ t. t) result (record_here offset) bytes.now }
@@ -128,12 +128,12 @@ impl ExportDirectoryTable {
         }
     }
 
-    /// Writes the record to the front of `bytes`, and answers its size, 40. One that was read is
-    /// written as it stood, and any is read again from what was written, by the same order of
-    /// bytes.
+    /// Writes the record to the front of `bytes`, and returns its size, 40. A record that was read
+    /// is written back unchanged, and any record reads back from what was written, in the same byte
+    /// order.
     ///
     /// # Errors
-    /// [`Error::Read`] where there is no room for 40 bytes; `bytes` are then as they were.
+    /// [`Error::Read`] if there is no room for 40 bytes; `bytes` is then unchanged.
     pub fn try_into_ctx(self, bytes: &mut [u8], endian: Endian) -> Result<usize>
         ensures size { IfOk result (λ n. n ≡ 40) }
         ensures written { let own = encoding endian (export_directory_fields self) in
@@ -149,7 +149,7 @@ impl ExportDirectoryTable {
         Record::try_into_ctx(self, bytes, endian)
     }
 
-    /// The size of the record in bytes, the same in either order: 40.
+    /// The size of the record in bytes: 40 in either byte order.
     pub fn size_with(endian: &Endian) -> usize
         ensures { result ≡ 40 }
     {

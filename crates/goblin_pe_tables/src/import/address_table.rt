@@ -1,4 +1,4 @@
-//! Import address tables: the numbers where addresses stand once an image is bound.
+//! Import address tables: numbers, which are addresses once an image is bound.
 
 ghost use Rattle.std.specs.Prelude.{IfErr};
 ghost use Rattle.goblin_base.specs.Answers.{IsMemory};

@@ -29,8 +29,8 @@ const _: () = prove!(
 /// The type of the entries of lookup and address tables: `u32` in an image for 32 bits, `u64` in
 /// one for 64 bits.
 ///
-/// Source: PE Format, "Import Lookup Table". What an entry answers is a function of the bytes that
-/// it was read from.
+/// Source: PE Format, "Import Lookup Table". What an entry says is a function of the bytes that it
+/// was read from.
 pub trait Bitfield<'a>: Eq + Drop {
     /// How many bytes an entry has, and what they say.
     ghost format: { Format EntryValue };

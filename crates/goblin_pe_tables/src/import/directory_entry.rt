@@ -14,24 +14,24 @@ pub const SIZEOF_IMPORT_DIRECTORY_ENTRY: usize = 20;
 
 const _: () = prove!(SIZEOF_IMPORT_DIRECTORY_ENTRY == 20);
 
-/// A record of an import directory: where the imports from a library stand.
+/// A record of an import directory: where the imports from a library are.
 ///
 /// Source: PE Format, "Import Directory Table". Numbers are as stored; the record has 20 bytes, and
-/// `at` says where in it a field stands. Addresses are relative to the image's base.
+/// `at` gives a field's offset in it. Addresses are relative to the image's base.
 #[derive(Debug, PartialEq, Copy, Clone, Default)]
 pub struct ImportDirectoryEntry {
     /// The address of the lookup table, which says what is imported, at 0. Where it has no file
     /// offset, the address table is read instead, as images of some old linkers ask for.
     pub import_lookup_table_rva: u32,
     /// 0 until the imports are bound, at 4; then the time stamp of the library to which they were
-    /// bound, or 2^32 - 1 where the bound imports say it.
+    /// bound, or 2^32 - 1 if the bound imports say it.
     pub time_date_stamp: u32,
     /// The index of the first forwarder, at 8.
     pub forwarder_chain: u32,
     /// The address of the library's name, at 12. The record with 0 here is the directory's last.
     pub name_rva: u32,
-    /// The address of the address table, at 16: a copy of the lookup table, in which the loader
-    /// puts an address in place of each entry. The record with 0 here is the directory's last.
+    /// The address of the address table, at 16: a copy of the lookup table, whose entries the
+    /// loader replaces with addresses. The record with 0 here is the directory's last.
     pub import_address_table_rva: u32,
 }
 
@@ -95,13 +95,13 @@ impl ImportDirectoryEntry {
         self.name_rva != 0 && self.import_address_table_rva != 0
     }
 
-    /// Writes the record to the front of `bytes`, and answers its size, 20. One that was read is
-    /// written as it stood, and any is read again from what was written, by the same order of
-    /// bytes.
+    /// Writes the record to the front of `bytes`, and returns its size, 20. A record that was read
+    /// is written back unchanged, and any record reads back from what was written, in the same byte
+    /// order.
     ///
     /// # Errors
-    /// [`Error::Read`](goblin_base::Error::Read) where there is no room for 20 bytes; `bytes` are
-    /// then as they were.
+    /// [`Error::Read`](goblin_base::Error::Read) if there is no room for 20 bytes; `bytes` is then
+    /// unchanged.
     pub fn try_into_ctx(self, bytes: &mut [u8], endian: Endian) -> Result<usize>
         ensures size { IfOk result (λ n. n ≡ 20) }
         ensures written { let after = record_over 20 (encoding endian (import_fields self))
@@ -114,7 +114,7 @@ impl ImportDirectoryEntry {
         Record::try_into_ctx(self, bytes, endian)
     }
 
-    /// The size of the record in bytes, the same in either order: 20.
+    /// The size of the record in bytes: 20 in either byte order.
     pub fn size_with(endian: &Endian) -> usize
         ensures { result ≡ 20 }
     {

@@ -1,19 +1,19 @@
-//! The libraries from which an image imports.
+//! The libraries that an image imports from.
 
 ghost use Rattle.std.specs.Prelude.{◌≡◌, ◌⊎◌, [], IfErr, IsSomeAnd, map, option_map, true};
-ghost use Rattle.goblin_base.specs.Answers.{AnswersOrMemory, IsMemory};
+ghost use Rattle.goblin_base.specs.Answers.{IsMemory};
 ghost use Rattle.goblin_base.specs.Reading.{Reads, ReadsOrMemory};
 ghost use Rattle.readings.specs.Reads.{or_else};
 ghost use Rattle.goblin_pe_sect.specs.Mapping.{file_offset};
 ghost use Rattle.goblin_pe_sect.specs.Options.{default_options, is_strict};
 ghost use Rattle.goblin_pe_sect.specs.WindowIndex.{HasPieces};
 ghost use Rattle.goblin_pe_tables.specs.Addresses.{offset_of, reads_strictly};
-ghost use Rattle.goblin_pe_tables.specs.ImportDirectory.{HasImports, IsLibraryFault};
-ghost use Rattle.goblin_pe_tables.specs.ImportDirectory.{address_table_rva, library_of};
+ghost use Rattle.goblin_pe_tables.specs.ImportDirectory.{KeepsImports, address_table_rva};
 ghost use Rattle.goblin_pe_tables.specs.ImportDirectory.{lookup_offset};
 ghost use Rattle.goblin_pe_tables.specs.ImportLookup.{KeepsEntries, entry_view};
 ghost use Rattle.goblin_pe_tables.specs.ImportReadings as reading;
-ghost use Rattle.goblin_pe_tables.specs.ImportReadings.{lookup_if, name_at};
+ghost use Rattle.goblin_pe_sect.specs.AddressReadings.{name_at};
+ghost use Rattle.goblin_pe_tables.specs.ImportReadings.{lookup_if};
 
 use crate::address_map::AddressMap;
 use crate::import::address_table::{ImportAddressTable, address_table};
@@ -33,7 +33,7 @@ use std::marker::Model;
 pub struct SyntheticImportDirectoryEntry<'a> {
     /// The record, as it stands in the file.
     pub import_directory_entry: ImportDirectoryEntry,
-    /// The name of the library, as it stands in the file. In permissive mode it is empty where none
+    /// The name of the library, as it stands in the file. In permissive mode it is empty if none
     /// can be read.
     pub name: &'a str,
     /// What the lookup table keeps. `None` is for entries that are made by hand: a reader finds a
@@ -43,7 +43,7 @@ pub struct SyntheticImportDirectoryEntry<'a> {
     /// table. The slot of an entry that is left out is missing.
     pub import_lookup_slots: Vec<usize>,
     /// The numbers of the address table up to the first 0, as they stand in the file: copies of the
-    /// lookup table's entries, or addresses where the imports are bound.
+    /// lookup table's entries, or addresses if the imports are bound.
     pub import_address_table: ImportAddressTable,
 }
 
@@ -96,7 +96,7 @@ fn lookup_table_if<'a, 'e, T: Bitfield<'a>>(
 }
 
 // The name of a library; in permissive mode the empty one where none can be read.
-#[tactic(auto, unfolding(crate::specs::ImportReadings::name_at), using(crate::proofs::LibraryNames::taken, crate::proofs::LibraryNames::missing))]
+#[tactic(auto, unfolding(goblin_pe_sect::specs::AddressReadings::name_or_none), using(crate::proofs::LibraryNames::taken, crate::proofs::LibraryNames::missing))]
 fn library_name<'a>(bytes: &'a [u8], rva: u32, address_map: &AddressMap) -> Result<&'a str>
     ensures { Reads (λ s. s.now) result
         (or_else (reads_strictly address_map.now) [] (name_at (offset_of address_map.now) rva))
@@ -106,7 +106,7 @@ fn library_name<'a>(bytes: &'a [u8], rva: u32, address_map: &AddressMap) -> Resu
     Ok(name.unwrap_or(no_text(bytes)))
 }
 
-// Where a record's lookup table stands: at its own address, or at that of the address table.
+// The offset of a record's lookup table: at its own address, or at that of the address table.
 pub(crate) fn lookup_offset(entry: &ImportDirectoryEntry, address_map: &AddressMap) -> Option<usize>
     ensures { result ≡ lookup_offset (offset_of address_map.now) entry.now }
 {
@@ -142,14 +142,13 @@ impl<'a> SyntheticImportDirectoryEntry<'a> {
         file_alignment: u32,
     ) -> ResultOf<'e, SyntheticImportDirectoryEntry<'a>>
         ensures value { let m = file_offset default_options sections.now file_alignment in
-            AnswersOrMemory (λ x. x) result
-            (library_of true T.format m bytes.now import_directory_entry)
-            (IsLibraryFault true T.format m bytes.now import_directory_entry) }
+            ReadsOrMemory (λ x. x) result
+            (reading.library_of true T.format m import_directory_entry) bytes.now }
         ensures grown { let m = file_offset default_options sections.now file_alignment in
             IfErr result
             (λ e.
             IsMemory e
-            → HasImports true T.format m bytes.now import_directory_entry
+            → KeepsImports true T.format m bytes.now import_directory_entry
             ⊎ HasPieces default_options file_alignment) }
     {
         let opts = ParseOptions::default();
@@ -166,20 +165,20 @@ impl<'a> SyntheticImportDirectoryEntry<'a> {
     /// What a record leads to: the library's name, its lookup table and its address table, of
     /// entries of type `T`.
     ///
-    /// The lookup table is read at its address, and where that has no file offset, at the address
-    /// of the address table; where that has none either, there is no lookup table. The address
-    /// table is read at its address, and where that is 0, at the address of the lookup table; it
-    /// keeps the numbers up to one that is 0. The slots are those of
+    /// The lookup table is read at its address or, if that has no file offset, at the address of
+    /// the address table; if that has none either, there is no lookup table. The address table is
+    /// read at its address or, if that is 0, at the address of the lookup table; it keeps the
+    /// numbers before the first 0. The slots are those of
     /// [`SyntheticImportLookupTableEntry::parse_with_slots`].
     ///
     /// # Errors
     /// In strict mode as [`safe_try_name`](goblin_pe_sect::utils::safe_try_name) where no name can
     /// be read; in permissive mode the name is then empty. As
     /// [`SyntheticImportLookupTableEntry::parse_with_opts`] where the lookup table is refused. In
-    /// both modes [`Error::Malformed`] with [`Cause::Unmapped`] where the address of the address
-    /// table has no file offset, and [`Error::Read`] where that table meets the end of the file.
-    /// [`Error::Memory`] where memory is refused, which is asked for where addresses are mapped,
-    /// and where either table keeps an entry.
+    /// both modes [`Error::Malformed`] with [`Cause::Unmapped`] if the address of the address table
+    /// has no file offset, and [`Error::Read`] if that table reaches the end of the file.
+    /// [`Error::Memory`] if memory is refused; it is asked for only if addresses are mapped or
+    /// either table keeps an entry.
     pub fn parse_with_opts<'e, T: Bitfield<'a>>(
         alloc: Global,
         bytes: &'a [u8],
@@ -190,14 +189,13 @@ impl<'a> SyntheticImportDirectoryEntry<'a> {
     ) -> ResultOf<'e, SyntheticImportDirectoryEntry<'a>>
         ensures value { let m = file_offset opts.now sections.now file_alignment in
             let strict = is_strict opts.now.parse_mode in
-            AnswersOrMemory (λ x. x) result
-            (library_of strict T.format m bytes.now import_directory_entry)
-            (IsLibraryFault strict T.format m bytes.now import_directory_entry) }
+            ReadsOrMemory (λ x. x) result
+            (reading.library_of strict T.format m import_directory_entry) bytes.now }
         ensures grown { let m = file_offset opts.now sections.now file_alignment in
             IfErr result
             (λ e.
             IsMemory e
-            → HasImports (is_strict opts.now.parse_mode) T.format m bytes.now
+            → KeepsImports (is_strict opts.now.parse_mode) T.format m bytes.now
             import_directory_entry
             ⊎ HasPieces opts.now file_alignment) }
     {
@@ -225,7 +223,7 @@ impl<'a> SyntheticImportDirectoryEntry<'a> {
         ensures grown { IfErr result
             (λ e.
             IsMemory e
-            → HasImports (reads_strictly address_map.now) T.format (offset_of address_map.now)
+            → KeepsImports (reads_strictly address_map.now) T.format (offset_of address_map.now)
             bytes.now import_directory_entry) }
     {
         let record = &import_directory_entry;

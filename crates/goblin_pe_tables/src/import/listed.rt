@@ -34,8 +34,8 @@ pub struct Import<'a> {
     /// the ordinal in decimal digits, which is made. A file may name an import so itself, but only
     /// a name of the file's is borrowed.
     pub name: CowStr<'a>,
-    /// The name of the library, as it stands in the file; empty where permissive mode could not
-    /// read it.
+    /// The name of the library, as it stands in the file; empty if permissive mode could not read
+    /// it.
     pub dll: &'a str,
     /// The ordinal; of an import by name, the hint: at which index of the library's name pointers
     /// the loader looks for the name first. A wrong hint does no harm.
@@ -80,7 +80,7 @@ fn ordinal_name(alloc: Global, ordinal: u16) -> Result<String>
     Ok(name)
 }
 
-// The address of a slot of an address table, where it does not pass 64 bits.
+// The address of a slot of an address table, where it does not overflow 64 bits.
 fn import_offset(rva: u32, size: usize, slot: usize) -> Option<usize>
     ensures { result ≡ import_offset rva size slot }
 {
@@ -98,10 +98,10 @@ impl<'a> Import<'a> {
     /// entries of each.
     ///
     /// # Errors
-    /// [`Error::Malformed`] with [`Cause::SlotCount`] where a library, made by hand, has not as
-    /// many entries as slots: the counts of the first such library, before memory is asked for;
-    /// else with [`Cause::Overflow`] where an import's offset passes 64 bits. [`Error::Memory`]
-    /// where memory is refused; none is asked for where no table keeps an entry.
+    /// [`Error::Malformed`] with [`Cause::SlotCount`] if the entries and slots of a library made by
+    /// hand differ in number: the counts of the first such library, before memory is asked for;
+    /// else with [`Cause::Overflow`] if an import's offset overflows 64 bits. [`Error::Memory`] if
+    /// memory is refused; none is asked for where no table keeps an entry.
     #[tactic(auto, using(crate::proofs::ImportBound::are_few))]
     pub fn parse<'e, T: Bitfield<'a>>(
         alloc: Global,
@@ -147,7 +147,7 @@ fn has_slots(library: &SyntheticImportDirectoryEntry) -> bool
     kept_entries(library).len() == slot_count(library)
 }
 
-// The first library that has not as many entries as slots.
+// The first library whose entries and slots differ in number.
 fn first_without_slots<'b, 'a>(
     libraries: &'b [SyntheticImportDirectoryEntry<'a>],
 ) -> Option<&'b SyntheticImportDirectoryEntry<'a>>
@@ -156,8 +156,7 @@ fn first_without_slots<'b, 'a>(
     libraries.iter().find(|library| !has_slots(library))
 }
 
-// How many entries the lookup tables of libraries keep, or the greatest number, for which there is
-// no memory.
+// How many entries the lookup tables of libraries keep, or the greatest number, if that overflows.
 fn count_of(libraries: &[SyntheticImportDirectoryEntry]) -> usize
     ensures { result ≡ min (kept_count libraries.now) usize.MAX }
 {

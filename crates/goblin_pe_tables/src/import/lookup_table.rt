@@ -4,15 +4,15 @@ ghost use Rattle.std.specs.Prelude.{◌≡◌, ◌<◌, ◌++◌, ◌∷◌, [],
 ghost use Rattle.std.specs.Prelude.{if◌then◌else◌, length, map, option_to_list, true};
 ghost use Rattle.std.specs.List.{All};
 ghost use Rattle.std.specs.List.Sorted.{IsStrictlyIncreasing};
-ghost use Rattle.goblin_base.specs.Answers.{AnswersOrMemory, IsMemory};
+ghost use Rattle.goblin_base.specs.Answers.{IsMemory};
 ghost use Rattle.goblin_base.specs.Reading.{Reads, ReadsOrMemory};
 ghost use Rattle.goblin_base.specs.Tables.{is_kept, stop};
 ghost use Rattle.goblin_pe_sect.specs.Mapping.{file_offset};
 ghost use Rattle.goblin_pe_sect.specs.Options.{default_options, is_strict};
 ghost use Rattle.goblin_pe_sect.specs.WindowIndex.{HasPieces};
 ghost use Rattle.goblin_pe_tables.specs.Addresses.{offset_of, reads_strictly};
-ghost use Rattle.goblin_pe_tables.specs.ImportLookup.{IsLookupTableFault, KeepsEntries};
-ghost use Rattle.goblin_pe_tables.specs.ImportLookup.{entry_slots, lookup_slots, lookup_table};
+ghost use Rattle.goblin_pe_tables.specs.ImportLookup.{KeepsEntries};
+ghost use Rattle.goblin_pe_tables.specs.ImportLookup.{entry_slots, lookup_slots};
 ghost use Rattle.goblin_pe_tables.specs.ImportLookup.{entry_view, hint_name_view, kept_view};
 ghost use Rattle.goblin_pe_tables.specs.LookupReadings as reading;
 
@@ -62,9 +62,9 @@ impl<'a> HintNameTableEntry<'a> {
     /// before its first NUL or at the end of the file.
     ///
     /// # Errors
-    /// [`Error::Malformed`] with [`Cause::HintEntry`] where the hint passes the end of the file.
-    /// [`Error::Read`] where no text follows it, in strict mode; in permissive mode the name is
-    /// then empty.
+    /// [`Error::Malformed`] with [`Cause::HintEntry`] if the hint runs past the end of the file.
+    /// [`Error::Read`] if no text follows it, in strict mode; in permissive mode the name is then
+    /// empty.
     #[tactic(auto, unfolding(crate::specs::LookupReadings::hint_name))]
     pub fn parse_with_opts(
         bytes: &'a [u8],
@@ -98,8 +98,7 @@ pub enum SyntheticImportLookupTableEntry<'a> {
 }
 
 impl<'a> SyntheticImportLookupTableEntry<'a> {
-    // What a table keeps of an entry: `None` where it leads nowhere, or in permissive mode to no
-    // hint.
+    // What a table keeps of an entry: `None` if it leads nowhere, or in permissive mode to no hint.
     #[tactic(auto, unfolding(crate::specs::LookupReadings::kept_entry, crate::specs::LookupReadings::kept_name))]
     fn kept<'e, T: Bitfield<'a>>(
         entry: &T,
@@ -127,7 +126,7 @@ impl<'a> SyntheticImportLookupTableEntry<'a> {
     }
 }
 
-/// What a lookup table keeps, in order: of some entries nothing, so an index here is no slot.
+/// What a lookup table keeps, in order: of some entries nothing, so an index here is not a slot.
 ///
 /// Source: PE Format, "Import Lookup Table".
 pub type ImportLookupTable<'a> = Table<SyntheticImportLookupTableEntry<'a>>;
@@ -146,8 +145,8 @@ impl<'a> SyntheticImportLookupTableEntry<'a> {
         file_alignment: u32,
     ) -> ResultOf<'e, ImportLookupTable<'a>>
         ensures value { let m = file_offset default_options sections.now file_alignment in
-            AnswersOrMemory (map entry_view) result (lookup_table true T.format m bytes.now offset)
-            (IsLookupTableFault true T.format m bytes.now offset) }
+            ReadsOrMemory (map entry_view) result (reading.lookup_table true T.format m offset)
+            bytes.now }
         ensures grown { let m = file_offset default_options sections.now file_alignment in
             IfErr result
             (λ e.
@@ -173,10 +172,10 @@ impl<'a> SyntheticImportLookupTableEntry<'a> {
     /// modes; and in permissive mode also one whose hint is not whole.
     ///
     /// # Errors
-    /// In strict mode [`Error::Malformed`] with [`Cause::LookupEnd`] where the table meets the end
+    /// In strict mode [`Error::Malformed`] with [`Cause::LookupEnd`] if the table reaches the end
     /// of the file, and as [`HintNameTableEntry::parse_with_opts`] where an entry leads to no hint
-    /// and name; in permissive mode the table ends there. [`Error::Memory`] where memory is
-    /// refused, which is asked for where addresses are mapped, and where an entry is kept.
+    /// and name; in permissive mode the table ends there. [`Error::Memory`] if memory is refused;
+    /// it is asked for only if addresses are mapped or an entry is kept.
     pub fn parse_with_opts<'e, T: Bitfield<'a>>(
         alloc: Global,
         bytes: &'a [u8],
@@ -187,9 +186,8 @@ impl<'a> SyntheticImportLookupTableEntry<'a> {
     ) -> ResultOf<'e, ImportLookupTable<'a>>
         ensures value { let m = file_offset opts.now sections.now file_alignment in
             let strict = is_strict opts.now.parse_mode in
-            AnswersOrMemory (map entry_view) result
-            (lookup_table strict T.format m bytes.now offset)
-            (IsLookupTableFault strict T.format m bytes.now offset) }
+            ReadsOrMemory (map entry_view) result (reading.lookup_table strict T.format m offset)
+            bytes.now }
         ensures grown { let m = file_offset opts.now sections.now file_alignment in
             IfErr result
             (λ e.
@@ -210,9 +208,9 @@ impl<'a> SyntheticImportLookupTableEntry<'a> {
 
     /// The pair (lookup table at the file offset `offset`, as
     /// [`SyntheticImportLookupTableEntry::parse_with_opts`] reads it; the slot of each entry that
-    /// it keeps, in order). The slot of an entry is how many entries stand before it in the file;
-    /// in the address table its own entry has the same index. The slots rise, and lie below the
-    /// slot where the table ends.
+    /// it keeps, in order). The slot of an entry is the number of entries before it in the file; in
+    /// the address table its own entry has the same index. The slots rise, and lie below the slot
+    /// where the table ends.
     ///
     /// # Errors
     /// As [`SyntheticImportLookupTableEntry::parse_with_opts`].
@@ -227,9 +225,8 @@ impl<'a> SyntheticImportLookupTableEntry<'a> {
     ) -> ResultOf<'e, (ImportLookupTable<'a>, Vec<usize>)>
         ensures value { let m = file_offset opts.now sections.now file_alignment in
             let strict = is_strict opts.now.parse_mode in
-            AnswersOrMemory (λ both. map entry_view both.0) result
-            (lookup_table strict T.format m bytes.now offset)
-            (IsLookupTableFault strict T.format m bytes.now offset) }
+            ReadsOrMemory (λ both. map entry_view both.0) result
+            (reading.lookup_table strict T.format m offset) bytes.now }
         ensures grown { let m = file_offset opts.now sections.now file_alignment in
             IfErr result
             (λ e.

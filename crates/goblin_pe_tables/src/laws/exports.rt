@@ -58,7 +58,7 @@ pub fn read_exports<'a>(
 ///
 /// # Errors
 /// For each file as [`ExportData::parse_with_opts`] and [`Export::parse_with_opts`]; memory is
-/// wanted where the record counts entries, or where addresses are mapped.
+/// asked for only if the record counts entries or addresses are mapped.
 pub fn twin_exports<'a>(
     alloc: Global,
     a: &'a [u8],

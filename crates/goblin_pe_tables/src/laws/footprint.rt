@@ -156,7 +156,7 @@ fn add_address_table<'a, 'e, T: Bitfield<'a>>(
 }
 
 // Adds what a record of an import directory leads to.
-#[tactic(auto, unfolding(crate::specs::ImportReadings::library_of, crate::specs::ImportReadings::lookup_if, crate::specs::ImportReadings::name_at, goblin_base::specs::Footprints::led_to))]
+#[tactic(auto, unfolding(crate::specs::ImportReadings::library_of, crate::specs::ImportReadings::lookup_if, goblin_pe_sect::specs::AddressReadings::name_at, goblin_base::specs::Footprints::led_to))]
 fn add_library<'a, 'e, T: Bitfield<'a>>(
     ranges: &mut Vec<(usize, usize)>,
     bytes: &'a [u8],
@@ -244,11 +244,11 @@ fn import_ranges<'a, 'e, T: Bitfield<'a>>(
 /// The footprint of the imports of a file: the ranges (begin, end) of the positions on which the
 /// import data of a directory depends, as [`twin_imports`](crate::laws::twin_imports) says. A
 /// position is in the footprint exactly where it lies in one of the ranges, which come in no order
-/// and may overlap. None is empty, and none passes the file.
+/// and may overlap. None is empty, and none runs past the end of the file.
 ///
 /// # Errors
-/// [`Error::Memory`](goblin_base::Error::Memory) alone, where addresses are mapped or a range is
-/// listed.
+/// [`Error::Memory`](goblin_base::Error::Memory) only, and only if addresses are mapped or a range
+/// is listed.
 pub fn footprint_imports<'a, 'e, T: Bitfield<'a>>(
     alloc: Global,
     bytes: &'a [u8],
