@@ -10,7 +10,7 @@ use Rattle.std.proofs.lemmas.List.Elements.{filter-append}
 use Rattle.std.proofs.lemmas.Option.{slice_get-get_or}
 use Rattle.goblin_base.specs.declared.endian.Endian.TheVariants.{Little}
 use Rattle.goblin_base.specs.declared.error.ErrorOf.{ErrorOf}
-use Rattle.goblin_base.specs.Answers.{AnswersOrMemory, ◌>>=◌, all_of}
+use Rattle.goblin_base.specs.Answers.{◌>>=◌, all_of}
 use Rattle.goblin_base.specs.Bytes.{IsBytes}
 use Rattle.goblin_base.specs.Tables.{Format, each_below, ends_table, is_kept, kept_slots, made_of, or_left_out, slot_at, slot_place, slot_table, stop}
 use Rattle.goblin_base.proofs.Below.{each_below-there, join-parts, least-before}
@@ -21,15 +21,14 @@ use Rattle.goblin_base.proofs.SlotTables.{kept-below}
 use Rattle.goblin_base.proofs.Steps.{mapped, same_value, step}
 use Rattle.goblin_pe_sect.specs.declared.data_directories.DataDirectory.{DataDirectory}
 use Rattle.goblin_pe_sect.specs.declared.options.ParseOptions.{ParseOptions}
+use Rattle.goblin_pe_sect.specs.AddressReadings.{name_at}
 use Rattle.goblin_pe_sect.specs.Options.{is_strict}
-use Rattle.goblin_pe_sect.specs.SectionTable.{Section}
 use Rattle.goblin_pe_tables.specs.declared.import.directory_entry.ImportDirectoryEntry.{ImportDirectoryEntry}
-use Rattle.goblin_base.specs.Reading.{Reading}
+use Rattle.goblin_base.specs.Reading.{Reading, ReadsOrMemory}
 use Rattle.readings.specs.Reads.{given, in_its_place, pair_of}
-use Rattle.goblin_pe_tables.specs.ImportDirectory.{import_data, libraries_at, library_of}
 use Rattle.goblin_pe_tables.specs.ImportEntries.{EntryValue, LookupEntry, entry_slots}
 use Rattle.goblin_pe_tables.specs.ImportEntries.LookupEntry.{ByOrdinal}
-use Rattle.goblin_pe_tables.specs.ImportLookup.{kept_entry, lookup_slots, lookup_table}
+use Rattle.goblin_pe_tables.specs.ImportLookup.{lookup_slots}
 use Rattle.goblin_pe_tables.specs.ImportReadings as directory
 use Rattle.goblin_pe_tables.specs.ImportRecords.{ImportedLibrary, import_record, import_slots, lookup_offset}
 use Rattle.goblin_pe_tables.specs.LookupReadings as reading
@@ -38,7 +37,7 @@ use Rattle.goblin_pe_tables.specs.Imports.{has_slots, import_at, import_of, impo
 use Rattle.goblin_pe.specs.declared.whole.Part.{Part}
 use Rattle.goblin_pe.specs.declared.whole.Part.TheVariants.{Absent, Refused}
 use Rattle.goblin_pe.specs.declared.whole.Part.TheVariants as part
-use Rattle.goblin_pe.specs.Whole.{TablePlaces, entry_format, import_data_part, imports_part, listed_imports, offset_by, part_at, part_map, part_of, part_then}
+use Rattle.goblin_pe.specs.Whole.{HasList, TablePlaces, entry_format, import_part, import_parts, imports_part, listed_imports, part_at, part_map, part_of, part_then, with_list}
 
 -- ---- what holds of each of a list
 
@@ -111,14 +110,14 @@ pieces-counted piece (suc n) few ys e =
     one-filtered test n = refl
 
 module _ (strict : Bool) (format : Format EntryValue) (offset_of : ℕ → Option ℕ) (file : List ℕ) where
-  table-counted : (o : ℕ) (entries : List LookupEntry) → lookup_table strict format offset_of file o ≡ Some entries → length entries ≡ length (lookup_slots strict format offset_of file o)
+  table-counted : (o : ℕ) (entries : List LookupEntry) → (reading.lookup_table strict format offset_of o).value file ≡ Some entries → length entries ≡ length (lookup_slots strict format offset_of file o)
   unfolding slot_table kept_slots
   table-counted o entries e =
       let slots = entry_slots format in
-      let piece : ℕ → Option (List LookupEntry) = made_of slots (kept_entry strict offset_of file) file o in
+      let piece : ℕ → Option (List LookupEntry) = made_of slots (λ entry. (reading.kept_entry strict offset_of entry).value file) file o in
       let n = stop slots file o in
       let made = without_test (strict && not (is_some (slot_at slots file o n))) (each_below piece n) entries e in
-      sym (pieces-counted piece n (λ j xs is. let s = step (slot_at slots file o j) (kept_entry strict offset_of file) xs is in kept_entry-few strict offset_of file s.value xs s.then) entries made)
+      sym (pieces-counted piece n (λ j xs is. let s = step (slot_at slots file o j) (λ entry. (reading.kept_entry strict offset_of entry).value file) xs is in kept_entry-few strict offset_of file s.value xs s.then) entries made)
 
   -- each slot lies in the file
   abbrev AreSlots : List ℕ → Type 0
@@ -137,7 +136,7 @@ module _ (strict : Bool) (format : Format EntryValue) (offset_of : ℕ → Optio
       omega (arith, is.end)
 
   table-slots : (o : ℕ) → AreSlots (lookup_slots strict format offset_of file o)
-  table-slots o k d within = in_file o _ (kept-below (entry_slots format) (kept_entry strict offset_of file) file o k d within)
+  table-slots o k d within = in_file o _ (kept-below (entry_slots format) (λ entry. (reading.kept_entry strict offset_of entry).value file) file o k d within)
 
   -- the entries of a table have as many slots, in the file
   abbrev HaveSlots : Option (List LookupEntry) → List ℕ → Type 0
@@ -148,7 +147,7 @@ module _ (strict : Bool) (format : Format EntryValue) (offset_of : ℕ → Optio
   table_if-slots None both e =
       subst (λ (t : Option (List LookupEntry) × List ℕ). HaveSlots t.0 t.1) (same_value (None, []) both e) (refl, λ k d within. absurd (omega (arith, within)))
   table_if-slots (Some o) both e =
-      let made = lookup_table strict format offset_of file o in
+      let made = (reading.lookup_table strict format offset_of o).value file in
       let m = mapped ((reading.lookup_with_slots strict format offset_of o).value file) _ both e in
       let table = with_slots-value _ made m.value m.is in
       let kept = with_slots-kept _ made m.value m.is in
@@ -159,11 +158,11 @@ module _ (strict : Bool) (format : Format EntryValue) (offset_of : ℕ → Optio
   abbrev IsListed : ImportedLibrary → Type 0
   IsListed library = HaveSlots library.import_lookup_table library.import_lookup_slots × (library.import_directory_entry.import_address_table_rva < 2 ^ 32)
 
-  library-listed : (r : ImportDirectoryEntry) (library : ImportedLibrary) → r.import_address_table_rva < 2 ^ 32 → library_of strict format offset_of file r ≡ Some library → IsListed library
+  library-listed : (r : ImportDirectoryEntry) (library : ImportedLibrary) → r.import_address_table_rva < 2 ^ 32 → (directory.library_of strict format offset_of r).value file ≡ Some library → IsListed library
   unfolding directory.library_of
   library-listed r library low e =
       let place = lookup_offset offset_of r in
-      let name = in_its_place strict [] ((directory.name_at offset_of r.name_rva).value file) in
+      let name = in_its_place strict [] ((name_at offset_of r.name_rva).value file) in
       let look = (directory.lookup_if strict format offset_of place).value file in
       let m = mapped (pair_of (pair_of name look) _) _ library e in
       let there = pair_of-right name look m.value.0 (pair_of-left (pair_of name look) _ m.value m.is) in
@@ -179,10 +178,10 @@ module _ (strict : Bool) (format : Format EntryValue) (offset_of : ℕ → Optio
     unfolding import_record
     address-low p = number-lt Little 4 (slice_range file p (p + 20)) 16 (IsBytes-slice file p 20 bytes)
 
-    libraries_at-listed : (o : ℕ) (xs : List ImportedLibrary) → libraries_at strict format offset_of file o ≡ Some xs → Each IsListed xs
+    libraries_at-listed : (o : ℕ) (xs : List ImportedLibrary) → (directory.libraries_at strict format offset_of o).value file ≡ Some xs → Each IsListed xs
     unfolding slot_table
     libraries_at-listed o xs e =
-        let piece : ImportDirectoryEntry → Option (List ImportedLibrary) = λ r. or_left_out strict (library_of strict format offset_of file r) in
+        let piece : ImportDirectoryEntry → Option (List ImportedLibrary) = λ r. or_left_out strict ((directory.library_of strict format offset_of r).value file) in
         let n = stop import_slots file o in
         let made = without_test (strict && not (is_some (slot_at import_slots file o n))) (each_below (λ i. slot_at import_slots file o i >>= piece) n) xs e in
         each_below-each IsListed (λ i. slot_at import_slots file o i >>= piece) n
@@ -190,7 +189,7 @@ module _ (strict : Bool) (format : Format EntryValue) (offset_of : ℕ → Optio
         let s = step (slot_at import_slots file o j) piece ys is in
         let record_there = record_at-some 20 (import_record Little) file (slot_place import_slots o j) s.value s.is in
         let low : s.value.import_address_table_rva < 2 ^ 32 = subst (λ (r : ImportDirectoryEntry). r.import_address_table_rva < 2 ^ 32) (sym record_there.is) (address-low (slot_place import_slots o j)) in
-        kept-listed strict (library_of strict format offset_of file s.value) ys (λ l. library-listed s.value l low) s.then)
+        kept-listed strict ((directory.library_of strict format offset_of s.value).value file) ys (λ l. library-listed s.value l low) s.then)
         xs made
 
     by_test : (test : Bool) (r : Reading (List ImportedLibrary)) (xs : List ImportedLibrary) → (r.value file ≡ Some xs → Each IsListed xs) → (cond test (given []) r).value file ≡ Some xs → Each IsListed xs
@@ -201,7 +200,7 @@ module _ (strict : Bool) (format : Format EntryValue) (offset_of : ℕ → Optio
     unfolding directory.libraries_past_front
     past_front o xs e = by_test (not strict && nat_eq o 0) (directory.libraries_at strict format offset_of o) xs (libraries_at-listed o xs) e
 
-    imported : (rva : ℕ) (xs : List ImportedLibrary) → import_data strict format offset_of file rva ≡ Some xs → Each IsListed xs
+    imported : (rva : ℕ) (xs : List ImportedLibrary) → (directory.import_data strict format offset_of rva).value file ≡ Some xs → Each IsListed xs
     unfolding directory.import_data
     imported rva xs e =
         let s = step (in_its_place strict 0 (offset_of rva)) _ xs e in
@@ -250,7 +249,7 @@ module _ (strict : Bool) (format : Format EntryValue) (offset_of : ℕ → Optio
         each_below-there (λ i. slice_get libraries i >>= library_imports format.width) (length libraries) (λ i below. step-there libraries i listed below)
 
     -- the imports of import data that was read
-    pub imports_of-there : IsBytes file → (rva : ℕ) (libraries : List ImportedLibrary) → import_data strict format offset_of file rva ≡ Some libraries → IsSome (imports_of format.width libraries)
+    pub imports_of-there : IsBytes file → (rva : ℕ) (libraries : List ImportedLibrary) → (directory.import_data strict format offset_of rva).value file ≡ Some libraries → IsSome (imports_of format.width libraries)
     imports_of-there bytes rva libraries e = imports-there libraries (imported bytes rva libraries e)
 
 -- ---- the part of a file
@@ -260,9 +259,9 @@ unfolding part_of
 part-there strict None there = absurd cc
 part-there strict (Some xs) there = refl
 
-module _ (opts : ParseOptions) (sections : List Section) (file : List ℕ) (places : TablePlaces) (short : length file < 2 ^ 63) (bytes : IsBytes file) where
+module _ (opts : ParseOptions) (file : List ℕ) (places : TablePlaces) (short : length file < 2 ^ 63) (bytes : IsBytes file) where
   abbrev ListsImports : Part (List ImportedLibrary) → Type 0
-  ListsImports p = imports_part opts places p ≡ Some (listed_imports places.magic p)
+  ListsImports p = HasList opts places p
 
   absent-listed : ListsImports Absent
   unfolding imports_part part_then listed_imports part_map
@@ -282,25 +281,49 @@ module _ (opts : ParseOptions) (sections : List Section) (file : List ℕ) (plac
   part-listed true None p listed e = absurd cc
   part-listed false None p listed e = subst ListsImports (same_value Refused p e) refused-listed
 
-  at-listed : (table : DataDirectory → Option (List ImportedLibrary)) (directory : Option DataDirectory) (p : Part (List ImportedLibrary)) → ((d : DataDirectory) (libraries : List ImportedLibrary) → table d ≡ Some libraries → ListsImports (part.Read libraries)) → part_at (is_strict opts.parse_mode) table directory ≡ Some p → ListsImports p
-  unfolding part_at
-  at-listed table None p listed e = subst ListsImports (same_value Absent p e) absent-listed
-  at-listed table (Some d) p listed e = part-listed (is_strict opts.parse_mode) (table d) p (listed d) e
+  at-listed : (read : DataDirectory → Reading (List ImportedLibrary))
+      (directory : Option DataDirectory) (p : Part (List ImportedLibrary))
+      → ((d : DataDirectory) (libraries : List ImportedLibrary)
+      → (read d).value file ≡ Some libraries → ListsImports (part.Read libraries))
+      → (part_at (is_strict opts.parse_mode) read directory).value file ≡ Some p
+      → ListsImports p
+  at-listed read None p listed e = subst ListsImports (same_value Absent p e) absent-listed
+  at-listed read (Some d) p listed e =
+      part-listed (is_strict opts.parse_mode) ((read d).value file) p (listed d) e
 
-  asked-listed : (asked : Bool) (value : Option (Part (List ImportedLibrary))) (p : Part (List ImportedLibrary)) → (value ≡ Some p → ListsImports p) → cond asked value (Some Absent) ≡ Some p → ListsImports p
+  asked-listed : (asked : Bool) (value : Option (Part (List ImportedLibrary)))
+      (p : Part (List ImportedLibrary)) → (value ≡ Some p → ListsImports p)
+      → cond asked value (Some Absent) ≡ Some p → ListsImports p
   asked-listed true value p listed e = listed e
   asked-listed false value p listed e = subst ListsImports (same_value Absent p e) absent-listed
 
-  data-listed : (p : Part (List ImportedLibrary)) → import_data_part opts sections file places ≡ Some p → ListsImports p
-  unfolding import_data_part
-  data-listed p e =
-      let strict = is_strict opts.parse_mode in
-      let m = offset_by opts sections places in
-      let format = entry_format places.magic in
-      asked-listed opts.parse_imports (part_at strict (λ d. import_data strict format m file d.virtual_address) places.imports) p
-      (at-listed (λ d. import_data strict format m file d.virtual_address) places.imports p (λ d libraries is. read-listed libraries (imports_of-there strict format m file short bytes d.virtual_address libraries is))) e
+  module _ (offset_of : ℕ → Option ℕ) where
+    data-listed : (p : Part (List ImportedLibrary))
+        → (import_part opts offset_of places).value file ≡ Some p → ListsImports p
+    unfolding import_part
+    data-listed p e =
+        let strict = is_strict opts.parse_mode in
+        let format = entry_format places.magic in
+        let read : DataDirectory → Reading (List ImportedLibrary) =
+        λ d. directory.import_data strict format offset_of d.virtual_address in
+        asked-listed opts.parse_imports ((part_at strict read places.imports).value file) p
+        (at-listed read places.imports p (λ d libraries is.
+        read-listed libraries
+        (imports_of-there strict format offset_of file short bytes d.virtual_address libraries
+        is)))
+        e
 
-  -- of import data that was read a list of imports can be made
-  pub imports-listed : (IsCause : ErrorOf → Type 0) (read : Result (Part (List ImportedLibrary)) ErrorOf) → AnswersOrMemory (λ x. x) read (import_data_part opts sections file places) IsCause → IfOk read ListsImports
-  imports-listed IsCause (Ok p) h = data-listed p h
-  imports-listed IsCause (Err e) h = tt
+    -- of import data that was read a list of imports can be made
+    pub imports-listed : (read : Result (Part (List ImportedLibrary)) ErrorOf)
+        → ReadsOrMemory (λ x. x) read (import_part opts offset_of places) file
+        → IfOk read ListsImports
+    imports-listed (Ok p) h = data-listed p h
+    imports-listed (Err e) h = tt
+
+    -- and so import data is read with its list
+    pub with-listed : (read : Result (Part (List ImportedLibrary)) ErrorOf)
+        → ReadsOrMemory (λ x. x) read (import_part opts offset_of places) file
+        → ReadsOrMemory (with_list places.magic) read (import_parts opts offset_of places) file
+    unfolding import_parts
+    with-listed (Ok p) h = rw (h, data-listed p h) refl
+    with-listed (Err e) h = λ other. rw (h other).0 (refl, (h other).1)

@@ -1,5 +1,5 @@
 -- Too many sections for a file are told before memory is asked for, so want of memory tells that there is room.
-use Rattle.std.proofs.Common.{◌≡◌, ◌<◌, ◌≤◌, List, ℕ, arith, length}
+use Rattle.std.proofs.Common.{◌≡◌, ◌<◌, List, ℕ, arith, length}
 use Rattle.std.specs.Prelude.{◌/◌, codes, IfErr, IfSome, IsErrAnd, IsSome, IsSomeAnd, Option, None, Some, Result, Ok, Err}
 use Rattle.goblin_base.specs.declared.error.ErrorOf.{ErrorOf}
 use Rattle.goblin_base.specs.declared.error.ErrorOf.TheVariants.{Memory}
@@ -7,7 +7,7 @@ use Rattle.goblin_base.specs.Answers.{IsMemory, IsTooShort}
 use Rattle.goblin_pe_head.specs.declared.header.te.TeHeader.{TeHeader}
 use Rattle.goblin_pe_head.specs.CoffHeader.{IsTooManySections}
 use Rattle.goblin_pe_head.specs.PeHeader.{PeHeader}
-use Rattle.goblin_pe_head.specs.TeHeader.{te_header}
+use Rattle.goblin_pe_head.specs.TeReadings.{te_header}
 use Rattle.goblin_pe.specs.SectionRoom.{HasRoom, HasRoomFor, TakesSections}
 
 short_none : (n room : ℕ) (kind : List ℕ) (e : ErrorOf) → IsMemory e → IsTooShort n kind room e → ⊥
@@ -22,9 +22,9 @@ has_room n bytes e first memory =
 pub sections_take : (n : ℕ) (bytes : List ℕ) (e : ErrorOf) → (length bytes / 40 < n → IsTooManySections n bytes e) → (IsMemory e → 0 < n) → IsMemory e → TakesSections n bytes
 sections_take n bytes e first grown memory = (grown memory, has_room n bytes e first memory)
 
-pub te_sections_take : (bytes : List ℕ) (p : ℕ) (h : TeHeader) (e : ErrorOf) → te_header bytes p ≡ Some h
+pub te_sections_take : (bytes : List ℕ) (p : ℕ) (h : TeHeader) (e : ErrorOf) → (te_header p).value bytes ≡ Some h
     → (length bytes / 40 < h.number_of_sections → IsTooManySections h.number_of_sections bytes e)
-    → (IsMemory e → 0 < h.number_of_sections) → IsMemory e → IsSomeAnd (te_header bytes p) (λ header. TakesSections header.number_of_sections bytes)
+    → (IsMemory e → 0 < h.number_of_sections) → IsMemory e → IsSomeAnd ((te_header p).value bytes) (λ header. TakesSections header.number_of_sections bytes)
 te_sections_take bytes p h e is first grown memory = rw is (sections_take h.number_of_sections bytes e first grown memory)
 
 pub whole_takes : (header : Option PeHeader) (bytes : List ℕ) (e : ErrorOf)

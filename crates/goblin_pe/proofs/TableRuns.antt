@@ -1,49 +1,149 @@
--- The readers that map addresses answer alike under maps that are the same, and permissive mode repeats strict mode.
-use Rattle.std.proofs.Common.{◌≡◌, ℕ, Bool, true, false, List, map, Option, ap}
+-- The readers that map addresses answer alike under maps that are the same, and permissive mode
+-- repeats strict mode.
+use Rattle.std.proofs.Common.{◌≡◌, ℕ, Bool, true, false, List, map, None, Option, Some, ap}
+use Rattle.std.proofs.Common.{subst}
 use Rattle.std.specs.Prelude.{option_map}
 use Rattle.goblin_base.specs.declared.endian.Endian.{Endian}
 use Rattle.goblin_base.specs.declared.error.ErrorOf.{ErrorOf}
+use Rattle.goblin_base.specs.declared.permissive.ParseMode.{ParseMode}
+use Rattle.goblin_base.specs.Reading.{Reading, Repeats}
 use Rattle.goblin_base.specs.Tables.{Format}
 use Rattle.goblin_base.proofs.Footprints.{alike_answers, alike_or_memory_answers}
-use Rattle.goblin_pe_sect.specs.BaseRelocations.{relocation_bytes, relocation_data}
-use Rattle.goblin_pe_sect.specs.Mapping.{data_at, name_at, name_or_none}
-use Rattle.goblin_pe_sect.proofs.PermissiveReads.{name_or_none-kept}
+use Rattle.readings.specs.Reads.{mapped}
+use Rattle.readings.proofs.Modes.{repeats-or_else, repeats-same}
+use Rattle.goblin_pe_sect.specs.AddressReadings.{data_at, name_at, name_or_none}
+use Rattle.goblin_pe_sect.specs.AddressReadings.{relocation_data}
+use Rattle.goblin_pe_sect.specs.BaseRelocations.{relocation_bytes}
+use Rattle.goblin_pe_sect.specs.declared.options.ParseOptions.{ParseOptions}
+use Rattle.goblin_pe_sect.specs.Mapping.{file_offset}
+use Rattle.goblin_pe_sect.specs.Options.{is_strict}
+use Rattle.goblin_pe_sect.specs.SectionTable.{Section}
 use Rattle.goblin_pe.specs.declared.laws.order.Request.{Request}
 use Rattle.goblin_pe.specs.declared.laws.order.TablesOf.{TablesOf}
 use Rattle.goblin_pe_tables.specs.ExportReadings.{export_read}
 use Rattle.goblin_pe_tables.specs.Exports.{export_read_view}
-use Rattle.goblin_pe_tables.specs.ImportDirectory.{import_data}
-use Rattle.goblin_pe_tables.specs.ImportLookup.{EntryValue, entry_view, lookup_table}
-use Rattle.goblin_pe.specs.Modes.{unless_front}
-use Rattle.goblin_pe.specs.TableRuns.{AreAlike, AreRepeated, AreTables}
-use Rattle.goblin_pe_tables.proofs.PermissiveReads.{lookup_table-kept}
-use Rattle.goblin_pe.proofs.PermissiveReads.{import_data-kept, repeats, repeats_or_memory}
+use Rattle.goblin_pe_tables.specs.ImportLookup.{EntryValue, entry_view}
+use Rattle.goblin_pe_tables.specs.ImportReadings.{import_data}
+use Rattle.goblin_pe_tables.specs.LookupReadings.{lookup_table}
+use Rattle.goblin_pe_tables.proofs.PermissiveReads.{lookup_table-repeats}
+use Rattle.goblin_pe.specs.Modes.{in_mode, unless_front}
+use Rattle.goblin_pe.specs.TableRuns.{AreAlike, AreGrown, AreInModes, AreTables}
+use Rattle.goblin_pe.proofs.PermissiveReads.{in_modes, map-mode, reads_in_modes}
+use Rattle.goblin_pe.proofs.PermissiveReads.{repeats-import_data}
 
-module _ {D Y : Type 0} (format : Format EntryValue) (plain : D → Y) (value_of : Endian → List ℕ → Option (Y × ℕ)) (refusal : Endian → List ℕ → ErrorOf → Type 0) (bytes : List ℕ) (request : Request) (first second : TablesOf D) where
-  -- the answers under maps that are the same
-  pub are_alike : (strict : Bool) (offset_of other : ℕ → Option ℕ) → offset_of ≡ other → AreTables format plain value_of refusal strict offset_of bytes request first → AreTables format plain value_of refusal strict other bytes request second
-      → AreAlike plain first second
-  are_alike strict offset_of other same one two =
-      record {
-        lookup = alike_or_memory_answers (map entry_view) _ _ _ _ _ _ one.lookup two.lookup (ap (λ (m : ℕ → Option ℕ). lookup_table strict format m bytes request.lookup) same);
-        imports = alike_or_memory_answers (λ x. x) _ _ _ _ _ _ one.imports two.imports (ap (λ (m : ℕ → Option ℕ). import_data strict format m bytes request.imports.virtual_address) same);
-        exports =
-            alike_or_memory_answers export_read_view _ _ _ _ _ _ one.exports two.exports
-            (ap (λ (m : ℕ → Option ℕ). (export_read m request.exports).value bytes) same);
-        relocations = alike_answers relocation_bytes _ _ _ _ _ _ one.relocations two.relocations (ap (λ (m : ℕ → Option ℕ). relocation_data m bytes request.relocations) same);
-        name = alike_answers (option_map (λ s. s.now)) _ _ _ _ _ _ one.name two.name (ap (λ (m : ℕ → Option ℕ). name_or_none strict (name_at m bytes request.name)) same);
-        value = alike_answers plain _ _ _ _ _ _ one.value two.value (ap (λ (m : ℕ → Option ℕ). data_at m value_of bytes request.value.virtual_address) same);
-      }
+-- what permissive mode takes for a name that is missing, strict mode refuses
+repeats-name_or_none : (offset_of : ℕ → Option ℕ) (rva : ℕ)
+    → Repeats (name_or_none true offset_of rva) (name_or_none false offset_of rva)
+unfolding name_or_none
+repeats-name_or_none offset_of rva =
+    let name : Reading (Option (List ℕ)) = mapped (λ name. Some name) (name_at offset_of rva) in
+    repeats-or_else None name name (repeats-same name)
 
-  -- the answers in both modes
-  pub are_repeated : (offset_of : ℕ → Option ℕ) → AreTables format plain value_of refusal true offset_of bytes request first → AreTables format plain value_of refusal false offset_of bytes request second
-      → AreRepeated plain (offset_of request.imports.virtual_address) first second
-  are_repeated offset_of one two =
-      record {
-        lookup = repeats_or_memory (map entry_view) (λ x. x) _ _ _ _ _ _ one.lookup two.lookup (lookup_table-kept offset_of format bytes request.lookup);
-        imports = repeats_or_memory (λ x. x) (unless_front (offset_of request.imports.virtual_address)) _ _ _ _ _ _ one.imports two.imports (import_data-kept format offset_of bytes request.imports.virtual_address);
-        exports = repeats_or_memory export_read_view (λ x. x) _ _ _ _ _ _ one.exports two.exports (λ value same. same);
-        relocations = repeats relocation_bytes (λ x. x) _ _ _ _ _ _ one.relocations two.relocations (λ value same. same);
-        name = repeats (option_map (λ s. s.now)) (λ x. x) _ _ _ _ _ _ one.name two.name (name_or_none-kept (name_at offset_of bytes request.name));
-        value = repeats plain (λ x. x) _ _ _ _ _ _ one.value two.value (λ value same. same);
-      }
+module _ {D Y : Type 0} (format : Format EntryValue) (plain : D → Y)
+    (value_of : Endian → List ℕ → Option (Y × ℕ))
+    (refusal : Endian → List ℕ → ErrorOf → Type 0)
+    (bytes : List ℕ) (request : Request) where
+  -- the answers by options in a mode, where addresses are mapped by the other options
+  pub answered_in_mode : (mode : ParseMode) (opts own : ParseOptions) (sections : List Section)
+      (alignment : ℕ) (tables : TablesOf D) → own ≡ in_mode mode opts
+      → AreTables format plain value_of refusal (is_strict own.parse_mode)
+      (file_offset own sections alignment) bytes request tables
+      → AreTables format plain value_of refusal (is_strict mode)
+      (file_offset opts sections alignment) bytes request tables
+  answered_in_mode mode opts own sections alignment tables is read =
+      subst
+      (λ (m : ℕ → Option ℕ).
+      AreTables format plain value_of refusal (is_strict mode) m bytes request tables)
+      (map-mode mode opts sections alignment)
+      (subst
+      (λ (o : ParseOptions).
+      AreTables format plain value_of refusal (is_strict o.parse_mode)
+      (file_offset o sections alignment) bytes request tables)
+      is read)
+
+  module _ (first second : TablesOf D) where
+    -- the answers under maps that are the same
+    pub are_alike : (strict : Bool) (offset_of other : ℕ → Option ℕ) → offset_of ≡ other
+        → AreTables format plain value_of refusal strict offset_of bytes request first
+        → AreTables format plain value_of refusal strict other bytes request second
+        → AreAlike plain first second
+    are_alike strict offset_of other same one two =
+        let Map = ℕ → Option ℕ in
+        record {
+          lookup =
+              alike_or_memory_answers (map entry_view) _ _ _ _ _ _ one.lookup two.lookup
+              (ap (λ (m : Map). (lookup_table strict format m request.lookup).value bytes) same);
+          imports =
+              alike_or_memory_answers (λ x. x) _ _ _ _ _ _ one.imports two.imports
+              (ap
+              (λ (m : Map).
+              (import_data strict format m request.imports.virtual_address).value bytes) same);
+          exports =
+              alike_or_memory_answers export_read_view _ _ _ _ _ _ one.exports two.exports
+              (ap (λ (m : Map). (export_read m request.exports).value bytes) same);
+          relocations =
+              alike_answers relocation_bytes _ _ _ _ _ _ one.relocations two.relocations
+              (ap (λ (m : Map). (relocation_data m request.relocations).value bytes) same);
+          name =
+              alike_answers (option_map (λ s. s.now)) _ _ _ _ _ _ one.name two.name
+              (ap (λ (m : Map). (name_or_none strict m request.name).value bytes) same);
+          value =
+              alike_answers plain _ _ _ _ _ _ one.value two.value
+              (ap
+              (λ (m : Map).
+              (data_at m value_of refusal request.value.virtual_address).value bytes)
+              same);
+        }
+
+    -- the answers in both modes
+    pub are_in_modes : (offset_of : ℕ → Option ℕ)
+        → AreTables format plain value_of refusal true offset_of bytes request first
+        → AreTables format plain value_of refusal false offset_of bytes request second
+        → AreInModes format plain value_of refusal offset_of request bytes
+        (first, second)
+    are_in_modes offset_of one two = record {
+      lookup =
+          in_modes (map entry_view) (λ x. x) _ _ _ _ _
+          (lookup_table-repeats offset_of format request.lookup) one.lookup two.lookup;
+      imports =
+          in_modes (λ x. x) (unless_front (offset_of request.imports.virtual_address)) _ _ _ _ _
+          (repeats-import_data format offset_of request.imports.virtual_address) one.imports
+          two.imports;
+      exports =
+          in_modes export_read_view (λ x. x) _ _ _ _ _
+          (repeats-same (export_read offset_of request.exports)) one.exports two.exports;
+      relocations =
+          reads_in_modes relocation_bytes (λ x. x) _ _ _ _ _
+          (repeats-same (relocation_data offset_of request.relocations)) one.relocations
+          two.relocations;
+      name =
+          reads_in_modes (option_map (λ s. s.now)) (λ x. x) _ _ _ _ _
+          (repeats-name_or_none offset_of request.name) one.name two.name;
+      value =
+          reads_in_modes plain (λ x. x) _ _ _ _ _
+          (repeats-same
+          (data_at offset_of value_of refusal request.value.virtual_address))
+          one.value two.value;
+    }
+
+-- for want of memory the same
+pub grown_in_mode : {D : Type 0} (format : Format EntryValue) (bytes : List ℕ) (request : Request)
+    (mode : ParseMode) (opts own : ParseOptions) (sections : List Section) (alignment : ℕ)
+    (tables : TablesOf D) → own ≡ in_mode mode opts
+    → AreGrown format (is_strict own.parse_mode) own alignment
+    (file_offset own sections alignment) bytes request tables
+    → AreGrown format (is_strict mode) opts alignment (file_offset opts sections alignment) bytes
+    request tables
+grown_in_mode format bytes request mode opts own sections alignment tables is read =
+    let of_mode = in_mode mode opts in
+    let mapped =
+    subst
+    (λ (m : ℕ → Option ℕ).
+    AreGrown format (is_strict mode) of_mode alignment m bytes request tables)
+    (map-mode mode opts sections alignment)
+    (subst
+    (λ (o : ParseOptions).
+    AreGrown format (is_strict o.parse_mode) o alignment (file_offset o sections alignment) bytes
+    request tables)
+    is read) in
+    record { lookup = mapped.lookup; imports = mapped.imports; exports = mapped.exports }

@@ -3,8 +3,7 @@ pub mod SectionRoom
 pub mod TableRuns
 pub mod TwinParts
 pub mod Whole
-pub mod WholeFootprints
--- The definitions of the crates below, so that a caller's clauses name this crate alone.
+-- The definitions of the crates below, so that a caller's clauses name only this crate.
 pub use Rattle.goblin_base.specs.Answers
 pub use Rattle.goblin_base.specs.Bytes
 pub use Rattle.goblin_base.specs.ErrorText
@@ -16,31 +15,37 @@ pub use Rattle.goblin_base.specs.Strtab
 pub use Rattle.goblin_base.specs.Tables
 pub use Rattle.goblin_base.specs.Values
 pub use Rattle.readings.specs.Reads
+pub use Rattle.goblin_pe_sect.specs.AddressReadings
 pub use Rattle.goblin_pe_sect.specs.AuxiliarySymbols
 pub use Rattle.goblin_pe_sect.specs.BaseRelocations
 pub use Rattle.goblin_pe_sect.specs.DataDirectories
-pub use Rattle.goblin_pe_sect.specs.Footprints as SectionFootprints
+pub use Rattle.goblin_pe_sect.specs.DirectoryReadings
+pub use Rattle.goblin_pe_sect.specs.Digits
 pub use Rattle.goblin_pe_sect.specs.Mapping
 pub use Rattle.goblin_pe_sect.specs.Multiples
 pub use Rattle.goblin_pe_sect.specs.Options
 pub use Rattle.goblin_pe_sect.specs.Relocations
 pub use Rattle.goblin_pe_sect.specs.SectionName
+pub use Rattle.goblin_pe_sect.specs.SectionReadings
 pub use Rattle.goblin_pe_sect.specs.SectionTable
 pub use Rattle.goblin_pe_sect.specs.Symbols
 pub use Rattle.goblin_pe_sect.specs.WindowIndex
 pub use Rattle.goblin_pe_sect.specs.WindowOrder
 pub use Rattle.goblin_pe_sect.specs.WindowStretches
 pub use Rattle.goblin_pe_head.specs.CoffHeader
+pub use Rattle.goblin_pe_head.specs.CoffReadings
 pub use Rattle.goblin_pe_head.specs.DosHeader
 pub use Rattle.goblin_pe_head.specs.DosStub
-pub use Rattle.goblin_pe_head.specs.Footprints as HeaderFootprints
 pub use Rattle.goblin_pe_head.specs.HeaderLaws
+pub use Rattle.goblin_pe_head.specs.HeaderReadings
 pub use Rattle.goblin_pe_head.specs.OptionalHeader
 pub use Rattle.goblin_pe_head.specs.OptionalHeaderLaws
 pub use Rattle.goblin_pe_head.specs.PeHeader
 pub use Rattle.goblin_pe_head.specs.RichHeader
 pub use Rattle.goblin_pe_head.specs.RichMetadata
+pub use Rattle.goblin_pe_head.specs.RichReadings
 pub use Rattle.goblin_pe_head.specs.TeHeader
+pub use Rattle.goblin_pe_head.specs.TeReadings
 pub use Rattle.goblin_pe_tables.specs.Addresses
 pub use Rattle.goblin_pe_tables.specs.ExportReadings
 pub use Rattle.goblin_pe_tables.specs.ExportRecords

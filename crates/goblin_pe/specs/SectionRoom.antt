@@ -1,4 +1,4 @@
--- Whether a file has room for its sections: memory is asked for no others.
+-- Whether a file has room for its sections; otherwise no memory is asked for.
 use Rattle.std.specs.Prelude.{ℕ, ◌/◌, ◌<◌, ◌≤◌, List, length}
 use Rattle.goblin_pe_head.specs.PeHeader.{PeHeader}
 

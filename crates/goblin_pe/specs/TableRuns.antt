@@ -1,52 +1,48 @@
--- The six readers that map addresses by a table of sections: what they answer, and how the answers
+-- The six readers that map addresses by a table of sections: what they return, and how the answers
 -- of two runs compare.
-use Rattle.std.specs.Prelude.{ℕ, ◌⊎◌, Bool, IfErr, IsSomeAnd, List, map, Option, option_map}
+use Rattle.std.specs.Prelude.{ℕ, ◌⊎◌, Bool, true, false, IfErr, IsSomeAnd, List, map, Option}
+use Rattle.std.specs.Prelude.{option_map}
 use Rattle.goblin_base.specs.declared.endian.Endian.{Endian}
 use Rattle.goblin_base.specs.declared.error.ErrorOf.{ErrorOf}
-use Rattle.goblin_base.specs.Answers.{Answers, AnswersOrMemory, IsMemory}
+use Rattle.goblin_base.specs.Answers.{IsMemory}
 use Rattle.goblin_base.specs.Footprints.{Alike, AlikeOrMemory}
-use Rattle.goblin_base.specs.Reading.{ReadsOrMemory}
+use Rattle.goblin_base.specs.Reading.{InModes, Reads, ReadsOrMemory}
 use Rattle.goblin_base.specs.Tables.{Format}
-use Rattle.goblin_pe_sect.specs.BaseRelocations.{IsRelocationDataFault, relocation_bytes}
-use Rattle.goblin_pe_sect.specs.BaseRelocations.{relocation_data}
+use Rattle.goblin_pe_sect.specs.AddressReadings.{data_at, name_or_none, relocation_data}
+use Rattle.goblin_pe_sect.specs.BaseRelocations.{relocation_bytes}
 use Rattle.goblin_pe_sect.specs.declared.options.ParseOptions.{ParseOptions}
-use Rattle.goblin_pe_sect.specs.Mapping.{IsDataFault, IsSafeNameFault, data_at, name_at}
-use Rattle.goblin_pe_sect.specs.Mapping.{name_or_none}
 use Rattle.goblin_pe_sect.specs.WindowIndex.{HasPieces}
 use Rattle.goblin_pe.specs.declared.laws.order.Request.{Request}
 use Rattle.goblin_pe.specs.declared.laws.order.TablesOf.{TablesOf}
 use Rattle.goblin_pe_tables.specs.ExportReadings.{export_read}
 use Rattle.goblin_pe_tables.specs.Exports.{HasEntries, export_data, export_read_view}
-use Rattle.goblin_pe_tables.specs.ImportDirectory.{HasRecords, IsImportDataFault, import_data}
-use Rattle.goblin_pe_tables.specs.ImportLookup.{EntryValue, IsLookupTableFault, KeepsEntries}
-use Rattle.goblin_pe_tables.specs.ImportLookup.{entry_view, lookup_table}
-use Rattle.goblin_pe.specs.Modes.{Repeats, RepeatsOrMemory, unless_front}
+use Rattle.goblin_pe_tables.specs.ImportDirectory.{HasRecords}
+use Rattle.goblin_pe_tables.specs.ImportLookup.{EntryValue, KeepsEntries, entry_view}
+use Rattle.goblin_pe_tables.specs.ImportReadings.{import_data}
+use Rattle.goblin_pe_tables.specs.LookupReadings.{lookup_table}
+use Rattle.goblin_pe.specs.Modes.{ReadsInModes, unless_front}
 
--- Each answer is its reader's own value, over a map of addresses to file offsets.
+-- Each answer is its reader's own, over a map of addresses to file offsets.
 pub record AreTables {D Y : Type 0} (format : Format EntryValue) (plain : D → Y)
     (value_of : Endian → List ℕ → Option (Y × ℕ))
-    (refusal : Endian → List ℕ → ErrorOf → Type 0) (strict : Bool) (offset_of : ℕ → Option ℕ)
+    (refusal : Endian → List ℕ → ErrorOf → Type 0)
+    (strict : Bool) (offset_of : ℕ → Option ℕ)
     (bytes : List ℕ) (request : Request) (tables : TablesOf D) : Type 0 where
-  pub lookup : AnswersOrMemory (map entry_view) tables.lookup
-      (lookup_table strict format offset_of bytes request.lookup)
-      (IsLookupTableFault strict format offset_of bytes request.lookup)
-  pub imports : (let rva = request.imports.virtual_address in
-      AnswersOrMemory (λ x. x) tables.imports (import_data strict format offset_of bytes rva)
-      (IsImportDataFault strict format offset_of bytes rva))
+  pub lookup : ReadsOrMemory (map entry_view) tables.lookup
+      (lookup_table strict format offset_of request.lookup) bytes
+  pub imports : ReadsOrMemory (λ x. x) tables.imports
+      (import_data strict format offset_of request.imports.virtual_address) bytes
   pub exports : ReadsOrMemory export_read_view tables.exports
       (export_read offset_of request.exports) bytes
-  pub relocations : Answers relocation_bytes tables.relocations
-      (relocation_data offset_of bytes request.relocations)
-      (IsRelocationDataFault offset_of bytes request.relocations)
-  pub name : Answers (option_map (λ s. s.now)) tables.name
-      (name_or_none strict (name_at offset_of bytes request.name))
-      (IsSafeNameFault offset_of request.name)
-  pub value : Answers plain tables.value
-      (data_at offset_of value_of bytes request.value.virtual_address)
-      (IsDataFault offset_of refusal bytes request.value.virtual_address)
+  pub relocations : Reads relocation_bytes tables.relocations
+      (relocation_data offset_of request.relocations) bytes
+  pub name : Reads (option_map (λ s. s.now)) tables.name
+      (name_or_none strict offset_of request.name) bytes
+  pub value : Reads plain tables.value
+      (data_at offset_of value_of refusal request.value.virtual_address) bytes
 
--- A reader is refused for want of memory only where there is something to keep, or an index of the
--- sections to prepare; the three that are not here take none.
+-- A reader is refused with Memory only if there is something to keep, or windows or an index of the
+-- sections to prepare; the three readers not listed take no memory.
 pub record AreGrown {D : Type 0} (format : Format EntryValue) (strict : Bool) (opts : ParseOptions)
     (alignment : ℕ) (offset_of : ℕ → Option ℕ) (bytes : List ℕ) (request : Request)
     (tables : TablesOf D) : Type 0 where
@@ -74,13 +70,30 @@ pub record AreAlike {D Y : Type 0} (plain : D → Y) (first second : TablesOf D)
   pub name : Alike (option_map (λ s. s.now)) first.name second.name
   pub value : Alike plain first.value second.value
 
--- Where a reader has a value in the first run, it has the same in the second; but libraries of an
--- import directory at the front of the file are then none.
-pub record AreRepeated {D Y : Type 0} (plain : D → Y) (import_place : Option ℕ)
-    (first second : TablesOf D) : Type 0 where
-  pub lookup : RepeatsOrMemory (map entry_view) (λ x. x) first.lookup second.lookup
-  pub imports : RepeatsOrMemory (λ x. x) (unless_front import_place) first.imports second.imports
-  pub exports : RepeatsOrMemory export_read_view (λ x. x) first.exports second.exports
-  pub relocations : Repeats relocation_bytes (λ x. x) first.relocations second.relocations
-  pub name : Repeats (option_map (λ s. s.now)) (λ x. x) first.name second.name
-  pub value : Repeats plain (λ x. x) first.value second.value
+-- Each reader in strict mode and in permissive mode: where strict mode has a value, permissive mode
+-- has the same; but an import directory at the front of the file then has no libraries.
+pub record AreInModes {D Y : Type 0} (format : Format EntryValue) (plain : D → Y)
+    (value_of : Endian → List ℕ → Option (Y × ℕ))
+    (refusal : Endian → List ℕ → ErrorOf → Type 0)
+    (offset_of : ℕ → Option ℕ) (request : Request) (bytes : List ℕ)
+    (both : TablesOf D × TablesOf D) : Type 0 where
+  pub lookup : InModes (map entry_view) (λ x. x)
+      (lookup_table true format offset_of request.lookup)
+      (lookup_table false format offset_of request.lookup) bytes
+      (both.0.lookup, both.1.lookup)
+  pub imports : (let rva = request.imports.virtual_address in
+      InModes (λ x. x) (unless_front (offset_of rva)) (import_data true format offset_of rva)
+      (import_data false format offset_of rva) bytes
+      (both.0.imports, both.1.imports))
+  pub exports : InModes export_read_view (λ x. x) (export_read offset_of request.exports)
+      (export_read offset_of request.exports) bytes (both.0.exports, both.1.exports)
+  pub relocations : ReadsInModes relocation_bytes (λ x. x)
+      (relocation_data offset_of request.relocations)
+      (relocation_data offset_of request.relocations) bytes
+      (both.0.relocations, both.1.relocations)
+  pub name : ReadsInModes (option_map (λ s. s.now)) (λ x. x)
+      (name_or_none true offset_of request.name) (name_or_none false offset_of request.name) bytes
+      (both.0.name, both.1.name)
+  pub value : (let rva = request.value.virtual_address in
+      ReadsInModes plain (λ x. x) (data_at offset_of value_of refusal rva)
+      (data_at offset_of value_of refusal rva) bytes (both.0.value, both.1.value))

@@ -1,30 +1,43 @@
--- A whole file: its header, its sections, and the tables to which its directories lead.
+-- A whole file: its header, its sections, and the tables that its directories lead to.
 use Rattle.std.specs.Prelude.{◌≡◌, ℕ, ◌+◌, ◌==◌, Bool, true, false, if◌then◌else◌, List, [], Option}
-use Rattle.std.specs.Prelude.{Some, None, Result, Ok, Err, Vec, unwrap_or}
+use Rattle.std.specs.Prelude.{◌⊎◌, Some, None, Result, Ok, Err, Vec, IsSome, IsSomeAnd, IsTrue}
+use Rattle.std.specs.Prelude.{unwrap_or}
 use Rattle.std.specs.Global.{Global}
+use Rattle.std.specs.declared.alloc.AllocError.{AllocError}
+use Rattle.std.proofs.Common.{inl, inr}
 use Rattle.goblin_base.specs.declared.error.ErrorOf.{ErrorOf}
 use Rattle.goblin_base.specs.declared.error.ErrorOf.TheVariants.{Memory}
-use Rattle.goblin_base.specs.Answers.{◌>>=◌, FirstFault}
+use Rattle.goblin_base.specs.Answers.{IsMemory}
+use Rattle.goblin_base.specs.Reading.{Reading}
 use Rattle.goblin_base.specs.Tables.{Format}
+use Rattle.goblin_base.proofs.Picks.{by_cases-not_memory}
+use Rattle.readings.specs.Reads.{◌>>=◌, ◌beside◌, checked, given, mapped, pair_of, pick, turned}
 use Rattle.goblin_pe_sect.specs.declared.data_directories.DataDirectory.{DataDirectory}
 use Rattle.goblin_pe_sect.specs.declared.options.ParseOptions.{ParseOptions}
-use Rattle.goblin_pe_sect.specs.BaseRelocations.{IsRelocationDataFault, relocation_data}
+use Rattle.goblin_pe_sect.specs.AddressReadings.{relocation_data}
+use Rattle.goblin_pe_sect.specs.BaseRelocations.{relocation_bytes}
 use Rattle.goblin_pe_sect.specs.DataDirectories.{directory_in}
+use Rattle.goblin_pe_sect.specs.Mapping.{file_offset}
 use Rattle.goblin_pe_sect.specs.Options.{is_strict}
 use Rattle.goblin_pe_sect.specs.SectionTable.{Section}
 use Rattle.goblin_pe_head.specs.declared.optional_header.OptionalHeader.{OptionalHeader}
-use Rattle.goblin_pe_head.specs.PeHeader.{PeHeader, pe_header, IsHeaderFault}
-use Rattle.goblin_pe_head.specs.CoffHeader.{IsSectionsFault, sections_at, symbols_end}
+use Rattle.goblin_pe_head.specs.HeaderReadings.{pe_header}
+use Rattle.goblin_pe_head.specs.PeHeader.{PeHeader}
+use Rattle.goblin_pe_head.specs.CoffHeader.{symbols_end}
+use Rattle.goblin_pe_head.specs.CoffReadings.{sections_at}
 use Rattle.goblin_pe.specs.declared.whole.Part.{Part}
 use Rattle.goblin_pe.specs.declared.whole.Part.TheVariants.{Absent, Refused}
 use Rattle.goblin_pe.specs.declared.whole.Part.TheVariants as part
+use Rattle.goblin_pe.specs.declared.whole.FileTables.{FileTables}
 use Rattle.goblin_pe.specs.declared.whole.Tables.{Tables}
-use Rattle.goblin_pe_tables.specs.Addresses.{MapOfAddresses, offset_of}
-use Rattle.goblin_pe_tables.specs.ExportReadings as export_readings
-use Rattle.goblin_pe_tables.specs.Exports.{ExportRow, ExportTables, export_data, exports}
-use Rattle.goblin_pe_tables.specs.ImportDirectory.{ImportedLibrary, IsImportDataFault, import_data}
-use Rattle.goblin_pe_tables.specs.ImportLookup.{EntryValue, entries_32, entries_64}
-use Rattle.goblin_pe_tables.specs.Imports.{ImportValue, IsImportsFault, imports_of}
+use Rattle.goblin_pe_tables.specs.ExportReadings.{export_read}
+use Rattle.goblin_pe_tables.specs.ExportRecords.{ExportRow, ExportTables, export_read_view}
+use Rattle.goblin_pe_tables.specs.ImportEntries.{EntryValue}
+use Rattle.goblin_pe_tables.specs.ImportLookup.{entries_32, entries_64}
+use Rattle.goblin_pe_tables.specs.ImportReadings.{import_data}
+use Rattle.goblin_pe_tables.specs.ImportRecords.{ImportedLibrary}
+use Rattle.goblin_pe_tables.specs.Imports.{ImportValue, IsImportsFault}
+use Rattle.goblin_pe_tables.specs.Imports.{first_without_slots, imports_of}
 
 -- ---- parts
 
@@ -35,10 +48,10 @@ part_of true None = None
 part_of false None = Some Refused
 
 -- the table of a directory, if there is one
-unfoldable pub part_at : {A : Type 0} → Bool → (DataDirectory → Option A) → Option DataDirectory
-    → Option (Part A)
-part_at strict table None = Some Absent
-part_at strict table (Some directory) = part_of strict (table directory)
+abbrev pub part_at : {A : Type 0} → Bool → (DataDirectory → Reading A) → Option DataDirectory
+    → Reading (Part A)
+part_at strict read None = given Absent
+part_at strict read (Some directory) = turned (part_of strict) (read directory)
 
 -- a table that is made from another part
 unfoldable pub part_then : {A B : Type 0} → Bool → (A → Option B) → Part A → Option (Part B)
@@ -46,34 +59,21 @@ part_then strict table Absent = Some Absent
 part_then strict table (part.Read from) = part_of strict (table from)
 part_then strict table Refused = Some Refused
 
--- the same where there always is a table
+-- a table that can always be made from another part
 unfoldable pub part_map : {A B : Type 0} → (A → B) → Part A → Part B
 part_map table Absent = Absent
 part_map table (part.Read from) = part.Read (table from)
 part_map table Refused = Refused
 
--- What becomes of a table that was asked for: it is read; strict mode refuses all where it is
--- refused, permissive mode keeps that it is, and refused memory refuses all in both.
+-- What becomes of a table that was asked for: it is read; if it is refused, strict mode refuses the
+-- file and permissive mode marks it refused; refused memory refuses the file in both.
 abbrev pub BecomesPart : {A : Type 0} → Bool → Result A ErrorOf → Result (Part A) ErrorOf → Type 0
 BecomesPart strict (Ok table) result = result ≡ Ok (part.Read table)
 BecomesPart strict (Err (Memory m)) result = result ≡ Err (Memory m)
 BecomesPart true (Err e) result = result ≡ Err e
 BecomesPart false (Err e) result = result ≡ Ok Refused
 
--- which cause is true of the table of a directory that refuses all
-abbrev pub IsPartAtFault : Bool → (DataDirectory → ErrorOf → Type 0) → Option DataDirectory
-    → ErrorOf → Type 0
-IsPartAtFault strict IsFault None e = ⊥
-IsPartAtFault strict IsFault (Some directory) e = (strict ≡ true) × IsFault directory e
-
--- which cause is true of a table made from another part that refuses all
-abbrev pub IsPartThenFault : {A : Type 0} → Bool → (A → ErrorOf → Type 0) → Part A → ErrorOf
-    → Type 0
-IsPartThenFault strict IsFault Absent e = ⊥
-IsPartThenFault strict IsFault (part.Read from) e = (strict ≡ true) × IsFault from e
-IsPartThenFault strict IsFault Refused e = ⊥
-
--- ---- the tables
+-- ---- where the tables lie
 
 -- where the tables of a file lie, and by which magic and file alignment they are read
 pub record TablePlaces : Type 0 where
@@ -94,10 +94,6 @@ table_places t =
       relocations = t.relocations;
     }
 
--- the same, read by the file alignment of a map of addresses
-abbrev pub places_by : MapOfAddresses → Tables → TablePlaces
-places_by m t = record (table_places t) { file_alignment = m.file_alignment }
-
 -- where the tables lie by an optional header; without one there are no tables
 unfoldable pub places_in : Option OptionalHeader → TablePlaces
 places_in None =
@@ -116,46 +112,85 @@ entry_format magic = if magic == 0x10B then entries_32 else entries_64
 
 -- the file offset of an address
 abbrev pub offset_by : ParseOptions → List Section → TablePlaces → ℕ → Option ℕ
-offset_by opts sections tables =
-    offset_of (record { sections = sections; file_alignment = tables.file_alignment; opts = opts })
+offset_by opts sections places = file_offset opts sections places.file_alignment
+
+-- addresses are mapped for these tables: for imports that are asked for, or for exports
+abbrev pub MapsAddresses : ParseOptions → TablePlaces → Type 0
+MapsAddresses opts places =
+    (IsTrue opts.parse_imports × IsSome places.imports) ⊎ IsSome places.exports
+
+-- ---- the tables
 
 -- the import data; there is none where imports are not asked for
-unfoldable pub import_data_part : ParseOptions → List Section → List ℕ → TablePlaces
-    → Option (Part (List ImportedLibrary))
-import_data_part opts sections bytes tables =
+unfoldable pub import_part : ParseOptions → (ℕ → Option ℕ) → TablePlaces
+    → Reading (Part (List ImportedLibrary))
+import_part opts offset_of places =
     let strict = is_strict opts.parse_mode in
-    let m = offset_by opts sections tables in
-    if opts.parse_imports
-    then part_at strict
-    (λ d. import_data strict (entry_format tables.magic) m bytes d.virtual_address)
-    tables.imports
-    else Some Absent
+    pick opts.parse_imports
+    (part_at strict
+    (λ d. import_data strict (entry_format places.magic) offset_of d.virtual_address)
+    places.imports)
+    (given Absent)
 
--- the list of imports
+-- the list of imports made from import data
 unfoldable pub imports_part : ParseOptions → TablePlaces → Part (List ImportedLibrary)
     → Option (Part (List ImportValue))
-imports_part opts tables libraries =
-    part_then (is_strict opts.parse_mode) (imports_of (entry_format tables.magic).width) libraries
+imports_part opts places libraries =
+    part_then (is_strict opts.parse_mode) (imports_of (entry_format places.magic).width) libraries
 
--- the export data
-unfoldable pub export_data_part : ParseOptions → List Section → List ℕ → TablePlaces
-    → Option (Part ExportTables)
-export_data_part opts sections bytes tables =
-    part_at (is_strict opts.parse_mode) (λ d. export_data (offset_by opts sections tables) d bytes)
-    tables.exports
+-- which cause is true of import data that no list can be made from
+abbrev pub IsImportsPartFault : Part (List ImportedLibrary) → ErrorOf → Type 0
+IsImportsPartFault Absent e = ⊥
+IsImportsPartFault (part.Read libraries) e = IsImportsFault libraries e
+IsImportsPartFault Refused e = ⊥
 
--- the list of exports
-unfoldable pub exports_part : ParseOptions → List Section → List ℕ → TablePlaces → Part ExportTables
-    → Part (List ExportRow)
-exports_part opts sections bytes tables export_data =
-    part_map (exports (offset_by opts sections tables) bytes) export_data
+never_some : {A : Type 0} (o : Option A) → IsSomeAnd o (λ x. ⊥) → ⊥
+never_some None h = h
+never_some (Some x) h = h
+
+imports_no_memory : (libraries : List ImportedLibrary) (m : AllocError)
+    → IsImportsFault libraries (Memory m) → ⊥
+imports_no_memory libraries m (inl h) = never_some (first_without_slots libraries) h
+imports_no_memory libraries m (inr h) = h.1
+
+pub imports_part-not_memory : (p : Part (List ImportedLibrary)) (e : ErrorOf)
+    → IsImportsPartFault p e → ¬ IsMemory e
+imports_part-not_memory Absent e h = absurd h
+imports_part-not_memory (part.Read libraries) e h =
+    by_cases-not_memory (IsImportsFault libraries) (imports_no_memory libraries) e h
+imports_part-not_memory Refused e h = absurd h
+
+-- import data, with the list of imports made from it
+unfoldable pub import_parts : ParseOptions → (ℕ → Option ℕ) → TablePlaces
+    → Reading (Part (List ImportedLibrary) × Part (List ImportValue))
+import_parts opts offset_of places =
+    checked (λ libraries. pair_of (Some libraries) (imports_part opts places libraries))
+    IsImportsPartFault imports_part-not_memory (import_part opts offset_of places)
+
+-- the export data, with the exports that it lists
+unfoldable pub export_part : ParseOptions → (ℕ → Option ℕ) → TablePlaces
+    → Reading (Part (ExportTables × List ExportRow))
+export_part opts offset_of places =
+    part_at (is_strict opts.parse_mode) (export_read offset_of) places.exports
 
 -- the bytes of the base relocations
-unfoldable pub relocations_part : ParseOptions → List Section → List ℕ → TablePlaces
-    → Option (Part (List ℕ))
-relocations_part opts sections bytes tables =
-    part_at (is_strict opts.parse_mode) (relocation_data (offset_by opts sections tables) bytes)
-    tables.relocations
+unfoldable pub relocation_part : ParseOptions → (ℕ → Option ℕ) → TablePlaces
+    → Reading (Part (List ℕ))
+relocation_part opts offset_of places =
+    part_at (is_strict opts.parse_mode) (relocation_data offset_of) places.relocations
+
+-- the tables of a file: imports, exports and base relocations
+abbrev pub TableParts : Type 0
+TableParts =
+    ((Part (List ImportedLibrary) × Part (List ImportValue))
+    × Part (ExportTables × List ExportRow))
+    × Part (List ℕ)
+
+unfoldable pub table_parts : ParseOptions → (ℕ → Option ℕ) → TablePlaces → Reading TableParts
+table_parts opts offset_of places =
+    import_parts opts offset_of places
+    beside export_part opts offset_of places
+    beside relocation_part opts offset_of places
 
 -- ---- the whole file
 
@@ -169,126 +204,73 @@ pub record WholeFile : Type 0 where
   pub exports : Part (List ExportRow)
   pub relocations : Part (List ℕ)
 
--- where the section table stands: after the optional header, by the size that the COFF header says
+-- a file of its header, its sections and its tables
+abbrev pub whole_of : PeHeader → List Section → TableParts → WholeFile
+whole_of header sections tables = record {
+  header = header;
+  sections = sections;
+  import_data = tables.0.0.0;
+  imports = tables.0.0.1;
+  export_data = part_map (λ read. read.0) tables.0.1;
+  exports = part_map (λ read. read.1) tables.0.1;
+  relocations = tables.1;
+}
+
+-- the offset of the section table: after the optional header, by the size that the COFF header says
 abbrev pub section_table_offset : PeHeader → ℕ
 section_table_offset h = h.dos_header.pe_pointer + 24 + h.coff_header.size_of_optional_header
 
--- the sections of a file with this header
-unfoldable pub file_sections : Bool → List ℕ → PeHeader → Option (List Section)
-file_sections strict bytes h =
-    sections_at strict (symbols_end h.coff_header) h.coff_header.number_of_sections bytes
+-- the sections after this header, with their names from the string table
+unfoldable pub sections_after : Bool → PeHeader → Reading (List Section)
+sections_after strict h =
+    sections_at strict (symbols_end h.coff_header) h.coff_header.number_of_sections
     (section_table_offset h)
 
--- the tables of a file, and the lists that are made from them
-pub record FileTables : Type 0 where
-  pub import_data : Part (List ImportedLibrary)
-  pub imports : Part (List ImportValue)
-  pub export_data : Part ExportTables
-  pub exports : Part (List ExportRow)
-  pub relocations : Part (List ℕ)
+-- the file with this header and these sections
+unfoldable pub whole_with : ParseOptions → PeHeader → List Section → Reading WholeFile
+whole_with opts h sections =
+    let places = places_in h.optional_header in
+    mapped (whole_of h sections) (table_parts opts (offset_by opts sections places) places)
 
--- the tables of a file with these sections, which lie in these places
-unfoldable pub tables_of : ParseOptions → List Section → List ℕ → TablePlaces → Option FileTables
-tables_of opts sections bytes places = do
-  import_data ← import_data_part opts sections bytes places
-  imports ← imports_part opts places import_data
-  export_data ← export_data_part opts sections bytes places
-  relocations ← relocations_part opts sections bytes places
-  Some (record {
-    import_data = import_data;
-    imports = imports;
-    export_data = export_data;
-    exports = exports_part opts sections bytes places export_data;
-    relocations = relocations;
-  })
-
--- a whole file: its header and its sections, which have to be there in both modes, and its tables
-unfoldable pub whole_file : ParseOptions → List ℕ → Option WholeFile
-whole_file opts bytes = do
-  header ← pe_header (is_strict opts.parse_mode) bytes
-  sections ← file_sections (is_strict opts.parse_mode) bytes header
-  tables ← tables_of opts sections bytes (places_in header.optional_header)
-  Some (record {
-    header = header;
-    sections = sections;
-    import_data = tables.import_data;
-    imports = tables.imports;
-    export_data = tables.export_data;
-    exports = tables.exports;
-    relocations = tables.relocations;
-  })
-
--- which cause is true of import data that refuses all
-abbrev pub IsImportPartFault : ParseOptions → List Section → List ℕ → TablePlaces → ErrorOf → Type 0
-IsImportPartFault opts sections bytes tables =
+-- a whole file: its header and its sections, which both modes require, and its tables
+unfoldable pub whole_file : ParseOptions → Reading WholeFile
+whole_file opts =
     let strict = is_strict opts.parse_mode in
-    let m = offset_by opts sections tables in
-    IsPartAtFault strict
-    (λ d. IsImportDataFault strict (entry_format tables.magic) m bytes d.virtual_address)
-    tables.imports
+    pe_header strict >>= λ h. sections_after strict h >>= λ sections. whole_with opts h sections
 
--- which cause is true of export data that refuses all
-abbrev pub IsExportPartFault : ParseOptions → List Section → List ℕ → TablePlaces → ErrorOf → Type 0
-IsExportPartFault opts sections bytes tables =
-    let m = offset_by opts sections tables in
-    IsPartAtFault (is_strict opts.parse_mode)
-    (λ d. (export_readings.export_data m d).IsCause bytes) tables.exports
-
--- which cause is true of base relocations that refuse all
-abbrev pub IsRelocationsPartFault : ParseOptions → List Section → List ℕ → TablePlaces → ErrorOf
-    → Type 0
-IsRelocationsPartFault opts sections bytes tables =
-    IsPartAtFault (is_strict opts.parse_mode)
-    (IsRelocationDataFault (offset_by opts sections tables) bytes) tables.relocations
-
--- which cause is true of tables that refuse all: that of the first
-unfoldable pub IsTablesFault : ParseOptions → List Section → List ℕ → TablePlaces → ErrorOf → Type 0
-IsTablesFault opts sections bytes places =
-    FirstFault (import_data_part opts sections bytes places)
-    (IsImportPartFault opts sections bytes places) (λ import_data.
-    FirstFault (imports_part opts places import_data)
-    (IsPartThenFault (is_strict opts.parse_mode) IsImportsFault import_data) (λ imports.
-    FirstFault (export_data_part opts sections bytes places)
-    (IsExportPartFault opts sections bytes places) (λ export_data.
-    FirstFault (relocations_part opts sections bytes places)
-    (IsRelocationsPartFault opts sections bytes places) (λ relocations e. ⊥))))
-
--- which cause is true of sections that are refused
-abbrev pub IsFileSectionsFault : Bool → List ℕ → PeHeader → ErrorOf → Type 0
-IsFileSectionsFault strict bytes h =
-    IsSectionsFault strict (symbols_end h.coff_header) h.coff_header.number_of_sections bytes
-    (section_table_offset h)
-
--- which cause is true of a file that is refused: that of the first part that is not there
-unfoldable pub IsWholeFault : ParseOptions → List ℕ → ErrorOf → Type 0
-IsWholeFault opts bytes =
-    FirstFault (pe_header (is_strict opts.parse_mode) bytes)
-    (IsHeaderFault (is_strict opts.parse_mode) bytes) (λ header.
-    FirstFault (file_sections (is_strict opts.parse_mode) bytes header)
-    (IsFileSectionsFault (is_strict opts.parse_mode) bytes header) (λ sections.
-    FirstFault (tables_of opts sections bytes (places_in header.optional_header))
-    (IsTablesFault opts sections bytes (places_in header.optional_header)) (λ tables e. ⊥)))
+-- ---- what contracts see
 
 -- a list that a part owns, as its items
 abbrev pub items_part : {A : Type 0} → Part (Vec A Global) → Part (List A)
 items_part part = part_map (λ v. v.items) part
 
--- the imports of import data of which a list can be made
+-- the imports of import data that a list can be made from
 unfoldable pub listed_imports : ℕ → Part (List ImportedLibrary) → Part (List ImportValue)
 listed_imports magic libraries =
     part_map (λ l. unwrap_or (imports_of (entry_format magic).width l) []) libraries
 
--- tables of which no list of imports was made, with the list that their import data has
-abbrev pub with_list : ℕ → FileTables → FileTables
-with_list magic t = record t { imports = listed_imports magic t.import_data }
+-- import data without a list of imports, with the list that it has
+abbrev pub with_list : ℕ → Part (List ImportedLibrary)
+    → Part (List ImportedLibrary) × Part (List ImportValue)
+with_list magic libraries = (libraries, listed_imports magic libraries)
 
--- the same of a file
+-- the tables that a reader without a list of imports hands out
+abbrev pub tables_view : ℕ → FileTables → TableParts
+tables_view magic t = (
+  (with_list magic t.import_data, part_map export_read_view t.exports),
+  part_map relocation_bytes t.relocations,
+)
+
+-- a file without a list of imports, with the list that its import data has
 abbrev pub with_imports : WholeFile → WholeFile
 with_imports w =
     record w { imports = listed_imports (places_in w.header.optional_header).magic w.import_data }
 
--- a list of imports can be made of a file's import data
+-- a list of imports can be made from import data
+abbrev pub HasList : ParseOptions → TablePlaces → Part (List ImportedLibrary) → Type 0
+HasList opts places libraries =
+    imports_part opts places libraries ≡ Some (listed_imports places.magic libraries)
+
+-- a list of imports can be made from a file's import data
 abbrev pub HasImports : ParseOptions → WholeFile → Type 0
-HasImports opts w =
-    let places = places_in w.header.optional_header in
-    imports_part opts places w.import_data ≡ Some (listed_imports places.magic w.import_data)
+HasImports opts w = HasList opts (places_in w.header.optional_header) w.import_data

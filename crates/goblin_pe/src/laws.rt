@@ -1,15 +1,15 @@
 //! Laws over two reads, and which bytes of a file a read depends on.
 //!
 //! The footprint of a read is the set of positions of the file that it depends on, whether or not
-//! the read has a value. It stands beside the definition of each reader as a list of ranges: each
+//! the read has a value. The definition of each reader includes it, as a list of ranges: each
 //! record whose offset the layout gives, each slot of a table up to and with the one that ends it,
 //! each text through its NUL or to the end of the file. What does not lie in the file adds nothing.
 //!
-//! Two files agree on a footprint where they have one length and the same byte at every position of
-//! it. Each call here with two files, `a` and `b`, answers what the reader answers for each of
-//! them, where a refusal of one stands in its place and the other still runs; and it is proved that
-//! the two are equal values or both refusals wherever the files agree on the footprint of the read
-//! in `a`, if neither is `Error::Memory`. Nothing is said of equal causes.
+//! Two files agree on a footprint if they have the same length and the same byte at every position
+//! in it. Each call here with two files, `a` and `b`, returns what the reader returns for each of
+//! them; a refusal of one is returned in its place, and the other still runs. It is proved that the
+//! two are equal values or both refusals if the files agree on the footprint of the read in `a` and
+//! neither is `Error::Memory`. Nothing is said about equal causes.
 //!
 //! The calls whose names begin with `mode` read one file in both modes, and
 //! [`reorder_whole_tables`] reads it under two tables of sections: permissive mode repeats what

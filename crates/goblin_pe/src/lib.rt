@@ -1,5 +1,5 @@
-//! Reads PE files: headers, sections, symbols, relocations, imports, exports, whole files. The
-//! modules of the crates below stand here too, so that a user names one crate.
+//! Reads PE files: headers, sections, symbols, relocations, imports, exports, whole files. It
+//! re-exports the modules of the crates below, so that a user names one crate.
 #![tactic(auto)]
 
 pub mod laws;

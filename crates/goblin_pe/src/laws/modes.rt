@@ -2,13 +2,16 @@
 
 ghost use Rattle.std.specs.Prelude.{IfErr, IsSomeAnd, false, true};
 ghost use Rattle.goblin_base.specs.declared.permissive.ParseMode.TheVariants.{Permissive, Strict};
-ghost use Rattle.goblin_base.specs.Answers.{Answers, AnswersOrMemory, IsMemory};
+ghost use Rattle.goblin_base.specs.Answers.{IsMemory};
+ghost use Rattle.goblin_base.specs.Reading.{InModes, Reads, ReadsOrMemory};
 ghost use Rattle.goblin_pe_sect.specs.Mapping.{file_offset};
-ghost use Rattle.goblin_pe_head.specs.PeHeader.{IsHeaderFault, header_value, pe_header};
-ghost use Rattle.goblin_pe.specs.Modes.{Repeats, RepeatsOrMemory, in_mode, in_permissive_mode};
-ghost use Rattle.goblin_pe.specs.TableRuns.{AreGrown, AreRepeated, AreTables};
+ghost use Rattle.goblin_pe_sect.specs.Options.{is_strict};
+ghost use Rattle.goblin_pe_head.specs.HeaderReadings.{pe_header};
+ghost use Rattle.goblin_pe_head.specs.PeHeader.{header_value};
+ghost use Rattle.goblin_pe.specs.Modes.{ReadsInModes, in_mode, in_permissive_mode};
+ghost use Rattle.goblin_pe.specs.TableRuns.{AreGrown, AreInModes};
 ghost use Rattle.goblin_pe.specs.SectionRoom.{HasRoom};
-ghost use Rattle.goblin_pe.specs.Whole.{IsWholeFault, whole_file};
+ghost use Rattle.goblin_pe.specs.Whole.{whole_file};
 
 use crate::header::Header;
 use crate::import::Bitfield;
@@ -19,59 +22,78 @@ use crate::whole::Whole;
 use goblin_base::{Result, TryFromCtx};
 use std::alloc::Global;
 
+// The header of a file in a mode.
+fn header_in<'a>(bytes: &'a [u8], mode: ParseMode, opts: &ParseOptions) -> Result<Header<'a>>
+    ensures { Reads header_value result (pe_header (is_strict mode)) bytes.now }
+{
+    Header::parse_with_opts(bytes, &opts.with_parse_mode(mode))
+}
+
 /// The header of a file in strict and in permissive mode, with all other options of `opts`. It
 /// takes no memory.
 ///
 /// Where strict mode has a header, permissive mode has the same.
+#[tactic(auto, using(crate::proofs::PermissiveReads::header_in_modes))]
 pub fn mode_header<'a>(
     bytes: &'a [u8],
     opts: &ParseOptions,
 ) -> (Result<Header<'a>>, Result<Header<'a>>)
-    ensures strict { Answers header_value result.0 (pe_header true bytes.now)
-        (IsHeaderFault true bytes.now) }
-    ensures permissive { Answers header_value result.1 (pe_header false bytes.now)
-        (IsHeaderFault false bytes.now) }
-    ensures repeats { Repeats header_value (λ header. header) result.0 result.1 }
+    ensures { ReadsInModes header_value (λ header. header) (pe_header true) (pe_header false)
+        bytes.now result }
 {
-    let strict = Header::parse_with_opts(bytes, &opts.with_parse_mode(ParseMode::Strict));
-    let permissive = Header::parse_with_opts(bytes, &opts.with_parse_mode(ParseMode::Permissive));
+    let strict = header_in(bytes, ParseMode::Strict, opts);
+    let permissive = header_in(bytes, ParseMode::Permissive, opts);
     (strict, permissive)
 }
 
+// A whole file in a mode.
+#[tactic(auto, using(crate::proofs::SectionRoom::whole_answer_takes))]
+fn whole_in<'a>(
+    alloc: Global,
+    bytes: &'a [u8],
+    mode: ParseMode,
+    opts: &ParseOptions,
+) -> Result<Whole<'a>>
+    ensures value { ReadsOrMemory (λ whole. whole) result (whole_file (in_mode mode opts.now))
+        bytes.now }
+    ensures grown { IfErr result
+        (λ e.
+        IsMemory e
+        → IsSomeAnd ((pe_header (is_strict mode)).value bytes.now) (HasRoom bytes.now)) }
+{
+    Whole::read(alloc, bytes, &opts.with_parse_mode(mode))
+}
+
 /// A whole file in strict and in permissive mode, with all other options of `opts`. A refusal of
-/// one, `Error::Memory` too, stands in its place, and the other still runs.
+/// one, even `Error::Memory`, is returned in its place, and the other still runs.
 ///
-/// Where strict mode has a value, permissive mode has the same, unless it answers `Error::Memory`;
-/// but import lists that are read from a directory at the front of the file are then empty.
+/// Where strict mode has a value, permissive mode has the same, unless it returns `Error::Memory`;
+/// but import lists from a directory at the front of the file are then empty.
+#[tactic(auto, using(crate::proofs::PermissiveReads::whole_in_modes))]
 pub fn mode_whole<'a>(
     alloc: Global,
     bytes: &'a [u8],
     opts: &ParseOptions,
 ) -> (Result<Whole<'a>>, Result<Whole<'a>>)
-    ensures strict { AnswersOrMemory (λ whole. whole) result.0
-        (whole_file (in_mode Strict opts.now) bytes.now)
-        (IsWholeFault (in_mode Strict opts.now) bytes.now) }
-    ensures permissive { AnswersOrMemory (λ whole. whole) result.1
-        (whole_file (in_mode Permissive opts.now) bytes.now)
-        (IsWholeFault (in_mode Permissive opts.now) bytes.now) }
+    ensures modes { InModes (λ whole. whole) (in_permissive_mode opts.now)
+        (whole_file (in_mode Strict opts.now)) (whole_file (in_mode Permissive opts.now)) bytes.now
+        result }
     ensures strict_grown { IfErr result.0
-        (λ e. IsMemory e → IsSomeAnd (pe_header true bytes.now) (HasRoom bytes.now)) }
+        (λ e. IsMemory e → IsSomeAnd ((pe_header true).value bytes.now) (HasRoom bytes.now)) }
     ensures permissive_grown { IfErr result.1
-        (λ e. IsMemory e → IsSomeAnd (pe_header false bytes.now) (HasRoom bytes.now)) }
-    ensures repeats { RepeatsOrMemory (λ whole. whole) (in_permissive_mode opts.now) result.0
-        result.1 }
+        (λ e. IsMemory e → IsSomeAnd ((pe_header false).value bytes.now) (HasRoom bytes.now)) }
 {
-    let strict = Whole::read(alloc, bytes, &opts.with_parse_mode(ParseMode::Strict));
-    let permissive = Whole::read(alloc, bytes, &opts.with_parse_mode(ParseMode::Permissive));
+    let strict = whole_in(alloc, bytes, ParseMode::Strict, opts);
+    let permissive = whole_in(alloc, bytes, ParseMode::Permissive, opts);
     (strict, permissive)
 }
 
 /// Runs the readers of [`Tables`](crate::laws::Tables) in strict and in permissive mode, with all
-/// other options of `opts`. A refusal of one reader, `Error::Memory` too, stands in its place, and
-/// the others still run.
+/// other options of `opts`. A refusal of one reader, even `Error::Memory`, is returned in its
+/// place, and the others still run.
 ///
-/// Where a reader has a value in strict mode, it has the same in permissive mode, unless it answers
-/// `Error::Memory`; but imports of a directory at the front of the file are then none.
+/// Where a reader has a value in strict mode, it has the same in permissive mode, unless it returns
+/// `Error::Memory`; but a directory at the front of the file then has no imports.
 pub fn mode_tables<'a, 'e, T: Bitfield<'a>, D: TryFromCtx<'a>>(
     alloc: Global,
     bytes: &'a [u8],
@@ -80,17 +102,12 @@ pub fn mode_tables<'a, 'e, T: Bitfield<'a>, D: TryFromCtx<'a>>(
     file_alignment: u32,
     opts: &ParseOptions,
 ) -> (TablesOf<'a, 'e, D>, TablesOf<'a, 'e, D>)
-    ensures strict { AreTables T.format D.plain D.value_of D.refusal true
-        (file_offset opts.now sections.now file_alignment) bytes.now request.now result.0 }
-    ensures permissive { AreTables T.format D.plain D.value_of D.refusal false
-        (file_offset opts.now sections.now file_alignment) bytes.now request.now result.1 }
+    ensures modes { AreInModes T.format D.plain D.value_of D.refusal
+        (file_offset opts.now sections.now file_alignment) request.now bytes.now result }
     ensures strict_grown { AreGrown T.format true opts.now file_alignment
         (file_offset opts.now sections.now file_alignment) bytes.now request.now result.0 }
     ensures permissive_grown { AreGrown T.format false opts.now file_alignment
         (file_offset opts.now sections.now file_alignment) bytes.now request.now result.1 }
-    ensures repeats { AreRepeated D.plain
-        (file_offset opts.now sections.now file_alignment request.now.imports.virtual_address)
-        result.0 result.1 }
 {
     let strictly = opts.with_parse_mode(ParseMode::Strict);
     let permissively = opts.with_parse_mode(ParseMode::Permissive);

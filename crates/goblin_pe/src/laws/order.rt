@@ -26,7 +26,7 @@ pub struct Request {
     pub exports: DataDirectory,
     /// The directory of the base relocations.
     pub relocations: DataDirectory,
-    /// The directory at whose address a value stands.
+    /// The directory whose address is that of a value.
     pub value: DataDirectory,
     /// The address of a name.
     pub name: usize,
@@ -44,7 +44,7 @@ pub struct TablesOf<'a, 'e, D> {
     pub exports: ResultOf<'e, ExportRead<'a>>,
     /// The base relocations of a directory.
     pub relocations: ResultOf<'e, RelocationData<'a>>,
-    /// The name at an address, as [`safe_try_name`] gives it.
+    /// The name at an address, as [`safe_try_name`] returns it.
     pub name: ResultOf<'e, Option<&'a str>>,
     /// The value at the address of a directory.
     pub value: ResultOf<'e, D>,
@@ -53,7 +53,8 @@ pub struct TablesOf<'a, 'e, D> {
 /// The answers of the six readers that map addresses by a table of sections.
 pub type Tables<'a, D> = TablesOf<'a, 'static, D>;
 
-// The answers of the six readers. A refusal of one stands in its place, and the others still run.
+// The answers of the six readers. A refusal of one is returned in its place, and the others still
+// run.
 pub(super) fn read_tables<'a, 'e, T: Bitfield<'a>, D: TryFromCtx<'a>>(
     alloc: Global,
     bytes: &'a [u8],
@@ -62,8 +63,9 @@ pub(super) fn read_tables<'a, 'e, T: Bitfield<'a>, D: TryFromCtx<'a>>(
     file_alignment: u32,
     opts: &ParseOptions,
 ) -> TablesOf<'a, 'e, D>
-    ensures read { AreTables T.format D.plain D.value_of D.refusal (is_strict opts.now.parse_mode)
-        (file_offset opts.now sections.now file_alignment) bytes.now request.now result }
+    ensures read { AreTables T.format D.plain D.value_of D.refusal
+        (is_strict opts.now.parse_mode) (file_offset opts.now sections.now file_alignment) bytes.now
+        request.now result }
     ensures grown { AreGrown T.format (is_strict opts.now.parse_mode) opts.now file_alignment
         (file_offset opts.now sections.now file_alignment) bytes.now request.now result }
 {
@@ -106,8 +108,8 @@ pub(super) fn read_tables<'a, 'e, T: Bitfield<'a>, D: TryFromCtx<'a>>(
     }
 }
 
-/// Runs the readers of [`Tables`] with two tables of sections. A refusal of one reader,
-/// `Error::Memory` too, stands in its place, and the others still run.
+/// Runs the readers of [`Tables`] with two tables of sections. A refusal of one reader, even
+/// `Error::Memory`, is returned in its place, and the others still run.
 ///
 /// Each answer is its reader's own. Where the second table is the first in another order and the
 /// windows of any two sections are disjoint, both answers of a reader are equal, or both are
@@ -121,10 +123,12 @@ pub fn reorder_whole_tables<'a, 'e, T: Bitfield<'a>, D: TryFromCtx<'a>>(
     file_alignment: u32,
     opts: &ParseOptions,
 ) -> (TablesOf<'a, 'e, D>, TablesOf<'a, 'e, D>)
-    ensures first { AreTables T.format D.plain D.value_of D.refusal (is_strict opts.now.parse_mode)
-        (file_offset opts.now first.now file_alignment) bytes.now request.now result.0 }
-    ensures second { AreTables T.format D.plain D.value_of D.refusal (is_strict opts.now.parse_mode)
-        (file_offset opts.now second.now file_alignment) bytes.now request.now result.1 }
+    ensures first { AreTables T.format D.plain D.value_of D.refusal
+        (is_strict opts.now.parse_mode) (file_offset opts.now first.now file_alignment) bytes.now
+        request.now result.0 }
+    ensures second { AreTables T.format D.plain D.value_of D.refusal
+        (is_strict opts.now.parse_mode) (file_offset opts.now second.now file_alignment) bytes.now
+        request.now result.1 }
     ensures first_grown { AreGrown T.format (is_strict opts.now.parse_mode) opts.now file_alignment
         (file_offset opts.now first.now file_alignment) bytes.now request.now result.0 }
     ensures second_grown { AreGrown T.format (is_strict opts.now.parse_mode) opts.now file_alignment

@@ -1,13 +1,14 @@
 //! The readers of headers and of single tables, on two files.
 
 ghost use Rattle.std.specs.Prelude.{IfErr, IsSomeAnd};
-ghost use Rattle.goblin_base.specs.Answers.{AnswersOrMemory, IsMemory};
+ghost use Rattle.goblin_base.specs.Answers.{IsMemory};
+ghost use Rattle.goblin_base.specs.Reading.{ReadsOrMemory};
 ghost use Rattle.goblin_pe_sect.specs.Mapping.{file_offset};
 ghost use Rattle.goblin_pe_sect.specs.Options.{is_strict};
-ghost use Rattle.goblin_pe_head.specs.TeHeader.{te_header};
+ghost use Rattle.goblin_pe_head.specs.TeReadings.{te_header, te_image};
 ghost use Rattle.goblin_pe.specs.SectionRoom.{TakesSections};
-ghost use Rattle.goblin_pe.specs.TwinParts.{AreAlikeParts, AreParts, ArePartsGrown, AreSameParts};
-ghost use Rattle.goblin_pe.specs.TwinParts.{IsTeImageFault, PartsAsked, te_image_at, te_view};
+ghost use Rattle.goblin_pe.specs.TwinParts.{AreParts, ArePartsGrown, AreTwinParts, PartsAsked};
+ghost use Rattle.goblin_pe.specs.TwinParts.{te_view};
 
 use crate::data_directories::DataDirectory;
 use crate::header::{CoffHeader, Header, TeHeader};
@@ -43,14 +44,13 @@ pub struct PartsOf<'a, 'e, D> {
 pub type Parts<'a, D> = PartsOf<'a, 'static, D>;
 
 // The header of a Terse Executable at an offset, and its sections after it.
-#[tactic(auto, unfolding(crate::specs::TwinParts::te_image_at), using(crate::proofs::TwinParts::te_there, crate::proofs::SectionRoom::te_sections_take))]
+#[tactic(auto, unfolding(goblin_pe_head::specs::TeReadings::te_image), using(crate::proofs::TwinParts::te_there, crate::proofs::SectionRoom::te_sections_take))]
 fn read_te(alloc: Global, bytes: &[u8], offset: usize) -> Result<(TeHeader, Vec<SectionTable>)>
-    ensures value { AnswersOrMemory te_view result (te_image_at bytes.now offset)
-        (IsTeImageFault bytes.now offset) }
+    ensures value { ReadsOrMemory te_view result (te_image offset) bytes.now }
     ensures grown { IfErr result
         (λ e.
         IsMemory e
-        → IsSomeAnd (te_header bytes.now offset)
+        → IsSomeAnd ((te_header offset).value bytes.now)
         (λ header. TakesSections header.number_of_sections bytes.now)) }
 {
     let mut end = offset;
@@ -109,20 +109,20 @@ fn read_parts<'a, 'e, D: TryFromCtx<'a>>(
 }
 
 /// Runs the readers of [`Parts`] on two files: the sections of `coff_header` at `offset`, where a
-/// Terse Executable would begin, too; its symbols and strings; the base relocations of the
-/// directory `relocations`, and the value at the address of the directory `value`, by the handed
-/// table of sections. A refusal of one reader, `Error::Memory` too, stands in its place, and the
+/// Terse Executable is read too; its symbols and strings; the base relocations of the directory
+/// `relocations`, and the value at the address of the directory `value`, by the given table of
+/// sections. A refusal of one reader, even `Error::Memory`, is returned in its place, and the
 /// others still run.
 ///
 /// Each reader has a footprint of its own. The header's: the signature, the COFF header, and what
 /// [`twin_header`](crate::laws::twin_header) says of an optional header. That of sections: each
-/// record, and the text to which its name points. The symbol table's bytes; the string table's
+/// record, and the text that its name points to. The symbol table's bytes; the string table's
 /// length and bytes; a Terse Executable's record and, where its header is there, its sections; the
 /// bytes of the base relocations; and of the value all from its offset on.
 ///
 /// # Errors
-/// For each file as the readers that the fields of [`PartsOf`] name; memory is wanted only of
-/// sections for which the file has room.
+/// For each file as the readers that the fields of [`PartsOf`] name; memory is asked for only for
+/// sections that the file has room for.
 pub fn twin_parts<'a, 'e, D: TryFromCtx<'a>>(
     alloc: Global,
     a: &'a [u8],
@@ -135,24 +135,15 @@ pub fn twin_parts<'a, 'e, D: TryFromCtx<'a>>(
     file_alignment: u32,
     opts: &ParseOptions,
 ) -> (PartsOf<'a, 'e, D>, PartsOf<'a, 'e, D>)
-    ensures first { let asked : PartsAsked =
+    ensures twins { let asked : PartsAsked =
         record {
           coff_header = coff_header;
           offset = offset;
           relocations = relocations;
           value = value;
         } in
-        AreParts D.plain D.value_of D.refusal (is_strict opts.now.parse_mode)
-        (file_offset opts.now sections.now file_alignment) asked a.now result.0 }
-    ensures second { let asked : PartsAsked =
-        record {
-          coff_header = coff_header;
-          offset = offset;
-          relocations = relocations;
-          value = value;
-        } in
-        AreParts D.plain D.value_of D.refusal (is_strict opts.now.parse_mode)
-        (file_offset opts.now sections.now file_alignment) asked b.now result.1 }
+        AreTwinParts D.plain D.value_of D.refusal (is_strict opts.now.parse_mode)
+        (file_offset opts.now sections.now file_alignment) asked a.now b.now result }
     ensures first_grown { let asked : PartsAsked =
         record {
           coff_header = coff_header;
@@ -169,24 +160,6 @@ pub fn twin_parts<'a, 'e, D: TryFromCtx<'a>>(
           value = value;
         } in
         ArePartsGrown asked b.now result.1 }
-    ensures same_value { let asked : PartsAsked =
-        record {
-          coff_header = coff_header;
-          offset = offset;
-          relocations = relocations;
-          value = value;
-        } in
-        AreSameParts D.value_of (is_strict opts.now.parse_mode)
-        (file_offset opts.now sections.now file_alignment) asked a.now b.now }
-    ensures alike { let asked : PartsAsked =
-        record {
-          coff_header = coff_header;
-          offset = offset;
-          relocations = relocations;
-          value = value;
-        } in
-        AreAlikeParts D.plain (is_strict opts.now.parse_mode)
-        (file_offset opts.now sections.now file_alignment) asked a.now b.now result.0 result.1 }
 {
     let first = read_parts(
         alloc,

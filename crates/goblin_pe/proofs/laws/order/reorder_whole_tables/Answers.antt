@@ -5,5 +5,6 @@ use Rattle.goblin_pe.proofs.laws.order.reorder_whole_tables.Goals as goal
 pub returns-clause-alike : goal.returns-clause-alike
 returns-clause-alike g c = λ reordered.
     are_alike _ _ _ _ _ _ _ _ _ _ _
-    (map-reordered c.args.opts.now c.args.first.now c.args.second.now c.args.file_alignment reordered)
+    (map-reordered c.args.opts.now c.args.first.now c.args.second.now c.args.file_alignment
+    reordered)
     c.read_tables-one.ensures.read c.read_tables-other.ensures.read
