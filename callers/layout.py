@@ -89,18 +89,15 @@ def own_numbers():
     words = re.findall(r'what == "([\w ]+)" \{\s+(\d+)', fault)
     kinds = re.search(r"const KINDS: .*?= \[(.*?)\];", text(CRATES, "goblin_pe_sect/src/data_directories.rt"), re.S).group(1)
     forwards = dict(re.findall(r"(None|DLLName|DLLOrdinal)\b[^=\n]*=> \((\d+),", export))
-    statuses = re.findall(r"Error::(\w+)\b.* => fault\((\d+),", fault)
-    # the causes of a Malformed stand in a match of their own
-    malformed = re.search(r"Cause::Message\(_\) => fault\((\d+),", fault).group(1)
+    statuses = re.search(r"enum Status \{(.*?)\n\}", fault, re.S).group(1)
     return {
         "State": numbered((snake(name), number) for name, number in re.findall(r"Part::(\w+)\b[^=]*=> PeTable \{.*?state: (\d+)", file, re.S)),
         "Forwards": {"NO_FORWARDER": int(forwards["None"]), "NAME": int(forwards["DLLName"]), "ORDINAL": int(forwards["DLLOrdinal"])},
-        "Status": {"OK": int(re.search(r"fn no_fault\(\).*?fault\((\d+),", fault, re.S).group(1)), "MALFORMED": int(malformed),
-                   **numbered((snake(name), number) for name, number in statuses)},
-        "Cause": numbered((snake(name), number) for name, number in re.findall(r"Cause::(\w+)\b.* => fault\(%s, (\d+)," % malformed, fault)),
+        "Status": numbered((snake(name), number) for name, number in re.findall(r"(\w+) = (\d+),", statuses)),
+        "Cause": numbered((snake(name), number) for name, number in re.findall(r"Cause::(\w+)\b.* => malformed\((\d+),", fault)),
         "Counted": {**numbered((word.upper().replace(" ", "_"), number) for word, number in words),
                     "OTHER": int(re.search(r"\} else \{\s+(\d+)", fault).group(1))},
-        "ReadFault": numbered((snake(name), number) for name, number in re.findall(r"ReadFault::(\w+)\) => fault\(\d+, (\d+),", fault)),
+        "ReadFault": numbered((snake(name), number) for name, number in re.findall(r"ReadFault::(\w+)\) => fault\(\w+::\w+, (\d+),", fault)),
         "DirectoryType": {snake(name): index for index, name in enumerate(re.findall(r"DataDirectoryType::(\w+)", kinds))},
     }
 

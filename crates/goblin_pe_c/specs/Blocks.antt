@@ -1,4 +1,4 @@
--- What the records of base relocation blocks say.
+-- The records of base relocation blocks, as definitions.
 use Rattle.std.specs.Prelude.{ℕ, List, [], length}
 use Rattle.goblin_pe_sect.specs.BaseRelocations.{Block, block_items}
 use Rattle.goblin_pe.specs.declared.whole.Part.{Part}
@@ -9,7 +9,7 @@ use Rattle.goblin_pe_c.specs.declared.block.PeRelocations.{PeRelocations}
 use Rattle.goblin_pe_c.specs.Faults.{no_fault}
 use Rattle.goblin_pe_c.specs.Items.{rest_of, values_of}
 
--- what a record says of a block
+-- what a record holds of a block
 abbrev pub block_view : PeBlock → Block
 block_view b = record { rva = b.rva; size = b.size; words = b.words.now }
 
@@ -19,7 +19,7 @@ blocks_in Absent = []
 blocks_in (part.Read directory) = values_of (block_items directory 0)
 blocks_in Refused = []
 
--- what is said of base relocations as a whole
+-- the summary of the base relocations
 abbrev pub relocations_of : Part (List ℕ) → PeRelocations
 relocations_of Absent = record { blocks = record { count = 0; state = 0 }; rest = no_fault }
 relocations_of (part.Read directory) =

@@ -1,19 +1,22 @@
--- What a call that reads a file says.
-use Rattle.std.specs.Prelude.{◌≡◌, Option, None, IsSomeAnd, Result, Ok, Err}
+-- What a call that reads a file reports.
+use Rattle.std.specs.Prelude.{◌≡◌, List, ℕ, Option, None, IsSomeAnd, Result, Ok, Err}
 use Rattle.goblin_base.specs.declared.error.ErrorOf.{ErrorOf}
 use Rattle.goblin_base.specs.Answers.{IsMemory}
+use Rattle.goblin_base.specs.Reading.{Reading}
 use Rattle.goblin_pe_c.specs.declared.fault.PeFault.{PeFault}
 use Rattle.goblin_pe_c.specs.Faults.{status_of}
 
--- A call has read a value, which there is, and the records say what it has; or there is none, the
--- cause is true, and all is left as it was. Want of memory may refuse a file that has a header of
+-- A call has read the value of a reading, and the records hold it; or there is no value, the cause
+-- is true, and everything is unchanged. Memory may be refused for a file that has a header and for
 -- which this holds.
-abbrev pub Reads : {A H : Type 0} → Option H → (H → Type 0) → Option A → (ErrorOf → Type 0)
+abbrev pub ReadsInto : {A H : Type 0} → Reading H → (H → Type 0) → Reading A → List ℕ
     → (A → Type 0) → Type 0 → Result Unit ErrorOf → Type 0
-Reads header MayGrow value IsFault Says Left (Ok x) = IsSomeAnd value Says
-Reads header MayGrow value IsFault Says Left (Err e) =
-    (¬ IsMemory e → (value ≡ None) × IsFault e) × (IsMemory e → IsSomeAnd header MayGrow) × Left
+ReadsInto header MayGrow reading bytes Says Left (Ok x) = IsSomeAnd (reading.value bytes) Says
+ReadsInto header MayGrow reading bytes Says Left (Err e) =
+    (¬ IsMemory e → (reading.value bytes ≡ None) × reading.IsCause bytes e)
+    × (IsMemory e → IsSomeAnd (header.value bytes) MayGrow)
+    × Left
 
--- the numbers are those of an answer of which it holds
+-- the numbers are those of an answer for which it holds
 abbrev pub Reported : PeFault → (Result Unit ErrorOf → Type 0) → Type 0
 Reported status Holds = (r : Result Unit ErrorOf) × (status ≡ status_of r) × Holds r

@@ -1,4 +1,4 @@
--- What the records of data directories say.
+-- The records of data directories, as definitions.
 use Rattle.std.specs.Prelude.{ℕ, List, [], Option, Some, None, false, true}
 use Rattle.goblin_pe_sect.specs.declared.data_directories.DataDirectory.{DataDirectory}
 use Rattle.goblin_pe_head.specs.declared.optional_header.OptionalHeader.{OptionalHeader}

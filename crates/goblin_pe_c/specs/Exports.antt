@@ -1,4 +1,4 @@
--- What the records of exports say.
+-- The records of exports, as definitions.
 use Rattle.std.specs.Prelude.{ℕ, Bool, List, [], Option, Some, None, unwrap_or}
 use Rattle.std.specs.Option.{is_some}
 use Rattle.goblin_pe.specs.Exports.{ExportRow}
@@ -19,7 +19,7 @@ pub record ExportSaid : Type 0 where
   pub has_offset : Bool
   pub forwards : ℕ
 
--- what is said of a forwarder: its kind, its name or its ordinal, and its library
+-- a forwarder's numbers and texts: its kind, its name or its ordinal, and its library
 pub record ForwarderSaid : Type 0 where
   pub kind : ℕ
   pub export : List ℕ
@@ -33,7 +33,7 @@ forwarder_said (Some (ByName export lib)) =
 forwarder_said (Some (ByOrdinal ordinal lib)) =
     record { kind = 2; export = []; ordinal = ordinal; lib = lib }
 
--- what the record of an export says: what the export does not have is nothing, or 0
+-- the record of an export; what the export does not have is nothing, or 0
 abbrev pub export_said : ExportRow → ExportSaid
 export_said x = record {
   name = unwrap_or x.name [];
@@ -48,7 +48,7 @@ export_said x = record {
   forwards = (forwarder_said x.reexport).kind;
 }
 
--- what a record says
+-- what a record holds
 abbrev pub export_view : PeExport → ExportSaid
 export_view x = record {
   name = x.name.now;

@@ -26,10 +26,32 @@ use Rattle.goblin_base.specs.declared.error.CauseOf.TheVariants.{ForwarderOrdina
 use Rattle.goblin_base.specs.declared.error.CauseOf.TheVariants.{BlockSize, BlockRange, Overflow}
 use Rattle.goblin_base.specs.declared.error.CauseOf.TheVariants.{SlotCount}
 use Rattle.goblin_pe_c.specs.declared.fault.PeFault.{PeFault}
+use Rattle.goblin_pe_c.specs.declared.fault.Status.{Status}
+use Rattle.goblin_pe_c.specs.declared.fault.Status.TheVariants as status
 
 abbrev pub fault : ℕ → ℕ → ℕ → ℕ → PeFault
 fault status cause first second =
     record { status = status; cause = cause; first = first; second = second }
+
+-- the number of a status
+abbrev pub number_of : Status → ℕ
+number_of status.Ok = 0
+number_of status.Malformed = 1
+number_of status.BadMagic = 2
+number_of status.BufferTooShort = 3
+number_of status.Read = 4
+number_of status.Memory = 5
+
+-- the status with this number
+abbrev pub status_with : ℕ → Option Status
+status_with number =
+    if number == 0 then Some status.Ok
+    else if number == 1 then Some status.Malformed
+    else if number == 2 then Some status.BadMagic
+    else if number == 3 then Some status.BufferTooShort
+    else if number == 4 then Some status.Read
+    else if number == 5 then Some status.Memory
+    else None
 
 -- what a file is too short for, by its number
 abbrev pub word_number : List ℕ → ℕ
@@ -86,13 +108,13 @@ fault_of (Read TooBig) = fault 4 2 0 0
 fault_of (Read BadInput) = fault 4 3 0 0
 fault_of (Memory e) = fault 5 0 0 0
 
--- the numbers of what a call answers
+-- the numbers of what a call returns
 abbrev pub status_of : {A : Type 0} → Result A ErrorOf → PeFault
 status_of (Ok x) = no_fault
 status_of (Err e) = fault_of e
 
 -- The causes from number 2 on, in the order of their numbers, with these numbers of their own.
--- Number 1 is a message of the caller's, which no numbers say.
+-- Number 1 is a message of the caller's, which has no numbers.
 abbrev pub causes : ℕ → ℕ → List CauseOf
 causes first second =
     NoDosSignature
@@ -164,8 +186,8 @@ refusal_text fault =
     else if fault.status == 5 then Some memory_text
     else None
 
--- a refusal of which its numbers say all: no message of the caller's, and no text but those that
--- have a number
+-- a refusal that its numbers describe fully: it has no message of the caller's, and no text without
+-- a number
 abbrev pub IsNumbered : ErrorOf → Type 0
 IsNumbered (Malformed (Message text)) = ⊥
 IsNumbered (BufferTooShort count what) = word_of (word_number what.now) ≡ Some what.now

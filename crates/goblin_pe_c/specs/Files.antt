@@ -1,4 +1,4 @@
--- What a call says of a file as a whole.
+-- The summary of a file.
 use Rattle.std.specs.Prelude.{List, [], length}
 use Rattle.goblin_pe.specs.declared.whole.Part.{Part}
 use Rattle.goblin_pe.specs.declared.whole.Part.TheVariants.{Absent, Refused}

@@ -5,7 +5,7 @@ use Rattle.std.specs.Prelude.{◌≡◌, ℕ, List, [], length, map, take, drop}
 abbrev pub alone : {A : Type 0} → A → A × List ℕ
 alone x = (x, [])
 
--- The records after a call: the front says what was made, as far as there is room, and what follows
+-- The records after a call: the front holds what was made, as far as there is room, and the rest
 -- are the caller's own.
 abbrev pub Filled : {A B : Type 0} → (A → B) → List B → List A → List A → Type 0
 Filled view made old new =

@@ -1,4 +1,4 @@
--- Which bytes of a file its imports depend on, as a call tells them.
+-- The bytes of a file that its imports depend on, as a call returns them.
 use Rattle.std.specs.Prelude.{◌≡◌, ℕ, ◌-◌, ◌<◌, ◌⊎◌, if◌then◌else◌, IsTrue, List, [], length, map}
 use Rattle.std.specs.Prelude.{Result, Ok, Err}
 use Rattle.goblin_base.specs.declared.error.ErrorOf.{ErrorOf}
@@ -16,15 +16,15 @@ use Rattle.goblin_pe_c.specs.declared.footprint.PeRange.{PeRange}
 use Rattle.goblin_pe_c.specs.declared.footprint.PeRanges.{PeRanges}
 use Rattle.goblin_pe_c.specs.declared.headers.PeOptionalHeader.{PeOptionalHeader}
 
--- what a record says of a range: its first position, and how many there are
+-- what a record holds of a range: its first position, and how many there are
 abbrev pub range_view : PeRange → ℕ × ℕ
 range_view r = (r.offset, r.length)
 
--- the same of the positions from the first number on and before the second
+-- a range in the numbers of a record: its first position, and how many there are
 abbrev pub range_said : Range → ℕ × ℕ
 range_said range = (range.0, range.1 - range.0)
 
--- the footprint of the imports to which a directory leads, if there is one, in a file with this
+-- the footprint of the imports that a directory leads to, if there is one, in a file with this
 -- optional header and these sections
 unfoldable pub footprint_by : ParseOptions → PeOptionalHeader → PeDirectory → List Section → List ℕ
     → List Range
@@ -36,15 +36,15 @@ footprint_by opts header directory sections bytes =
     then (import_data strict format offset_of directory.virtual_address).reaches bytes
     else []
 
--- memory is taken where there is a directory, with a section or an index that has pieces; and where
--- there is a range to list
+-- memory is taken if there is a directory, with a section or an index that has pieces; and if there
+-- is a range to list
 abbrev pub TakesMemory : ParseOptions → PeOptionalHeader → PeDirectory → ℕ → List Range → Type 0
 TakesMemory opts header directory sections footprint =
     (IsTrue directory.is_present × ((0 < sections) ⊎ HasPieces opts header.file_alignment))
     ⊎ (0 < length footprint)
 
--- A call lists the ranges of a footprint; or memory was refused, where it may be asked for, and all
--- is left as it was.
+-- A call lists the ranges of a footprint; or memory was refused, where it may be asked for, and
+-- everything is unchanged.
 abbrev pub Lists : List Range → Type 0 → PeRanges → PeRanges → Result Unit ErrorOf → Type 0
 Lists footprint MayGrow old new (Ok x) = map range_view new.ranges.now ≡ map range_said footprint
 Lists footprint MayGrow old new (Err e) = IsMemory e × MayGrow × (new ≡ old)

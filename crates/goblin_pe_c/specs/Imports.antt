@@ -1,11 +1,10 @@
--- What the records of imports say.
+-- The records of imports, as definitions.
 use Rattle.std.specs.Prelude.{ℕ, List, [], Option, if◌then◌else◌, unwrap_or}
 use Rattle.goblin_pe.specs.ImportDirectory.{ImportedLibrary}
 use Rattle.goblin_pe.specs.Imports.{ImportValue, imports_by, imports_of, kept_entries, ordinal_name}
 use Rattle.goblin_pe_c.specs.declared.import.PeImport.{PeImport}
 
--- what a record says of an import, and what stands in place of a name where the import is by
--- ordinal
+-- what a record holds of an import, and what replaces the name of an import by ordinal
 abbrev pub import_view : PeImport → ImportValue × List ℕ
 import_view x = (
   record {
@@ -25,12 +24,12 @@ import_view x = (
 abbrev pub table_entries : {A : Type 0} → Option (List A) → List A
 table_entries table = unwrap_or table []
 
--- the imports of a library, of which each entry has a slot
+-- the imports of a library, each of whose entries has a slot
 abbrev pub own_imports : ℕ → ImportedLibrary → Option (List ImportValue)
 own_imports size library =
     imports_by size library.name library.import_directory_entry.import_address_table_rva
     (kept_entries library) library.import_lookup_slots
 
--- the imports of libraries, of which there is a list
+-- the imports of libraries, if they can be listed
 abbrev pub listed : ℕ → List ImportedLibrary → List ImportValue
 listed size libraries = table_entries (imports_of size libraries)

@@ -1,4 +1,4 @@
--- Items of which the last may be a refusal.
+-- Items whose last one may be a refusal.
 use Rattle.std.specs.Prelude.{List, [], ◌∷◌, Result, Ok, Err}
 use Rattle.goblin_base.specs.declared.error.ErrorOf.{ErrorOf}
 use Rattle.goblin_pe_c.specs.declared.fault.PeFault.{PeFault}

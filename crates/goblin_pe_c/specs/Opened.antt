@@ -1,4 +1,4 @@
--- What the tables of a whole file say that stand in memory of their own.
+-- The tables of a whole file, which are in memory of their own.
 use Rattle.std.specs.Prelude.{◌≡◌, List, map}
 use Rattle.goblin_pe.specs.Whole.{WholeFile}
 use Rattle.goblin_pe_c.specs.declared.directory.PeDirectory.{PeDirectory}
@@ -13,7 +13,7 @@ use Rattle.goblin_pe_c.specs.Imports.{import_view}
 use Rattle.goblin_pe_c.specs.RichHeaders.{entries_in, entry_view}
 use Rattle.goblin_pe_c.specs.Sections.{section_said}
 
--- what a caller hands in to be filled
+-- what a caller passes in to be filled
 pub record Opened : Type 0 where
   pub file : PeFile
   pub directories : List PeDirectory
@@ -28,7 +28,7 @@ AreTablesOf w t =
     × (map export_view t.exports.now ≡ map export_said (entries_of w.exports))
     × (map block_view t.blocks.now ≡ blocks_in w.relocations)
 
--- what a call says of a file whose tables it keeps: the directories as far as there is room, all
+-- what a call reports of a file whose tables it keeps: the directories as far as there is room, all
 -- else whole
 abbrev pub Opens : WholeFile → Opened → Opened → Type 0
 Opens w old new =

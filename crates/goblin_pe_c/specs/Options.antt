@@ -1,4 +1,4 @@
--- The options that a caller says.
+-- The options that a caller passes.
 use Rattle.std.specs.Prelude.{if◌then◌else◌}
 use Rattle.goblin_base.specs.declared.permissive.ParseMode.TheVariants.{Strict, Permissive}
 use Rattle.goblin_pe_sect.specs.declared.options.ParseOptions.{ParseOptions}
@@ -6,7 +6,7 @@ use Rattle.goblin_pe_sect.specs.declared.options.RawPointerRule.TheVariants.{AsS
 use Rattle.goblin_pe_sect.specs.Options.{default_options}
 use Rattle.goblin_pe_c.specs.declared.options.PeOptions.{PeOptions}
 
--- what a caller can't say is as it is by default
+-- options that a caller can't pass have their defaults
 abbrev pub options_of : PeOptions → ParseOptions
 options_of o = record default_options {
   resolve_rva = o.resolve_rva;

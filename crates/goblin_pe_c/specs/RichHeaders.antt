@@ -1,4 +1,4 @@
--- What is said of a Rich header, and what the records of its entries say.
+-- The summary of a Rich header, and the records of its entries.
 use Rattle.std.specs.Prelude.{List, [], drop, length, Option, None, Some, Result, true, false}
 use Rattle.goblin_base.specs.declared.error.ErrorOf.{ErrorOf}
 use Rattle.goblin_pe_head.specs.declared.header.rich.RichMetadata.{RichMetadata}
@@ -9,7 +9,7 @@ use Rattle.goblin_pe_c.specs.declared.rich.PeRichHeader.{PeRichHeader}
 use Rattle.goblin_pe_c.specs.Faults.{no_fault}
 use Rattle.goblin_pe_c.specs.Items.{rest_of, values_of}
 
--- what a record says of an entry
+-- what a record holds of an entry
 abbrev pub entry_view : PeRichEntry → RichMetadata
 entry_view e = record { build = e.build; product = e.product; use_count = e.use_count }
 
@@ -22,7 +22,7 @@ abbrev pub entries_in : Option Rich → List RichMetadata
 entries_in None = []
 entries_in (Some r) = values_of (entry_items r)
 
--- what is said of the Rich header as a whole
+-- the summary of the Rich header
 abbrev pub rich_of : Option Rich → PeRichHeader
 rich_of None =
     record {

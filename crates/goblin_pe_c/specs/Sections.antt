@@ -1,19 +1,20 @@
--- What the records of sections say.
+-- The records of sections, as definitions.
 use Rattle.std.specs.Prelude.{ℕ, Bool, if◌then◌else◌, List, [], Option, Some, None, option_and_then}
-use Rattle.goblin_pe_sect.specs.SectionName.{name_value, real_name_at}
+use Rattle.goblin_pe_sect.specs.SectionName.{name_value}
+use Rattle.goblin_pe_sect.specs.SectionReadings.{text_in_table}
 use Rattle.goblin_pe_sect.specs.SectionTable.{Section}
 use Rattle.goblin_pe_c.specs.declared.section.PeSection.{PeSection}
 
 -- the name that the eight bytes of a name lead to in the string table
 unfoldable pub real_name_in : Bool → List ℕ → ℕ → List ℕ → Option (List ℕ)
 real_name_in strict bytes table name =
-    option_and_then (λ value. real_name_at bytes table value) (name_value strict name)
+    option_and_then (λ place. (text_in_table table place).value bytes) (name_value strict name)
 
 -- a section with its name from the string table at `table`
 abbrev pub named_in : Bool → List ℕ → ℕ → Section → Section
 named_in strict bytes table s = record s { real_name = real_name_in strict bytes table s.name }
 
--- what a record says of a section
+-- what a record holds of a section
 abbrev pub section_view : PeSection → Section
 section_view s = record {
   name = s.name;
@@ -29,7 +30,7 @@ section_view s = record {
   characteristics = s.characteristics;
 }
 
--- the same, and what stands in place of a name where the section has none from the string table
+-- a section as its record has it, and what replaces its name if it has none from the string table
 abbrev pub section_said : PeSection → Section × List ℕ
 section_said s = (section_view s, if s.has_real_name then [] else s.real_name.now)
 

@@ -1,4 +1,4 @@
--- What the records of symbols say.
+-- The records of symbols, as definitions.
 use Rattle.std.specs.Prelude.{ℕ, ◌==◌, if◌then◌else◌, List, [], slice_index, Option, Some, None}
 use Rattle.goblin_base.specs.Answers.{◌>>=◌}
 use Rattle.goblin_base.specs.Strtab.{rest_at}
@@ -13,8 +13,8 @@ pub record SymbolRow : Type 0 where
   pub name : Option (List ℕ)
   pub symbol : Symbol
 
--- the name: where a number stands in its place, what the string table has at the offset that it
--- says, and else the one that stands in the record
+-- the name: if a number is stored in its place, what the string table has at that offset, else the
+-- one in the record
 abbrev pub name_in : List ℕ → Option (List ℕ) → Symbol → Option (List ℕ)
 name_in strings inline_name symbol =
     if slice_index symbol.name 0 == 0
@@ -26,7 +26,7 @@ abbrev pub symbol_row : List ℕ → SymbolItem → SymbolRow × List ℕ
 symbol_row strings item =
     alone (record { index = item.0; name = name_in strings item.1 item.2; symbol = item.2 })
 
--- what a record says of a symbol, and what stands in place of a name where there is none
+-- what a record holds of a symbol, and what replaces a missing name
 abbrev pub symbol_view : PeSymbol → SymbolRow × List ℕ
 symbol_view s = (
   record {

@@ -2,8 +2,10 @@
 
 ghost use Rattle.std.specs.Prelude.{◌≡◌, List, ℕ, Some, length, option_map};
 ghost use Rattle.std.specs.Fmt.InlineText.{inline_text};
+ghost use Rattle.goblin_base.specs.declared.error.ErrorOf.TheVariants.{Malformed};
 ghost use Rattle.goblin_base.specs.ErrorText.{error_text};
-ghost use Rattle.goblin_pe_c.specs.Faults.{IsNumbered, IsTextOf, cause_of, causes, fault_of};
+ghost use Rattle.goblin_pe_c.specs.Faults.{IsNumbered, IsTextOf, cause_of, causes, fault};
+ghost use Rattle.goblin_pe_c.specs.Faults.{fault_of, number_of, status_with};
 ghost use Rattle.goblin_pe_c.specs.Faults.{no_fault, read_fault_of, refusal_text, word_number};
 ghost use Rattle.goblin_pe_c.specs.Faults.{word_of};
 ghost use Rattle.goblin_pe_c.specs.Filled.{Filled};
@@ -23,6 +25,35 @@ const TEXT_ROOM: usize = 160;
 
 const _: () = prove!(TEXT_ROOM == 160);
 
+// What the status of a fault says.
+#[derive(Copy, Clone)]
+enum Status {
+    // Nothing is refused.
+    Ok = 0,
+    Malformed = 1,
+    BadMagic = 2,
+    BufferTooShort = 3,
+    Read = 4,
+    Memory = 5,
+}
+
+impl Status {
+    // The status with this number.
+    fn of(number: u32) -> Option<Status>
+        ensures { result ≡ status_with number }
+    {
+        match number {
+            0 => Some(Status::Ok),
+            1 => Some(Status::Malformed),
+            2 => Some(Status::BadMagic),
+            3 => Some(Status::BufferTooShort),
+            4 => Some(Status::Read),
+            5 => Some(Status::Memory),
+            _ => None,
+        }
+    }
+}
+
 /// Why a call gave no value, in numbers; the status 0 is that it gave one.
 #[repr(C)]
 #[derive(Copy, Clone)]
@@ -39,15 +70,22 @@ pub struct PeFault {
 }
 
 // A fault of this status.
-fn fault(status: u32, cause: u32, first: u64, second: u64) -> PeFault
-    ensures { result ≡ record { status = status; cause = cause; first = first; second = second } }
+fn fault(status: Status, cause: u32, first: u64, second: u64) -> PeFault
+    ensures { result ≡ fault (number_of status) cause first second }
 {
     PeFault {
-        status,
+        status: status as u32,
         cause,
         first,
         second,
     }
+}
+
+// A fault with this cause.
+fn malformed(cause: u32, first: u64, second: u64) -> PeFault
+    ensures { result ≡ fault 1 cause first second }
+{
+    fault(Status::Malformed, cause, first, second)
 }
 
 // What a file is too short for, by its number.
@@ -69,7 +107,51 @@ fn word_number(what: &str) -> u32
 pub fn no_fault() -> PeFault
     ensures { result ≡ no_fault }
 {
-    fault(0, 0, 0, 0)
+    fault(Status::Ok, 0, 0, 0)
+}
+
+// The numbers of a cause.
+fn cause_numbers(cause: &Cause) -> PeFault
+    ensures value { result ≡ fault_of (Malformed cause.now) }
+    ensures text { IsNumbered (Malformed cause.now)
+        → refusal_text result ≡ Some (error_text (Malformed cause.now)) }
+{
+    match cause {
+        Cause::Message(_) => malformed(1, 0, 0),
+        Cause::NoDosSignature => malformed(2, 0, 0),
+        Cause::DosMagic(magic) => malformed(3, u64::from(*magic), 0),
+        Cause::NoPePointer => malformed(4, 0, 0),
+        Cause::NoPeSignature(offset) => malformed(5, *offset as u64, 0),
+        Cause::PeMagic(magic) => malformed(6, u64::from(*magic), 0),
+        Cause::StubBeforeStart(offset) => malformed(7, u64::from(*offset), 0),
+        Cause::StubPastEnd(length, end) => malformed(8, *length as u64, *end as u64),
+        Cause::NoDans => malformed(9, 0, 0),
+        Cause::RichBounds(begin, end) => malformed(10, *begin as u64, *end as u64),
+        Cause::StrippedSize(size) => malformed(11, u64::from(*size), 0),
+        Cause::CoffLength => malformed(12, 0, 0),
+        Cause::DirectoryIndex(index) => malformed(13, *index as u64, 0),
+        Cause::DirectoryCount(count) => malformed(14, *count as u64, 0),
+        Cause::NameText => malformed(15, 0, 0),
+        Cause::NameBase64 => malformed(16, 0, 0),
+        Cause::NameDecimal => malformed(17, 0, 0),
+        Cause::NameOffset(offset) => malformed(18, *offset as u64, 0),
+        Cause::SymbolName(offset) => malformed(19, u64::from(*offset), 0),
+        Cause::StringTable(offset, length) => malformed(20, *offset as u64, *length as u64),
+        Cause::FieldTooWide => malformed(21, 0, 0),
+        Cause::Unmapped(rva) => malformed(22, *rva as u64, 0),
+        Cause::NameRead(offset) => malformed(23, *offset as u64, 0),
+        Cause::HintEntry(offset) => malformed(24, *offset as u64, 0),
+        Cause::LookupEnd(offset) => malformed(25, *offset as u64, 0),
+        Cause::ImportRecordEnd(offset) => malformed(26, *offset as u64, 0),
+        Cause::ExportTable(offset) => malformed(27, *offset as u64, 0),
+        Cause::Forwarder => malformed(28, 0, 0),
+        Cause::ForwarderOrdinal => malformed(29, 0, 0),
+        Cause::RelocRange(offset, size) => malformed(30, *offset as u64, u64::from(*size)),
+        Cause::BlockSize(size) => malformed(31, u64::from(*size), 0),
+        Cause::BlockRange(begin, size) => malformed(32, *begin as u64, *size as u64),
+        Cause::Overflow => malformed(33, 0, 0),
+        Cause::SlotCount(entries, slots) => malformed(34, *entries as u64, *slots as u64),
+    }
 }
 
 /// The numbers of a refusal.
@@ -78,48 +160,18 @@ pub fn fault_of(error: &Error) -> PeFault
     ensures text { IsNumbered error.now → refusal_text result ≡ Some (error_text error.now) }
 {
     match error {
-        Error::Malformed(cause) => match cause {
-            Cause::Message(_) => fault(1, 1, 0, 0),
-            Cause::NoDosSignature => fault(1, 2, 0, 0),
-            Cause::DosMagic(magic) => fault(1, 3, u64::from(*magic), 0),
-            Cause::NoPePointer => fault(1, 4, 0, 0),
-            Cause::NoPeSignature(offset) => fault(1, 5, *offset as u64, 0),
-            Cause::PeMagic(magic) => fault(1, 6, u64::from(*magic), 0),
-            Cause::StubBeforeStart(offset) => fault(1, 7, u64::from(*offset), 0),
-            Cause::StubPastEnd(length, end) => fault(1, 8, *length as u64, *end as u64),
-            Cause::NoDans => fault(1, 9, 0, 0),
-            Cause::RichBounds(begin, end) => fault(1, 10, *begin as u64, *end as u64),
-            Cause::StrippedSize(size) => fault(1, 11, u64::from(*size), 0),
-            Cause::CoffLength => fault(1, 12, 0, 0),
-            Cause::DirectoryIndex(index) => fault(1, 13, *index as u64, 0),
-            Cause::DirectoryCount(count) => fault(1, 14, *count as u64, 0),
-            Cause::NameText => fault(1, 15, 0, 0),
-            Cause::NameBase64 => fault(1, 16, 0, 0),
-            Cause::NameDecimal => fault(1, 17, 0, 0),
-            Cause::NameOffset(offset) => fault(1, 18, *offset as u64, 0),
-            Cause::SymbolName(offset) => fault(1, 19, u64::from(*offset), 0),
-            Cause::StringTable(offset, length) => fault(1, 20, *offset as u64, *length as u64),
-            Cause::FieldTooWide => fault(1, 21, 0, 0),
-            Cause::Unmapped(rva) => fault(1, 22, *rva as u64, 0),
-            Cause::NameRead(offset) => fault(1, 23, *offset as u64, 0),
-            Cause::HintEntry(offset) => fault(1, 24, *offset as u64, 0),
-            Cause::LookupEnd(offset) => fault(1, 25, *offset as u64, 0),
-            Cause::ImportRecordEnd(offset) => fault(1, 26, *offset as u64, 0),
-            Cause::ExportTable(offset) => fault(1, 27, *offset as u64, 0),
-            Cause::Forwarder => fault(1, 28, 0, 0),
-            Cause::ForwarderOrdinal => fault(1, 29, 0, 0),
-            Cause::RelocRange(offset, size) => fault(1, 30, *offset as u64, u64::from(*size)),
-            Cause::BlockSize(size) => fault(1, 31, u64::from(*size), 0),
-            Cause::BlockRange(begin, size) => fault(1, 32, *begin as u64, *size as u64),
-            Cause::Overflow => fault(1, 33, 0, 0),
-            Cause::SlotCount(entries, slots) => fault(1, 34, *entries as u64, *slots as u64),
-        },
-        Error::BadMagic(magic) => fault(2, 0, *magic, 0),
-        Error::BufferTooShort(count, what) => fault(3, word_number(what), *count as u64, 0),
-        Error::Read(ReadFault::BadOffset) => fault(4, 1, 0, 0),
-        Error::Read(ReadFault::TooBig) => fault(4, 2, 0, 0),
-        Error::Read(ReadFault::BadInput) => fault(4, 3, 0, 0),
-        Error::Memory(_) => fault(5, 0, 0, 0),
+        Error::Malformed(cause) => cause_numbers(cause),
+        Error::BadMagic(magic) => fault(Status::BadMagic, 0, *magic, 0),
+        Error::BufferTooShort(count, what) => fault(
+            Status::BufferTooShort,
+            word_number(what),
+            *count as u64,
+            0,
+        ),
+        Error::Read(ReadFault::BadOffset) => fault(Status::Read, 1, 0, 0),
+        Error::Read(ReadFault::TooBig) => fault(Status::Read, 2, 0, 0),
+        Error::Read(ReadFault::BadInput) => fault(Status::Read, 3, 0, 0),
+        Error::Memory(_) => fault(Status::Memory, 0, 0, 0),
     }
 }
 
@@ -210,13 +262,15 @@ fn read_fault_of(number: u32) -> Option<ReadFault>
 fn error_of(fault: &PeFault) -> Option<Error>
     ensures { option_map error_text result ≡ refusal_text fault.now }
 {
-    Some(match fault.status {
-        1 => Error::Malformed(cause_of(fault)?),
-        2 => Error::BadMagic(fault.first),
-        3 => Error::BufferTooShort(fault.first as usize, word_of(fault.cause)?),
-        4 => Error::Read(read_fault_of(fault.cause)?),
-        5 => Error::Memory(AllocError),
-        _ => return None,
+    Some(match Status::of(fault.status)? {
+        Status::Ok => return None,
+        Status::Malformed => Error::Malformed(cause_of(fault)?),
+        Status::BadMagic => Error::BadMagic(fault.first),
+        Status::BufferTooShort => {
+            Error::BufferTooShort(fault.first as usize, word_of(fault.cause)?)
+        }
+        Status::Read => Error::Read(read_fault_of(fault.cause)?),
+        Status::Memory => Error::Memory(AllocError),
     })
 }
 

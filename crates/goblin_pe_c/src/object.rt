@@ -1,13 +1,14 @@
 //! The call that reads an object.
 
 ghost use Rattle.std.specs.Prelude.{◌+◌, ◌≡◌, IfErr, IsSomeAnd, Some, map, option_map};
-ghost use Rattle.goblin_base.specs.Answers.{AnswersOrMemory, IsMemory};
+ghost use Rattle.goblin_base.specs.Answers.{IsMemory};
+ghost use Rattle.goblin_base.specs.Reading.{ReadsOrMemory};
 ghost use Rattle.goblin_pe_sect.specs.Options.{is_strict};
 ghost use Rattle.goblin_pe_sect.specs.Symbols.{table_bytes};
-ghost use Rattle.goblin_pe_c.specs.Calls.{Reads, Reported};
+ghost use Rattle.goblin_pe_c.specs.Calls.{ReadsInto, Reported};
 ghost use Rattle.goblin_pe_c.specs.Filled.{Filled, alone};
-ghost use Rattle.goblin_pe_c.specs.Objects.{IsObjectFault, IsObjectSectionsFault, ObjectRecords};
-ghost use Rattle.goblin_pe_c.specs.Objects.{SaysObject, TakesMemory, object_file, object_header};
+ghost use Rattle.goblin_pe_c.specs.Objects.{ObjectRecords, SaysObject, TakesMemory, object_file};
+ghost use Rattle.goblin_pe_c.specs.Objects.{object_header};
 ghost use Rattle.goblin_pe_c.specs.Objects.{object_record, object_sections, symbols_table};
 ghost use Rattle.goblin_pe_c.specs.Objects.{symbol_rows};
 ghost use Rattle.goblin_pe_c.specs.Options.{options_of};
@@ -73,8 +74,7 @@ fn sections_of(
     opts: &ParseOptions,
 ) -> Result<Vec<SectionTable>>
     ensures value { let strict = is_strict opts.now.parse_mode in
-        AnswersOrMemory (λ v. v.items) result (object_sections strict bytes.now header.now)
-        (IsObjectSectionsFault strict bytes.now header.now) }
+        ReadsOrMemory (λ v. v.items) result (object_sections strict header.now) bytes.now }
     ensures grown { IfErr result (λ e. IsMemory e → TakesMemory bytes.now header.now) }
 {
     let mut offset = after_optional_header(header.size_of_optional_header);
@@ -90,13 +90,12 @@ fn after_optional_header(size_of_optional_header: u16) -> usize
 
 impl<'a> Object<'a> {
     // Reads the COFF header at the front of a file, and what it leads to.
-    #[tactic(auto, unfolding(crate::specs::Objects::object_file, crate::specs::Objects::IsObjectFault), using(crate::proofs::Refusals::header_there))]
+    #[tactic(auto, unfolding(crate::specs::Objects::object_file), using(crate::proofs::Refusals::header_there))]
     fn read(alloc: Global, bytes: &'a [u8], opts: &ParseOptions) -> Result<Object<'a>>
         ensures value { let strict = is_strict opts.now.parse_mode in
-            AnswersOrMemory (λ x. x) result (object_file strict bytes.now)
-            (IsObjectFault strict bytes.now) }
+            ReadsOrMemory (λ x. x) result (object_file strict) bytes.now }
         ensures grown { IfErr result
-            (λ e. IsMemory e → IsSomeAnd (object_header bytes.now) (TakesMemory bytes.now)) }
+            (λ e. IsMemory e → IsSomeAnd (object_header.value bytes.now) (TakesMemory bytes.now)) }
     {
         let header = CoffHeader::parse(bytes, &mut 0)?;
         let sections = sections_of(alloc, bytes, &header, opts)?;
@@ -140,7 +139,7 @@ fn fill<'a>(
     sections: &mut [PeSection<'a>],
     symbols: &mut [PeSymbol<'a>],
 )
-    requires { object_file (is_strict opts.now.parse_mode) bytes.now ≡ Some whole.now }
+    requires { (object_file (is_strict opts.now.parse_mode)).value bytes.now ≡ Some whole.now }
     ensures object { object.new ≡ object_record whole.now }
     ensures sections { Filled section_said (map alone whole.now.sections) sections.old
         sections.new }
@@ -171,8 +170,8 @@ fn read<'a>(
         let new : ObjectRecords =
         record { object = object.new; sections = sections.new; symbols = symbols.new } in
         let strict = is_strict opts.now.parse_mode in
-        Reads (object_header bytes.now) (TakesMemory bytes.now) (object_file strict bytes.now)
-        (IsObjectFault strict bytes.now) (λ x. SaysObject x old new) (new ≡ old) result }
+        ReadsInto object_header (TakesMemory bytes.now) (object_file strict) bytes.now
+        (λ x. SaysObject x old new) (new ≡ old) result }
 {
     let whole = Object::read(alloc, bytes, opts)?;
     fill(&whole, bytes, opts, object, sections, symbols);
@@ -198,8 +197,8 @@ pub extern "C" fn goblin_pe_read_object<'a>(
         record { object = object.new; sections = sections.new; symbols = symbols.new } in
         let strict = is_strict (options_of options.now).parse_mode in
         Reported result
-        (Reads (object_header bytes.now) (TakesMemory bytes.now) (object_file strict bytes.now)
-        (IsObjectFault strict bytes.now) (λ x. SaysObject x old new) (new ≡ old)) }
+        (ReadsInto object_header (TakesMemory bytes.now) (object_file strict) bytes.now
+        (λ x. SaysObject x old new) (new ≡ old)) }
 {
     let opts = options_of(options);
     match read(alloc, bytes, &opts, object, sections, symbols) {

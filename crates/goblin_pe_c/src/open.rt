@@ -3,12 +3,11 @@
 ghost use Rattle.std.specs.Prelude.{◌≡◌, IfErr, IfOk, Some, map};
 ghost use Rattle.goblin_base.specs.Answers.{IsMemory};
 ghost use Rattle.goblin_pe_sect.specs.Options.{is_strict};
-ghost use Rattle.goblin_pe_head.specs.PeHeader.{pe_header};
+ghost use Rattle.goblin_pe_head.specs.HeaderReadings.{pe_header};
 ghost use Rattle.goblin_pe.specs.SectionRoom.{HasRoom};
-ghost use Rattle.goblin_pe.specs.Whole.{HasImports, IsWholeFault, items_part, whole_file};
-ghost use Rattle.goblin_pe.specs.Whole.{with_imports};
+ghost use Rattle.goblin_pe.specs.Whole.{HasImports, items_part, whole_file, with_imports};
 ghost use Rattle.goblin_pe_c.specs.Blocks.{block_view, blocks_in};
-ghost use Rattle.goblin_pe_c.specs.Calls.{Reads, Reported};
+ghost use Rattle.goblin_pe_c.specs.Calls.{ReadsInto, Reported};
 ghost use Rattle.goblin_pe_c.specs.Exports.{export_said, export_view};
 ghost use Rattle.goblin_pe_c.specs.Files.{entries_of, file_of};
 ghost use Rattle.goblin_pe_c.specs.Filled.{alone};
@@ -76,7 +75,7 @@ fn made_of<'a>(
     bytes: &'a [u8],
     opts: &ParseOptions,
 ) -> Result<Made<'a>>
-    requires read { whole_file opts.now bytes.now ≡ Some (with_imports whole.now) }
+    requires read { (whole_file opts.now).value bytes.now ≡ Some (with_imports whole.now) }
     requires listed { HasImports opts.now whole.now }
     ensures refused { IfErr result IsMemory }
     ensures file { IfOk result (λ m. m.file ≡ file_of (with_imports whole.now)) }
@@ -149,9 +148,8 @@ fn open<'a>(
         record { file = file.old; directories = directories.old; tables = tables.old } in
         let new : Opened =
         record { file = file.new; directories = directories.new; tables = tables.new } in
-        Reads (pe_header (is_strict opts.now.parse_mode) bytes.now) (HasRoom bytes.now)
-        (whole_file opts.now bytes.now) (IsWholeFault opts.now bytes.now) (λ w. Opens w old new)
-        (new ≡ old) result }
+        ReadsInto (pe_header (is_strict opts.now.parse_mode)) (HasRoom bytes.now)
+        (whole_file opts.now) bytes.now (λ w. Opens w old new) (new ≡ old) result }
 {
     let whole = Whole::read_data(alloc, bytes, opts)?;
     let made = made_of(alloc, &whole, bytes, opts)?;
@@ -182,9 +180,8 @@ pub extern "C" fn goblin_pe_open<'a>(
         record { file = file.new; directories = directories.new; tables = tables.new } in
         let opts = options_of options.now in
         Reported result
-        (Reads (pe_header (is_strict opts.parse_mode) bytes.now) (HasRoom bytes.now)
-        (whole_file opts bytes.now) (IsWholeFault opts bytes.now) (λ w. Opens w old new)
-        (new ≡ old)) }
+        (ReadsInto (pe_header (is_strict opts.parse_mode)) (HasRoom bytes.now) (whole_file opts)
+        bytes.now (λ w. Opens w old new) (new ≡ old)) }
 {
     let opts = options_of(options);
     match open(alloc, bytes, &opts, file, directories, tables) {

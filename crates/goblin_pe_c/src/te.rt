@@ -1,13 +1,14 @@
 //! The call that reads a Terse Executable.
 
 ghost use Rattle.std.specs.Prelude.{◌≡◌, IfErr, IsSomeAnd, Some, map};
-ghost use Rattle.goblin_base.specs.Answers.{AnswersOrMemory, IsMemory};
-ghost use Rattle.goblin_pe_head.specs.TeHeader.{te_header};
-ghost use Rattle.goblin_pe_c.specs.Calls.{Reads, Reported};
+ghost use Rattle.goblin_base.specs.Answers.{IsMemory};
+ghost use Rattle.goblin_base.specs.Reading.{ReadsOrMemory};
+ghost use Rattle.goblin_pe_head.specs.TeReadings.{te_header};
+ghost use Rattle.goblin_pe_c.specs.Calls.{ReadsInto, Reported};
 ghost use Rattle.goblin_pe_c.specs.Filled.{Filled, alone};
 ghost use Rattle.goblin_pe_c.specs.Sections.{section_said};
-ghost use Rattle.goblin_pe_c.specs.Te.{IsImageFault, SaysImage, TakesMemory, TeRecords};
-ghost use Rattle.goblin_pe_c.specs.Te.{te_header_record, te_image};
+ghost use Rattle.goblin_pe_c.specs.Te.{SaysImage, TakesMemory, TeRecords, te_file};
+ghost use Rattle.goblin_pe_c.specs.Te.{te_header_record};
 
 use crate::fault::{PeFault, fault_of, no_fault};
 use crate::section::{PeSection, fill_sections};
@@ -72,12 +73,11 @@ impl Model for Image {
 
 impl Image {
     // Reads the header at the front of a file, and the sections that follow it.
-    #[tactic(auto, unfolding(crate::specs::Te::te_image, crate::specs::Te::IsImageFault), using(crate::proofs::Refusals::te_header_there, crate::proofs::Refusals::te_sections_take))]
+    #[tactic(auto, unfolding(crate::specs::Te::te_file, goblin_pe_head::specs::TeReadings::te_image), using(crate::proofs::Refusals::te_header_there, crate::proofs::Refusals::te_sections_take))]
     fn read(alloc: Global, bytes: &[u8]) -> Result<Image>
-        ensures value { AnswersOrMemory (λ x. x) result (te_image bytes.now)
-            (IsImageFault bytes.now) }
+        ensures value { ReadsOrMemory (λ x. x) result te_file bytes.now }
         ensures grown { IfErr result
-            (λ e. IsMemory e → IsSomeAnd (te_header bytes.now 0) (TakesMemory bytes.now)) }
+            (λ e. IsMemory e → IsSomeAnd ((te_header 0).value bytes.now) (TakesMemory bytes.now)) }
     {
         let mut offset = 0;
         let header = TeHeader::parse(bytes, &mut offset)?;
@@ -117,7 +117,7 @@ fn te_header_record(header: &TeHeader) -> PeTeHeader
 
 // Fills what is asked for of an image that was read.
 fn fill<'a>(image: &Image, bytes: &'a [u8], header: &mut PeTeHeader, sections: &mut [PeSection<'a>])
-    requires { te_image bytes.now ≡ Some image.now }
+    requires { te_file.value bytes.now ≡ Some image.now }
     ensures header { header.new ≡ te_header_record image.now.header }
     ensures sections { Filled section_said (map alone image.now.sections) sections.old
         sections.new }
@@ -141,8 +141,8 @@ fn read<'a>(
 ) -> Result<()>
     ensures { let old : TeRecords = record { header = header.old; sections = sections.old } in
         let new : TeRecords = record { header = header.new; sections = sections.new } in
-        Reads (te_header bytes.now 0) (TakesMemory bytes.now) (te_image bytes.now)
-        (IsImageFault bytes.now) (λ x. SaysImage x old new) (new ≡ old) result }
+        ReadsInto (te_header 0) (TakesMemory bytes.now) te_file bytes.now
+        (λ x. SaysImage x old new) (new ≡ old) result }
 {
     let image = Image::read(alloc, bytes)?;
     fill(&image, bytes, header, sections);
@@ -163,8 +163,8 @@ pub extern "C" fn goblin_pe_read_te<'a>(
     ensures { let old : TeRecords = record { header = header.old; sections = sections.old } in
         let new : TeRecords = record { header = header.new; sections = sections.new } in
         Reported result
-        (Reads (te_header bytes.now 0) (TakesMemory bytes.now) (te_image bytes.now)
-        (IsImageFault bytes.now) (λ x. SaysImage x old new) (new ≡ old)) }
+        (ReadsInto (te_header 0) (TakesMemory bytes.now) te_file bytes.now
+        (λ x. SaysImage x old new) (new ≡ old)) }
 {
     match read(alloc, bytes, header, sections) {
         Ok(()) => no_fault(),
