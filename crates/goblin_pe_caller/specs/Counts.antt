@@ -1,5 +1,5 @@
 -- What the callers count.
-use Rattle.std.specs.Prelude.{ℕ, suc, List, [], ◌∷◌, Option, length}
+use Rattle.std.specs.Prelude.{ℕ, suc, List, [], ◌∷◌, Option, drop, length}
 use Rattle.std.specs.Option.{option_map}
 use Rattle.goblin_pe.specs.declared.export.ExportAddressTableEntry.{ExportAddressTableEntry}
 use Rattle.goblin_pe.specs.declared.export.ExportAddressTableEntry.TheVariants.{ExportRVA}
@@ -9,9 +9,13 @@ use Rattle.goblin_pe.specs.declared.whole.Part.TheVariants as part
 use Rattle.goblin_pe.specs.declared.options.ParseMode.TheVariants.{Permissive}
 use Rattle.goblin_pe.specs.declared.options.ParseOptions.{ParseOptions}
 use Rattle.goblin_pe.specs.Options.{default_options}
+use Rattle.goblin_pe.specs.Reading.{Reading}
+use Rattle.goblin_pe.specs.Reads.{mapped}
+use Rattle.goblin_pe.specs.RichMetadata.{metadata_items}
+use Rattle.goblin_pe.specs.HeaderReadings.{rich_header}
 use Rattle.goblin_pe.specs.Whole.{whole_file}
 
--- the options by which damaged parts are passed over
+-- the options that pass over damaged parts
 abbrev pub permissive_options : ParseOptions
 permissive_options = record default_options { parse_mode = Permissive }
 
@@ -22,9 +26,15 @@ entry_count (part.Read entries) = length entries
 entry_count part.Refused = 0
 
 -- how many functions a file imports, damaged parts passed over
-abbrev pub import_count : List ℕ → Option ℕ
-import_count bytes =
-    option_map (λ whole. entry_count whole.imports) (whole_file permissive_options bytes)
+abbrev pub import_count : Reading ℕ
+import_count = mapped (λ whole. entry_count whole.imports) (whole_file permissive_options)
+
+-- the number of entries of a file's Rich header, if it has one, plus one for an error if bytes are
+-- left over
+abbrev pub rich_entry_count : Reading (Option ℕ)
+rich_entry_count =
+    mapped (option_map (λ r. length (metadata_items r.key (drop r.padding_size r.bytes))))
+    rich_header
 
 -- how many entries of an address table lead to a forwarder
 abbrev pub forwarder_count : List ExportAddressTableEntry → ℕ

@@ -4,24 +4,23 @@
 ghost use Rattle.std.specs.Prelude.{◌≡◌, ◌↔◌, ◌*◌, [], IfErr, IfOk, IsSome, IsTrue, drop, false};
 ghost use Rattle.std.specs.Prelude.{length, option_map, slice_get};
 ghost use Rattle.std.specs.List.{Contains};
-ghost use Rattle.goblin_pe.specs.Answers.{Answers, AnswersOrMemory, IsMemory, IsSliceFault, Writes};
+ghost use Rattle.goblin_pe.specs.AddressReadings.{data_at};
+ghost use Rattle.goblin_pe.specs.Answers.{IsMemory, IsSliceFault, Writes};
 ghost use Rattle.goblin_pe.specs.BaseRelocations.{block_items, relocation_bytes, word_items};
 ghost use Rattle.goblin_pe.specs.CoffHeader.{coff_fields, coff_header};
 ghost use Rattle.goblin_pe.specs.DataDirectories.{present_from};
-ghost use Rattle.goblin_pe.specs.Mapping.{IsDataFault, data_at, file_offset};
+ghost use Rattle.goblin_pe.specs.Mapping.{file_offset};
 ghost use Rattle.goblin_pe.specs.Options.{default_options};
-ghost use Rattle.goblin_pe.specs.PeHeader.{pe_header};
+ghost use Rattle.goblin_pe.specs.HeaderReadings.{pe_header};
+ghost use Rattle.goblin_pe.specs.Reading.{Reads, ReadsOrMemory};
 ghost use Rattle.goblin_pe.specs.Record.{ReadsBack, encoding, record_over};
 ghost use Rattle.goblin_pe.specs.Relocations.{relocations_left};
-ghost use Rattle.goblin_pe.specs.RichHeader.{IsRichFault, rich_header};
-ghost use Rattle.goblin_pe.specs.RichMetadata.{metadata_items};
 ghost use Rattle.goblin_pe.specs.Symbols.{symbols_in, table_bytes};
-ghost use Rattle.goblin_pe.specs.Whole.{IsWholeFault};
 ghost use Rattle.goblin_pe.specs.declared.endian.Endian.{Endian};
 ghost use Rattle.goblin_pe.specs.declared.error.CauseOf.TheVariants.{Message};
 ghost use Rattle.goblin_pe.specs.declared.error.ErrorOf.TheVariants.{Malformed};
 ghost use Rattle.goblin_pe_caller.specs.Counts.{entry_count, forwarder_count, import_count};
-ghost use Rattle.goblin_pe_caller.specs.Counts.{permissive_options};
+ghost use Rattle.goblin_pe_caller.specs.Counts.{rich_entry_count};
 
 use goblin_pe::data_directories::{DataDirectories, DataDirectory};
 use goblin_pe::export::{
@@ -81,10 +80,7 @@ pub fn count_directories(directories: &DataDirectories) -> usize
 /// # Errors
 /// As [`RichHeader::parse`].
 pub fn count_entries(bytes: &[u8]) -> Result<Option<usize>>
-    ensures { let count = option_map
-        (option_map (λ r. length (metadata_items r.key (drop r.padding_size r.bytes))))
-        (rich_header bytes.now) in
-        Answers (λ n. n) result count (IsRichFault bytes.now) }
+    ensures { Reads (λ n. n) result rich_entry_count bytes.now }
 {
     match RichHeader::parse(bytes)? {
         Some(rich) => Ok(Some(rich.metadatas().count())),
@@ -97,9 +93,8 @@ pub fn count_entries(bytes: &[u8]) -> Result<Option<usize>>
 /// # Errors
 /// As [`Whole::read`] in permissive mode; memory is wanted only where there is a header.
 pub fn count_imports(alloc: Global, bytes: &[u8]) -> Result<usize>
-    ensures value { AnswersOrMemory (λ n. n) result (import_count bytes.now)
-        (IsWholeFault permissive_options bytes.now) }
-    ensures grown { IfErr result (λ e. IsMemory e → IsSome (pe_header false bytes.now)) }
+    ensures value { ReadsOrMemory (λ n. n) result import_count bytes.now }
+    ensures grown { IfErr result (λ e. IsMemory e → IsSome ((pe_header false).value bytes.now)) }
 {
     let opts = ParseOptions::default().with_parse_mode(ParseMode::Permissive);
     let whole = Whole::read(alloc, bytes, &opts)?;
@@ -135,8 +130,7 @@ pub fn value_at<'a, 'e, T: TryFromCtx<'a>>(
     virtual_address: u32,
 ) -> ResultOf<'e, T>
     ensures { let m = file_offset default_options sections.now 0x200 in
-        Answers T.plain result (data_at m T.value_of bytes.now virtual_address)
-        (IsDataFault m T.refusal bytes.now virtual_address) }
+        Reads T.plain result (data_at m T.value_of T.refusal virtual_address) bytes.now }
 {
     let directory = DataDirectory {
         virtual_address,

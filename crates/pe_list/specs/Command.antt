@@ -4,8 +4,8 @@ use Rattle.std.specs.Str.{bytes_eq}
 use Rattle.goblin_pe.specs.declared.options.ParseMode.{ParseMode}
 use Rattle.goblin_pe.specs.declared.options.ParseMode.TheVariants.{Strict, Permissive}
 
--- the mode that the words ask for, the first being the program's name: none where they are a wrong
--- use
+-- the mode that the words ask for, where the first is the program's name; none if the words are not
+-- a valid use
 abbrev pub mode_of_words : List (List ℕ) → Option ParseMode
 mode_of_words [] = Some Strict
 mode_of_words (program ∷ []) = Some Strict

@@ -22,7 +22,7 @@ abbrev pub if_there : {A : Type 0} → (A → List ℕ) → Option A → List �
 if_there field None = []
 if_there field (Some x) = field x
 
--- what the header's line says of an optional header
+-- the part of the header's line for the optional header
 abbrev pub optional_fields : OptionalHeader → List ℕ
 optional_fields h =
     hex_field (codes " magic=") h.standard_fields.magic
@@ -37,7 +37,7 @@ header_line h = concat (
     ∷ codes "\n"
     ∷ [])
 
--- the name that is printed: the one that stands elsewhere, else the eight bytes up to the first NUL
+-- the name that is printed: the one from the string table, else the eight bytes up to the first NUL
 unfoldable pub shown_name : Section → List ℕ
 shown_name s = unwrap_or s.real_name (before_nul s.name)
 
@@ -73,7 +73,7 @@ forward_field (ByName export lib) =
 forward_field (ByOrdinal ordinal lib) =
     name_field (codes " forward=") lib ++ decimal_field (codes ".#") ordinal
 
--- the line of an export, without what it has not
+-- the line of an export, without what it lacks
 unfoldable pub export_line : ExportRow → List ℕ
 export_line e = concat (
     hex_field (codes "export rva=") e.rva
@@ -94,7 +94,7 @@ block_line (Ok b) = concat (
     ∷ [])
 block_line (Err e) = codes "block refused\n"
 
--- how many blocks come without error
+-- the number of blocks without an error
 unfoldable pub block_count : List (Result Block ErrorOf) → ℕ
 block_count [] = 0
 block_count (Ok b ∷ items) = suc (block_count items)

@@ -12,7 +12,7 @@ hex_field label n = label ++ codes "0x" ++ digits 16 false n
 unfoldable pub decimal_field : List ℕ → ℕ → List ℕ
 decimal_field label n = label ++ decimal n
 
--- the printable characters but the backslash stand for themselves
+-- printable characters other than the backslash are printed as they are
 abbrev pub is_plain : ℕ → Bool
 is_plain b = nat_le 0x20 b && nat_le b 0x7e && not (b == 0x5c)
 

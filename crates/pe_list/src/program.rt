@@ -3,10 +3,11 @@
 ghost use Rattle.std.specs.Prelude.{◌≡◌, ◌≢◌, ◌<◌, length, string_bytes, Err, IfErr, IfOk, IfSome};
 ghost use Rattle.std.specs.Prelude.{IsSome, IsSomeAnd, IsTrue, None, OnErr, OnOk, Some};
 ghost use Rattle.std.specs.Io.KnownBytes.{Appends, Keeps};
-ghost use Rattle.goblin_pe.specs.Answers.{AnswersOrMemory, IsMemory};
+ghost use Rattle.goblin_pe.specs.Answers.{IsMemory};
+ghost use Rattle.goblin_pe.specs.HeaderReadings.{pe_header};
 ghost use Rattle.goblin_pe.specs.Options.{is_strict};
-ghost use Rattle.goblin_pe.specs.PeHeader.{pe_header};
-ghost use Rattle.pe_list.specs.Listing.{IsLayoutFault, listing_of};
+ghost use Rattle.goblin_pe.specs.Reading.{ReadsOrMemory};
+ghost use Rattle.pe_list.specs.Listing.{listing_of};
 ghost use Rattle.pe_list.specs.Run.{AppendsPart, IfRefused};
 
 use crate::fault::RunFault;
@@ -22,9 +23,9 @@ use std::io::{Read, Write};
 // with its entries. It is refused as `Whole::read` refuses the file in this mode; memory is wanted
 // only of a file whose header is there.
 fn list(alloc: Global, bytes: &[u8], mode: ParseMode) -> Result<String, Error>
-    ensures value { AnswersOrMemory (λ text. string_bytes text) result (listing_of mode bytes.now)
-        (IsLayoutFault mode bytes.now) }
-    ensures grown { IfErr result (λ e. IsMemory e → IsSome (pe_header (is_strict mode) bytes.now)) }
+    ensures value { ReadsOrMemory (λ text. string_bytes text) result (listing_of mode) bytes.now }
+    ensures grown { IfErr result
+        (λ e. IsMemory e → IsSome ((pe_header (is_strict mode)).value bytes.now)) }
 {
     let opts = ParseOptions::default().with_parse_mode(mode);
     let whole = Whole::read(alloc, bytes, &opts)?;
@@ -43,10 +44,10 @@ fn read_listing<R: Read>(
     ensures listed { IfOk result
         (λ text.
         IfSome (R.remaining reader.old.inner)
-        (λ file. listing_of mode file ≡ Some (string_bytes text))) }
+        (λ file. (listing_of mode).value file ≡ Some (string_bytes text))) }
     ensures refused { IfRefused result (λ cause. ¬ IsMemory cause
         → IfSome (R.remaining reader.old.inner) (λ file.
-        (listing_of mode file ≡ None) × IsLayoutFault mode file cause)) }
+        ((listing_of mode).value file ≡ None) × (listing_of mode).IsCause file cause)) }
     ensures grown { IfRefused result
         (λ cause.
         IsMemory cause → IfSome (R.remaining reader.old.inner) (λ file. 0 < length file)) }
@@ -77,14 +78,14 @@ pub fn run<R: Read, W: Write>(
     mode: ParseMode,
 ) -> Result<(), RunFault>
     ensures listed { OnOk result (IfSome (R.remaining reader.old.inner) (λ file.
-        IsSomeAnd (listing_of mode file)
+        IsSomeAnd ((listing_of mode).value file)
         (Appends (W.contents writer.old.inner) (W.contents writer.new.inner)))) }
     ensures cut { result ≡ Err RunFault.Output → IfSome (R.remaining reader.old.inner) (λ file.
-        IsSomeAnd (listing_of mode file)
+        IsSomeAnd ((listing_of mode).value file)
         (AppendsPart (W.contents writer.old.inner) (W.contents writer.new.inner))) }
     ensures refused { IfRefused result (λ cause. ¬ IsMemory cause
         → IfSome (R.remaining reader.old.inner) (λ file.
-        (listing_of mode file ≡ None) × IsLayoutFault mode file cause)) }
+        ((listing_of mode).value file ≡ None) × (listing_of mode).IsCause file cause)) }
 
     // Memory is refused only where the input has a byte.
     ensures grown { IfRefused result

@@ -6,7 +6,8 @@
 mod calls;
 
 ghost use Rattle.std.specs.Prelude.{◌≡◌, ◌≤◌, IfOk, OnOk, length, IsSomeAnd, Some, true};
-ghost use Rattle.goblin_pe_head.specs.PeHeader.{header_bytes, pe_header};
+ghost use Rattle.goblin_pe_head.specs.HeaderReadings.{pe_header};
+ghost use Rattle.goblin_pe_head.specs.PeHeader.{header_bytes};
 
 use calls::show_call;
 use goblin_base::{Endian, Error, ErrorOf, Strtab};
@@ -154,10 +155,11 @@ fn show_header(rt: &HostRuntime, file: &[u8]) -> Result<(), Refused> {
 // answers how many bytes it takes.
 fn write_header(file: &[u8], written: &mut [u8]) -> goblin_base::Result<usize>
     ensures again { OnOk result
-        (IsSomeAnd (pe_header true file.now) (λ h. pe_header true written.new ≡ Some h)) }
+        (IsSomeAnd ((pe_header true).value file.now)
+        (λ h. (pe_header true).value written.new ≡ Some h)) }
     ensures size { IfOk result
         (λ n.
-        IsSomeAnd (pe_header true file.now)
+        IsSomeAnd ((pe_header true).value file.now)
         (λ h. IsSomeAnd (header_bytes Endian.Little h) (λ bytes. n ≡ length bytes))) }
     ensures room { IfOk result (λ n. n ≤ length written.old) }
 {

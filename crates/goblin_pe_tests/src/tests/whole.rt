@@ -15,10 +15,14 @@ fn count<T>(part: &Part<Vec<T>>) -> Option<usize> {
     }
 }
 
+/// Whether a file has two imports and two exports.
+fn has_two_of_each(whole: &Whole) -> bool {
+    count(&whole.imports) == Some(2) && count(&whole.exports) == Some(2)
+}
+
 /// Whether a file was read that has two imports and two exports.
 fn has_both(read: goblin_base::Result<Whole>) -> bool {
-    let is_right =
-        matches!(&read, Ok(whole) if count(&whole.imports) == Some(2) && count(&whole.exports) == Some(2));
+    let is_right = matches!(&read, Ok(whole) if has_two_of_each(whole));
     drop(read);
     is_right
 }
