@@ -4,8 +4,9 @@
 //! three tables. A name pointer and the ordinal with its index are a named export; the ordinal is
 //! the index of its address. An address inside the directory is that of a forwarder's text.
 
-ghost use Rattle.std.specs.Prelude.{◌≤◌, ◌≡◌, ◌++◌, ◌⊎◌, IfErr, IsOk, IsSome, IsSomeAnd, OnErr};
-ghost use Rattle.std.specs.Prelude.{OnOk, length, option_and_then, option_map, option_to_list};
+ghost use Rattle.std.specs.Prelude.{◌≤◌, ◌≡◌, ◌++◌, ◌∷◌, ◌⊎◌, [], IfErr, IsOk, IsSome, IsSomeAnd};
+ghost use Rattle.std.specs.Prelude.{List, OnErr, OnOk, length, map, option_and_then, option_map};
+ghost use Rattle.std.specs.Prelude.{option_to_list};
 ghost use Rattle.goblin_base.specs.Answers.{GivesOrMemory, IsMemory};
 ghost use Rattle.goblin_base.specs.Bytes.{text_at};
 ghost use Rattle.goblin_base.specs.Reading.{ReadsOrMemory};
@@ -13,13 +14,14 @@ ghost use Rattle.goblin_pe_sect.specs.Mapping.{file_offset};
 ghost use Rattle.goblin_pe_sect.specs.Options.{default_options};
 ghost use Rattle.goblin_pe_tables.specs.Addresses.{offset_of};
 ghost use Rattle.goblin_pe_tables.specs.ExportReadings as reading;
-ghost use Rattle.goblin_pe_tables.specs.Exports.{HasEntries, HasExports, export_data, export_row};
+ghost use Rattle.goblin_pe_tables.specs.Exports.{ExportRow, HasEntries, HasExports, export_data};
+ghost use Rattle.goblin_pe_tables.specs.Exports.{export_row};
 ghost use Rattle.goblin_pe_tables.specs.Exports.{exports, rva_of};
 ghost use Rattle.goblin_pe_tables.specs.Forwarders.{forwarder_at, forwarder_value};
 ghost use Rattle.goblin_pe_sect.specs.WindowIndex.{HasPieces};
 
 use crate::address_map::AddressMap;
-use goblin_base::{Cause, Error, Result, pread_str};
+use goblin_base::{Cause, Error, Result, ResultOf, pread_str};
 use goblin_pe_sect::{DataDirectory, ParseOptions, SectionTable};
 use std::alloc::Global;
 use std::marker::Model;
@@ -258,18 +260,55 @@ fn plain_count(tables: &ExportData) -> usize
     count
 }
 
-// Adds a row if there is one; the first makes room for `room` rows.
-fn add_row<'a>(exports: &mut Vec<Export<'a>>, row: Option<Export<'a>>, room: usize) -> Result<()>
-    ensures added { let more = option_to_list row.entry in
-        OnOk result (exports.new.items ≡ exports.old.items ++ more) }
+/// Receives the exports of an image, one by one, as they are read.
+pub trait ExportCollector<'a>: Drop {
+    /// What is kept of an export.
+    ghost Item: { Type 0 };
+
+    /// What has been kept, in order.
+    ghost items: { Self → List Item };
+
+    /// What is kept of this export.
+    ghost item_of: { ExportRow → Item };
+
+    /// Keeps an export. There will be about `expected` of them in all.
+    ///
+    /// # Errors
+    /// Only [`Error::Memory`].
+    fn add(&mut self, export: Export<'a>, expected: usize) -> Result<()>
+        ensures added { OnOk result (items self.new ≡ items self.old ++ item_of export.entry ∷ []) }
+        ensures refused { IfErr result IsMemory };
+}
+
+impl<'a> ExportCollector<'a> for Vec<Export<'a>> {
+    ghost Item = { ExportRow };
+
+    ghost items = { λ v. v.items };
+
+    ghost item_of = { λ export. export };
+
+    fn add(&mut self, export: Export<'a>, expected: usize) -> Result<()> {
+        if self.is_empty() {
+            self.reserve(expected)?;
+        }
+        self.push(export)?;
+        Ok(())
+    }
+}
+
+// Adds a row, if there is one.
+fn add_row<'a, 'e, E: ExportCollector<'a>>(
+    exports: &mut E,
+    row: Option<Export<'a>>,
+    expected: usize,
+) -> ResultOf<'e, ()>
+    ensures added { let more = map E.item_of (option_to_list row.entry) in
+        OnOk result (E.items exports.new ≡ E.items exports.old ++ more) }
     ensures refused { IfErr result IsMemory }
     ensures grown { OnErr result (IsSome row.entry) }
 {
     if let Some(export) = row {
-        if exports.is_empty() {
-            exports.reserve(room)?;
-        }
-        exports.push(export)?;
+        exports.add(export, expected)?;
     }
     Ok(())
 }
@@ -359,7 +398,7 @@ impl<'a> Export<'a> {
     ///
     /// # Errors
     /// As [`Export::parse_with_opts`].
-    #[tactic(auto, unfolding(crate::specs::ExportReadings::exports))]
+    #[tactic(auto, using(crate::proofs::ExportRows::all_rows))]
     pub fn parse_by(
         alloc: Global,
         bytes: &'a [u8],
@@ -371,16 +410,36 @@ impl<'a> Export<'a> {
         ensures grown { let m = offset_of address_map.now in
             OnErr result (HasExports m bytes.now export_data.now) }
     {
-        let mut exports = Vec::new(alloc);
+        Export::parse_into(bytes, export_data, address_map, Vec::new(alloc))
+    }
+
+    /// Hands the exports as [`Export::parse_by`] reads them to `rows`, which is empty before.
+    ///
+    /// # Errors
+    /// As [`Export::parse_with_opts`].
+    #[tactic(auto, unfolding(crate::specs::ExportReadings::exports))]
+    pub fn parse_into<'e, E: ExportCollector<'a>>(
+        bytes: &'a [u8],
+        export_data: &ExportData,
+        address_map: &AddressMap,
+        rows: E,
+    ) -> ResultOf<'e, E>
+        requires { E.items rows ≡ [] }
+        ensures value { let m = offset_of address_map.now in
+            GivesOrMemory E.items result (map E.item_of (exports m bytes.now export_data.now)) }
+        ensures grown { let m = offset_of address_map.now in
+            OnErr result (HasExports m bytes.now export_data.now) }
+    {
+        let mut rows = rows;
         if bytes.is_empty() {
-            return Ok(exports);
+            return Ok(rows);
         }
         let pointers = export_data.export_name_pointer_table.as_slice().len();
-        let room = plain_count(export_data).min(pointers);
+        let expected = plain_count(export_data).min(pointers);
         'rows: for index in 0..pointers {
             let row = Export::of_pointer(bytes, export_data, index, address_map);
-            add_row(&mut exports, row, room)?;
+            add_row(&mut rows, row, expected)?;
         }
-        Ok(exports)
+        Ok(rows)
     }
 }
