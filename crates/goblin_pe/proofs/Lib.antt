@@ -1,3 +1,4 @@
+pub mod Collected
 pub mod HeaderThere
 pub mod ListedImports
 pub mod LookupReach

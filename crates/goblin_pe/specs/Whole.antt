@@ -1,7 +1,8 @@
 -- A whole file: its header, its sections, and the tables that its directories lead to.
 use Rattle.std.specs.Prelude.{◌≡◌, ℕ, ◌+◌, ◌==◌, Bool, true, false, if◌then◌else◌, List, [], Option}
 use Rattle.std.specs.Prelude.{◌⊎◌, Some, None, Result, Ok, Err, Vec, IsSome, IsSomeAnd, IsTrue}
-use Rattle.std.specs.Prelude.{unwrap_or}
+use Rattle.std.specs.Prelude.{map, unwrap_or}
+use Rattle.std.specs.List.{flat_map}
 use Rattle.std.specs.Global.{Global}
 use Rattle.std.specs.declared.alloc.AllocError.{AllocError}
 use Rattle.std.proofs.Common.{inl, inr}
@@ -238,6 +239,55 @@ whole_file opts =
     let strict = is_strict opts.parse_mode in
     pe_header strict >>= λ h. sections_after strict h >>= λ sections. whole_with opts h sections
 
+-- ---- what collectors keep of a file
+
+-- What is kept of the libraries of a file, whose entries have the size that this magic says.
+abbrev pub collected_libraries : {X Y : Type 0} → (ℕ → ImportedLibrary → List X) → ℕ
+    → Part (List ImportedLibrary) × Y → Part (List X)
+collected_libraries items_of magic read =
+    part_map (flat_map (items_of (entry_format magic).width)) read.0
+
+-- export data, and what is kept of its exports
+abbrev pub collected_exports : {Y : Type 0} → (ExportRow → Y) → ExportTables × List ExportRow
+    → ExportTables × List Y
+collected_exports item_of read = (read.0, map item_of read.1)
+
+-- what is kept of the tables of a file
+abbrev pub CollectedParts : Type 0 → Type 0 → Type 0
+CollectedParts X Y = (Part (List X) × Part (ExportTables × List Y)) × Part (List ℕ)
+
+abbrev pub collected_tables : {X Y : Type 0} → (ℕ → ImportedLibrary → List X) → (ExportRow → Y)
+    → ℕ → TableParts → CollectedParts X Y
+collected_tables items_of item_of magic parts = (
+  (
+    collected_libraries items_of magic parts.0.0,
+    part_map (collected_exports item_of) parts.0.1,
+  ),
+  parts.1,
+)
+
+-- a whole file of which collectors have kept X of its imports and Y of its exports
+pub record CollectedFileValue (X Y : Type 0) : Type 0 where
+  pub header : PeHeader
+  pub sections : List Section
+  pub imports : Part (List X)
+  pub export_data : Part ExportTables
+  pub exports : Part (List Y)
+  pub relocations : Part (List ℕ)
+
+abbrev pub collected_file : {X Y : Type 0} → (ℕ → ImportedLibrary → List X) → (ExportRow → Y)
+    → WholeFile → CollectedFileValue X Y
+collected_file items_of item_of w =
+    let magic = (places_in w.header.optional_header).magic in
+    record {
+      header = w.header;
+      sections = w.sections;
+      imports = part_map (flat_map (items_of (entry_format magic).width)) w.import_data;
+      export_data = w.export_data;
+      exports = part_map (map item_of) w.exports;
+      relocations = w.relocations;
+    }
+
 -- ---- what contracts see
 
 -- a list that a part owns, as its items
@@ -249,22 +299,30 @@ unfoldable pub listed_imports : ℕ → Part (List ImportedLibrary) → Part (Li
 listed_imports magic libraries =
     part_map (λ l. unwrap_or (imports_of (entry_format magic).width l) []) libraries
 
--- import data without a list of imports, with the list that it has
-abbrev pub with_list : ℕ → Part (List ImportedLibrary)
-    → Part (List ImportedLibrary) × Part (List ImportValue)
-with_list magic libraries = (libraries, listed_imports magic libraries)
+-- export data, and what is held of its exports
+abbrev pub export_rows_view : {E Y : Type 0} → (E → List Y) → ExportTables × E
+    → ExportTables × List Y
+export_rows_view rows read = (read.0, rows read.1)
 
--- the tables that a reader without a list of imports hands out
-abbrev pub tables_view : ℕ → FileTables → TableParts
-tables_view magic t = (
-  (with_list magic t.import_data, part_map export_read_view t.exports),
+-- the tables that collectors hold
+abbrev pub tables_view : {I E X Y : Type 0} → (I → List X) → (E → List Y) → FileTables I E
+    → CollectedParts X Y
+tables_view items rows t = (
+  (part_map items t.imports, part_map (export_rows_view rows) t.exports),
   part_map relocation_bytes t.relocations,
 )
 
--- a file without a list of imports, with the list that its import data has
-abbrev pub with_imports : WholeFile → WholeFile
-with_imports w =
-    record w { imports = listed_imports (places_in w.header.optional_header).magic w.import_data }
+-- the file that collectors hold
+abbrev pub collected_view : {I E X Y : Type 0} → (I → List X) → (E → List Y) → CollectedFile I E
+    → CollectedFileValue X Y
+collected_view items rows x = record {
+  header = header_value x.header;
+  sections = x.sections.items;
+  imports = part_map items x.imports;
+  export_data = x.export_data;
+  exports = part_map rows x.exports;
+  relocations = part_map relocation_bytes x.relocations;
+}
 
 -- a list of imports can be made from import data
 abbrev pub HasList : ParseOptions → TablePlaces → Part (List ImportedLibrary) → Type 0

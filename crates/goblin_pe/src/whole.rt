@@ -24,16 +24,15 @@ ghost use Rattle.goblin_pe.specs.Whole.{imports_part, items_part, offset_by, par
 ghost use Rattle.goblin_pe.specs.Whole.{relocation_part, sections_after, table_parts, table_places};
 ghost use Rattle.goblin_pe.specs.Whole.{tables_view, whole_file, with_imports, with_list};
 
-use crate::export::{Export, ExportData};
-use crate::import::{Import, ImportData};
+use crate::export::{Export, ExportCollector, ExportData};
+use crate::import::{Import, ImportData, LibraryCollector};
 use crate::utils::{find_offset, try_name};
-use goblin_base::{Result, is_passed_over};
+use goblin_base::{Result, ResultOf, is_passed_over};
 use goblin_pe_head::header::{Header, SIZEOF_COFF_HEADER, SIZEOF_PE_MAGIC};
 use goblin_pe_head::optional_header::{MAGIC_32, OptionalHeader};
 use goblin_pe_sect::relocation::RelocationData;
 use goblin_pe_sect::{DataDirectory, ParseOptions, SectionTable};
 use goblin_pe_tables::address_map::AddressMap;
-use goblin_pe_tables::laws::ExportRead;
 use std::alloc::Global;
 use std::marker::Model;
 
@@ -91,9 +90,29 @@ impl<'a> Model for Whole<'a> {
     } };
 }
 
+/// A whole file, and what two collectors have kept of its imports and its exports.
+///
+/// Where all that is wanted is one list of imports or of exports, in records of a caller's own, this
+/// takes less time and memory than [`Whole`].
+#[derive(Drop)]
+pub struct CollectedFile<'a, I: Drop, E: Drop> {
+    /// The header: everything before the section table.
+    pub header: Header<'a>,
+    /// The sections, in the order of their records; they map the addresses.
+    pub sections: Vec<SectionTable>,
+    /// What was kept of the libraries that the import directory leads to.
+    pub imports: Part<I>,
+    /// What the export directory leads to.
+    pub export_data: Part<ExportData<'a>>,
+    /// What was kept of the exports of the export data.
+    pub exports: Part<E>,
+    /// The base relocations: the bytes of their directory, whose blocks are read one by one.
+    pub relocations: Part<RelocationData<'a>>,
+}
+
 // What becomes of a table that was asked for. Permissive mode passes over each refusal but
 // `Error::Memory`.
-fn part_of<T: Drop>(table: Result<T>, opts: &ParseOptions) -> Result<Part<T>>
+fn part_of<'e, T: Drop>(table: ResultOf<'e, T>, opts: &ParseOptions) -> ResultOf<'e, Part<T>>
     ensures { BecomesPart (is_strict opts.now.parse_mode) table.entry result }
 {
     match table {
@@ -144,64 +163,75 @@ impl Tables {
         self.magic == MAGIC_32
     }
 
-    // The import data of a directory.
+    // The libraries of an import directory, as they are collected.
     #[tactic(auto, unfolding(crate::specs::Whole::entry_format))]
-    fn import_data_of<'a>(
+    fn libraries_of<'a, 'e, I: LibraryCollector<'a>>(
         &self,
         alloc: Global,
         bytes: &'a [u8],
         directory: DataDirectory,
         address_map: &AddressMap,
-    ) -> Result<ImportData<'a>>
+        imports: I,
+    ) -> ResultOf<'e, I>
+        requires { I.items imports ≡ [] }
         ensures { let strict = reads_strictly address_map.now in
             let m = offset_of address_map.now in
             let format = entry_format self.now.magic in
             let rva = directory.virtual_address in
-            ReadsOrMemory (λ x. x) result (import_data strict format m rva) bytes.now }
+            ReadsOrMemory I.items result
+            (mapped (flat_map (I.items_of format.width)) (import_data strict format m rva))
+            bytes.now }
     {
         if self.has_narrow_entries() {
-            ImportData::parse_by::<u32>(alloc, bytes, directory, address_map)
+            ImportData::parse_into::<u32, I>(alloc, bytes, directory, address_map, imports)
         } else {
-            ImportData::parse_by::<u64>(alloc, bytes, directory, address_map)
+            ImportData::parse_into::<u64, I>(alloc, bytes, directory, address_map, imports)
         }
     }
 
-    // Reads the import data, if it was asked for.
-    #[tactic(auto, unfolding(crate::specs::Whole::import_part), using(crate::proofs::Parts::becomes_same))]
-    fn import_data<'a>(
+    // The libraries, if they were asked for.
+    fn libraries<'a, 'e, I: LibraryCollector<'a>>(
         &self,
         alloc: Global,
         bytes: &'a [u8],
         address_map: &AddressMap,
-    ) -> Result<Part<ImportData<'a>>>
+        imports: I,
+    ) -> ResultOf<'e, Part<I>>
+        requires { I.items imports ≡ [] }
         ensures { let m = offset_of address_map.now in
             let places = table_places self.now in
-            ReadsOrMemory (λ x. x) result (import_part address_map.now.opts m places) bytes.now }
+            ReadsOrMemory (part_map I.items) result
+            (mapped (part_map (flat_map (I.items_of (entry_format self.now.magic).width)))
+            (import_part address_map.now.opts m places))
+            bytes.now }
     {
         let opts = address_map.opts();
         match self.imports {
             Some(directory) if opts.parse_imports => part_of(
-                self.import_data_of(alloc, bytes, directory, address_map),
+                self.libraries_of(alloc, bytes, directory, address_map, imports),
                 opts,
             ),
             _ => Ok(Part::Absent),
         }
     }
 
-    // The import data, if a list of imports can be made from it.
-    fn listed_data<'a>(
+    // The libraries, of which a list of imports can be made.
+    fn listed_libraries<'a, 'e, I: LibraryCollector<'a>>(
         &self,
         alloc: Global,
         bytes: &'a [u8],
         address_map: &AddressMap,
-    ) -> Result<Part<ImportData<'a>>>
+        imports: I,
+    ) -> ResultOf<'e, Part<I>>
+        requires { I.items imports ≡ [] }
         ensures value { let m = offset_of address_map.now in
             let places = table_places self.now in
-            ReadsOrMemory (with_list self.now.magic) result
-            (import_parts address_map.now.opts m places) bytes.now }
-        ensures listed { IfOk result (HasList address_map.now.opts (table_places self.now)) }
+            ReadsOrMemory (part_map I.items) result
+            (mapped (collected_libraries I.items_of self.now.magic)
+            (import_parts address_map.now.opts m places))
+            bytes.now }
     {
-        self.import_data(alloc, bytes, address_map)
+        self.libraries(alloc, bytes, address_map, imports)
     }
 
     // The imports of import data.
@@ -245,26 +275,28 @@ impl Tables {
         }
     }
 
-    // The export data, and the exports that it lists.
-    #[tactic(auto, unfolding(crate::specs::Whole::export_part, crate::specs::Whole::part_of, crate::specs::Whole::part_map))]
-    fn exports<'a>(
+    // The export data, and the exports that it lists, as they are collected.
+    fn exports<'a, 'e, E: ExportCollector<'a>>(
         &self,
         alloc: Global,
         bytes: &'a [u8],
         address_map: &AddressMap,
-    ) -> Result<Part<ExportRead<'a>>>
+        exports: E,
+    ) -> ResultOf<'e, Part<(ExportData<'a>, E)>>
+        requires { E.items exports ≡ [] }
         ensures { let m = offset_of address_map.now in
             let places = table_places self.now in
-            ReadsOrMemory (part_map export_read_view) result
-            (export_part address_map.now.opts m places) bytes.now }
+            ReadsOrMemory (part_map (export_rows_view E.items)) result
+            (mapped (part_map (collected_exports E.item_of))
+            (export_part address_map.now.opts m places))
+            bytes.now }
     {
-        let Some(directory) = self.exports else {
-            return Ok(Part::Absent);
-        };
-        match exports_of(alloc, bytes, directory, address_map) {
-            Ok(read) => Ok(Part::Read(read)),
-            Err(error) if is_passed_over(&error, address_map.is_permissive()) => Ok(Part::Refused),
-            Err(error) => Err(error),
+        match self.exports {
+            Some(directory) => part_of(
+                exports_of(alloc, bytes, directory, address_map, exports),
+                address_map.opts(),
+            ),
+            None => Ok(Part::Absent),
         }
     }
 
@@ -317,63 +349,68 @@ impl Tables {
 
     // All tables; refused for the first of them that refuses all. The list of imports is never the
     // first.
-    #[tactic(auto, unfolding(crate::specs::Whole::table_parts))]
-    fn read<'a>(
+    fn read<'a, 'e, I: LibraryCollector<'a>, E: ExportCollector<'a>>(
         &self,
         alloc: Global,
         bytes: &'a [u8],
         sections: &[SectionTable],
         opts: &ParseOptions,
-    ) -> Result<FileTables<'a>>
-        ensures value { let places = table_places self.now in
+        imports: I,
+        exports: E,
+    ) -> ResultOf<'e, FileTables<'a, I, E>>
+        requires imports { I.items imports ≡ [] }
+        requires exports { E.items exports ≡ [] }
+        ensures { let places = table_places self.now in
             let m = offset_by opts.now sections.now places in
-            ReadsOrMemory (tables_view self.now.magic) result (table_parts opts.now m places)
+            ReadsOrMemory (tables_view I.items E.items) result
+            (mapped (collected_tables I.items_of E.item_of self.now.magic)
+            (table_parts opts.now m places))
             bytes.now }
-        ensures listed { IfOk result
-            (λ t. HasList opts.now (table_places self.now) t.import_data) }
     {
         let address_map = self.address_map(alloc, sections, opts)?;
-        let import_data = self.listed_data(alloc, bytes, &address_map)?;
-        let exports = self.exports(alloc, bytes, &address_map)?;
+        let imports = self.listed_libraries(alloc, bytes, &address_map, imports)?;
+        let exports = self.exports(alloc, bytes, &address_map, exports)?;
         let relocations = self.relocations(bytes, sections, opts)?;
-        drop(address_map);
         Ok(FileTables {
-            import_data,
+            imports,
             exports,
             relocations,
         })
     }
 }
 
-// The tables of a file, without the list of imports.
-struct FileTables<'a> {
-    import_data: Part<ImportData<'a>>,
-    exports: Part<ExportRead<'a>>,
+// The tables of a file, as they are collected.
+#[derive(Drop)]
+struct FileTables<'a, I: Drop, E: Drop> {
+    imports: Part<I>,
+    exports: Part<(ExportData<'a>, E)>,
     relocations: Part<RelocationData<'a>>,
 }
 
-// The export data of a directory, and the exports that it lists.
+// The export data of a directory, and the exports that it lists, as they are collected.
 #[tactic(auto, unfolding(goblin_pe_tables::specs::ExportReadings::export_read, goblin_pe_tables::specs::ExportReadings::exports))]
-fn exports_of<'a>(
+fn exports_of<'a, 'e, E: ExportCollector<'a>>(
     alloc: Global,
     bytes: &'a [u8],
     directory: DataDirectory,
     address_map: &AddressMap,
-) -> Result<ExportRead<'a>>
+    exports: E,
+) -> ResultOf<'e, (ExportData<'a>, E)>
+    requires { E.items exports ≡ [] }
     ensures { let m = offset_of address_map.now in
-        ReadsOrMemory export_read_view result (export_read m directory) bytes.now }
+        ReadsOrMemory (export_rows_view E.items) result
+        (mapped (collected_exports E.item_of) (export_read m directory)) bytes.now }
 {
     let data = ExportData::parse_by(alloc, bytes, directory, address_map)?;
-    let exports = Export::parse_by(alloc, bytes, &data, address_map)?;
-    Ok((data, exports))
+    let rows = Export::parse_into(bytes, &data, address_map, exports)?;
+    Ok((data, rows))
 }
 
-// Export data and the exports that it lists, each as a part of its own.
+// Export data and what was kept of its exports, each as a part of its own.
 #[tactic(auto, unfolding(crate::specs::Whole::part_map))]
-fn export_parts<'a>(read: Part<ExportRead<'a>>) -> (Part<ExportData<'a>>, Part<Vec<Export<'a>>>)
-    ensures data { result.0 ≡ part_map (λ x. x.0) (part_map export_read_view read.entry) }
-    ensures rows { items_part result.1
-        ≡ part_map (λ x. x.1) (part_map export_read_view read.entry) }
+fn export_parts<'a, E: Drop>(read: Part<(ExportData<'a>, E)>) -> (Part<ExportData<'a>>, Part<E>)
+    ensures data { result.0 ≡ part_map (λ x. x.0) read.entry }
+    ensures rows { result.1 ≡ part_map (λ x. x.1) read.entry }
 {
     match read {
         Part::Absent => (Part::Absent, Part::Absent),
@@ -411,6 +448,55 @@ fn sections_of(
     coff_header.sections_with_opts(alloc, bytes, &mut offset, opts)
 }
 
+impl<'a, I: LibraryCollector<'a>, E: ExportCollector<'a>> CollectedFile<'a, I, E> {
+    /// Reads a whole file as [`Whole::read`] does, and hands its imports to `imports`, library by
+    /// library, and its exports to `exports`, one by one. Both are empty before. The file is refused
+    /// where [`Whole::read`] would refuse it for another cause than memory, and a list of imports
+    /// can be made of all libraries.
+    ///
+    /// # Errors
+    /// As [`Whole::read`].
+    #[tactic(auto, using(goblin_pe_head::proofs::HeaderFaults::header_there))]
+    pub fn read<'e>(
+        alloc: Global,
+        bytes: &'a [u8],
+        opts: &ParseOptions,
+        imports: I,
+        exports: E,
+    ) -> ResultOf<'e, CollectedFile<'a, I, E>>
+        requires imports { I.items imports ≡ [] }
+        requires exports { E.items exports ≡ [] }
+        ensures value { ReadsOrMemory (collected_view I.items E.items) result
+            (mapped (collected_file I.items_of E.item_of) (whole_file opts.now)) bytes.now }
+        ensures listed { IfSome ((whole_file opts.now).value bytes.now) (HasImports opts.now) }
+        ensures first { let found = (pe_header (is_strict opts.now.parse_mode)).value bytes.now in
+            IfSome found (λ header.
+            let count = header.coff_header.number_of_sections in
+            length bytes.now / 40 < count → IsErrAnd result (IsTooManySections count bytes.now)) }
+        ensures grown { IfErr result
+            (λ e.
+            IsMemory e → IsSome ((pe_header (is_strict opts.now.parse_mode)).value bytes.now)) }
+    {
+        let header = Header::parse_with_opts(bytes, opts)?;
+        let sections = sections_of(alloc, bytes, &header, opts)?;
+        let tables = Tables::of(&header.optional_header);
+        let FileTables {
+            imports,
+            exports,
+            relocations,
+        } = tables.read(alloc, bytes, &sections, opts, imports, exports)?;
+        let (export_data, exports) = export_parts(exports);
+        Ok(CollectedFile {
+            header,
+            sections,
+            imports,
+            export_data,
+            exports,
+            relocations,
+        })
+    }
+}
+
 impl<'a> Whole<'a> {
     /// Reads a whole file: its header, its sections, its imports, exports and base relocations. The
     /// section table follows the optional header, whose size is the one in the COFF header. The
@@ -436,48 +522,20 @@ impl<'a> Whole<'a> {
             (λ e.
             IsMemory e → IsSome ((pe_header (is_strict opts.now.parse_mode)).value bytes.now)) }
     {
-        let mut whole = Whole::read_data(alloc, bytes, opts)?;
-        let tables = Tables::of(&whole.header.optional_header);
-        whole.imports = tables.imports(alloc, bytes, &whole.import_data, &whole.sections, opts)?;
-        Ok(whole)
-    }
-
-    /// Reads a whole file as [`Whole::read`] does, and makes no list of imports: `imports` is
-    /// [`Part::Absent`]. The import data has all that the list would have, and the file is refused
-    /// where [`Whole::read`] would refuse it for another cause than memory.
-    ///
-    /// # Errors
-    /// As [`Whole::read`].
-    #[tactic(auto, unfolding(crate::specs::Whole::whole_file, crate::specs::Whole::whole_with, crate::specs::Whole::part_map), using(goblin_pe_head::proofs::HeaderFaults::header_there))]
-    pub fn read_data(alloc: Global, bytes: &'a [u8], opts: &ParseOptions) -> Result<Whole<'a>>
-        ensures value { ReadsOrMemory with_imports result (whole_file opts.now) bytes.now }
-        ensures absent { IfOk result (λ w. w.imports ≡ Absent) }
-        ensures listed { IfOk result (HasImports opts.now) }
-        ensures first { let found = (pe_header (is_strict opts.now.parse_mode)).value bytes.now in
-            IfSome found (λ header.
-            let count = header.coff_header.number_of_sections in
-            length bytes.now / 40 < count → IsErrAnd result (IsTooManySections count bytes.now)) }
-        ensures grown { IfErr result
-            (λ e.
-            IsMemory e → IsSome ((pe_header (is_strict opts.now.parse_mode)).value bytes.now)) }
-    {
-        let header = Header::parse_with_opts(bytes, opts)?;
-        let sections = sections_of(alloc, bytes, &header, opts)?;
-        let tables = Tables::of(&header.optional_header);
-        let FileTables {
-            import_data,
-            exports,
-            relocations,
-        } = tables.read(alloc, bytes, &sections, opts)?;
-        let (export_data, exports) = export_parts(exports);
+        let libraries = ImportData {
+            import_data: Vec::new(alloc),
+        };
+        let file = CollectedFile::read(alloc, bytes, opts, libraries, Vec::new(alloc))?;
+        let tables = Tables::of(&file.header.optional_header);
+        let imports = tables.imports(alloc, bytes, &file.imports, &file.sections, opts)?;
         Ok(Whole {
-            header,
-            sections,
-            import_data,
-            imports: Part::Absent,
-            export_data,
-            exports,
-            relocations,
+            header: file.header,
+            sections: file.sections,
+            import_data: file.imports,
+            imports,
+            export_data: file.export_data,
+            exports: file.exports,
+            relocations: file.relocations,
         })
     }
 

@@ -1,0 +1,264 @@
+-- What collectors keep of a file is made of the file's own value.
+use Rattle.std.proofs.Common.{◌≡◌, ◌∙◌, ℕ, zero, suc, ◌++◌, List, [], ◌∷◌, map, Bool, true, false}
+use Rattle.std.proofs.Common.{cond, Option, Some, None, refl, sym, ap}
+use Rattle.std.specs.Prelude.{IfSome, Result, Ok, Err, option_map}
+use Rattle.std.specs.List.{flat_map}
+use Rattle.std.proofs.lemmas.List.{map-id}
+use Rattle.std.proofs.lemmas.List.Concat.{flat_map_single}
+use Rattle.goblin_base.specs.declared.error.ErrorOf.{ErrorOf}
+use Rattle.goblin_base.specs.Answers.{◌>>=◌}
+use Rattle.goblin_base.specs.Reading.{Reading, ReadsOrMemory}
+use Rattle.goblin_base.proofs.Steps as steps
+use Rattle.readings.specs.Reads.{mapped, pair_of, pick, turned}
+use Rattle.goblin_pe_sect.specs.declared.options.ParseOptions.{ParseOptions}
+use Rattle.goblin_pe_sect.specs.Options.{is_strict}
+use Rattle.goblin_pe_sect.specs.SectionTable.{Section}
+use Rattle.goblin_pe_head.specs.HeaderReadings.{pe_header}
+use Rattle.goblin_pe_head.specs.PeHeader.{PeHeader}
+use Rattle.goblin_pe_tables.proofs.ImportBound.{pair_of-left, pair_of-right}
+use Rattle.goblin_pe_tables.specs.ExportRecords.{ExportRow, ExportTables}
+use Rattle.goblin_pe_tables.specs.ImportRecords.{ImportedLibrary}
+use Rattle.goblin_pe_tables.specs.Imports.{ImportValue}
+use Rattle.goblin_pe.specs.declared.whole.Part.{Part}
+use Rattle.goblin_pe.specs.declared.whole.Part.TheVariants.{Absent, Refused}
+use Rattle.goblin_pe.specs.declared.whole.Part.TheVariants as part
+use Rattle.goblin_pe.specs.Whole.{BecomesPart, CollectedFileValue, CollectedParts, HasImports}
+use Rattle.goblin_pe.specs.Whole.{TablePlaces, TableParts, WholeFile, collected_exports}
+use Rattle.goblin_pe.specs.Whole.{collected_file, collected_tables, import_part, import_parts}
+use Rattle.goblin_pe.specs.Whole.{imports_part}
+use Rattle.goblin_pe.specs.Whole.{offset_by, part_map, part_of, places_in, sections_after}
+use Rattle.goblin_pe.specs.Whole.{table_parts, whole_file, whole_of, whole_with}
+use Rattle.goblin_pe.proofs.Parts.{becomes_part}
+
+-- ---- values that something is made of
+
+pub unmapped : {A B : Type 0} (f : A → B) (o : Option A) → option_map f o ≡ None → o ≡ None
+unmapped f None e = refl
+unmapped f (Some x) e = absurd cc
+
+if-some : {A : Type 0} (o : Option A) (P : A → Type 0) → ((x : A) → o ≡ Some x → P x) → IfSome o P
+if-some None P h = tt
+if-some (Some x) P h = h x refl
+
+-- ---- parts
+
+part-mapped : {A B : Type 0} (f : A → B) (strict : Bool) (table : Option A)
+    → part_of strict (option_map f table) ≡ option_map (part_map f) (part_of strict table)
+unfolding part_of part_map
+part-mapped f strict (Some x) = refl
+part-mapped f true None = refl
+part-mapped f false None = refl
+
+-- the part of a table of which something is made
+pub becomes_mapped : {X A B : Type 0} (view : X → B) (f : A → B) (r : Reading A) (bytes : List ℕ)
+    (strict : Bool) (asked : Result X ErrorOf) (made : Result (Part X) ErrorOf)
+    → ReadsOrMemory view asked (mapped f r) bytes → BecomesPart strict asked made
+    → ReadsOrMemory (part_map view) made (mapped (part_map f) (turned (part_of strict) r)) bytes
+becomes_mapped view f r bytes strict asked (Ok p) h is =
+    sym (part-mapped f strict (r.value bytes))
+    ∙ becomes_part view (mapped f r) bytes strict asked (Ok p) h is
+becomes_mapped view f r bytes strict asked (Err e) h is =
+    let made = becomes_part view (mapped f r) bytes strict asked (Err e) h is in
+    λ other. (sym (part-mapped f strict (r.value bytes)) ∙ (made other).0, (made other).1)
+
+-- the reading that is picked, of which something is made
+pub picked_mapped : {X A B : Type 0} (view : X → B) (f : A → B) (result : Result X ErrorOf)
+    (bytes : List ℕ) (test : Bool) (r s : Reading A) → test ≡ true
+    → ReadsOrMemory view result (mapped f r) bytes
+    → ReadsOrMemory view result (mapped f (pick test r s)) bytes
+picked_mapped view f result bytes true r s is h = h
+picked_mapped view f result bytes false r s is h = absurd cc
+
+-- ---- the tables of a file
+
+module _ {X Y : Type 0} (items_of : ℕ → ImportedLibrary → List X) (item_of : ExportRow → Y) where
+  export-tables : (p : Part (ExportTables × List ExportRow))
+      → part_map (λ read. read.0) (part_map (collected_exports item_of) p)
+      ≡ part_map (λ read. read.0) p
+  unfolding part_map
+  export-tables Absent = refl
+  export-tables (part.Read read) = refl
+  export-tables Refused = refl
+
+  export-rows : (p : Part (ExportTables × List ExportRow))
+      → part_map (λ read. read.1) (part_map (collected_exports item_of) p)
+      ≡ part_map (map item_of) (part_map (λ read. read.1) p)
+  unfolding part_map
+  export-rows Absent = refl
+  export-rows (part.Read read) = refl
+  export-rows Refused = refl
+
+  -- what is kept of a file with this header and these sections, and of whose tables this is kept
+  abbrev file_with : PeHeader → List Section → CollectedParts X Y → CollectedFileValue X Y
+  file_with h sections t = record {
+    header = h;
+    sections = sections;
+    imports = t.0.0;
+    export_data = part_map (λ read. read.0) t.0.1;
+    exports = part_map (λ read. read.1) t.0.1;
+    relocations = t.1;
+  }
+
+  file-collected : (h : PeHeader) (sections : List Section) (parts : TableParts)
+      → collected_file items_of item_of (whole_of h sections parts)
+      ≡ file_with h sections
+      (collected_tables items_of item_of (places_in h.optional_header).magic parts)
+  file-collected h sections parts =
+      rw (export-tables parts.0.1, export-rows parts.0.1) refl
+
+  module _ (opts : ParseOptions) (h : PeHeader) (sections : List Section) (bytes : List ℕ) where
+    abbrev tables_of : Option TableParts
+    tables_of =
+        let places = places_in h.optional_header in
+        (table_parts opts (offset_by opts sections places) places).value bytes
+
+    pub file-read : (t : CollectedParts X Y)
+        → option_map (collected_tables items_of item_of (places_in h.optional_header).magic)
+        tables_of ≡ Some t
+        → option_map (collected_file items_of item_of) ((whole_with opts h sections).value bytes)
+        ≡ Some (file_with h sections t)
+    unfolding whole_with
+    file-read t e =
+        let m = steps.mapped tables_of _ t e in
+        rw m.is
+        (ap (λ (x : CollectedFileValue X Y). Some x) (file-collected h sections m.value)
+        ∙ ap (λ (x : CollectedParts X Y). Some (file_with h sections x)) m.made)
+
+    pub file-refused :
+        option_map (collected_tables items_of item_of (places_in h.optional_header).magic)
+        tables_of ≡ None
+        → option_map (collected_file items_of item_of) ((whole_with opts h sections).value bytes)
+        ≡ None
+    unfolding whole_with
+    file-refused e = rw (unmapped _ tables_of e) refl
+
+-- ---- the whole file
+
+-- The header of a file that was read, its sections, and its tables.
+pub record IsWhole (opts : ParseOptions) (bytes : List ℕ) (w : WholeFile) : Type 0 where
+  pub header : PeHeader
+  pub sections : List Section
+  pub parts : TableParts
+  pub read : (table_parts opts (offset_by opts sections (places_in header.optional_header))
+      (places_in header.optional_header)).value bytes ≡ Some parts
+  pub made : whole_of header sections parts ≡ w
+
+pub whole-parts : (opts : ParseOptions) (bytes : List ℕ) (w : WholeFile)
+    → (whole_file opts).value bytes ≡ Some w → IsWhole opts bytes w
+unfolding whole_file whole_with
+whole-parts opts bytes w e =
+    let strict = is_strict opts.parse_mode in
+    let first = steps.step ((pe_header strict).value bytes) _ w e in
+    let second = steps.step ((sections_after strict first.value).value bytes) _ w first.then in
+    let places = places_in first.value.optional_header in
+    let tables = (table_parts opts (offset_by opts second.value places) places).value bytes in
+    let last = steps.mapped tables _ w second.then in
+    record {
+      header = first.value;
+      sections = second.value;
+      parts = last.value;
+      read = last.is;
+      made = last.made;
+    }
+
+module _ (opts : ParseOptions) (bytes : List ℕ) (offset_of : ℕ → Option ℕ) (places : TablePlaces)
+    where
+  -- the tables that were read have import data, and the list of imports that is made of it
+  pub parts-libraries : (parts : TableParts)
+      → (table_parts opts offset_of places).value bytes ≡ Some parts
+      → (import_part opts offset_of places).value bytes ≡ Some parts.0.0.0
+  unfolding table_parts import_parts
+  parts-libraries parts e =
+      let both = pair_of-left _ _ parts.0 (pair_of-left _ _ parts e) in
+      let found = steps.step ((import_part opts offset_of places).value bytes) _ parts.0.0 both in
+      found.is ∙ pair_of-left (Some found.value) _ parts.0.0 found.then
+
+  pub parts-imports : (parts : TableParts)
+      → (table_parts opts offset_of places).value bytes ≡ Some parts
+      → imports_part opts places parts.0.0.0 ≡ Some parts.0.0.1
+  unfolding table_parts import_parts
+  parts-imports parts e =
+      let both = pair_of-left _ _ parts.0 (pair_of-left _ _ parts e) in
+      let found = steps.step ((import_part opts offset_of places).value bytes) _ parts.0.0 both in
+      let same = steps.same_value found.value parts.0.0.0 (pair_of-left (Some found.value) _ parts.0.0 found.then) in
+      rw (← same) (pair_of-right (Some found.value) _ parts.0.0 found.then)
+
+-- the list of imports of a file is made of its import data
+pub whole-imports : (opts : ParseOptions) (bytes : List ℕ) (w : WholeFile)
+    → (whole_file opts).value bytes ≡ Some w
+    → imports_part opts (places_in w.header.optional_header) w.import_data ≡ Some w.imports
+whole-imports opts bytes w e =
+    let is = whole-parts opts bytes w e in
+    let places = places_in is.header.optional_header in
+    let made = parts-imports opts bytes (offset_by opts is.sections places) places is.parts is.read in
+    rw (← is.made) made
+
+-- ---- a file whose libraries and exports are all kept
+
+kept-libraries : (p : Part (List ImportedLibrary))
+    → part_map (flat_map (λ library. library ∷ [])) p ≡ p
+unfolding part_map
+kept-libraries Absent = refl
+kept-libraries (part.Read libraries) =
+    ap (λ (xs : List ImportedLibrary). part.Read xs)
+    (flat_map_single (λ (l : ImportedLibrary). l) libraries ∙ map-id libraries)
+kept-libraries Refused = refl
+
+kept-rows : (p : Part (List ExportRow)) → part_map (map (λ row. row)) p ≡ p
+unfolding part_map
+kept-rows Absent = refl
+kept-rows (part.Read rows) = ap (λ (xs : List ExportRow). part.Read xs) (map-id rows)
+kept-rows Refused = refl
+
+abbrev AllKept : Type 0
+AllKept = CollectedFileValue ImportedLibrary ExportRow
+
+abbrev all_kept : WholeFile → AllKept
+all_kept w = collected_file (λ size library. library ∷ []) (λ row. row) w
+
+-- with its list of imports
+abbrev whole_with_imports : AllKept → Part (List ImportValue) → WholeFile
+whole_with_imports c imports = record {
+  header = c.header;
+  sections = c.sections;
+  import_data = c.imports;
+  imports = imports;
+  export_data = c.export_data;
+  exports = c.exports;
+  relocations = c.relocations;
+}
+
+all-kept : (w : WholeFile) → whole_with_imports (all_kept w) w.imports ≡ w
+all-kept w = rw (kept-libraries w.import_data, kept-rows w.exports) refl
+
+module _ (opts : ParseOptions) (bytes : List ℕ) (c : AllKept)
+    (is : option_map all_kept ((whole_file opts).value bytes) ≡ Some c) where
+  abbrev list_of : Option (Part (List ImportValue))
+  list_of = imports_part opts (places_in c.header.optional_header) c.imports
+
+  kept-list : (w : WholeFile) → all_kept w ≡ c
+      → imports_part opts (places_in w.header.optional_header) w.import_data ≡ list_of
+  kept-list w made =
+      ap (imports_part opts (places_in w.header.optional_header)) (sym (kept-libraries w.import_data))
+      ∙ ap (λ (k : AllKept). imports_part opts (places_in k.header.optional_header) k.imports) made
+
+  pub whole-kept : (imports : Part (List ImportValue)) → list_of ≡ Some imports
+      → (whole_file opts).value bytes ≡ Some (whole_with_imports c imports)
+  whole-kept imports listed =
+      let m = steps.mapped ((whole_file opts).value bytes) all_kept c is in
+      let w = m.value in
+      let own = sym (whole-imports opts bytes w m.is) ∙ kept-list w m.made ∙ listed in
+      let same = steps.same_value w.imports imports own in
+      m.is
+      ∙ ap (λ (x : WholeFile). Some x) (sym (all-kept w))
+      ∙ ap (λ (k : AllKept). Some (whole_with_imports k w.imports)) m.made
+      ∙ ap (λ (list : Part (List ImportValue)). Some (whole_with_imports c list)) same
+
+  pub list-there : list_of ≡ None → ⊥
+  list-there none =
+      let m = steps.mapped ((whole_file opts).value bytes) all_kept c is in
+      let there = sym (whole-imports opts bytes m.value m.is) ∙ kept-list m.value m.made ∙ none in
+      not-none m.value.imports there
+    where
+      not-none : {A : Type 0} (x : A) → Some x ≡ None → ⊥
+      not-none x e = absurd cc
