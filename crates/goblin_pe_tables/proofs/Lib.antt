@@ -1,3 +1,4 @@
+pub mod Collected
 pub mod ExportDirectoryRoundTrip
 mod ExportGrowths
 mod ExportRows
@@ -7,6 +8,7 @@ pub mod ImportDirectoryRoundTrip
 pub mod Imports
 pub mod LibraryNames
 mod Listed
+pub mod ListedImports
 pub mod LookupSlots
 pub mod Modes
 pub mod PermissiveReads

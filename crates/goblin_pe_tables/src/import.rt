@@ -4,15 +4,19 @@
 //! library. Each leads to a lookup table and an address table, whose entries with one index are one
 //! import: the lookup table says which, and the loader puts its address into the other.
 
-ghost use Rattle.std.specs.Prelude.{◌≡◌, ◌⊎◌, IfErr, IsSomeAnd, false, option_to_list, true};
+ghost use Rattle.std.specs.Prelude.{◌≡◌, ◌⊎◌, [], IfErr, IfOk, IfSome, IsSome, IsSomeAnd, false};
+ghost use Rattle.std.specs.Prelude.{option_to_list, true};
+ghost use Rattle.std.specs.List.{flat_map};
 ghost use Rattle.goblin_base.specs.Answers.{IsMemory};
 ghost use Rattle.goblin_base.specs.Reading.{ReadsOrMemory};
+ghost use Rattle.readings.specs.Reads.{mapped};
 ghost use Rattle.goblin_pe_sect.specs.Mapping.{file_offset};
 ghost use Rattle.goblin_pe_sect.specs.Options.{default_options, is_strict};
 ghost use Rattle.goblin_pe_sect.specs.WindowIndex.{HasPieces};
 ghost use Rattle.goblin_pe_tables.specs.Addresses.{offset_of, reads_strictly};
 ghost use Rattle.goblin_pe_tables.specs.ImportDirectory.{HasRecords};
 ghost use Rattle.goblin_pe_tables.specs.ImportReadings as reading;
+ghost use Rattle.goblin_pe_tables.specs.Imports.{library_imports};
 
 use crate::address_map::AddressMap;
 use goblin_base::{Cause, Endian, Error, Record, ResultOf, is_passed_over};
@@ -24,6 +28,7 @@ use std::marker::Model;
 
 mod address_table;
 mod bitfield;
+mod collected;
 mod directory_entry;
 mod library;
 mod listed;
@@ -34,6 +39,7 @@ pub(crate) use bitfield::read_entry;
 pub use bitfield::{
     Bitfield, IMPORT_BY_ORDINAL_32, IMPORT_BY_ORDINAL_64, IMPORT_RVA_MASK_32, IMPORT_RVA_MASK_64,
 };
+pub use collected::Libraries;
 pub use directory_entry::{ImportDirectoryEntry, SIZEOF_IMPORT_DIRECTORY_ENTRY};
 pub use library::SyntheticImportDirectoryEntry;
 pub(crate) use library::{address_table_rva, lookup_offset};
@@ -65,10 +71,12 @@ fn kept_library<'a, 'e, T: Bitfield<'a>>(
     entry: ImportDirectoryEntry,
     address_map: &AddressMap,
 ) -> ResultOf<'e, Option<SyntheticImportDirectoryEntry<'a>>>
-    ensures { ReadsOrMemory option_to_list result
+    ensures value { ReadsOrMemory option_to_list result
         (reading.kept_library (reads_strictly address_map.now) T.format (offset_of address_map.now)
         entry)
         bytes.now }
+    ensures listed { IfOk result
+        (λ kept. IfSome kept (λ library. IsSome (library_imports T.format.width library))) }
 {
     match SyntheticImportDirectoryEntry::parse_by::<T>(alloc, bytes, entry, address_map) {
         Ok(library) => Ok(Some(library)),
@@ -77,20 +85,22 @@ fn kept_library<'a, 'e, T: Bitfield<'a>>(
     }
 }
 
-// The libraries of the directory at an offset.
-fn libraries<'a, 'e, T: Bitfield<'a>>(
+// The libraries of the directory at an offset, handed to `imports` one by one.
+fn libraries<'a, 'e, T: Bitfield<'a>, I: Libraries<'a>>(
     alloc: Global,
     bytes: &'a [u8],
     offset: usize,
     address_map: &AddressMap,
-) -> ResultOf<'e, ImportData<'a>>
-    ensures value { ReadsOrMemory (λ x. x) result
+    mut imports: I,
+) -> ResultOf<'e, I>
+    requires { I.items imports ≡ [] }
+    ensures value { ReadsOrMemory I.items result
+        (mapped (flat_map (I.items_of T.format.width))
         (reading.libraries_at (reads_strictly address_map.now) T.format (offset_of address_map.now)
-        offset)
+        offset))
         bytes.now }
     ensures grown { IfErr result (λ e. IsMemory e → HasRecords bytes.now offset) }
 {
-    let mut import_data = Vec::new(alloc);
     let mut place = offset;
     'records: loop {
         let Ok(record) = ImportDirectoryEntry::read_at(bytes, place, Endian::Little) else {
@@ -104,11 +114,11 @@ fn libraries<'a, 'e, T: Bitfield<'a>>(
         }
         let kept = kept_library::<T>(alloc, bytes, record, address_map)?;
         if let Some(library) = kept {
-            import_data.push(library)?;
+            imports.add(library, T::size_of())?;
         }
         place += SIZEOF_IMPORT_DIRECTORY_ENTRY;
     }
-    Ok(ImportData { import_data })
+    Ok(imports)
 }
 
 impl<'a> ImportData<'a> {
@@ -182,7 +192,7 @@ impl<'a> ImportData<'a> {
     ///
     /// # Errors
     /// As [`ImportData::parse_with_opts`].
-    #[tactic(auto, unfolding(crate::specs::ImportReadings::import_data, crate::specs::ImportReadings::libraries_past_front))]
+    #[tactic(auto, using(crate::proofs::Collected::all_kept))]
     pub fn parse_by<'e, T: Bitfield<'a>>(
         alloc: Global,
         bytes: &'a [u8],
@@ -200,6 +210,39 @@ impl<'a> ImportData<'a> {
             → IsSomeAnd (offset_of address_map.now directory.virtual_address)
             (HasRecords bytes.now)) }
     {
+        let imports = ImportData {
+            import_data: Vec::new(alloc),
+        };
+        ImportData::parse_into::<T, ImportData>(alloc, bytes, directory, address_map, imports)
+    }
+
+    /// The imports as [`ImportData::parse_by`] reads them, handed to `imports` library by library:
+    /// each library is handed over as soon as it is read, before the next one is. `imports` must be
+    /// empty; it comes back with what it keeps of all libraries, in their order.
+    ///
+    /// # Errors
+    /// As [`ImportData::parse_with_opts`]; [`Error::Memory`] also if memory is refused to `imports`.
+    #[tactic(auto, unfolding(crate::specs::ImportReadings::import_data, crate::specs::ImportReadings::libraries_past_front))]
+    pub fn parse_into<'e, T: Bitfield<'a>, I: Libraries<'a>>(
+        alloc: Global,
+        bytes: &'a [u8],
+        directory: DataDirectory,
+        address_map: &AddressMap,
+        imports: I,
+    ) -> ResultOf<'e, I>
+        requires { I.items imports ≡ [] }
+        ensures value { ReadsOrMemory I.items result
+            (mapped (flat_map (I.items_of T.format.width))
+            (reading.import_data (reads_strictly address_map.now) T.format
+            (offset_of address_map.now) directory.virtual_address))
+            bytes.now }
+        ensures permissive { reads_strictly address_map.now ≡ false → IfErr result IsMemory }
+        ensures grown { IfErr result
+            (λ e.
+            IsMemory e
+            → IsSomeAnd (offset_of address_map.now directory.virtual_address)
+            (HasRecords bytes.now)) }
+    {
         let rva = directory.virtual_address;
         let is_permissive = address_map.is_permissive();
         let offset = match address_map.offset_of(rva) {
@@ -208,9 +251,8 @@ impl<'a> ImportData<'a> {
             None => return Err(Error::Malformed(Cause::Unmapped(rva as usize))),
         };
         if is_permissive && offset == 0 {
-            let import_data = Vec::new(alloc);
-            return Ok(ImportData { import_data });
+            return Ok(imports);
         }
-        libraries::<T>(alloc, bytes, offset, address_map)
+        libraries::<T, I>(alloc, bytes, offset, address_map, imports)
     }
 }

@@ -1,6 +1,7 @@
 //! The libraries that an image imports from.
 
-ghost use Rattle.std.specs.Prelude.{◌≡◌, ◌⊎◌, [], IfErr, IsSomeAnd, map, option_map, true};
+ghost use Rattle.std.specs.Prelude.{◌≡◌, ◌⊎◌, ◌<◌, ◌^◌, [], IfErr, IsSomeAnd, map};
+ghost use Rattle.std.specs.Prelude.{option_map, true};
 ghost use Rattle.goblin_base.specs.Answers.{IsMemory};
 ghost use Rattle.goblin_base.specs.Reading.{Reads, ReadsOrMemory};
 ghost use Rattle.readings.specs.Reads.{or_else};
@@ -220,6 +221,7 @@ impl<'a> SyntheticImportDirectoryEntry<'a> {
             (reading.library_of (reads_strictly address_map.now) T.format
             (offset_of address_map.now) import_directory_entry)
             bytes.now }
+        ensures low { import_directory_entry.import_address_table_rva < 2 ^ 32 }
         ensures grown { IfErr result
             (λ e.
             IsMemory e

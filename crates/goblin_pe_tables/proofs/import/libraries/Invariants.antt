@@ -1,15 +1,17 @@
 use Rattle.std.proofs.Common.{length, ◌-◌}
-use Rattle.readings.proofs.Loops.{AtRead}
 use Rattle.goblin_pe_tables.specs.Addresses.{offset_of, reads_strictly}
 use Rattle.goblin_pe_tables.specs.ImportReadings.{kept_library}
 use Rattle.goblin_pe_tables.specs.ImportRecords.{import_slots}
+use Rattle.goblin_pe_tables.proofs.Collected.{AtCollected}
 use Rattle.goblin_pe_tables.proofs.import.libraries.Given as goal
 
 abbrev pub invariant-records : goal.invariant-records
 invariant-records g l =
-    AtRead import_slots
+    AtCollected import_slots
     (kept_library (reads_strictly l.fn.address_map) g.T.Bitfield.format
-    (offset_of l.fn.address_map)) l.fn.bytes l.fn.offset l.place l.import_data.items
+    (offset_of l.fn.address_map))
+    (g.I.Libraries.items_of g.T.Bitfield.format.width) l.fn.bytes l.fn.offset l.place
+    (g.I.Libraries.items l.imports)
 
 abbrev pub decreases-records : goal.decreases-records
 decreases-records g l = length l.fn.bytes - l.place
