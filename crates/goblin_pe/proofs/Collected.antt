@@ -1,15 +1,16 @@
 -- What collectors keep of a file is made of the file's own value.
-use Rattle.std.proofs.Common.{◌≡◌, ◌∙◌, ℕ, zero, suc, ◌++◌, List, [], ◌∷◌, map, Bool, true, false}
-use Rattle.std.proofs.Common.{cond, Option, Some, None, refl, sym, ap}
-use Rattle.std.specs.Prelude.{IfSome, Result, Ok, Err, option_map}
+use Rattle.std.proofs.Common.{◌≡◌, ◌∙◌, ℕ, ◌<◌, ◌^◌, List, [], ◌∷◌, length, map, Bool, true, false}
+use Rattle.std.proofs.Common.{Option, Some, None, refl, sym, ap, inl, inr}
+use Rattle.std.specs.Prelude.{◌⊎◌, IfSome, Result, Ok, Err, option_map}
 use Rattle.std.specs.List.{flat_map}
 use Rattle.std.proofs.lemmas.List.{map-id}
 use Rattle.std.proofs.lemmas.List.Concat.{flat_map_single}
 use Rattle.goblin_base.specs.declared.error.ErrorOf.{ErrorOf}
-use Rattle.goblin_base.specs.Answers.{◌>>=◌}
+use Rattle.goblin_base.specs.Bytes.{IsBytes}
 use Rattle.goblin_base.specs.Reading.{Reading, ReadsOrMemory}
 use Rattle.goblin_base.proofs.Steps as steps
-use Rattle.readings.specs.Reads.{mapped, pair_of, pick, turned}
+use Rattle.readings.specs.Reads.{◌beside◌, given, mapped, pair_of, pick, turned}
+use Rattle.goblin_pe_sect.specs.declared.data_directories.DataDirectory.{DataDirectory}
 use Rattle.goblin_pe_sect.specs.declared.options.ParseOptions.{ParseOptions}
 use Rattle.goblin_pe_sect.specs.Options.{is_strict}
 use Rattle.goblin_pe_sect.specs.SectionTable.{Section}
@@ -26,8 +27,10 @@ use Rattle.goblin_pe.specs.Whole.{BecomesPart, CollectedFileValue, CollectedPart
 use Rattle.goblin_pe.specs.Whole.{TablePlaces, TableParts, WholeFile, collected_exports}
 use Rattle.goblin_pe.specs.Whole.{collected_file, collected_tables, import_part, import_parts}
 use Rattle.goblin_pe.specs.Whole.{imports_part}
-use Rattle.goblin_pe.specs.Whole.{offset_by, part_map, part_of, places_in, sections_after}
+use Rattle.goblin_pe.specs.Whole.{offset_by, part_at, part_map, part_of, places_in}
+use Rattle.goblin_pe.specs.Whole.{sections_after}
 use Rattle.goblin_pe.specs.Whole.{table_parts, whole_file, whole_of, whole_with}
+use Rattle.goblin_pe.proofs.ListedImports.{data-listed}
 use Rattle.goblin_pe.proofs.Parts.{becomes_part}
 
 -- ---- values that something is made of
@@ -68,6 +71,62 @@ pub picked_mapped : {X A B : Type 0} (view : X → B) (f : A → B) (result : Re
     → ReadsOrMemory view result (mapped f (pick test r s)) bytes
 picked_mapped view f result bytes true r s is h = h
 picked_mapped view f result bytes false r s is h = absurd cc
+
+-- the part of a table that is not there
+pub absent_mapped : {X A B : Type 0} (view : X → B) (f : A → B) (strict : Bool)
+    (read : DataDirectory → Reading A) (directory : Option DataDirectory) (bytes : List ℕ)
+    → directory ≡ None
+    → option_map (part_map f) ((part_at strict read directory).value bytes)
+    ≡ Some (part_map view Absent)
+unfolding part_map
+absent_mapped view f strict read directory bytes is = rw is refl
+
+-- the part of a table that is not asked for, or not there
+pub unasked_mapped : {X A B : Type 0} (view : X → B) (f : A → B) (strict asked : Bool)
+    (read : DataDirectory → Reading A) (directory : Option DataDirectory) (bytes : List ℕ)
+    → (asked ≡ false) ⊎ (directory ≡ None)
+    → option_map (part_map f)
+    ((pick asked (part_at strict read directory) (given Absent)).value bytes)
+    ≡ Some (part_map view Absent)
+unfolding part_map
+unasked_mapped view f strict false read directory bytes is = refl
+unasked_mapped view f strict true read directory bytes (inl is) = absurd cc
+unasked_mapped view f strict true read directory bytes (inr is) = rw is refl
+
+-- ---- three reads side by side, of the first two of which something is made
+
+abbrev pub IsRefused : {Z : Type 0} → List ℕ → Reading Z → ErrorOf → Type 0
+IsRefused bytes r e = (r.value bytes ≡ None) × r.IsCause bytes e
+
+module _ {A B C X Y : Type 0} (a : Reading A) (b : Reading B) (c : Reading C) (f : A → X)
+    (g : B → Y) (bytes : List ℕ) where
+  abbrev all_made : Reading ((X × Y) × C)
+  all_made = mapped (λ all. ((f all.0.0, g all.0.1), all.1)) (a beside b beside c)
+
+  pub first-refused : (e : ErrorOf) → IsRefused bytes (mapped f a) e → IsRefused bytes all_made e
+  first-refused e h = rw (unmapped f (a.value bytes) h.0) (refl, h.1)
+
+  pub second-refused : (x : X) (e : ErrorOf) → option_map f (a.value bytes) ≡ Some x
+      → IsRefused bytes (mapped g b) e → IsRefused bytes all_made e
+  second-refused x e made h =
+      let m = steps.mapped (a.value bytes) f x made in
+      rw (m.is, unmapped g (b.value bytes) h.0) (refl, h.1)
+
+  pub third-refused : (x : X) (y : Y) (e : ErrorOf) → option_map f (a.value bytes) ≡ Some x
+      → option_map g (b.value bytes) ≡ Some y → IsRefused bytes c e → IsRefused bytes all_made e
+  third-refused x y e first second h =
+      let m = steps.mapped (a.value bytes) f x first in
+      let n = steps.mapped (b.value bytes) g y second in
+      rw (m.is, n.is, h.0) (refl, h.1)
+
+  pub all-read : (x : X) (y : Y) (z : C) → option_map f (a.value bytes) ≡ Some x
+      → option_map g (b.value bytes) ≡ Some y → c.value bytes ≡ Some z
+      → all_made.value bytes ≡ Some ((x, y), z)
+  all-read x y z first second third =
+      let m = steps.mapped (a.value bytes) f x first in
+      let n = steps.mapped (b.value bytes) g y second in
+      rw (m.is, n.is, third)
+      (ap (λ (x : X). Some ((x, g n.value), z)) m.made ∙ ap (λ (y : Y). Some ((x, y), z)) n.made)
 
 -- ---- the tables of a file
 
@@ -112,25 +171,23 @@ module _ {X Y : Type 0} (items_of : ℕ → ImportedLibrary → List X) (item_of
         let places = places_in h.optional_header in
         (table_parts opts (offset_by opts sections places) places).value bytes
 
-    pub file-read : (t : CollectedParts X Y)
+    pub file_read : (t : CollectedParts X Y)
         → option_map (collected_tables items_of item_of (places_in h.optional_header).magic)
         tables_of ≡ Some t
-        → option_map (collected_file items_of item_of) ((whole_with opts h sections).value bytes)
+        → option_map (collected_file items_of item_of) (option_map (whole_of h sections) tables_of)
         ≡ Some (file_with h sections t)
-    unfolding whole_with
-    file-read t e =
+    file_read t e =
         let m = steps.mapped tables_of _ t e in
         rw m.is
         (ap (λ (x : CollectedFileValue X Y). Some x) (file-collected h sections m.value)
         ∙ ap (λ (x : CollectedParts X Y). Some (file_with h sections x)) m.made)
 
-    pub file-refused :
+    pub file_refused :
         option_map (collected_tables items_of item_of (places_in h.optional_header).magic)
         tables_of ≡ None
-        → option_map (collected_file items_of item_of) ((whole_with opts h sections).value bytes)
+        → option_map (collected_file items_of item_of) (option_map (whole_of h sections) tables_of)
         ≡ None
-    unfolding whole_with
-    file-refused e = rw (unmapped _ tables_of e) refl
+    file_refused e = rw (unmapped _ tables_of e) refl
 
 -- ---- the whole file
 
@@ -192,6 +249,35 @@ whole-imports opts bytes w e =
     let places = places_in is.header.optional_header in
     let made = parts-imports opts bytes (offset_by opts is.sections places) places is.parts is.read in
     rw (← is.made) made
+
+module _ (opts : ParseOptions) (bytes : List ℕ) (short : length bytes < 2 ^ 63)
+    (fit : IsBytes bytes) where
+  -- of a file that was read a list of imports can be made
+  whole-listed : (w : WholeFile) → (whole_file opts).value bytes ≡ Some w → HasImports opts w
+  whole-listed w e =
+      let is = whole-parts opts bytes w e in
+      let places = places_in is.header.optional_header in
+      let offset_of = offset_by opts is.sections places in
+      let read = parts-libraries opts bytes offset_of places is.parts is.read in
+      rw (← is.made) (data-listed opts bytes places short fit offset_of is.parts.0.0.0 read)
+
+  pub file-listed : IfSome ((whole_file opts).value bytes) (HasImports opts)
+  file-listed = if-some ((whole_file opts).value bytes) (HasImports opts) whole-listed
+
+  -- libraries are collected as the import data of which a list can be made
+  pub collected-listed : {R Z : Type 0} (places : TablePlaces) (offset_of : ℕ → Option ℕ)
+      (view : R → Z) (f : Part (List ImportedLibrary) → Z) (read : Result R ErrorOf)
+      → ReadsOrMemory view read (mapped f (import_part opts offset_of places)) bytes
+      → ReadsOrMemory view read (mapped (λ both. f both.0) (import_parts opts offset_of places))
+      bytes
+  unfolding import_parts
+  collected-listed {R} {Z} places offset_of view f (Ok r) h =
+      let m = steps.mapped ((import_part opts offset_of places).value bytes) f (view r) h in
+      rw (m.is, data-listed opts bytes places short fit offset_of m.value m.is)
+      (ap (λ (z : Z). Some z) m.made)
+  collected-listed places offset_of view f (Err e) h =
+      λ other. rw (unmapped f ((import_part opts offset_of places).value bytes) (h other).0)
+      (refl, (h other).1)
 
 -- ---- a file whose libraries and exports are all kept
 

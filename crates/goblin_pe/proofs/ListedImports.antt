@@ -15,7 +15,7 @@ use Rattle.goblin_pe_tables.proofs.ListedImports.{imports_of-there}
 use Rattle.goblin_pe.specs.declared.whole.Part.{Part}
 use Rattle.goblin_pe.specs.declared.whole.Part.TheVariants.{Absent, Refused}
 use Rattle.goblin_pe.specs.declared.whole.Part.TheVariants as part
-use Rattle.goblin_pe.specs.Whole.{HasList, TablePlaces, entry_format, import_part, import_parts, imports_part, listed_imports, part_at, part_map, part_of, part_then, with_list}
+use Rattle.goblin_pe.specs.Whole.{HasList, TablePlaces, entry_format, import_part, imports_part, listed_imports, part_at, part_map, part_of, part_then}
 
 part-there : {A : Type 0} (strict : Bool) (table : Option (List A)) → IsSome table → part_of strict table ≡ Some (part.Read (unwrap_or table []))
 unfolding part_of
@@ -61,7 +61,8 @@ module _ (opts : ParseOptions) (file : List ℕ) (places : TablePlaces) (short :
   asked-listed false value p listed e = subst ListsImports (same_value Absent p e) absent-listed
 
   module _ (offset_of : ℕ → Option ℕ) where
-    data-listed : (p : Part (List ImportedLibrary))
+    -- of import data that was read a list of imports can be made
+    pub data-listed : (p : Part (List ImportedLibrary))
         → (import_part opts offset_of places).value file ≡ Some p → ListsImports p
     unfolding import_part
     data-listed p e =
@@ -75,18 +76,3 @@ module _ (opts : ParseOptions) (file : List ℕ) (places : TablePlaces) (short :
         (imports_of-there strict format offset_of file short bytes d.virtual_address libraries
         is)))
         e
-
-    -- of import data that was read a list of imports can be made
-    pub imports-listed : (read : Result (Part (List ImportedLibrary)) ErrorOf)
-        → ReadsOrMemory (λ x. x) read (import_part opts offset_of places) file
-        → IfOk read ListsImports
-    imports-listed (Ok p) h = data-listed p h
-    imports-listed (Err e) h = tt
-
-    -- and so import data is read with its list
-    pub with-listed : (read : Result (Part (List ImportedLibrary)) ErrorOf)
-        → ReadsOrMemory (λ x. x) read (import_part opts offset_of places) file
-        → ReadsOrMemory (with_list places.magic) read (import_parts opts offset_of places) file
-    unfolding import_parts
-    with-listed (Ok p) h = rw (h, data-listed p h) refl
-    with-listed (Err e) h = λ other. rw (h other).0 (refl, (h other).1)

@@ -1,9 +1,11 @@
 //! A whole file: its header, its sections, and the tables that its directories lead to.
 
 ghost use Rattle.std.specs.Prelude.{◌+◌, ◌≡◌, ◌<◌, ◌/◌, IfErr, IfOk, IfSome, IsErrAnd, IsSome};
-ghost use Rattle.std.specs.Prelude.{◌==◌, length};
+ghost use Rattle.std.specs.Prelude.{◌==◌, [], length, map};
+ghost use Rattle.std.specs.List.{flat_map};
 ghost use Rattle.goblin_base.specs.Answers.{AnswersOrMemory, GivesOrMemory, IsMemory};
 ghost use Rattle.goblin_base.specs.Reading.{Reads, ReadsOrMemory};
+ghost use Rattle.readings.specs.Reads.{mapped};
 ghost use Rattle.goblin_pe_sect.specs.AddressReadings.{text_at_address};
 ghost use Rattle.goblin_pe_sect.specs.BaseRelocations.{relocation_bytes};
 ghost use Rattle.goblin_pe_sect.specs.Options.{is_strict};
@@ -13,19 +15,18 @@ ghost use Rattle.goblin_pe_head.specs.PeHeader.{header_value};
 ghost use Rattle.goblin_pe_head.specs.CoffHeader.{IsTooManySections};
 ghost use Rattle.goblin_pe_tables.specs.Addresses.{offset_of, reads_strictly};
 ghost use Rattle.goblin_pe_tables.specs.ExportReadings.{export_read};
-ghost use Rattle.goblin_pe_tables.specs.ExportRecords.{export_read_view};
 ghost use Rattle.goblin_pe_tables.specs.ImportReadings.{import_data};
 ghost use Rattle.goblin_pe_tables.specs.Imports.{IsImportsFault, imports_of};
-ghost use Rattle.goblin_pe.specs.declared.whole.Part.TheVariants.{Absent};
-ghost use Rattle.goblin_pe.specs.Whole.{BecomesPart, HasImports, HasList, IsImportsPartFault};
-ghost use Rattle.goblin_pe.specs.Whole.{MapsAddresses};
-ghost use Rattle.goblin_pe.specs.Whole.{entry_format, export_part, import_part, import_parts};
-ghost use Rattle.goblin_pe.specs.Whole.{imports_part, items_part, offset_by, part_map, places_in};
-ghost use Rattle.goblin_pe.specs.Whole.{relocation_part, sections_after, table_parts, table_places};
-ghost use Rattle.goblin_pe.specs.Whole.{tables_view, whole_file, with_imports, with_list};
+ghost use Rattle.goblin_pe.specs.Whole.{BecomesPart, HasImports, IsImportsPartFault};
+ghost use Rattle.goblin_pe.specs.Whole.{MapsAddresses, collected_exports, collected_file};
+ghost use Rattle.goblin_pe.specs.Whole.{collected_libraries, collected_tables, collected_view};
+ghost use Rattle.goblin_pe.specs.Whole.{entry_format, export_part, export_rows_view, import_part};
+ghost use Rattle.goblin_pe.specs.Whole.{import_parts, imports_part, items_part, offset_by, part_map};
+ghost use Rattle.goblin_pe.specs.Whole.{places_in, relocation_part, sections_after, table_parts};
+ghost use Rattle.goblin_pe.specs.Whole.{table_places, tables_view, whole_file};
 
 use crate::export::{Export, ExportCollector, ExportData};
-use crate::import::{Import, ImportData, LibraryCollector};
+use crate::import::{Import, ImportData, Libraries};
 use crate::utils::{find_offset, try_name};
 use goblin_base::{Result, ResultOf, is_passed_over};
 use goblin_pe_head::header::{Header, SIZEOF_COFF_HEADER, SIZEOF_PE_MAGIC};
@@ -165,7 +166,7 @@ impl Tables {
 
     // The libraries of an import directory, as they are collected.
     #[tactic(auto, unfolding(crate::specs::Whole::entry_format))]
-    fn libraries_of<'a, 'e, I: LibraryCollector<'a>>(
+    fn libraries_of<'a, 'e, I: Libraries<'a>>(
         &self,
         alloc: Global,
         bytes: &'a [u8],
@@ -190,7 +191,7 @@ impl Tables {
     }
 
     // The libraries, if they were asked for.
-    fn libraries<'a, 'e, I: LibraryCollector<'a>>(
+    fn libraries<'a, 'e, I: Libraries<'a>>(
         &self,
         alloc: Global,
         bytes: &'a [u8],
@@ -216,7 +217,7 @@ impl Tables {
     }
 
     // The libraries, of which a list of imports can be made.
-    fn listed_libraries<'a, 'e, I: LibraryCollector<'a>>(
+    fn listed_libraries<'a, 'e, I: Libraries<'a>>(
         &self,
         alloc: Global,
         bytes: &'a [u8],
@@ -224,7 +225,7 @@ impl Tables {
         imports: I,
     ) -> ResultOf<'e, Part<I>>
         requires { I.items imports ≡ [] }
-        ensures value { let m = offset_of address_map.now in
+        ensures { let m = offset_of address_map.now in
             let places = table_places self.now in
             ReadsOrMemory (part_map I.items) result
             (mapped (collected_libraries I.items_of self.now.magic)
@@ -349,7 +350,7 @@ impl Tables {
 
     // All tables; refused for the first of them that refuses all. The list of imports is never the
     // first.
-    fn read<'a, 'e, I: LibraryCollector<'a>, E: ExportCollector<'a>>(
+    fn read<'a, 'e, I: Libraries<'a>, E: ExportCollector<'a>>(
         &self,
         alloc: Global,
         bytes: &'a [u8],
@@ -448,7 +449,7 @@ fn sections_of(
     coff_header.sections_with_opts(alloc, bytes, &mut offset, opts)
 }
 
-impl<'a, I: LibraryCollector<'a>, E: ExportCollector<'a>> CollectedFile<'a, I, E> {
+impl<'a, I: Libraries<'a>, E: ExportCollector<'a>> CollectedFile<'a, I, E> {
     /// Reads a whole file as [`Whole::read`] does, and hands its imports to `imports`, library by
     /// library, and its exports to `exports`, one by one. Both are empty before. The file is refused
     /// where [`Whole::read`] would refuse it for another cause than memory, and a list of imports
@@ -456,7 +457,7 @@ impl<'a, I: LibraryCollector<'a>, E: ExportCollector<'a>> CollectedFile<'a, I, E
     ///
     /// # Errors
     /// As [`Whole::read`].
-    #[tactic(auto, using(goblin_pe_head::proofs::HeaderFaults::header_there))]
+    #[tactic(auto, unfolding(crate::specs::Whole::whole_file, crate::specs::Whole::whole_with), using(goblin_pe_head::proofs::HeaderFaults::header_there, crate::proofs::Collected::file_read, crate::proofs::Collected::file_refused))]
     pub fn read<'e>(
         alloc: Global,
         bytes: &'a [u8],
@@ -468,7 +469,6 @@ impl<'a, I: LibraryCollector<'a>, E: ExportCollector<'a>> CollectedFile<'a, I, E
         requires exports { E.items exports ≡ [] }
         ensures value { ReadsOrMemory (collected_view I.items E.items) result
             (mapped (collected_file I.items_of E.item_of) (whole_file opts.now)) bytes.now }
-        ensures listed { IfSome ((whole_file opts.now).value bytes.now) (HasImports opts.now) }
         ensures first { let found = (pe_header (is_strict opts.now.parse_mode)).value bytes.now in
             IfSome found (λ header.
             let count = header.coff_header.number_of_sections in
