@@ -1,11 +1,17 @@
 -- Loops that make the records of imports from import data of which a list of imports can be made.
-use Rattle.std.proofs.Common.{◌≡◌, ◌<◌, ◌+◌, ◌*◌, ◌^◌, ℕ, Bool, true, false, cond, List, [], ◌∷◌, ◌++◌, length, map, Option, Some, None, IsSome, inl, inr, refl, sym, ap, arith, ◌∙◌, append-nil, append_assoc}
-use Rattle.std.specs.Prelude.{option_map, slice_get}
+use Rattle.std.proofs.Common.{◌≡◌, ◌<◌, ◌≤◌, ◌+◌, ◌*◌, ◌^◌, ℕ, zero, suc, Bool, true, false, cond, List, [], ◌∷◌, ◌++◌, length, map, Option, Some, None, IsSome, take_all, inl, inr, refl, sym, ap, arith, ◌∙◌, append-nil, append_assoc}
+use Rattle.std.specs.Prelude.{get_or, option_map, slice_get, take}
+use Rattle.std.specs.List.{flat_map}
+use Rattle.std.specs.Option.{is_some}
+use Rattle.std.proofs.Math.Seq.{take-suc}
 use Rattle.std.proofs.lemmas.Bool.{cases_lt, le-ltb, lt-ltb}
 use Rattle.std.proofs.lemmas.List.{length-map, map-append}
+use Rattle.std.proofs.lemmas.List.Concat.{flat_map-append}
+use Rattle.std.proofs.lemmas.Option.{get_or_from_slice_get}
 use Rattle.goblin_base.specs.Answers.{all_at}
 use Rattle.goblin_base.specs.Tables.{each_below}
-use Rattle.goblin_base.proofs.Steps.{all_at-more, all_at-zero}
+use Rattle.goblin_base.proofs.Below.{join-parts}
+use Rattle.goblin_base.proofs.Steps.{all_at-more, all_at-zero, same_value, step}
 use Rattle.goblin_pe_tables.proofs.Imports.{entry-refused, imported_at, library-next, library-refused}
 use Rattle.goblin_pe.specs.declared.whole.Part.{Part}
 use Rattle.goblin_pe.specs.declared.whole.Part.TheVariants.{Absent, Refused}
@@ -88,7 +94,7 @@ by_test : (test : Bool) (value : Option (List ImportValue)) → IsSome (cond tes
 by_test true value there = (refl, refl, there)
 by_test false value there = absurd cc
 
-has-list : (size : ℕ) (library : ImportedLibrary) → IsSome (library_imports size library) → HasList size library
+pub has-list : (size : ℕ) (library : ImportedLibrary) → IsSome (library_imports size library) → HasList size library
 has-list size library there =
     let both = by_test (has_slots library) (own_imports size library) there in
     record { counted = both.0; is = both.1; there = both.2 }
@@ -133,6 +139,49 @@ module _ (size : ℕ) (libraries : List ImportedLibrary) where
       let all : each_below (imported_at size libraries) (length libraries) ≡ Some h.made = ap (each_below (imported_at size libraries)) (sym end) ∙ h.so_far in
       rw all (sym h.said)
 
+-- ---- the libraries, one by one
+
+-- the records of the imports from a library
+abbrev pub own_records : ℕ → ImportedLibrary → List (ImportValue × List ℕ)
+own_records size library = map alone (table_entries (own_imports size library))
+
+module _ (size : ℕ) (libraries : List ImportedLibrary) where
+  -- those of a library that is there are those that its list has
+  own-listed : (library : ImportedLibrary) (xs : List ImportValue)
+      → library_imports size library ≡ Some xs → own_records size library ≡ map alone xs
+  own-listed library xs is =
+      let there : IsSome (library_imports size library) = ap is_some is in
+      let own = has-list size library there in
+      ap (λ (made : Option (List ImportValue)). map alone (table_entries made)) (sym own.is ∙ is)
+
+  collected-before : (n : ℕ) (xs : List ImportValue) → n ≤ length libraries
+      → each_below (imported_at size libraries) n ≡ Some xs
+      → flat_map (own_records size) (take n libraries) ≡ map alone xs
+  unfolding each_below
+  collected-before zero xs within e = ap (map alone) (same_value [] xs e)
+  collected-before (suc n) xs within e =
+      let parts = join-parts (each_below (imported_at size libraries) n) (imported_at size libraries n) xs e in
+      let before = collected-before n parts.0 (omega (arith, within)) parts.2 in
+      let s = step (slice_get libraries n) (library_imports size) parts.1 parts.3 in
+      let here : get_or libraries n s.value ≡ s.value = get_or_from_slice_get libraries n s.value s.value s.is in
+      let front : take (suc n) libraries ≡ take n libraries ++ s.value ∷ [] =
+      take-suc libraries n s.value (omega (arith, within)) ∙ ap (λ (l : ImportedLibrary). take n libraries ++ l ∷ []) here in
+      ap (flat_map (own_records size)) front
+      ∙ flat_map-append (own_records size) (take n libraries) (s.value ∷ [])
+      ∙ ap (λ (ys : List (ImportValue × List ℕ)). flat_map (own_records size) (take n libraries) ++ ys)
+      (append-nil (own_records size s.value) ∙ own-listed s.value parts.1 s.then)
+      ∙ ap (λ (ys : List (ImportValue × List ℕ)). ys ++ map alone parts.1) before
+      ∙ sym (map-append alone parts.0 parts.1) ∙ ap (map alone) (sym parts.4)
+
+  -- If a list of imports can be made of libraries, their records one by one are those of the list.
+  pub collected-listed : IsSome (imports_of size libraries)
+      → flat_map (own_records size) libraries ≡ map alone (listed size libraries)
+  unfolding imports_of
+  collected-listed there =
+      ap (flat_map (own_records size)) (sym (take_all (length libraries) libraries (omega arith)))
+      ∙ collected-before (length libraries) (listed size libraries) (omega arith)
+      (there-is (imports_of size libraries) there)
+
 -- ---- the part of a file
 
 -- the imports of a file's import data are those of its libraries
@@ -153,6 +202,18 @@ unfolding imports_part part_then listed_imports part_map imports_of each_below
 part-there opts places Absent h = refl
 part-there opts places (part.Read libraries) h = read-there (is_strict opts.parse_mode) (imports_of (entry_format places.magic).width libraries) h
 part-there opts places Refused h = refl
+
+-- the records of a file's libraries, one by one, are those of its imports
+pub part-collected : (opts : ParseOptions) (places : TablePlaces) (p : Part (List ImportedLibrary))
+    → imports_part opts places p ≡ Some (listed_imports places.magic p)
+    → entries_of (part_map (flat_map (own_records (entry_format places.magic).width)) p)
+    ≡ map alone (entries_of (listed_imports places.magic p))
+unfolding listed_imports part_map
+part-collected opts places Absent h = refl
+part-collected opts places (part.Read libraries) h =
+    collected-listed (entry_format places.magic).width libraries
+    (part-there opts places (part.Read libraries) h)
+part-collected opts places Refused h = refl
 
 -- so many records, so many values
 pub counted : (records : List PeImport) (xs : List ImportValue) → map import_view records ≡ map alone xs → length records ≡ length xs

@@ -1,17 +1,18 @@
 //! The records of imports.
 
-ghost use Rattle.std.specs.Prelude.{◌≡◌, ◌<◌, ◌+◌, ◌*◌, ◌++◌, ◌^◌, IsSome, length, map, min, true};
+ghost use Rattle.std.specs.Prelude.{◌≡◌, ◌<◌, ◌+◌, ◌*◌, ◌++◌, ◌^◌, [], IsSome, List, length, map};
+ghost use Rattle.std.specs.Prelude.{min, true, ℕ};
 ghost use Rattle.goblin_base.specs.Answers.{GivesOrMemory};
 ghost use Rattle.goblin_pe.specs.ImportLookup.{entry_view};
-ghost use Rattle.goblin_pe.specs.Imports.{has_slots, import_of, imports_by, imports_of, kept_count};
-ghost use Rattle.goblin_pe.specs.Imports.{kept_entries};
+ghost use Rattle.goblin_pe.specs.Imports.{ImportValue, has_slots, import_of, imports_by};
+ghost use Rattle.goblin_pe.specs.Imports.{imports_of, kept_count, kept_entries};
 ghost use Rattle.goblin_pe.specs.Whole.{entry_format, part_map, places_in};
 ghost use Rattle.goblin_pe_c.specs.Files.{entries_of};
 ghost use Rattle.goblin_pe_c.specs.Filled.{alone};
 ghost use Rattle.goblin_pe_c.specs.Imports.{import_view, listed, own_imports, table_entries};
 
 use goblin_pe::import::{
-    ImportData, SyntheticImportDirectoryEntry, SyntheticImportLookupTableEntry,
+    ImportData, Libraries, SyntheticImportDirectoryEntry, SyntheticImportLookupTableEntry,
 };
 use goblin_pe::optional_header::{MAGIC_32, OptionalHeader};
 use goblin_pe::{Part, Result};
@@ -149,6 +150,42 @@ fn push_library<'a>(
         library.import_directory_entry.import_address_table_rva,
         size,
     )
+}
+
+/// The records of imports, library by library.
+#[derive(Drop)]
+pub struct ImportRecords<'a> {
+    /// The records, in the order of the libraries and of their entries.
+    pub records: Vec<PeImport<'a>>,
+    bytes: &'a [u8],
+}
+
+impl<'a> ImportRecords<'a> {
+    /// No records yet, of imports that are read from `bytes`.
+    pub fn new(alloc: Global, bytes: &'a [u8]) -> ImportRecords<'a>
+        ensures { result.records.items ≡ [] }
+    {
+        ImportRecords {
+            records: Vec::new(alloc),
+            bytes,
+        }
+    }
+}
+
+impl<'a> Libraries<'a> for ImportRecords<'a> {
+    ghost Item = { ImportValue × List ℕ };
+
+    ghost items = { λ imports. map import_view imports.records.items };
+
+    ghost items_of = { λ size library. map alone (table_entries (own_imports size library)) };
+
+    /// Appends the records of the imports from a library, and lets go of it.
+    ///
+    /// # Errors
+    /// Where memory is refused.
+    fn add(&mut self, library: SyntheticImportDirectoryEntry<'a>, size: usize) -> Result<()> {
+        push_library(&mut self.records, self.bytes, &library, size)
+    }
 }
 
 // How many entries the lookup tables of libraries keep, or the greatest number, for which there is
