@@ -219,26 +219,26 @@ whole-parts opts bytes w e =
     }
 
 module _ (opts : ParseOptions) (bytes : List ℕ) (offset_of : ℕ → Option ℕ) (places : TablePlaces)
-    where
-  -- the tables that were read have import data, and the list of imports that is made of it
-  pub parts-libraries : (parts : TableParts)
-      → (table_parts opts offset_of places).value bytes ≡ Some parts
-      → (import_part opts offset_of places).value bytes ≡ Some parts.0.0.0
-  unfolding table_parts import_parts
-  parts-libraries parts e =
-      let both = pair_of-left _ _ parts.0 (pair_of-left _ _ parts e) in
-      let found = steps.step ((import_part opts offset_of places).value bytes) _ parts.0.0 both in
-      found.is ∙ pair_of-left (Some found.value) _ parts.0.0 found.then
+  where
+    -- the tables that were read have import data, and the list of imports that is made of it
+    pub parts-libraries : (parts : TableParts)
+        → (table_parts opts offset_of places).value bytes ≡ Some parts
+        → (import_part opts offset_of places).value bytes ≡ Some parts.0.0.0
+    unfolding table_parts import_parts
+    parts-libraries parts e =
+        let both = pair_of-left _ _ parts.0 (pair_of-left _ _ parts e) in
+        let found = steps.step ((import_part opts offset_of places).value bytes) _ parts.0.0 both in
+        found.is ∙ pair_of-left (Some found.value) _ parts.0.0 found.then
 
-  pub parts-imports : (parts : TableParts)
-      → (table_parts opts offset_of places).value bytes ≡ Some parts
-      → imports_part opts places parts.0.0.0 ≡ Some parts.0.0.1
-  unfolding table_parts import_parts
-  parts-imports parts e =
-      let both = pair_of-left _ _ parts.0 (pair_of-left _ _ parts e) in
-      let found = steps.step ((import_part opts offset_of places).value bytes) _ parts.0.0 both in
-      let same = steps.same_value found.value parts.0.0.0 (pair_of-left (Some found.value) _ parts.0.0 found.then) in
-      rw (← same) (pair_of-right (Some found.value) _ parts.0.0 found.then)
+    pub parts-imports : (parts : TableParts)
+        → (table_parts opts offset_of places).value bytes ≡ Some parts
+        → imports_part opts places parts.0.0.0 ≡ Some parts.0.0.1
+    unfolding table_parts import_parts
+    parts-imports parts e =
+        let both = pair_of-left _ _ parts.0 (pair_of-left _ _ parts e) in
+        let found = steps.step ((import_part opts offset_of places).value bytes) _ parts.0.0 both in
+        let same = steps.same_value found.value parts.0.0.0 (pair_of-left (Some found.value) _ parts.0.0 found.then) in
+        rw (← same) (pair_of-right (Some found.value) _ parts.0.0 found.then)
 
 -- the list of imports of a file is made of its import data
 pub whole-imports : (opts : ParseOptions) (bytes : List ℕ) (w : WholeFile)
@@ -296,10 +296,10 @@ kept-rows Absent = refl
 kept-rows (part.Read rows) = ap (λ (xs : List ExportRow). part.Read xs) (map-id rows)
 kept-rows Refused = refl
 
-abbrev AllKept : Type 0
+abbrev pub AllKept : Type 0
 AllKept = CollectedFileValue ImportedLibrary ExportRow
 
-abbrev all_kept : WholeFile → AllKept
+abbrev pub all_kept : WholeFile → AllKept
 all_kept w = collected_file (λ size library. library ∷ []) (λ row. row) w
 
 -- with its list of imports

@@ -93,7 +93,7 @@ module _ {X Y : Type 0} (view : X → Y) (r : Reading Y) (bytes : List ℕ) (str
   becomes_part h is =
       becomes_answered view (r.value bytes) (r.IsCause bytes) made strict asked h is
 
-part_map-same : {X : Type 0} (p : Part X) → part_map (λ x. x) p ≡ p
+pub part_map-same : {X : Type 0} (p : Part X) → part_map (λ x. x) p ≡ p
 unfolding part_map
 part_map-same Absent = refl
 part_map-same (part.Read x) = refl

@@ -409,9 +409,13 @@ fn exports_of<'a, 'e, E: ExportCollector<'a>>(
 
 // Export data and what was kept of its exports, each as a part of its own.
 #[tactic(auto, unfolding(crate::specs::Whole::part_map))]
-fn export_parts<'a, E: Drop>(read: Part<(ExportData<'a>, E)>) -> (Part<ExportData<'a>>, Part<E>)
-    ensures data { result.0 ≡ part_map (λ x. x.0) read.entry }
-    ensures rows { result.1 ≡ part_map (λ x. x.1) read.entry }
+fn export_parts<'a, E: ExportCollector<'a>>(
+    read: Part<(ExportData<'a>, E)>,
+) -> (Part<ExportData<'a>>, Part<E>)
+    ensures tables { let kept = part_map (export_rows_view E.items) read.entry in
+        result.0 ≡ part_map (λ x. x.0) kept }
+    ensures rows { let kept = part_map (export_rows_view E.items) read.entry in
+        part_map E.items result.1 ≡ part_map (λ x. x.1) kept }
 {
     match read {
         Part::Absent => (Part::Absent, Part::Absent),
