@@ -94,10 +94,20 @@ by_test : (test : Bool) (value : Option (List ImportValue)) → IsSome (cond tes
 by_test true value there = (refl, refl, there)
 by_test false value there = absurd cc
 
-pub has-list : (size : ℕ) (library : ImportedLibrary) → IsSome (library_imports size library) → HasList size library
+has-list : (size : ℕ) (library : ImportedLibrary) → IsSome (library_imports size library) → HasList size library
 has-list size library there =
     let both = by_test (has_slots library) (own_imports size library) there in
     record { counted = both.0; is = both.1; there = both.2 }
+
+-- each of its entries has a slot
+pub has_a_slot_each : (size : ℕ) (library : ImportedLibrary)
+    → IsSome (library_imports size library) → has_slots library ≡ true
+has_a_slot_each size library there = (has-list size library there).counted
+
+-- and the list of its entries' imports is there
+pub has_own_imports : (size : ℕ) (library : ImportedLibrary)
+    → IsSome (library_imports size library) → IsSome (own_imports size library)
+has_own_imports size library there = (has-list size library there).there
 
 none-mapped : {A B : Type 0} (f : A → B) (o : Option A) → o ≡ None → option_map f o ≡ None
 none-mapped f o none = rw none refl

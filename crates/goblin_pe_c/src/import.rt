@@ -183,6 +183,7 @@ impl<'a> Libraries<'a> for ImportRecords<'a> {
     ///
     /// # Errors
     /// Where memory is refused.
+    #[tactic(auto, using(crate::proofs::Listed::has_a_slot_each, crate::proofs::Listed::has_own_imports))]
     fn add(&mut self, library: SyntheticImportDirectoryEntry<'a>, size: usize) -> Result<()> {
         push_library(&mut self.records, self.bytes, &library, size)
     }
