@@ -39,10 +39,6 @@ pub unmapped : {A B : Type 0} (f : A → B) (o : Option A) → option_map f o �
 unmapped f None e = refl
 unmapped f (Some x) e = absurd cc
 
-if-some : {A : Type 0} (o : Option A) (P : A → Type 0) → ((x : A) → o ≡ Some x → P x) → IfSome o P
-if-some None P h = tt
-if-some (Some x) P h = h x refl
-
 -- ---- parts
 
 part-mapped : {A B : Type 0} (f : A → B) (strict : Bool) (table : Option A)
@@ -253,16 +249,13 @@ whole-imports opts bytes w e =
 module _ (opts : ParseOptions) (bytes : List ℕ) (short : length bytes < 2 ^ 63)
     (fit : IsBytes bytes) where
   -- of a file that was read a list of imports can be made
-  whole-listed : (w : WholeFile) → (whole_file opts).value bytes ≡ Some w → HasImports opts w
+  pub whole-listed : (w : WholeFile) → (whole_file opts).value bytes ≡ Some w → HasImports opts w
   whole-listed w e =
       let is = whole-parts opts bytes w e in
       let places = places_in is.header.optional_header in
       let offset_of = offset_by opts is.sections places in
       let read = parts-libraries opts bytes offset_of places is.parts is.read in
       rw (← is.made) (data-listed opts bytes places short fit offset_of is.parts.0.0.0 read)
-
-  pub file-listed : IfSome ((whole_file opts).value bytes) (HasImports opts)
-  file-listed = if-some ((whole_file opts).value bytes) (HasImports opts) whole-listed
 
   -- libraries are collected as the import data of which a list can be made
   pub collected-listed : {R Z : Type 0} (places : TablePlaces) (offset_of : ℕ → Option ℕ)

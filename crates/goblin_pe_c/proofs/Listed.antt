@@ -25,7 +25,7 @@ use Rattle.goblin_pe_sect.specs.Options.{is_strict}
 use Rattle.goblin_pe_c.specs.Files.{entries_of}
 use Rattle.goblin_pe_c.specs.declared.import.PeImport.{PeImport}
 use Rattle.goblin_pe_c.specs.Filled.{alone}
-use Rattle.goblin_pe_c.specs.Imports.{import_view, listed, own_imports, table_entries}
+use Rattle.goblin_pe_c.specs.Imports.{import_view, listed, own_imports, own_records, table_entries}
 
 -- what is there is not missing
 not-missing : {A B : Type 0} (o : Option A) (f : A → B) → IsSome o → option_map f o ≡ None → ⊥
@@ -109,51 +109,7 @@ pub has_own_imports : (size : ℕ) (library : ImportedLibrary)
     → IsSome (library_imports size library) → IsSome (own_imports size library)
 has_own_imports size library there = (has-list size library there).there
 
-none-mapped : {A B : Type 0} (f : A → B) (o : Option A) → o ≡ None → option_map f o ≡ None
-none-mapped f o none = rw none refl
-
-module _ (size : ℕ) (libraries : List ImportedLibrary) where
-  -- the records are those of the libraries before an index
-  pub record AreListed (index : ℕ) (records : List PeImport) : Type 0 where
-    pub made : List ImportValue
-    pub so_far : each_below (imported_at size libraries) index ≡ Some made
-    pub said : map import_view records ≡ map alone made
-
-  pub listed-start : (records : List PeImport) → records ≡ [] → AreListed 0 records
-  unfolding each_below
-  listed-start records none = record { made = []; so_far = refl; said = ap (map import_view) none }
-
-  -- each library has its imports
-  pub library-there : (index : ℕ) (library : ImportedLibrary) → IsSome (imports_of size libraries) → slice_get libraries index ≡ Some library → HasList size library
-  library-there index library there is =
-      has-list size library (is-there (library_imports size library) (λ none.
-      let missing = library-refused size libraries index library [] is (none-mapped (λ (xs : List ImportValue). [] ++ xs) (library_imports size library) none) in
-      not-missing (imports_of size libraries) (λ (xs : List ImportValue). xs) there (none-mapped (λ (xs : List ImportValue). xs) (imports_of size libraries) missing)))
-
-  -- one library further
-  pub listed-next : (index : ℕ) (library : ImportedLibrary) (records new : List PeImport) → HasList size library → AreListed index records → slice_get libraries index ≡ Some library
-      → map import_view records ++ map alone (table_entries (own_imports size library)) ≡ map import_view new → AreListed (index + 1) new
-  listed-next index library records new own h is pushed =
-      let xs = table_entries (own_imports size library) in
-      let made : library_imports size library ≡ Some xs = own.is ∙ there-is (own_imports size library) own.there in
-      record {
-        made = h.made ++ xs;
-        so_far = library-next size libraries index library h.made (h.made ++ xs) h.so_far is (ap (option_map (λ made. h.made ++ made)) made);
-        said = sym pushed ∙ ap (λ ys. ys ++ map alone xs) h.said ∙ sym (map-append alone h.made xs);
-      }
-
-  -- all libraries
-  pub listed-end : (index : ℕ) (records : List PeImport) → AreListed index records → index ≡ length libraries → map alone (listed size libraries) ≡ map import_view records
-  unfolding imports_of
-  listed-end index records h end =
-      let all : each_below (imported_at size libraries) (length libraries) ≡ Some h.made = ap (each_below (imported_at size libraries)) (sym end) ∙ h.so_far in
-      rw all (sym h.said)
-
 -- ---- the libraries, one by one
-
--- the records of the imports from a library
-abbrev pub own_records : ℕ → ImportedLibrary → List (ImportValue × List ℕ)
-own_records size library = map alone (table_entries (own_imports size library))
 
 module _ (size : ℕ) (libraries : List ImportedLibrary) where
   -- those of a library that is there are those that its list has
@@ -224,7 +180,3 @@ part-collected opts places (part.Read libraries) h =
     collected-listed (entry_format places.magic).width libraries
     (part-there opts places (part.Read libraries) h)
 part-collected opts places Refused h = refl
-
--- so many records, so many values
-pub counted : (records : List PeImport) (xs : List ImportValue) → map import_view records ≡ map alone xs → length records ≡ length xs
-counted records xs says = omega (arith, ap length says, length-map records import_view, length-map xs alone)

@@ -1,8 +1,9 @@
 -- The summary of a file.
-use Rattle.std.specs.Prelude.{List, [], length}
+use Rattle.std.specs.Prelude.{ℕ, List, [], length}
 use Rattle.goblin_pe.specs.declared.whole.Part.{Part}
 use Rattle.goblin_pe.specs.declared.whole.Part.TheVariants.{Absent, Refused}
 use Rattle.goblin_pe.specs.declared.whole.Part.TheVariants as part
+use Rattle.goblin_pe.specs.PeHeader.{PeHeader}
 use Rattle.goblin_pe.specs.Whole.{WholeFile}
 use Rattle.goblin_pe_c.specs.declared.file.PeTable.{PeTable}
 use Rattle.goblin_pe_c.specs.declared.file.PeFile.{PeFile}
@@ -23,15 +24,20 @@ table_of Absent = record { count = 0; state = 0 }
 table_of (part.Read entries) = record { count = length entries; state = 1 }
 table_of Refused = record { count = 0; state = 2 }
 
-abbrev pub file_of : WholeFile → PeFile
-file_of w = record {
-  optional_header = optional_record w.header.optional_header;
-  directories = length (directories_of w.header.optional_header);
-  sections = length w.sections;
-  imports = table_of w.imports;
-  exports = table_of w.exports;
-  relocations = relocations_of w.relocations;
-  rich_header = rich_of w.header.rich_header;
-  dos_header = dos_record w.header.dos_header;
-  coff_header = coff_record w.header.coff_header;
+-- what is said of a file with this header, so many sections, these tables and these relocations
+abbrev pub summary : PeHeader → ℕ → PeTable → PeTable → Part (List ℕ) → PeFile
+summary header sections imports exports relocations = record {
+  optional_header = optional_record header.optional_header;
+  directories = length (directories_of header.optional_header);
+  sections = sections;
+  imports = imports;
+  exports = exports;
+  relocations = relocations_of relocations;
+  rich_header = rich_of header.rich_header;
+  dos_header = dos_record header.dos_header;
+  coff_header = coff_record header.coff_header;
 }
+
+abbrev pub file_of : WholeFile → PeFile
+file_of w =
+    summary w.header (length w.sections) (table_of w.imports) (table_of w.exports) w.relocations

@@ -1,15 +1,19 @@
 -- The tables of a whole file, which are in memory of their own.
-use Rattle.std.specs.Prelude.{◌≡◌, List, map}
-use Rattle.goblin_pe.specs.Whole.{WholeFile}
+use Rattle.std.specs.Prelude.{◌≡◌, ℕ, List, map}
+use Rattle.goblin_pe.specs.Imports.{ImportValue}
+use Rattle.goblin_pe.specs.Whole.{CollectedFileValue, WholeFile, collected_file, collected_view}
+use Rattle.goblin_pe.specs.declared.whole.CollectedFile.{CollectedFile}
 use Rattle.goblin_pe_c.specs.declared.directory.PeDirectory.{PeDirectory}
 use Rattle.goblin_pe_c.specs.declared.file.PeFile.{PeFile}
 use Rattle.goblin_pe_c.specs.declared.open.PeTables.{PeTables}
 use Rattle.goblin_pe_c.specs.Blocks.{block_view, blocks_in}
 use Rattle.goblin_pe_c.specs.Directories.{directories_of, directory_record}
-use Rattle.goblin_pe_c.specs.Exports.{export_said, export_view}
+use Rattle.goblin_pe_c.specs.declared.export.ExportRecords.{ExportRecords}
+use Rattle.goblin_pe_c.specs.declared.import.ImportRecords.{ImportRecords}
+use Rattle.goblin_pe_c.specs.Exports.{ExportSaid, export_said, export_view}
 use Rattle.goblin_pe_c.specs.Files.{entries_of, file_of}
 use Rattle.goblin_pe_c.specs.Filled.{Filled, alone}
-use Rattle.goblin_pe_c.specs.Imports.{import_view}
+use Rattle.goblin_pe_c.specs.Imports.{import_view, own_records}
 use Rattle.goblin_pe_c.specs.RichHeaders.{entries_in, entry_view}
 use Rattle.goblin_pe_c.specs.Sections.{section_said}
 
@@ -36,3 +40,22 @@ Opens w old new =
     × (Filled (λ d. d) (map directory_record (directories_of w.header.optional_header))
     old.directories new.directories)
     × AreTablesOf w new.tables
+
+-- ---- the records while they are made
+
+-- A file whose imports and exports are records.
+abbrev pub RecordsOfFile : Type 0
+RecordsOfFile = CollectedFileValue (ImportValue × List ℕ) ExportSaid
+
+abbrev pub records_of_file : WholeFile → RecordsOfFile
+records_of_file w = collected_file own_records export_said w
+
+-- the records that are held of imports, and of exports
+abbrev pub import_list : ImportRecords → List (ImportValue × List ℕ)
+import_list x = map import_view x.records.items
+
+abbrev pub export_list : ExportRecords → List ExportSaid
+export_list x = map export_view x.records.items
+
+abbrev pub records_view : CollectedFile ImportRecords ExportRecords → RecordsOfFile
+records_view x = collected_view import_list export_list x

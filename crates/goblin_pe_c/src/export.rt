@@ -1,11 +1,10 @@
 //! The records of exports.
 
-ghost use Rattle.std.specs.Prelude.{◌≡◌, map};
-ghost use Rattle.goblin_base.specs.Answers.{GivesOrMemory};
-ghost use Rattle.goblin_pe_c.specs.Exports.{export_said, export_view};
+ghost use Rattle.std.specs.Prelude.{◌≡◌, [], map};
+ghost use Rattle.goblin_pe_c.specs.Exports.{ExportSaid, export_said, export_view};
 
 use goblin_pe::Result;
-use goblin_pe::export::{Export, Reexport};
+use goblin_pe::export::{Export, ExportCollector, Reexport};
 use std::alloc::Global;
 
 /// An export.
@@ -63,18 +62,38 @@ fn export_record<'a>(bytes: &'a [u8], export: &Export<'a>) -> PeExport<'a>
     }
 }
 
-/// The records of exports, in memory of their own.
-pub fn export_records<'a>(
-    alloc: Global,
+/// The records of exports.
+#[derive(Drop)]
+pub struct ExportRecords<'a> {
+    /// The records, in the order of the name pointers.
+    pub records: Vec<PeExport<'a>>,
     bytes: &'a [u8],
-    exports: &[Export<'a>],
-) -> Result<Vec<PeExport<'a>>>
-    ensures { GivesOrMemory (λ v. map export_view v.items) result (map export_said exports.now) }
-{
-    let count = exports.len();
-    let mut records = Vec::with_capacity(alloc, count)?;
-    'records: for i in 0..count {
-        records.push(export_record(bytes, &exports[i]))?;
+}
+
+impl<'a> ExportRecords<'a> {
+    /// No records yet, of exports that are read from `bytes`.
+    pub fn new(alloc: Global, bytes: &'a [u8]) -> ExportRecords<'a>
+        ensures { result.records.items ≡ [] }
+    {
+        ExportRecords {
+            records: Vec::new(alloc),
+            bytes,
+        }
     }
-    Ok(records)
+}
+
+impl<'a> ExportCollector<'a> for ExportRecords<'a> {
+    ghost Item = { ExportSaid };
+
+    ghost items = { λ exports. map export_view exports.records.items };
+
+    ghost item_of = { export_said };
+
+    fn add(&mut self, export: Export<'a>, expected: usize) -> Result<()> {
+        if self.records.is_empty() {
+            self.records.reserve(expected)?;
+        }
+        self.records.push(export_record(self.bytes, &export))?;
+        Ok(())
+    }
 }

@@ -1,21 +1,21 @@
 //! What a call says of the file as a whole.
 
-ghost use Rattle.std.specs.Prelude.{◌≡◌, List, length};
-ghost use Rattle.goblin_pe.specs.ImportDirectory.{ImportedLibrary};
-ghost use Rattle.goblin_pe.specs.Imports.{ImportValue};
-ghost use Rattle.goblin_pe.specs.Whole.{items_part, part_map, with_imports};
+ghost use Rattle.std.specs.Prelude.{◌≡◌, length};
+ghost use Rattle.goblin_pe.specs.Whole.{part_map};
 ghost use Rattle.goblin_pe_c.specs.Blocks.{relocations_of};
-ghost use Rattle.goblin_pe_c.specs.Files.{entries_of, file_of, table_of};
+ghost use Rattle.goblin_pe_c.specs.Files.{summary, table_of};
+ghost use Rattle.goblin_pe_c.specs.Opened.{export_list, import_list, records_view};
 ghost use Rattle.goblin_pe_c.specs.RichHeaders.{rich_of};
 
 use crate::block::PeRelocations;
 use crate::directory::directories_of;
+use crate::export::ExportRecords;
 use crate::headers::{
     PeCoffHeader, PeDosHeader, PeOptionalHeader, coff_record, dos_record, optional_record,
 };
+use crate::import::ImportRecords;
 use crate::rich::PeRichHeader;
-use goblin_pe::import::ImportData;
-use goblin_pe::{Part, Whole};
+use goblin_pe::{CollectedFile, Part};
 
 /// A table of the file.
 #[repr(C)]
@@ -52,56 +52,56 @@ pub struct PeFile {
     pub coff_header: PeCoffHeader,
 }
 
-// How a table stands.
+// How the imports stand.
 #[tactic(auto, unfolding(goblin_pe::specs::Whole::part_map))]
-fn table_of<T>(part: &Part<Vec<T>>) -> PeTable
-    ensures { result ≡ table_of (items_part part.now) }
+fn imports_table(imports: &Part<ImportRecords>) -> PeTable
+    ensures { result ≡ table_of (part_map import_list imports.now) }
 {
-    match part {
+    match imports {
         Part::Absent => PeTable { count: 0, state: 0 },
-        Part::Read(items) => PeTable {
-            count: items.len(),
+        Part::Read(imports) => PeTable {
+            count: imports.records.len(),
             state: 1,
         },
         Part::Refused => PeTable { count: 0, state: 2 },
     }
 }
 
-// How the imports of import data stand, of which there are `count`.
+// How the exports stand.
 #[tactic(auto, unfolding(goblin_pe::specs::Whole::part_map))]
-fn imports_table(import_data: &Part<ImportData>, count: usize) -> PeTable
-    ensures { (imports : List ImportedLibrary → List ImportValue)
-        → count ≡ length (entries_of (part_map imports import_data.now))
-        → result ≡ table_of (part_map imports import_data.now) }
+fn exports_table(exports: &Part<ExportRecords>) -> PeTable
+    ensures { result ≡ table_of (part_map export_list exports.now) }
 {
-    match import_data {
-        Part::Absent => PeTable { count, state: 0 },
-        Part::Read(_) => PeTable { count, state: 1 },
-        Part::Refused => PeTable { count, state: 2 },
+    match exports {
+        Part::Absent => PeTable { count: 0, state: 0 },
+        Part::Read(exports) => PeTable {
+            count: exports.records.len(),
+            state: 1,
+        },
+        Part::Refused => PeTable { count: 0, state: 2 },
     }
 }
 
-/// What is said of a file as a whole, of which no list of imports was made: with their number, what
-/// is said of its base relocations and its Rich header.
-#[tactic(auto, unfolding(goblin_pe::specs::Whole::listed_imports))]
-pub fn file_of(
-    whole: &Whole,
-    imports: usize,
+/// What is said of a file as a whole: with what is said of its base relocations and its Rich header.
+pub fn file_of<'a>(
+    whole: &CollectedFile<'a, ImportRecords<'a>, ExportRecords<'a>>,
     relocations: PeRelocations,
     rich_header: PeRichHeader,
 ) -> PeFile
-    requires imports { imports ≡ length (entries_of (with_imports whole.now).imports) }
-    requires relocations { relocations ≡ relocations_of whole.now.relocations }
-    requires rich_header { rich_header ≡ rich_of whole.now.header.rich_header }
-    ensures { result ≡ file_of (with_imports whole.now) }
+    requires relocations { relocations ≡ relocations_of (records_view whole.now).relocations }
+    requires rich_header { rich_header ≡ rich_of (records_view whole.now).header.rich_header }
+    ensures { let v = records_view whole.now in
+        result
+        ≡ summary v.header (length v.sections) (table_of v.imports) (table_of v.exports)
+        v.relocations }
 {
     let header = &whole.header;
     PeFile {
         optional_header: optional_record(&header.optional_header),
         directories: directories_of(&header.optional_header).len(),
         sections: whole.sections.len(),
-        imports: imports_table(&whole.import_data, imports),
-        exports: table_of(&whole.exports),
+        imports: imports_table(&whole.imports),
+        exports: exports_table(&whole.exports),
         relocations,
         rich_header,
         dos_header: dos_record(&header.dos_header),

@@ -1,21 +1,18 @@
 //! The records of imports.
 
 ghost use Rattle.std.specs.Prelude.{◌≡◌, ◌<◌, ◌+◌, ◌*◌, ◌++◌, ◌^◌, [], IsSome, List, length, map};
-ghost use Rattle.std.specs.Prelude.{min, true, ℕ};
+ghost use Rattle.std.specs.Prelude.{true, ℕ};
 ghost use Rattle.goblin_base.specs.Answers.{GivesOrMemory};
 ghost use Rattle.goblin_pe.specs.ImportLookup.{entry_view};
 ghost use Rattle.goblin_pe.specs.Imports.{ImportValue, has_slots, import_of, imports_by};
-ghost use Rattle.goblin_pe.specs.Imports.{imports_of, kept_count, kept_entries};
-ghost use Rattle.goblin_pe.specs.Whole.{entry_format, part_map, places_in};
-ghost use Rattle.goblin_pe_c.specs.Files.{entries_of};
+ghost use Rattle.goblin_pe.specs.Imports.{kept_entries};
 ghost use Rattle.goblin_pe_c.specs.Filled.{alone};
-ghost use Rattle.goblin_pe_c.specs.Imports.{import_view, listed, own_imports, table_entries};
+ghost use Rattle.goblin_pe_c.specs.Imports.{import_view, own_imports, own_records, table_entries};
 
 use goblin_pe::import::{
-    ImportData, Libraries, SyntheticImportDirectoryEntry, SyntheticImportLookupTableEntry,
+    Libraries, SyntheticImportDirectoryEntry, SyntheticImportLookupTableEntry,
 };
-use goblin_pe::optional_header::{MAGIC_32, OptionalHeader};
-use goblin_pe::{Part, Result};
+use goblin_pe::Result;
 use std::alloc::Global;
 
 /// An import.
@@ -177,7 +174,7 @@ impl<'a> Libraries<'a> for ImportRecords<'a> {
 
     ghost items = { λ imports. map import_view imports.records.items };
 
-    ghost items_of = { λ size library. map alone (table_entries (own_imports size library)) };
+    ghost items_of = { own_records };
 
     /// Appends the records of the imports from a library, and lets go of it.
     ///
@@ -187,75 +184,4 @@ impl<'a> Libraries<'a> for ImportRecords<'a> {
     fn add(&mut self, library: SyntheticImportDirectoryEntry<'a>, size: usize) -> Result<()> {
         push_library(&mut self.records, self.bytes, &library, size)
     }
-}
-
-// How many entries the lookup tables of libraries keep, or the greatest number, for which there is
-// no memory.
-fn count_of(libraries: &[SyntheticImportDirectoryEntry]) -> usize
-    ensures { result ≡ min (kept_count libraries.now) usize.MAX }
-{
-    let mut count = 0usize;
-    'libraries: for library in libraries {
-        count = count.saturating_add(kept_entries(library).len());
-    }
-    count
-}
-
-// The libraries of import data, none where it was not read.
-#[tactic(auto, unfolding(goblin_pe::specs::Whole::part_map))]
-fn libraries_of<'b, 'a>(
-    import_data: &'b Part<ImportData<'a>>,
-) -> &'b [SyntheticImportDirectoryEntry<'a>]
-    ensures { result.now ≡ entries_of import_data.now }
-{
-    match import_data {
-        Part::Read(data) => data.import_data.as_slice(),
-        Part::Absent | Part::Refused => &[],
-    }
-}
-
-// The size of an entry of the import tables, in bytes.
-#[tactic(auto, unfolding(goblin_pe::specs::Whole::entry_format, goblin_pe::specs::Whole::places_in))]
-fn entry_size(header: &Option<OptionalHeader>) -> usize
-    ensures { result ≡ (entry_format (places_in header.now).magic).width }
-{
-    match header {
-        Some(header) if header.standard_fields.magic == MAGIC_32 => 4,
-        _ => 8,
-    }
-}
-
-// The records of the imports from libraries, whose address tables have entries of `size` bytes.
-fn records_of<'a>(
-    alloc: Global,
-    bytes: &'a [u8],
-    libraries: &[SyntheticImportDirectoryEntry<'a>],
-    size: usize,
-) -> Result<Vec<PeImport<'a>>>
-    requires { IsSome (imports_of size libraries.now) }
-    ensures { GivesOrMemory (λ v. map import_view v.items) result
-        (map alone (listed size libraries.now)) }
-{
-    let mut records = Vec::with_capacity(alloc, count_of(libraries))?;
-    'libraries: for library in libraries {
-        push_library(&mut records, bytes, library, size)?;
-    }
-    Ok(records)
-}
-
-/// The records of the imports of import data, in memory of their own.
-pub fn import_records<'a>(
-    alloc: Global,
-    bytes: &'a [u8],
-    import_data: &Part<ImportData<'a>>,
-    header: &Option<OptionalHeader>,
-) -> Result<Vec<PeImport<'a>>>
-    requires { IsSome
-        (imports_of (entry_format (places_in header.now).magic).width
-        (entries_of import_data.now)) }
-    ensures { let size = (entry_format (places_in header.now).magic).width in
-        GivesOrMemory (λ v. map import_view v.items) result
-        (map alone (listed size (entries_of import_data.now))) }
-{
-    records_of(alloc, bytes, libraries_of(import_data), entry_size(header))
 }

@@ -1,33 +1,34 @@
 //! The call that reads a whole file once, and keeps its tables in memory of their own.
 
-ghost use Rattle.std.specs.Prelude.{◌≡◌, IfErr, IfOk, Some, map};
+ghost use Rattle.std.specs.Prelude.{◌≡◌, IfErr, IfOk, Some, length, map, option_map};
 ghost use Rattle.goblin_base.specs.Answers.{IsMemory};
 ghost use Rattle.goblin_pe_sect.specs.Options.{is_strict};
 ghost use Rattle.goblin_pe_head.specs.HeaderReadings.{pe_header};
 ghost use Rattle.goblin_pe.specs.SectionRoom.{HasRoom};
-ghost use Rattle.goblin_pe.specs.Whole.{HasImports, items_part, whole_file, with_imports};
+ghost use Rattle.goblin_pe.specs.Whole.{part_map, whole_file};
 ghost use Rattle.goblin_pe_c.specs.Blocks.{block_view, blocks_in};
 ghost use Rattle.goblin_pe_c.specs.Calls.{ReadsInto, Reported};
-ghost use Rattle.goblin_pe_c.specs.Exports.{export_said, export_view};
-ghost use Rattle.goblin_pe_c.specs.Files.{entries_of, file_of};
+ghost use Rattle.goblin_pe_c.specs.Exports.{export_view};
+ghost use Rattle.goblin_pe_c.specs.Files.{entries_of, summary, table_of};
 ghost use Rattle.goblin_pe_c.specs.Filled.{alone};
 ghost use Rattle.goblin_pe_c.specs.Imports.{import_view};
-ghost use Rattle.goblin_pe_c.specs.Opened.{AreTablesOf, Opened, Opens};
+ghost use Rattle.goblin_pe_c.specs.Opened.{Opened, Opens, export_list, import_list};
+ghost use Rattle.goblin_pe_c.specs.Opened.{records_of_file, records_view};
 ghost use Rattle.goblin_pe_c.specs.Options.{options_of};
 ghost use Rattle.goblin_pe_c.specs.RichHeaders.{entries_in, entry_view};
 ghost use Rattle.goblin_pe_c.specs.Sections.{section_said};
 
 use crate::block::{PeBlock, block_records};
 use crate::directory::{PeDirectory, directories_of, fill_directories};
-use crate::export::{PeExport, export_records};
+use crate::export::{ExportRecords, PeExport};
 use crate::fault::{PeFault, fault_of, no_fault};
 use crate::file::{PeFile, file_of};
-use crate::import::{PeImport, import_records};
+use crate::import::{ImportRecords, PeImport};
 use crate::options::{PeOptions, options_of};
 use crate::rich::{PeRichEntry, entry_records};
 use crate::section::{PeSection, section_records};
 use goblin_pe::options::ParseOptions;
-use goblin_pe::{Part, Result, Whole};
+use goblin_pe::{CollectedFile, Part, Result};
 use std::alloc::Global;
 
 /// The tables of a file, each a block of memory of its own, or none where it is empty.
@@ -46,91 +47,92 @@ pub struct PeTables<'a> {
     pub blocks: &'a [PeBlock<'a>],
 }
 
-// The entries of a table, none where it was not read.
-#[tactic(auto, unfolding(goblin_pe::specs::Whole::part_map))]
-fn entries_of<'b, T>(part: &'b Part<Vec<T>>) -> &'b [T]
-    ensures { result.now ≡ entries_of (items_part part.now) }
-{
-    match part {
-        Part::Read(entries) => entries.as_slice(),
-        Part::Absent | Part::Refused => &[],
-    }
-}
-
-// The tables of a file while they are made, and the file as a whole.
+// What is made of a file beside the records of its imports and exports.
 #[derive(Drop)]
 struct Made<'a> {
     file: PeFile,
     rich_entries: Vec<PeRichEntry>,
     sections: Vec<PeSection<'a>>,
-    imports: Vec<PeImport<'a>>,
-    exports: Vec<PeExport<'a>>,
     blocks: Vec<PeBlock<'a>>,
 }
 
-// The tables of a file of which no list of imports was made.
+// What is made of a file that was read.
 fn made_of<'a>(
     alloc: Global,
-    whole: &Whole<'a>,
+    whole: &CollectedFile<'a, ImportRecords<'a>, ExportRecords<'a>>,
     bytes: &'a [u8],
     opts: &ParseOptions,
 ) -> Result<Made<'a>>
-    requires read { (whole_file opts.now).value bytes.now ≡ Some (with_imports whole.now) }
-    requires listed { HasImports opts.now whole.now }
+    requires { option_map records_of_file ((whole_file opts.now).value bytes.now)
+        ≡ Some (records_view whole.now) }
     ensures refused { IfErr result IsMemory }
-    ensures file { IfOk result (λ m. m.file ≡ file_of (with_imports whole.now)) }
-    ensures rich_entries { IfOk result
-        (λ m. map entry_view m.rich_entries.items ≡ entries_in whole.now.header.rich_header) }
-    ensures sections { IfOk result
-        (λ m. map section_said m.sections.items ≡ map alone whole.now.sections) }
-    ensures imports { IfOk result
+    ensures file { let v = records_view whole.now in
+        IfOk result
         (λ m.
-        map import_view m.imports.items
-        ≡ map alone (entries_of (with_imports whole.now).imports)) }
-    ensures exports { IfOk result
-        (λ m. map export_view m.exports.items ≡ map export_said (entries_of whole.now.exports)) }
-    ensures blocks { IfOk result
-        (λ m. map block_view m.blocks.items ≡ blocks_in whole.now.relocations) }
+        m.file
+        ≡ summary v.header (length v.sections) (table_of v.imports) (table_of v.exports)
+        v.relocations) }
+    ensures rich_entries { let v = records_view whole.now in
+        IfOk result (λ m. map entry_view m.rich_entries.items ≡ entries_in v.header.rich_header) }
+    ensures sections { let v = records_view whole.now in
+        IfOk result (λ m. map section_said m.sections.items ≡ map alone v.sections) }
+    ensures blocks { let v = records_view whole.now in
+        IfOk result (λ m. map block_view m.blocks.items ≡ blocks_in v.relocations) }
 {
     let table = whole.header.coff_header.symbols_end();
-    let header = &whole.header.optional_header;
-    let imports = import_records(alloc, bytes, &whole.import_data, header)?;
-    let exports = export_records(alloc, bytes, entries_of(&whole.exports))?;
     let sections = section_records(alloc, bytes, &whole.sections, table, opts)?;
     let (rich_entries, rich_header) = entry_records(alloc, &whole.header.rich_header)?;
     let (blocks, relocations) = block_records(alloc, &whole.relocations)?;
     Ok(Made {
-        file: file_of(whole, imports.len(), relocations, rich_header),
+        file: file_of(whole, relocations, rich_header),
         rich_entries,
         sections,
-        imports,
-        exports,
         blocks,
     })
 }
 
+// Hands the records of imports over, none where there are none.
+#[tactic(auto, unfolding(goblin_pe::specs::Whole::part_map))]
+fn imports_of<'a>(imports: Part<ImportRecords<'a>>) -> &'a [PeImport<'a>]
+    ensures { map import_view result.now ≡ entries_of (part_map import_list imports.entry) }
+{
+    match imports {
+        Part::Read(imports) => imports.records.leak(),
+        Part::Absent | Part::Refused => &[],
+    }
+}
+
+// Hands the records of exports over, none where there are none.
+#[tactic(auto, unfolding(goblin_pe::specs::Whole::part_map))]
+fn exports_of<'a>(exports: Part<ExportRecords<'a>>) -> &'a [PeExport<'a>]
+    ensures { map export_view result.now ≡ entries_of (part_map export_list exports.entry) }
+{
+    match exports {
+        Part::Read(exports) => exports.records.leak(),
+        Part::Absent | Part::Refused => &[],
+    }
+}
+
 // Hands the tables over.
-fn handed_over<'a>(made: Made<'a>) -> PeTables<'a>
+fn handed_over<'a>(
+    made: Made<'a>,
+    imports: Part<ImportRecords<'a>>,
+    exports: Part<ExportRecords<'a>>,
+) -> PeTables<'a>
     ensures rich_entries { result.rich_entries.now ≡ made.entry.rich_entries.items }
     ensures sections { result.sections.now ≡ made.entry.sections.items }
-    ensures imports { result.imports.now ≡ made.entry.imports.items }
-    ensures exports { result.exports.now ≡ made.entry.exports.items }
+    ensures imports { map import_view result.imports.now
+        ≡ entries_of (part_map import_list imports.entry) }
+    ensures exports { map export_view result.exports.now
+        ≡ entries_of (part_map export_list exports.entry) }
     ensures blocks { result.blocks.now ≡ made.entry.blocks.items }
 {
-    let Made {
-        file: _,
-        rich_entries,
-        sections,
-        imports,
-        exports,
-        blocks,
-    } = made;
     PeTables {
-        rich_entries: rich_entries.leak(),
-        sections: sections.leak(),
-        imports: imports.leak(),
-        exports: exports.leak(),
-        blocks: blocks.leak(),
+        rich_entries: made.rich_entries.leak(),
+        sections: made.sections.leak(),
+        imports: imports_of(imports),
+        exports: exports_of(exports),
+        blocks: made.blocks.leak(),
     }
 }
 
@@ -151,11 +153,13 @@ fn open<'a>(
         ReadsInto (pe_header (is_strict opts.now.parse_mode)) (HasRoom bytes.now)
         (whole_file opts.now) bytes.now (λ w. Opens w old new) (new ≡ old) result }
 {
-    let whole = Whole::read_data(alloc, bytes, opts)?;
+    let imports = ImportRecords::new(alloc, bytes);
+    let exports = ExportRecords::new(alloc, bytes);
+    let whole = CollectedFile::read(alloc, bytes, opts, imports, exports)?;
     let made = made_of(alloc, &whole, bytes, opts)?;
     fill_directories(directories, directories_of(&whole.header.optional_header));
     *file = made.file;
-    *tables = handed_over(made);
+    *tables = handed_over(made, whole.imports, whole.exports);
     Ok(())
 }
 

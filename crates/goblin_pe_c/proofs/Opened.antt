@@ -1,0 +1,98 @@
+-- The records that were collected of a file are those of its imports and its exports.
+use Rattle.std.proofs.Common.{◌≡◌, ◌∙◌, ◌<◌, ◌^◌, ℕ, List, length, map, Some, refl, sym, ap}
+use Rattle.std.specs.Prelude.{option_map}
+use Rattle.std.specs.List.{flat_map}
+use Rattle.std.proofs.lemmas.List.{length-map}
+use Rattle.goblin_base.specs.Bytes.{IsBytes}
+use Rattle.goblin_base.proofs.Steps as steps
+use Rattle.goblin_pe_sect.specs.declared.options.ParseOptions.{ParseOptions}
+use Rattle.goblin_pe.specs.declared.whole.Part.{Part}
+use Rattle.goblin_pe.specs.declared.whole.Part.TheVariants.{Absent, Refused}
+use Rattle.goblin_pe.specs.declared.whole.Part.TheVariants as part
+use Rattle.goblin_pe.specs.ExportRecords.{ExportRow}
+use Rattle.goblin_pe.specs.ImportRecords.{ImportedLibrary}
+use Rattle.goblin_pe.specs.Imports.{ImportValue}
+use Rattle.goblin_pe.specs.Whole.{TablePlaces, WholeFile, entry_format, imports_part}
+use Rattle.goblin_pe.specs.Whole.{listed_imports, part_map, places_in, whole_file}
+use Rattle.goblin_pe.proofs.Collected.{whole-imports, whole-listed}
+use Rattle.goblin_pe_c.specs.declared.file.PeTable.{PeTable}
+use Rattle.goblin_pe_c.specs.Exports.{ExportSaid, export_said}
+use Rattle.goblin_pe_c.specs.Files.{entries_of, file_of, summary, table_of}
+use Rattle.goblin_pe_c.specs.Filled.{alone}
+use Rattle.goblin_pe_c.specs.Imports.{own_records}
+use Rattle.goblin_pe_c.specs.Opened.{RecordsOfFile, records_of_file}
+use Rattle.goblin_pe_c.proofs.Listed.{part-collected}
+
+-- ---- tables by what is made of each entry
+
+table-same : {A B : Type 0} (p : Part (List A)) (q : Part (List B)) (f : A → B)
+    → part_map (map f) p ≡ q → table_of p ≡ table_of q
+unfolding part_map
+table-same Absent q f is = rw (← is) refl
+table-same (part.Read xs) q f is = rw (← is, length-map xs f) refl
+table-same Refused q f is = rw (← is) refl
+
+entries-same : {A B : Type 0} (p : Part (List A)) (q : Part (List B)) (f : A → B)
+    → part_map (map f) p ≡ q → map f (entries_of p) ≡ entries_of q
+unfolding part_map
+entries-same Absent q f is = rw (← is) refl
+entries-same (part.Read xs) q f is = rw (← is) refl
+entries-same Refused q f is = rw (← is) refl
+
+-- the records of libraries, one by one, as those of the list of imports
+imports-same : (opts : ParseOptions) (places : TablePlaces) (p : Part (List ImportedLibrary))
+    → imports_part opts places p ≡ Some (listed_imports places.magic p)
+    → part_map (map alone) (listed_imports places.magic p)
+    ≡ part_map (flat_map (own_records (entry_format places.magic).width)) p
+unfolding listed_imports part_map
+imports-same opts places Absent h = refl
+imports-same opts places (part.Read libraries) h =
+    ap (λ (xs : List (ImportValue × List ℕ)). part.Read xs)
+    (sym (part-collected opts places (part.Read libraries) h))
+imports-same opts places Refused h = refl
+
+-- ---- a file whose records were collected
+
+-- The file of which these are the records.
+pub record IsOf (opts : ParseOptions) (bytes : List ℕ) (v : RecordsOfFile) : Type 0 where
+  pub whole : WholeFile
+  pub read : (whole_file opts).value bytes ≡ Some whole
+  pub header : whole.header ≡ v.header
+  pub sections : whole.sections ≡ v.sections
+  pub relocations : whole.relocations ≡ v.relocations
+  pub imports : map alone (entries_of whole.imports) ≡ entries_of v.imports
+  pub exports : map export_said (entries_of whole.exports) ≡ entries_of v.exports
+  pub file : file_of whole
+      ≡ summary v.header (length v.sections) (table_of v.imports) (table_of v.exports) v.relocations
+
+pub file-of-records : (opts : ParseOptions) (bytes : List ℕ) (v : RecordsOfFile)
+    → length bytes < 2 ^ 63 → IsBytes bytes
+    → option_map records_of_file ((whole_file opts).value bytes) ≡ Some v → IsOf opts bytes v
+file-of-records opts bytes v short fit is =
+    let m = steps.mapped ((whole_file opts).value bytes) records_of_file v is in
+    let w = m.value in
+    let places = places_in w.header.optional_header in
+    let listed = whole-listed opts bytes short fit w m.is in
+    let list = steps.same_value w.imports (listed_imports places.magic w.import_data)
+    (sym (whole-imports opts bytes w m.is) ∙ listed) in
+    let imports : part_map (map alone) w.imports ≡ v.imports =
+    ap (λ (p : Part (List ImportValue)). part_map (map alone) p) list
+    ∙ imports-same opts places w.import_data listed
+    ∙ ap (λ (x : RecordsOfFile). x.imports) m.made in
+    let exports : part_map (map export_said) w.exports ≡ v.exports =
+    ap (λ (x : RecordsOfFile). x.exports) m.made in
+    let header = ap (λ (x : RecordsOfFile). x.header) m.made in
+    let sections = ap (λ (x : RecordsOfFile). x.sections) m.made in
+    let relocations = ap (λ (x : RecordsOfFile). x.relocations) m.made in
+    record {
+      whole = w;
+      read = m.is;
+      header = header;
+      sections = sections;
+      relocations = relocations;
+      imports = entries-same w.imports v.imports alone imports;
+      exports = entries-same w.exports v.exports export_said exports;
+      file =
+          rw (header, sections, relocations, table-same w.imports v.imports alone imports,
+          table-same w.exports v.exports export_said exports) refl;
+    }
