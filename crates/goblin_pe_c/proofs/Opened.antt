@@ -1,11 +1,13 @@
 -- The records that were collected of a file are those of its imports and its exports.
-use Rattle.std.proofs.Common.{◌≡◌, ◌∙◌, ◌<◌, ◌^◌, ℕ, List, length, map, Some, refl, sym, ap}
-use Rattle.std.specs.Prelude.{option_map}
+use Rattle.std.proofs.Common.{◌≡◌, ◌∙◌, ◌<◌, ◌^◌, ℕ, List, length, map, Some, refl, subst, sym, ap}
+use Rattle.std.specs.Prelude.{IsSomeAnd, option_map}
 use Rattle.std.specs.List.{flat_map}
 use Rattle.std.proofs.lemmas.List.{length-map}
 use Rattle.goblin_base.specs.Bytes.{IsBytes}
 use Rattle.goblin_base.proofs.Steps as steps
 use Rattle.goblin_pe_sect.specs.declared.options.ParseOptions.{ParseOptions}
+use Rattle.goblin_pe_sect.specs.SectionTable.{Section}
+use Rattle.goblin_pe_head.specs.PeHeader.{PeHeader}
 use Rattle.goblin_pe.specs.declared.whole.Part.{Part}
 use Rattle.goblin_pe.specs.declared.whole.Part.TheVariants.{Absent, Refused}
 use Rattle.goblin_pe.specs.declared.whole.Part.TheVariants as part
@@ -16,11 +18,15 @@ use Rattle.goblin_pe.specs.Whole.{TablePlaces, WholeFile, entry_format, imports_
 use Rattle.goblin_pe.specs.Whole.{listed_imports, part_map, places_in, whole_file}
 use Rattle.goblin_pe.proofs.Collected.{whole-imports, whole-listed}
 use Rattle.goblin_pe_c.specs.declared.file.PeTable.{PeTable}
-use Rattle.goblin_pe_c.specs.Exports.{ExportSaid, export_said}
+use Rattle.goblin_pe_c.specs.Blocks.{block_view, blocks_in}
+use Rattle.goblin_pe_c.specs.Directories.{directories_of, directory_record}
+use Rattle.goblin_pe_c.specs.Exports.{ExportSaid, export_said, export_view}
 use Rattle.goblin_pe_c.specs.Files.{entries_of, file_of, summary, table_of}
-use Rattle.goblin_pe_c.specs.Filled.{alone}
-use Rattle.goblin_pe_c.specs.Imports.{own_records}
-use Rattle.goblin_pe_c.specs.Opened.{RecordsOfFile, records_of_file}
+use Rattle.goblin_pe_c.specs.Filled.{Filled, alone}
+use Rattle.goblin_pe_c.specs.Imports.{import_view, own_records}
+use Rattle.goblin_pe_c.specs.Opened.{Opened, Opens, RecordsOfFile, records_of_file}
+use Rattle.goblin_pe_c.specs.RichHeaders.{entries_in, entry_view}
+use Rattle.goblin_pe_c.specs.Sections.{section_said}
 use Rattle.goblin_pe_c.proofs.Listed.{part-collected}
 
 -- ---- tables by what is made of each entry
@@ -62,8 +68,8 @@ pub record IsOf (opts : ParseOptions) (bytes : List ℕ) (v : RecordsOfFile) : T
   pub relocations : whole.relocations ≡ v.relocations
   pub imports : map alone (entries_of whole.imports) ≡ entries_of v.imports
   pub exports : map export_said (entries_of whole.exports) ≡ entries_of v.exports
-  pub file : file_of whole
-      ≡ summary v.header (length v.sections) (table_of v.imports) (table_of v.exports) v.relocations
+  pub imports_table : table_of whole.imports ≡ table_of v.imports
+  pub exports_table : table_of whole.exports ≡ table_of v.exports
 
 pub file-of-records : (opts : ParseOptions) (bytes : List ℕ) (v : RecordsOfFile)
     → length bytes < 2 ^ 63 → IsBytes bytes
@@ -81,18 +87,14 @@ file-of-records opts bytes v short fit is =
     ∙ ap (λ (x : RecordsOfFile). x.imports) m.made in
     let exports : part_map (map export_said) w.exports ≡ v.exports =
     ap (λ (x : RecordsOfFile). x.exports) m.made in
-    let header = ap (λ (x : RecordsOfFile). x.header) m.made in
-    let sections = ap (λ (x : RecordsOfFile). x.sections) m.made in
-    let relocations = ap (λ (x : RecordsOfFile). x.relocations) m.made in
     record {
       whole = w;
       read = m.is;
-      header = header;
-      sections = sections;
-      relocations = relocations;
+      header = ap (λ (x : RecordsOfFile). x.header) m.made;
+      sections = ap (λ (x : RecordsOfFile). x.sections) m.made;
+      relocations = ap (λ (x : RecordsOfFile). x.relocations) m.made;
       imports = entries-same w.imports v.imports alone imports;
       exports = entries-same w.exports v.exports export_said exports;
-      file =
-          rw (header, sections, relocations, table-same w.imports v.imports alone imports,
-          table-same w.exports v.exports export_said exports) refl;
+      imports_table = table-same w.imports v.imports alone imports;
+      exports_table = table-same w.exports v.exports export_said exports;
     }

@@ -9,10 +9,10 @@ ghost use Rattle.goblin_pe.specs.Imports.{kept_entries};
 ghost use Rattle.goblin_pe_c.specs.Filled.{alone};
 ghost use Rattle.goblin_pe_c.specs.Imports.{import_view, own_imports, own_records, table_entries};
 
+use goblin_pe::Result;
 use goblin_pe::import::{
     Libraries, SyntheticImportDirectoryEntry, SyntheticImportLookupTableEntry,
 };
-use goblin_pe::Result;
 use std::alloc::Global;
 
 /// An import.
