@@ -1,5 +1,6 @@
 //! Worked values of imports and exports.
 
+mod collections;
 mod exports;
 mod import_bound;
 mod imports;
