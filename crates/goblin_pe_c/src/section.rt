@@ -46,7 +46,7 @@ pub struct PeSection<'a> {
 }
 
 // The name of a section from the string table at `table`.
-#[tactic(auto, unfolding(crate::specs::Sections::real_name_in))]
+#[tactic(auto, unfolding(crate::specs::Sections::real_name_in, goblin_pe_sect::specs::SectionName::name_value))]
 fn real_name<'a>(
     bytes: &'a [u8],
     section: &SectionTable,
@@ -56,6 +56,10 @@ fn real_name<'a>(
     ensures { option_map (λ s. s.now) result
         ≡ real_name_in (is_strict opts.now.parse_mode) bytes.now table section.now.name }
 {
+    // Most names begin with no slash, and are the eight bytes themselves.
+    if section.name[0] != b'/' {
+        return None;
+    }
     let offset = section.name_offset_with_opts(opts).ok()??;
     pread_str(bytes, table.checked_add(offset)?).ok()
 }

@@ -12,4 +12,5 @@ pub mod RichMetadataRoundTrip
 pub mod RichPlaces
 pub mod Sections
 pub mod TeHeaderRoundTrip
+pub mod WordPlaces
 pub mod WrittenForm

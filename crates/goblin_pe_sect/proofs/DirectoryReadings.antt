@@ -1,18 +1,19 @@
 -- The data directories by the room in the file: what they are, and which cause is true of them.
-use Rattle.std.proofs.Common.{◌≡◌, ◌+◌, ◌-◌, ◌*◌, ◌<◌, ◌≤◌, ◌&&◌, ◌||◌, ℕ, zero, suc, Bool, true}
+use Rattle.std.proofs.Common.{◌≡◌, ◌≢◌, ◌/◌, ◌%◌, ◌+◌, ◌-◌, ◌*◌, ◌<◌, ◌≤◌, ◌&&◌, ◌||◌, ℕ, zero, suc, Bool, true}
 use Rattle.std.proofs.Common.{false, cond, nat_eq, nat_le, nat_lt, List, length, map}
 use Rattle.std.proofs.Common.{Option, Some, None, refl, set, sym, ap, ◌∙◌, inl, inr, arith}
 use Rattle.std.specs.Prelude.{option_and_then, option_map, slice_range}
 use Rattle.std.specs.List.{range_with_len, slice_get}
 use Rattle.std.proofs.Math.Bool.{and-false}
-use Rattle.std.proofs.lemmas.Bool.{cases_lt, eqb-false, le-leb, leb-false}
+use Rattle.std.proofs.lemmas.Bool.{cases_eq, cases_lt, eq-eqb, eqb-false, le-leb, leb-false}
 use Rattle.std.proofs.lemmas.Bool.{leb-true, lt-leb, lt-ltb, ne_eqb}
 use Rattle.std.proofs.lemmas.List.FromFn.{get_or-map-range_with_len, length-map-range_with_len}
 use Rattle.std.proofs.lemmas.Option.{slice_get_past, slice_get_read}
 use Rattle.goblin_base.specs.declared.endian.Endian.TheVariants.{Little}
 use Rattle.goblin_base.specs.declared.error.CauseOf.TheVariants.{DirectoryCount}
 use Rattle.goblin_base.specs.declared.error.ErrorOf.{ErrorOf}
-use Rattle.goblin_base.specs.declared.error.ErrorOf.TheVariants.{Malformed}
+use Rattle.goblin_base.specs.declared.error.ErrorOf.TheVariants.{Malformed, Read}
+use Rattle.goblin_base.specs.declared.error.ReadFault.TheVariants.{BadOffset, TooBig}
 use Rattle.goblin_base.specs.Answers.{IsFirstMissing, IsSliceFault, all_at, all_of}
 use Rattle.goblin_base.specs.Bytes.{slice_at}
 use Rattle.goblin_base.specs.Record.{record_at}
@@ -159,6 +160,46 @@ missing_refused count i bytes p at entries e lt most is so_far h =
     let few : nat_le count 16 ≡ true = le-leb count 16 most in
     (value-directories_at count bytes p ∙ none.0, rw few (from_records count bytes p e none.1))
 
+-- the entries before the end are there
+there_so_far : (i : ℕ) (bytes : List ℕ) (p : ℕ) → i ≤ 16 → (0 < i → p + 8 * i ≤ length bytes)
+    → entries_in_room i bytes p ≡ Some (map (directory_entry_at i bytes p) (range_with_len 0 16))
+unfolding entries_in_room
+there_so_far i bytes p most room =
+    let few : nat_le i 16 ≡ true = le-leb i 16 most in
+    elim (cases_eq i 0) [
+      | inl none ↦ rw (few, eq-eqb i 0 none) refl
+      | inr some ↦ rw (few, ne_eqb i 0 some, le-leb (p + 8 * i) (length bytes) (room (omega (arith, some)))) refl
+    ]
+
+-- entries that run past the end are refused as the first of them is
+cut_refused : (count : ℕ) (bytes : List ℕ) (p : ℕ) (e : ErrorOf) → count ≤ 16
+    → length bytes - p < 8 * count
+    → IsSliceFault bytes (p + 8 * ((length bytes - p) / 8)) 8 e
+    → ((directories_at count p).value bytes ≡ None) × (directories_at count p).IsCause bytes e
+cut_refused count bytes p e most short fault =
+    let i = (length bytes - p) / 8 in
+    missing_refused count i bytes p (p + 8 * i)
+    (map (directory_entry_at i bytes p) (range_with_len 0 16)) e (omega (arith, short)) most refl
+    (value-directories_at i bytes p
+    ∙ there_so_far i bytes p (omega (arith, short, most)) (λ some. omega (arith, some))) fault
+
+pub cut_none : (count : ℕ) (bytes : List ℕ) (p : ℕ) → count ≤ 16 → length bytes - p < 8 * count
+    → (directories_at count p).value bytes ≡ None
+cut_none count bytes p most short = elim (cases_eq ((length bytes - p) % 8) 0) [
+  | inl whole ↦ (cut_refused count bytes p (Read BadOffset) most short (omega (arith, whole))).0
+  | inr cut ↦ (cut_refused count bytes p (Read TooBig) most short (omega (arith, cut), omega (arith, cut))).0
+]
+
+pub whole_cause : (count : ℕ) (bytes : List ℕ) (p : ℕ) → count ≤ 16 → length bytes - p < 8 * count
+    → (length bytes - p) % 8 ≡ 0 → (directories_at count p).IsCause bytes (Read BadOffset)
+whole_cause count bytes p most short whole =
+    (cut_refused count bytes p (Read BadOffset) most short (omega (arith, whole))).1
+
+pub cut_cause : (count : ℕ) (bytes : List ℕ) (p : ℕ) → count ≤ 16 → length bytes - p < 8 * count
+    → (length bytes - p) % 8 ≢ 0 → (directories_at count p).IsCause bytes (Read TooBig)
+cut_cause count bytes p most short cut =
+    (cut_refused count bytes p (Read TooBig) most short (omega (arith, cut), omega (arith, cut))).1
+
 -- more than sixteen are refused
 pub many_none : (count : ℕ) (bytes : List ℕ) (p : ℕ) → 16 < count
     → (directories_at count p).value bytes ≡ None
@@ -169,6 +210,15 @@ pub many_cause : (count : ℕ) (bytes : List ℕ) (p : ℕ) → 16 < count
     → (directories_at count p).IsCause bytes (Malformed (DirectoryCount count))
 unfolding directories_at
 many_cause count bytes p many = rw (lt-leb count 16 many) refl
+
+-- a record that is there
+pub record_there : (bytes : List ℕ) (at : ℕ) (d : DataDirectory) → at + 8 ≤ length bytes
+    → d ≡ directory_record Little (slice_range bytes at (at + 8))
+    → record_at 8 (directory_record Little) bytes at ≡ Some d
+record_there bytes at d room is =
+    let begins : nat_lt at (length bytes) ≡ true = lt-ltb _ _ (omega (arith, room)) in
+    let ends : nat_le (at + 8) (length bytes) ≡ true = le-leb _ _ room in
+    rw (begins, ends, is) refl
 
 -- one more entry
 pub one_more : (i : ℕ) (bytes : List ℕ) (p at end : ℕ) (entries : List (Option (ℕ × DataDirectory)))

@@ -1,7 +1,7 @@
 //! The data directories of an optional header: where the tables of an image lie.
 
 ghost use Rattle.std.specs.Prelude.{◌≡◌, ◌+◌, ◌-◌, ◌*◌, ◌<◌, ◌≤◌, Some, length, slice_get};
-ghost use Rattle.std.specs.Prelude.{option_map, IfOk, IfSome, OnOk, OnErr};
+ghost use Rattle.std.specs.Prelude.{None, option_map, IfErr, IfOk, IfSome, OnOk, OnErr};
 ghost use Rattle.std.specs.Iterator.{UpTo, YieldsFirst, at_most};
 ghost use Rattle.std.specs.Iterator.SizeHint.{IsWithinCount};
 ghost use Rattle.goblin_base.specs.Reading.{Reads};
@@ -18,8 +18,8 @@ ghost use Rattle.goblin_pe_sect.specs.DataDirectories.{present_from};
 ghost use Rattle.goblin_pe_sect.specs.DirectoryReadings.{EntriesWriteBack, directories_at};
 
 use goblin_base::{
-    Cause, Endian, Error, Field, Record, Result, encode, field_u32, gread_slice, put_bytes,
-    put_fields, pwrite_slice,
+    Cause, Endian, Error, Field, ReadFault, Record, Result, encode, field_u32, gread_slice,
+    put_bytes, put_fields, pwrite_slice,
 };
 
 /// The size of a directory's record, in bytes.
@@ -202,6 +202,24 @@ pub struct DataDirectories {
     pub data_directories: [Option<(usize, DataDirectory)>; 16],
 }
 
+// Refuses entries that run past the end, as a read of the first of them that does.
+#[tactic(auto, using(crate::proofs::DirectoryReadings::cut_none, crate::proofs::DirectoryReadings::cut_cause, crate::proofs::DirectoryReadings::whole_cause))]
+fn test_room(bytes: &[u8], count: usize, offset: usize) -> Result<()>
+    requires { count ≤ 16 }
+    ensures room { OnOk result (0 < count → offset + 8 * count ≤ length bytes.now) }
+    ensures none { OnErr result ((directories_at count offset).value bytes.now ≡ None) }
+    ensures cause { IfErr result ((directories_at count offset).IsCause bytes.now) }
+{
+    let left = bytes.len().saturating_sub(offset);
+    if SIZEOF_DATA_DIRECTORY * count <= left {
+        return Ok(());
+    }
+    if left.is_multiple_of(SIZEOF_DATA_DIRECTORY) {
+        return Err(Error::Read(ReadFault::BadOffset));
+    }
+    Err(Error::Read(ReadFault::TooBig))
+}
+
 // A directory whose record ends at an offset, `None` if it is all zeros.
 fn entry(end: usize, directory: DataDirectory) -> Option<(usize, DataDirectory)>
     ensures { result ≡ entry_ending end directory }
@@ -240,11 +258,13 @@ impl DataDirectories {
         if count > NUM_DATA_DIRECTORIES {
             return Err(Error::Malformed(Cause::DirectoryCount(count)));
         }
+        test_room(bytes, count, *offset)?;
         let mut data_directories = [None; NUM_DATA_DIRECTORIES];
         let mut end = *offset;
         'entries: for i in 0..count {
-            let directory = DataDirectory::parse(bytes, &mut end)?;
-            data_directories[i] = entry(end, directory);
+            let record = &bytes[end..end + SIZEOF_DATA_DIRECTORY];
+            end += SIZEOF_DATA_DIRECTORY;
+            data_directories[i] = entry(end, DataDirectory::in_record(record, Endian::Little));
         }
         *offset = end;
         Ok(DataDirectories { data_directories })

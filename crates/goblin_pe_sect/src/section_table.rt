@@ -2,7 +2,7 @@
 
 ghost use Rattle.std.specs.Prelude.{◌≡◌, ◌↔◌, ◌+◌, ◌*◌, ◌<◌, ◌≤◌, Bool, Err, IfErr, IfOk, IfSome};
 ghost use Rattle.std.specs.Prelude.{IsSomeAnd, IsTrue, None, Ok, OnErr, OnOk, Some, if◌then◌else◌};
-ghost use Rattle.std.specs.Prelude.{length, nat_eq, string_bytes, true};
+ghost use Rattle.std.specs.Prelude.{length, nat_eq, slice_range, string_bytes, true};
 ghost use Rattle.std.specs.Cow.{cow_slice_items, IsBorrowedSlice};
 ghost use Rattle.std.specs.Option.{option_eq, option_map};
 ghost use Rattle.std.specs.Cmp.Lexicographic.{pointwise};
@@ -146,15 +146,16 @@ impl PartialEq for SectionTable {
 }
 
 impl SectionTable {
-    // The section in a record's bytes.
+    // The section in a record's bytes, with this real name.
     #[tactic(auto, unfolding(crate::specs::SectionTable::section_record))]
-    fn in_record(bytes: &[u8]) -> SectionTable
+    fn in_record(bytes: &[u8], real_name: Option<String>) -> SectionTable
         requires { length bytes.now ≡ 40 }
-        ensures { result ≡ section_record Endian.Little bytes.now }
+        ensures { result ≡ record (section_record Endian.Little bytes.now)
+            { real_name = option_map string_bytes real_name } }
     {
         SectionTable {
             name: field_array(bytes, 0),
-            real_name: None,
+            real_name,
             virtual_size: field_u32(bytes, 8, Endian::Little),
             virtual_address: field_u32(bytes, 12, Endian::Little),
             size_of_raw_data: field_u32(bytes, 16, Endian::Little),
@@ -201,7 +202,7 @@ impl SectionTable {
     /// [`Error::Read`] if the 40 bytes run past the end of the file; as
     /// [`SectionTable::name_offset_with_opts`] where the name is refused; [`Error::Memory`] if
     /// memory for the real name is refused. `offset` is then unchanged.
-    #[tactic(auto, unfolding(crate::specs::SectionReadings::section_at, crate::specs::SectionName::IsNameFault))]
+    #[tactic(auto, unfolding(crate::specs::SectionReadings::section_at, crate::specs::SectionName::IsNameFault, crate::specs::SectionTable::section_record))]
     pub fn parse_with_opts(
         alloc: Global,
         bytes: &[u8],
@@ -219,11 +220,10 @@ impl SectionTable {
     {
         let mut end = *offset;
         let record = gread_slice(bytes, &mut end, SIZEOF_SECTION_TABLE)?;
-        let mut section = SectionTable::in_record(record);
-        let value = section.name_offset_with_opts(opts)?;
-        section.real_name = real_name(alloc, bytes, string_table_offset, value)?;
+        let value = name_in_record(record, opts.parse_mode)?;
+        let real_name = real_name(alloc, bytes, string_table_offset, value)?;
         *offset = end;
-        Ok(section)
+        Ok(SectionTable::in_record(record, real_name))
     }
 
     /// A copy with its own text. It takes no memory if there is no real name or the real name is
@@ -468,6 +468,19 @@ impl SectionTable {
         ];
         encode_fields(&fields, endian)
     }
+}
+
+// What the name in a record says. Most names begin with no slash and are looked at no further.
+#[tactic(auto, unfolding(crate::specs::SectionName::name_value))]
+fn name_in_record(bytes: &[u8], mode: ParseMode) -> Result<Option<usize>>
+    requires { length bytes.now ≡ 40 }
+    ensures { let name = slice_range bytes.now 0 8 in
+        Answers (λ v. v) result (name_value (is_strict mode) name) (IsNameFault (is_strict mode) name) }
+{
+    if bytes[0] != b'/' {
+        return Ok(None);
+    }
+    name_value(&field_array(bytes, 0), mode)
 }
 
 // What the eight bytes of a name say.

@@ -1,7 +1,7 @@
 //! The Rich header, where a linker records which tools made a file.
 
 ghost use Rattle.std.specs.Prelude.{◌≡◌, ◌≤◌, ◌<◌, ◌+◌, ◌*◌, ◌/◌, ◌^◌, List, ℕ, Some, length, drop};
-ghost use Rattle.std.specs.Prelude.{option_map, IfOk, IfSome};
+ghost use Rattle.std.specs.Prelude.{◌-◌, ◌==◌, ◌≢◌, option_map, slice_index, IfOk, IfSome};
 ghost use Rattle.std.specs.Iterator.{UpTo, YieldsFirst, at_most};
 ghost use Rattle.std.specs.Iterator.SizeHint.{IsWithinCount};
 ghost use Rattle.goblin_base.specs.Reading.{Reads};
@@ -12,7 +12,8 @@ ghost use Rattle.goblin_pe_head.specs.declared.header.rich.RichMetadata.{RichMet
 ghost use Rattle.goblin_pe_head.specs.HeaderLaws.{RichIsMarked, RichIsUnmarked};
 ghost use Rattle.goblin_pe_head.specs.HeaderReadings as reading;
 ghost use Rattle.goblin_pe_head.specs.RichHeader.{PaddingFits, dans_place, leading_words};
-ghost use Rattle.goblin_pe_head.specs.RichHeader.{marker_place, other_place, rich_value};
+ghost use Rattle.goblin_pe_head.specs.RichHeader.{least_below, marker_place, other_place, rich_value};
+ghost use Rattle.goblin_pe_head.specs.RichHeader.{word_at};
 ghost use Rattle.goblin_pe_head.specs.RichMetadata.{AreEntriesOf, metadata_at, metadata_fields};
 ghost use Rattle.goblin_pe_head.specs.RichMetadata.{metadata_items, metadata_left, metadata_record};
 ghost use Rattle.goblin_pe_head.specs.RichReadings as rich_reading;
@@ -23,6 +24,7 @@ use goblin_base::{
 };
 use goblin_pe_sect::options::ParseOptions;
 use std::iter::FusedIterator;
+use std::simd::prelude::*;
 
 /// The word that a Rich header begins with, `DanS`. It is stored under the key.
 pub const DANS_MARKER: u32 = 0x536E_6144;
@@ -310,17 +312,70 @@ fn marker_place(stretch: &[u8]) -> Option<usize>
     ensures value { result ≡ marker_place stretch.now }
     ensures room { IfSome result (λ i. i + 8 ≤ length stretch.now) }
 {
-    (0..stretch.len().saturating_sub(7)).find(|i| field_u32(stretch, *i, Endian::Little)
-        == RICH_MARKER)
+    word_place(stretch, stretch.len().saturating_sub(7), RICH_MARKER)
 }
 
 // The first position of a word that is the other marker under the key.
+#[tactic(auto, using(crate::proofs::WordPlaces::under_key))]
 fn dans_place(stretch: &[u8], key: u32) -> Option<usize>
     ensures value { result ≡ dans_place key stretch.now }
     ensures room { IfSome result (λ j. j + 4 ≤ length stretch.now) }
 {
-    (0..stretch.len().saturating_sub(3)).find(|j| field_u32(stretch, *j, Endian::Little) ^ key
-        == DANS_MARKER)
+    word_place(stretch, stretch.len().saturating_sub(3), DANS_MARKER ^ key)
+}
+
+// The first of so many positions at which the word is.
+#[tactic(auto, using(crate::proofs::WordPlaces::found_at, crate::proofs::WordPlaces::found_none))]
+fn word_place(bytes: &[u8], count: usize, word: u32) -> Option<usize>
+    requires { count ≤ length bytes.now - 3 }
+    ensures value { result ≡ least_below count (λ i. word_at bytes.now i == word) }
+    ensures below { IfSome result (λ i. i < count) }
+{
+    let first = (word % 256) as u8;
+    let mut at = 0;
+    'places: while at < count {
+        at += run_without(&bytes[at..count], first);
+        if at < count && field_u32(bytes, at, Endian::Little) == word {
+            return Some(at);
+        }
+        at += 1;
+    }
+    None
+}
+
+// How many bytes precede the first that is `byte`.
+fn run_without(bytes: &[u8], byte: u8) -> usize
+    ensures within { result ≤ length bytes.now }
+    ensures others { (k : ℕ) → k < result → slice_index bytes.now k ≢ byte }
+{
+    let mut run = 0;
+    'lanes: while 16 <= bytes.len() - run {
+        let more = run_in_lanes(bytes, run, byte);
+        run += more;
+        if more < 16 {
+            return run;
+        }
+    }
+    'bytes: while run < bytes.len() && bytes[run] != byte {
+        run += 1;
+    }
+    run
+}
+
+// How many of the 16 bytes from `at` on precede the first that is `byte`.
+fn run_in_lanes(bytes: &[u8], at: usize, byte: u8) -> usize
+    requires { at + 16 ≤ length bytes.now }
+    ensures within { result ≤ 16 }
+    ensures others { (k : ℕ) → at ≤ k → k < at + result → slice_index bytes.now k ≢ byte }
+{
+    let marks = u8x16::from_slice(&bytes[at..])
+        .simd_eq(u8x16::splat(byte))
+        .to_bitmask();
+    if marks == 0 {
+        16
+    } else {
+        marks.trailing_zeros() as usize
+    }
 }
 
 // Which word is the first that is not the key.
