@@ -26,7 +26,7 @@ ghost use Rattle.goblin_pe.specs.Whole.{places_in, relocation_part, sections_aft
 ghost use Rattle.goblin_pe.specs.Whole.{table_places, tables_view, whole_file};
 
 use crate::export::{Export, ExportCollector, ExportData};
-use crate::import::{Import, ImportData, Libraries};
+use crate::import::{Import, ImportData, LibraryCollector};
 use crate::utils::{find_offset, try_name};
 use goblin_base::{Result, ResultOf, is_passed_over};
 use goblin_pe_head::header::{Header, SIZEOF_COFF_HEADER, SIZEOF_PE_MAGIC};
@@ -166,7 +166,7 @@ impl Tables {
 
     // The libraries of an import directory, as they are collected.
     #[tactic(auto, unfolding(crate::specs::Whole::entry_format))]
-    fn libraries_of<'a, 'e, I: Libraries<'a>>(
+    fn libraries_of<'a, 'e, I: LibraryCollector<'a>>(
         &self,
         alloc: Global,
         bytes: &'a [u8],
@@ -191,7 +191,7 @@ impl Tables {
     }
 
     // The libraries, if they were asked for.
-    fn libraries<'a, 'e, I: Libraries<'a>>(
+    fn libraries<'a, 'e, I: LibraryCollector<'a>>(
         &self,
         alloc: Global,
         bytes: &'a [u8],
@@ -217,7 +217,7 @@ impl Tables {
     }
 
     // The libraries, of which a list of imports can be made.
-    fn listed_libraries<'a, 'e, I: Libraries<'a>>(
+    fn listed_libraries<'a, 'e, I: LibraryCollector<'a>>(
         &self,
         alloc: Global,
         bytes: &'a [u8],
@@ -350,7 +350,7 @@ impl Tables {
 
     // All tables; refused for the first of them that refuses all. The list of imports is never the
     // first.
-    fn read<'a, 'e, I: Libraries<'a>, E: ExportCollector<'a>>(
+    fn read<'a, 'e, I: LibraryCollector<'a>, E: ExportCollector<'a>>(
         &self,
         alloc: Global,
         bytes: &'a [u8],
@@ -453,7 +453,7 @@ fn sections_of(
     coff_header.sections_with_opts(alloc, bytes, &mut offset, opts)
 }
 
-impl<'a, I: Libraries<'a>, E: ExportCollector<'a>> CollectedFile<'a, I, E> {
+impl<'a, I: LibraryCollector<'a>, E: ExportCollector<'a>> CollectedFile<'a, I, E> {
     /// Reads a whole file as [`Whole::read`] does, and hands its imports to `imports`, library by
     /// library, and its exports to `exports`, one by one. Both are empty before. The file is refused
     /// where [`Whole::read`] would refuse it for another cause than memory, and a list of imports

@@ -11,7 +11,7 @@ ghost use Rattle.goblin_pe_c.specs.Imports.{import_view, own_imports, own_record
 
 use goblin_pe::Result;
 use goblin_pe::import::{
-    Libraries, SyntheticImportDirectoryEntry, SyntheticImportLookupTableEntry,
+    LibraryCollector, SyntheticImportDirectoryEntry, SyntheticImportLookupTableEntry,
 };
 use std::alloc::Global;
 
@@ -169,7 +169,7 @@ impl<'a> ImportRecords<'a> {
     }
 }
 
-impl<'a> Libraries<'a> for ImportRecords<'a> {
+impl<'a> LibraryCollector<'a> for ImportRecords<'a> {
     ghost Item = { ImportValue × List ℕ };
 
     ghost items = { λ imports. map import_view imports.records.items };

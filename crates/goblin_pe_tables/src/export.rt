@@ -4,9 +4,8 @@
 //! three tables. A name pointer and the ordinal with its index are a named export; the ordinal is
 //! the index of its address. An address inside the directory is that of a forwarder's text.
 
-ghost use Rattle.std.specs.Prelude.{◌≤◌, ◌≡◌, ◌++◌, ◌∷◌, ◌⊎◌, [], IfErr, IsOk, IsSome, IsSomeAnd};
-ghost use Rattle.std.specs.Prelude.{List, OnErr, OnOk, length, map, option_and_then, option_map};
-ghost use Rattle.std.specs.Prelude.{option_to_list};
+ghost use Rattle.std.specs.Prelude.{◌≤◌, ◌≡◌, ◌++◌, ◌⊎◌, [], IfErr, IsOk, IsSome, IsSomeAnd, OnErr};
+ghost use Rattle.std.specs.Prelude.{OnOk, length, map, option_and_then, option_map, option_to_list};
 ghost use Rattle.goblin_base.specs.Answers.{GivesOrMemory, IsMemory};
 ghost use Rattle.goblin_base.specs.Bytes.{text_at};
 ghost use Rattle.goblin_base.specs.Reading.{ReadsOrMemory};
@@ -14,8 +13,7 @@ ghost use Rattle.goblin_pe_sect.specs.Mapping.{file_offset};
 ghost use Rattle.goblin_pe_sect.specs.Options.{default_options};
 ghost use Rattle.goblin_pe_tables.specs.Addresses.{offset_of};
 ghost use Rattle.goblin_pe_tables.specs.ExportReadings as reading;
-ghost use Rattle.goblin_pe_tables.specs.Exports.{ExportRow, HasEntries, HasExports, export_data};
-ghost use Rattle.goblin_pe_tables.specs.Exports.{export_row};
+ghost use Rattle.goblin_pe_tables.specs.Exports.{HasEntries, HasExports, export_data, export_row};
 ghost use Rattle.goblin_pe_tables.specs.Exports.{exports, rva_of};
 ghost use Rattle.goblin_pe_tables.specs.Forwarders.{forwarder_at, forwarder_value};
 ghost use Rattle.goblin_pe_sect.specs.WindowIndex.{HasPieces};
@@ -26,9 +24,11 @@ use goblin_pe_sect::{DataDirectory, ParseOptions, SectionTable};
 use std::alloc::Global;
 use std::marker::Model;
 
+mod collector;
 mod forwarder;
 mod tables;
 
+pub use collector::ExportCollector;
 pub use forwarder::Reexport;
 pub use tables::{
     ExportAddressTable, ExportAddressTableEntry, ExportDirectoryTable, ExportNamePointerTable,
@@ -258,42 +258,6 @@ fn plain_count(tables: &ExportData) -> usize
         }
     }
     count
-}
-
-/// Receives the exports of an image, one by one, as they are read.
-pub trait ExportCollector<'a>: Drop {
-    /// What is kept of an export.
-    ghost Item: { Type 0 };
-
-    /// What has been kept, in order.
-    ghost items: { Self → List Item };
-
-    /// What is kept of this export.
-    ghost item_of: { ExportRow → Item };
-
-    /// Keeps an export. There will be about `expected` of them in all.
-    ///
-    /// # Errors
-    /// Only [`Error::Memory`].
-    fn add(&mut self, export: Export<'a>, expected: usize) -> Result<()>
-        ensures added { OnOk result (items self.new ≡ items self.old ++ item_of export.entry ∷ []) }
-        ensures refused { IfErr result IsMemory };
-}
-
-impl<'a> ExportCollector<'a> for Vec<Export<'a>> {
-    ghost Item = { ExportRow };
-
-    ghost items = { λ v. v.items };
-
-    ghost item_of = { λ export. export };
-
-    fn add(&mut self, export: Export<'a>, expected: usize) -> Result<()> {
-        if self.is_empty() {
-            self.reserve(expected)?;
-        }
-        self.push(export)?;
-        Ok(())
-    }
 }
 
 // Adds a row, if there is one.

@@ -28,7 +28,7 @@ use std::marker::Model;
 
 mod address_table;
 mod bitfield;
-mod collected;
+mod collector;
 mod directory_entry;
 mod library;
 mod listed;
@@ -39,7 +39,7 @@ pub(crate) use bitfield::read_entry;
 pub use bitfield::{
     Bitfield, IMPORT_BY_ORDINAL_32, IMPORT_BY_ORDINAL_64, IMPORT_RVA_MASK_32, IMPORT_RVA_MASK_64,
 };
-pub use collected::Libraries;
+pub use collector::LibraryCollector;
 pub use directory_entry::{ImportDirectoryEntry, SIZEOF_IMPORT_DIRECTORY_ENTRY};
 pub use library::SyntheticImportDirectoryEntry;
 pub(crate) use library::{address_table_rva, lookup_offset};
@@ -86,7 +86,7 @@ fn kept_library<'a, 'e, T: Bitfield<'a>>(
 }
 
 // The libraries of the directory at an offset, handed to `imports` one by one.
-fn libraries<'a, 'e, T: Bitfield<'a>, I: Libraries<'a>>(
+fn libraries<'a, 'e, T: Bitfield<'a>, I: LibraryCollector<'a>>(
     alloc: Global,
     bytes: &'a [u8],
     offset: usize,
@@ -223,7 +223,7 @@ impl<'a> ImportData<'a> {
     /// # Errors
     /// As [`ImportData::parse_with_opts`]; [`Error::Memory`] also if memory is refused to `imports`.
     #[tactic(auto, unfolding(crate::specs::ImportReadings::import_data, crate::specs::ImportReadings::libraries_past_front))]
-    pub fn parse_into<'e, T: Bitfield<'a>, I: Libraries<'a>>(
+    pub fn parse_into<'e, T: Bitfield<'a>, I: LibraryCollector<'a>>(
         alloc: Global,
         bytes: &'a [u8],
         directory: DataDirectory,

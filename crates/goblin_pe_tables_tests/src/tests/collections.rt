@@ -9,7 +9,7 @@ use goblin_base::{Endian, ParseMode, ResultOf};
 use goblin_pe_sect::ParseOptions;
 use goblin_pe_tables::address_map::AddressMap;
 use goblin_pe_tables::import::{
-    ImportData, ImportDirectoryEntry, Libraries, SIZEOF_IMPORT_DIRECTORY_ENTRY,
+    ImportData, ImportDirectoryEntry, LibraryCollector, SIZEOF_IMPORT_DIRECTORY_ENTRY,
     SyntheticImportDirectoryEntry,
 };
 use std::alloc::Global;
@@ -21,7 +21,7 @@ struct Names<'a> {
     names: Vec<&'a str>,
 }
 
-impl<'a> Libraries<'a> for Names<'a> {
+impl<'a> LibraryCollector<'a> for Names<'a> {
     ghost Item = { List ℕ };
 
     ghost items = { λ kept. map (λ name. name.now) kept.names.items };

@@ -27,12 +27,12 @@ returns-in_err-kept-clause-value g c =
 
 pub records-preserved : goal.records-preserved
 records-preserved g c =
-    let keeps = g.I.Libraries.items_of g.T.Bitfield.format.width in
-    let items = g.I.Libraries.items in
+    let keeps = g.I.LibraryCollector.items_of g.T.Bitfield.format.width in
+    let items = g.I.LibraryCollector.items in
     let added : items c.match-kept.imports ≡ items c.records.imports ++ flat_map keeps (option_to_list c.in_ok-kept.kept) =
     elim c.match-kept.branch [
       | in-Some+in_ok-add w ↦
-          ap items w.imports-is ∙ sym w.in_ok-add.ensures ∙ ap (λ size. items c.records.imports ++ g.I.Libraries.items_of size w.in-Some.library) w.size_of.ensures.width
+          ap items w.imports-is ∙ sym w.in_ok-add.ensures ∙ ap (λ size. items c.records.imports ++ g.I.LibraryCollector.items_of size w.in-Some.library) w.size_of.ensures.width
           ∙ ap (λ ys. items c.records.imports ++ ys) (sym (append-nil (keeps w.in-Some.library))) ∙ ap (λ kept. items c.records.imports ++ flat_map keeps (option_to_list kept)) (sym w.in-Some.is)
       | in_default-kept w ↦
           ap items w.imports-is ∙ sym (append-nil (items c.records.imports)) ∙ ap (λ kept. items c.records.imports ++ flat_map keeps (option_to_list kept)) (sym w.in_default-kept.is)

@@ -12,10 +12,10 @@ unfolding whole_file whole_with
 returns-clause-value g c =
     let opts = c.args.opts.now in
     let bytes = c.args.bytes.now in
-    let items_of = g.I.Libraries.items_of in
+    let items_of = g.I.LibraryCollector.items_of in
     let item_of = g.E.ExportCollector.item_of in
     let header = header_value c.in_ok-header.header in
-    let tables = tables_view g.I.Libraries.items g.E.ExportCollector.items c.in_ok-imports.field-0 in
+    let tables = tables_view g.I.LibraryCollector.items g.E.ExportCollector.items c.in_ok-imports.field-0 in
     let at_places = subst
     (λ (k : TablePlaces).
     option_map (collected_tables items_of item_of k.magic)

@@ -10,6 +10,6 @@ returns g c =
     let map = c.args.address_map.now in
     collected-listed map.opts c.args.bytes.now (omega arith)
     (λ k. (let fits = c.type_inv.bytes k in grind (arith, fits)))
-    (table_places c.args.self.now) (offset_of map) (part_map g.I.Libraries.items)
-    (part_map (flat_map (g.I.Libraries.items_of (entry_format c.args.self.now.magic).width))) _
+    (table_places c.args.self.now) (offset_of map) (part_map g.I.LibraryCollector.items)
+    (part_map (flat_map (g.I.LibraryCollector.items_of (entry_format c.args.self.now.magic).width))) _
     c.libraries.ensures

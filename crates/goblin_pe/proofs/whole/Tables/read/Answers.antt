@@ -18,7 +18,7 @@ returns-in_err-imports g c =
     let places = table_places c.args.self.now in
     let opts = c.args.opts.now in
     let m = offset_by opts c.args.sections.now places in
-    let libraries = collected_libraries g.I.Libraries.items_of c.args.self.now.magic in
+    let libraries = collected_libraries g.I.LibraryCollector.items_of c.args.self.now.magic in
     let exports = part_map (collected_exports g.E.ExportCollector.item_of) in
     rw (error.1, error.2)
     (λ other.
@@ -35,9 +35,9 @@ returns-in_err-exports g c =
     let places = table_places c.args.self.now in
     let opts = c.args.opts.now in
     let m = offset_by opts c.args.sections.now places in
-    let libraries = collected_libraries g.I.Libraries.items_of c.args.self.now.magic in
+    let libraries = collected_libraries g.I.LibraryCollector.items_of c.args.self.now.magic in
     let exports = part_map (collected_exports g.E.ExportCollector.item_of) in
-    let first = subst (λ (k : MapOfAddresses). option_map libraries ((import_parts k.opts (offset_of k) places).value bytes) ≡ Some (part_map g.I.Libraries.items c.in_ok-imports.imports))
+    let first = subst (λ (k : MapOfAddresses). option_map libraries ((import_parts k.opts (offset_of k) places).value bytes) ≡ Some (part_map g.I.LibraryCollector.items c.in_ok-imports.imports))
     (sym c.in_ok-address_map.ensures.made) c.in_ok-imports.ensures in
     rw (error.1, error.2)
     (λ other.
@@ -54,9 +54,9 @@ returns-in_err-relocations g c =
     let places = table_places c.args.self.now in
     let opts = c.args.opts.now in
     let m = offset_by opts c.args.sections.now places in
-    let libraries = collected_libraries g.I.Libraries.items_of c.args.self.now.magic in
+    let libraries = collected_libraries g.I.LibraryCollector.items_of c.args.self.now.magic in
     let exports = part_map (collected_exports g.E.ExportCollector.item_of) in
-    let first = subst (λ (k : MapOfAddresses). option_map libraries ((import_parts k.opts (offset_of k) places).value bytes) ≡ Some (part_map g.I.Libraries.items c.in_ok-imports.imports))
+    let first = subst (λ (k : MapOfAddresses). option_map libraries ((import_parts k.opts (offset_of k) places).value bytes) ≡ Some (part_map g.I.LibraryCollector.items c.in_ok-imports.imports))
     (sym c.in_ok-address_map.ensures.made) c.in_ok-imports.ensures in
     let second = subst (λ (k : MapOfAddresses). option_map exports ((export_part k.opts (offset_of k) places).value bytes) ≡ Some (part_map (export_rows_view g.E.ExportCollector.items) c.in_ok-exports.exports))
     (sym c.in_ok-address_map.ensures.made) c.in_ok-exports.ensures in
@@ -72,9 +72,9 @@ returns g c =
     let places = table_places c.args.self.now in
     let opts = c.args.opts.now in
     let m = offset_by opts c.args.sections.now places in
-    let libraries = collected_libraries g.I.Libraries.items_of c.args.self.now.magic in
+    let libraries = collected_libraries g.I.LibraryCollector.items_of c.args.self.now.magic in
     let exports = part_map (collected_exports g.E.ExportCollector.item_of) in
-    let first = subst (λ (k : MapOfAddresses). option_map libraries ((import_parts k.opts (offset_of k) places).value bytes) ≡ Some (part_map g.I.Libraries.items c.in_ok-imports.imports))
+    let first = subst (λ (k : MapOfAddresses). option_map libraries ((import_parts k.opts (offset_of k) places).value bytes) ≡ Some (part_map g.I.LibraryCollector.items c.in_ok-imports.imports))
     (sym c.in_ok-address_map.ensures.made) c.in_ok-imports.ensures in
     let second = subst (λ (k : MapOfAddresses). option_map exports ((export_part k.opts (offset_of k) places).value bytes) ≡ Some (part_map (export_rows_view g.E.ExportCollector.items) c.in_ok-exports.exports))
     (sym c.in_ok-address_map.ensures.made) c.in_ok-exports.ensures in

@@ -13,7 +13,7 @@ use goblin_base::Result;
 ///
 /// A collection that keeps only a part of each library lets go of the library itself, so that its
 /// memory serves the next one.
-pub trait Libraries<'a>: Drop {
+pub trait LibraryCollector<'a>: Drop {
     /// What is kept of libraries, as values.
     ghost Item: { Type 0 };
 
@@ -34,7 +34,7 @@ pub trait Libraries<'a>: Drop {
             (items self.old ++ items_of size library.entry) };
 }
 
-impl<'a> Libraries<'a> for ImportData<'a> {
+impl<'a> LibraryCollector<'a> for ImportData<'a> {
     ghost Item = { ImportedLibrary };
 
     ghost items = { λ imports. imports };
