@@ -119,6 +119,5 @@ fn seen<A: Answer + Drop>(answer: A) -> Seen {
 }
 
 fn both<A: Answer + Drop>(answers: (A, A)) -> BothSeen {
-    let (first, second) = answers;
-    (first.seen(), second.seen())
+    (answers.0.seen(), answers.1.seen())
 }

@@ -204,21 +204,16 @@ fn show_te_header(rt: &HostRuntime, header: &TeHeader) -> Result<(), Refused> {
 
 fn show_sections(rt: &HostRuntime, sections: &[SectionTable]) -> Result<(), Refused> {
     for section in sections {
-        show_section(rt, section)?;
+        println!(rt;
+            "section {} va={:#x} vsize={:#x} raw={:#x} ptr={:#x} characteristics={:#x}",
+            section.name()?,
+            section.virtual_address,
+            section.virtual_size,
+            section.size_of_raw_data,
+            section.pointer_to_raw_data,
+            section.characteristics
+        )?;
     }
-    Ok(())
-}
-
-fn show_section(rt: &HostRuntime, section: &SectionTable) -> Result<(), Refused> {
-    let name = section.name()?;
-    println!(rt;
-        "section {name} va={:#x} vsize={:#x} raw={:#x} ptr={:#x} characteristics={:#x}",
-        section.virtual_address,
-        section.virtual_size,
-        section.size_of_raw_data,
-        section.pointer_to_raw_data,
-        section.characteristics
-    )?;
     Ok(())
 }
 
@@ -273,20 +268,10 @@ fn show_all_relocations(
 
 // The number of a section's relocations, where it has some.
 fn show_relocations(rt: &HostRuntime, section: &SectionTable, file: &[u8]) -> Result<(), Refused> {
-    let name = section.name()?;
-    match relocations_of(section, file)? {
-        0 => Ok(()),
-        count => show_count(rt, name, count),
-    }
-}
-
-fn relocations_of(section: &SectionTable, file: &[u8]) -> Result<usize, Refused> {
     let (count, _) = section.relocations(file)?.size_hint();
-    Ok(count)
-}
-
-fn show_count(rt: &HostRuntime, name: &str, count: usize) -> Result<(), Refused> {
-    println!(rt; "relocations {name} {count}")?;
+    if count > 0 {
+        println!(rt; "relocations {} {count}", section.name()?)?;
+    }
     Ok(())
 }
 

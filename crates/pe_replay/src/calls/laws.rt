@@ -66,11 +66,6 @@ fn of_two_files(alloc: Global, a: &[u8], word: &str, opts: &ParseOptions) -> Opt
     }
 }
 
-// The checker does not cover `seen` and `both` at this type, nor at that of tables.
-fn parts_seen(parts: Parts<DataDirectory>) -> Seen {
-    parts_sum(&parts)
-}
-
 // How long the names of the sections are, by a COFF header and as a Terse Executable's, and the
 // strings.
 fn parts_sum(parts: &Parts<DataDirectory>) -> Seen {
@@ -97,7 +92,7 @@ fn parts(alloc: Global, opts: &ParseOptions) -> BothSeen {
         size: 7,
     };
     let opts = ParseOptions::te().with_parse_mode(opts.parse_mode);
-    let (first, second): (Parts<DataDirectory>, Parts<DataDirectory>) = twin_parts(
+    let both: (Parts<DataDirectory>, Parts<DataDirectory>) = twin_parts(
         alloc,
         &file,
         &file,
@@ -109,7 +104,7 @@ fn parts(alloc: Global, opts: &ParseOptions) -> BothSeen {
         ALIGNMENT,
         &opts,
     );
-    (parts_seen(first), parts_seen(second))
+    (parts_sum(&both.0), parts_sum(&both.1))
 }
 
 // How many entries and libraries there are, and how long the names of the exports are.
@@ -120,13 +115,9 @@ fn tables_sum(tables: &Tables<ImportDirectoryEntry>) -> Seen {
     Ok(entries.saturating_add(libraries).saturating_add(exports))
 }
 
-fn tables_seen(tables: Tables<ImportDirectoryEntry>) -> Seen {
-    tables_sum(&tables)
-}
-
-fn both_tables(tables: (Tables<ImportDirectoryEntry>, Tables<ImportDirectoryEntry>)) -> BothSeen {
-    let (first, second) = tables;
-    (tables_seen(first), tables_seen(second))
+// The checker does not cover `both` at this type, nor at that of parts.
+fn both_tables(both: (Tables<ImportDirectoryEntry>, Tables<ImportDirectoryEntry>)) -> BothSeen {
+    (tables_sum(&both.0), tables_sum(&both.1))
 }
 
 fn tables_by_mode(alloc: Global, file: &[u8], opts: &ParseOptions) -> BothSeen {

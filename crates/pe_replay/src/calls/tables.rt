@@ -70,7 +70,7 @@ fn slots_seen(alloc: Global, file: &[u8], offset: usize, opts: &ParseOptions) ->
 }
 
 fn library_seen(alloc: Global, file: &[u8], opts: &Option<ParseOptions>) -> Seen {
-    let record = ImportDirectoryEntry::read_at(file, 0x200, Endian::Little)?;
+    let record = *read_of(&ImportDirectoryEntry::read_at(file, 0x200, Endian::Little))?;
     let sections = [sample_section()];
     seen(match opts {
         None => SyntheticImportDirectoryEntry::parse::<u32>(
@@ -93,8 +93,8 @@ fn import_data_seen(alloc: Global, file: &[u8], opts: &Option<ParseOptions>) -> 
 }
 
 fn imports_seen(alloc: Global, file: &[u8]) -> Seen {
-    let data = ImportData::parse::<u32>(alloc, file, IMPORTS, &[sample_section()], ALIGNMENT)?;
-    seen(Import::parse::<u32>(alloc, file, &data, &[]))
+    let data = ImportData::parse::<u32>(alloc, file, IMPORTS, &[sample_section()], ALIGNMENT);
+    seen(Import::parse::<u32>(alloc, file, read_of(&data)?, &[]))
 }
 
 fn no_imports_seen(alloc: Global, file: &[u8]) -> Seen {
@@ -111,8 +111,8 @@ fn export_data_seen(alloc: Global, file: &[u8], opts: &Option<ParseOptions>) -> 
 }
 
 fn exports_seen(alloc: Global, file: &[u8], opts: &Option<ParseOptions>) -> Seen {
-    let data = ExportData::parse(alloc, file, EXPORTS, &[sample_section()], ALIGNMENT)?;
-    exports_of(alloc, file, &data, opts)
+    let data = ExportData::parse(alloc, file, EXPORTS, &[sample_section()], ALIGNMENT);
+    exports_of(alloc, file, read_of(&data)?, opts)
 }
 
 fn exports_of(alloc: Global, file: &[u8], data: &ExportData, opts: &Option<ParseOptions>) -> Seen {
