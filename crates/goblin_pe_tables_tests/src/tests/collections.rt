@@ -1,4 +1,4 @@
-//! Collections that receive the libraries of an import directory.
+//! Collections that receive the libraries of an import directory, or the exports of an image.
 
 ghost use Rattle.std.specs.Prelude.{◌∷◌, [], List, map, ℕ};
 ghost use Rattle.goblin_pe_tables.specs.ImportDirectory.{ImportedLibrary};
@@ -6,8 +6,9 @@ ghost use Rattle.goblin_pe_tables.specs.ImportDirectory.{ImportedLibrary};
 use fixture::sample::{put, sample, sample_section};
 use fixture_tables::imports::{ALIGNMENT, DIRECTORY, RECORD};
 use goblin_base::{Endian, ParseMode, ResultOf};
-use goblin_pe_sect::ParseOptions;
+use goblin_pe_sect::{DataDirectory, ParseOptions};
 use goblin_pe_tables::address_map::AddressMap;
+use goblin_pe_tables::export::{Export, ExportCollector, ExportData};
 use goblin_pe_tables::import::{
     ImportData, ImportDirectoryEntry, LibraryCollector, SIZEOF_IMPORT_DIRECTORY_ENTRY,
     SyntheticImportDirectoryEntry,
@@ -76,5 +77,54 @@ fn a_collection_receives_each_library_in_order(rt: HostRuntime) -> Result<(), Fa
             "{mode:?}"
         );
     }
+    Ok(())
+}
+
+/// The sample file's export directory.
+const EXPORTS: DataDirectory = DataDirectory {
+    virtual_address: 0x10A0,
+    size: 0x60,
+};
+
+/// The addresses of exports, and nothing else of them.
+#[derive(Drop)]
+struct Addresses {
+    addresses: Vec<usize>,
+}
+
+impl<'a> ExportCollector<'a> for Addresses {
+    ghost Item = { ℕ };
+
+    ghost items = { λ kept. kept.addresses.items };
+
+    ghost item_of = { λ export. export.rva };
+
+    fn add(&mut self, export: Export<'a>, _expected: usize) -> goblin_base::Result<()> {
+        self.addresses.push(export.rva)?;
+        Ok(())
+    }
+}
+
+/// The addresses of the exports of a file with the sample's section and directory.
+fn addresses_of(alloc: Global, file: &[u8]) -> goblin_base::Result<Addresses> {
+    let opts = ParseOptions::default();
+    let sections = [sample_section()];
+    let address_map = AddressMap::prepare(alloc, &sections, ALIGNMENT, &opts)?;
+    let tables = ExportData::parse_by(alloc, file, EXPORTS, &address_map)?;
+    let addresses = Addresses {
+        addresses: Vec::new(alloc),
+    };
+    Export::parse_into(file, &tables, &address_map, addresses)
+}
+
+/// Whether these addresses were kept, in this order.
+fn were_kept(read: goblin_base::Result<Addresses>, want: &[usize]) -> bool {
+    matches!(&read, Ok(kept) if kept.addresses.as_slice() == want)
+}
+
+#[test]
+fn a_collection_receives_each_export_in_order(rt: HostRuntime) -> Result<(), Fail> {
+    let file = sample(rt.alloc())?;
+    assert!(rt; were_kept(addresses_of(rt.alloc(), &file), &[0x1010, 0x10E0]));
     Ok(())
 }
