@@ -1,8 +1,8 @@
 //! The records of imports.
 
-ghost use Rattle.std.specs.Prelude.{◌≡◌, ◌<◌, ◌+◌, ◌*◌, ◌++◌, ◌^◌, [], IsSome, List, length, map};
-ghost use Rattle.std.specs.Prelude.{true, ℕ};
-ghost use Rattle.goblin_base.specs.Answers.{GivesOrMemory};
+ghost use Rattle.std.specs.Prelude.{◌≡◌, ◌<◌, ◌+◌, ◌*◌, ◌++◌, ◌^◌, [], IfErr, IsSome, List, length};
+ghost use Rattle.std.specs.Prelude.{map, true, ℕ};
+ghost use Rattle.goblin_base.specs.Answers.{GivesOrMemory, IsMemory};
 ghost use Rattle.goblin_pe.specs.ImportLookup.{entry_view};
 ghost use Rattle.goblin_pe.specs.Imports.{ImportValue, has_slots, import_of, imports_by};
 ghost use Rattle.goblin_pe.specs.Imports.{kept_entries};
@@ -124,6 +124,18 @@ fn kept_entries<'b, 'a>(
     }
 }
 
+// Makes room for so many more records, or for half as many as there are, where they don't fit. The
+// records of one library take no more room than they need, and those of many are seldom moved.
+fn make_room(records: &mut Vec<PeImport>, more: usize) -> Result<()>
+    ensures kept { records.new.items ≡ records.old.items }
+    ensures refused { IfErr result IsMemory }
+{
+    if records.capacity().saturating_sub(records.len()) < more {
+        records.reserve_exact(more.max(records.len() / 2))?;
+    }
+    Ok(())
+}
+
 // Appends the records of the imports from a library, whose address table has entries of `size`
 // bytes.
 fn push_library<'a>(
@@ -138,10 +150,12 @@ fn push_library<'a>(
         GivesOrMemory (λ _. map import_view records.new.items) result
         (map import_view records.old.items ++ map alone made) }
 {
+    let entries = kept_entries(library);
+    make_room(records, entries.len())?;
     push_entries(
         records,
         bytes,
-        kept_entries(library),
+        entries,
         &library.import_lookup_slots,
         library.name,
         library.import_directory_entry.import_address_table_rva,
