@@ -416,7 +416,7 @@ impl<'a> Pe<'a> {
             bytes,
             options: *options,
             file: raw::File::default(),
-            directories: Default::default(),
+            directories: [raw::Directory::default(); 16],
             tables: raw::Tables::EMPTY,
         };
         Error::test(raw::open(

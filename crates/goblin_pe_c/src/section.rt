@@ -1,6 +1,6 @@
 //! The records of sections.
 
-ghost use Rattle.std.specs.Prelude.{◌≡◌, map, option_map};
+ghost use Rattle.std.specs.Prelude.{◌≡◌, Bool, map, ℕ, option_map};
 ghost use Rattle.goblin_pe_sect.specs.Options.{is_strict};
 ghost use Rattle.goblin_base.specs.Answers.{GivesOrMemory};
 ghost use Rattle.goblin_pe_c.specs.Filled.{Filled, alone};
@@ -64,17 +64,17 @@ fn real_name<'a>(
     pread_str(bytes, table.checked_add(offset)?).ok()
 }
 
-// The record of a section.
+// The record of a section with this name from the string table.
 fn section_record<'a>(
     bytes: &'a [u8],
     section: &SectionTable,
-    table: usize,
-    opts: &ParseOptions,
+    real_name: Option<&'a str>,
 ) -> PeSection<'a>
-    ensures { section_said result
-        ≡ alone (named_in (is_strict opts.now.parse_mode) bytes.now table section.now) }
+    ensures { (strict : Bool) (table : ℕ)
+        → option_map (λ s. s.now) real_name.entry
+        ≡ real_name_in strict bytes.now table section.now.name
+        → section_said result ≡ alone (named_in strict bytes.now table section.now) }
 {
-    let real_name = real_name(bytes, section, table, opts);
     PeSection {
         real_name: match real_name {
             Some(name) => name.as_bytes(),
@@ -108,7 +108,8 @@ pub fn fill_sections<'a>(
 {
     let count = sections.len().min(records.len());
     'records: for i in 0..count {
-        records[i] = section_record(bytes, &sections[i], table, opts);
+        let section = &sections[i];
+        records[i] = section_record(bytes, section, real_name(bytes, section, table, opts));
     }
 }
 
@@ -127,7 +128,9 @@ pub fn section_records<'a>(
     let count = sections.len();
     let mut records = Vec::with_capacity(alloc, count)?;
     'records: for i in 0..count {
-        records.push(section_record(bytes, &sections[i], table, opts))?;
+        let section = &sections[i];
+        let name = real_name(bytes, section, table, opts);
+        records.push(section_record(bytes, section, name))?;
     }
     Ok(records)
 }

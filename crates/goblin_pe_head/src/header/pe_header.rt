@@ -78,19 +78,6 @@ fn stub_in<'a>(bytes: &'a [u8], pe_pointer: u32, opts: &ParseOptions) -> Result<
     DosStub::parse(bytes, pe_pointer).or_permissive_and_default(is_permissive, "DOS stub")
 }
 
-// The optional header at an offset, where its size is not 0.
-#[tactic(auto, unfolding(crate::specs::HeaderReadings::optional_at))]
-fn optional_at(size: u16, bytes: &[u8], offset: usize) -> Result<Option<OptionalHeader>>
-    requires { offset ≤ length bytes.now }
-    ensures { Reads (λ header. header) result (reading.optional_at size offset) bytes.now }
-{
-    if size == 0 {
-        return Ok(None);
-    }
-    let (header, _) = OptionalHeader::try_from_ctx(&bytes[offset..], Endian::Little)?;
-    Ok(Some(header))
-}
-
 impl<'a> Header<'a> {
     /// Reads the header of a file, as [`Header::parse_with_opts`] with the default options.
     ///
@@ -142,7 +129,7 @@ impl<'a> Header<'a> {
     }
 
     // Reads the parts from the signature at `offset` on.
-    #[tactic(auto, unfolding(crate::specs::HeaderReadings::header_at, crate::specs::HeaderReadings::parts_at))]
+    #[tactic(auto, unfolding(crate::specs::HeaderReadings::header_at, crate::specs::HeaderReadings::parts_at, crate::specs::HeaderReadings::optional_at))]
     fn parse_at(
         bytes: &'a [u8],
         offset: usize,
@@ -160,14 +147,21 @@ impl<'a> Header<'a> {
         };
         let mut end = offset + SIZEOF_PE_MAGIC;
         let coff_header = CoffHeader::parse(bytes, &mut end)?;
-        let optional_header = optional_at(coff_header.size_of_optional_header, bytes, end)?;
-        Ok(Header {
+        let header = Header {
             dos_header,
             dos_stub,
             rich_header,
             signature,
             coff_header,
-            optional_header,
+            optional_header: None,
+        };
+        if coff_header.size_of_optional_header == 0 {
+            return Ok(header);
+        }
+        let (optional_header, _) = OptionalHeader::try_from_ctx(&bytes[end..], Endian::Little)?;
+        Ok(Header {
+            optional_header: Some(optional_header),
+            ..header
         })
     }
 

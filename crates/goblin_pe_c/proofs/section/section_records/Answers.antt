@@ -9,7 +9,7 @@ pub records-init : goal.records-init
 records-init c = making-start section_said (λ s. alone (named_in (is_strict c.args.opts.now.parse_mode) c.args.bytes.now c.args.table s)) c.args.sections.now _ c.in_ok-records.ensures.items
 
 pub records-preserved : goal.records-preserved
-records-preserved c = making-next _ _ _ _ _ _ _ _ c.records.invariant (omega (arith, c.records-test.true)) c.index-sections-i.is c.section_record.ensures c.in_ok-push.ensures.items
+records-preserved c = making-next _ _ _ _ _ _ _ _ c.records.invariant (omega (arith, c.records-test.true)) c.index-sections-i.is (c.section_record.ensures _ _ c.real_name-name.ensures) c.in_ok-push.ensures.items
 
 pub returns : goal.returns
 returns c = making-end _ _ _ _ _ c.records.invariant (omega (arith, c.records-test.false))
