@@ -306,20 +306,20 @@ impl Tables {
     fn relocations<'a>(
         &self,
         bytes: &'a [u8],
-        sections: &[SectionTable],
-        opts: &ParseOptions,
+        address_map: &AddressMap,
     ) -> Result<Part<RelocationData<'a>>>
-        ensures { let places = table_places self.now in
-            let m = offset_by opts.now sections.now places in
-            Reads (part_map relocation_bytes) result (relocation_part opts.now m places) bytes.now }
+        ensures { let m = offset_of address_map.now in
+            let places = table_places self.now in
+            Reads (part_map relocation_bytes) result
+            (relocation_part address_map.now.opts m places) bytes.now }
     {
         let Some(directory) = self.relocations else {
             return Ok(Part::Absent);
         };
-        let alignment = self.file_alignment;
+        let offset = address_map.offset_of(directory.virtual_address);
         part_of(
-            RelocationData::parse_with_opts(bytes, directory, sections, alignment, opts),
-            opts,
+            RelocationData::parse_at(bytes, directory, offset),
+            address_map.opts(),
         )
     }
 
@@ -371,7 +371,7 @@ impl Tables {
         let address_map = self.address_map(alloc, sections, opts)?;
         let imports = self.listed_libraries(alloc, bytes, &address_map, imports)?;
         let exports = self.exports(alloc, bytes, &address_map, exports)?;
-        let relocations = self.relocations(bytes, sections, opts)?;
+        let relocations = self.relocations(bytes, &address_map)?;
         Ok(FileTables {
             imports,
             exports,

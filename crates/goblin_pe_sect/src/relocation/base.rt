@@ -82,8 +82,21 @@ impl<'a> RelocationData<'a> {
             Reads relocation_bytes result (relocation_data offset_of dd) bytes.now }
     {
         let rva = dd.virtual_address as usize;
-        let Some(offset) = find_offset(rva, sections, file_alignment, opts) else {
-            return Err(Error::Malformed(Cause::Unmapped(rva)));
+        let offset = find_offset(rva, sections, file_alignment, opts);
+        RelocationData::parse_at(bytes, dd, offset)
+    }
+
+    /// The base relocations of the directory `dd`, whose address has the file offset `offset`, if it
+    /// has one.
+    ///
+    /// # Errors
+    /// As [`RelocationData::parse_with_opts`].
+    #[tactic(auto, unfolding(crate::specs::AddressReadings::relocation_data))]
+    pub fn parse_at(bytes: &'a [u8], dd: DataDirectory, offset: Option<usize>) -> Result<Self>
+        ensures { Reads relocation_bytes result (relocation_data (λ _. offset) dd) bytes.now }
+    {
+        let Some(offset) = offset else {
+            return Err(Error::Malformed(Cause::Unmapped(dd.virtual_address as usize)));
         };
         match pread_slice(bytes, offset, dd.size as usize) {
             Ok(bytes) => Ok(RelocationData { bytes }),

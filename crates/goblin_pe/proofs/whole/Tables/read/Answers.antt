@@ -2,6 +2,7 @@ use Rattle.std.proofs.Common.{◌≡◌, Some, sym, subst}
 use Rattle.std.proofs.lemmas.Result.{err_from_is_err_and}
 use Rattle.std.specs.Prelude.{option_map}
 use Rattle.readings.specs.Reads.{mapped}
+use Rattle.goblin_pe_sect.specs.BaseRelocations.{relocation_bytes}
 use Rattle.goblin_pe_tables.specs.Addresses.{MapOfAddresses, offset_of}
 use Rattle.goblin_pe.specs.Whole.{collected_exports, collected_libraries, export_part, export_rows_view}
 use Rattle.goblin_pe.specs.Whole.{import_parts, offset_by, part_map, relocation_part, table_parts}
@@ -63,7 +64,9 @@ returns-in_err-relocations g c =
     rw (error.1, error.2)
     (λ other.
     third-refused (import_parts opts m places) (export_part opts m places) (relocation_part opts m places)
-    libraries exports bytes _ _ _ first second c.in_err-relocations.ensures)
+    libraries exports bytes _ _ _ first second
+    (subst (λ (k : MapOfAddresses). IsRefused bytes (relocation_part k.opts (offset_of k) places) c.in_err-relocations.field-0.0)
+    (sym c.in_ok-address_map.ensures.made) c.in_err-relocations.ensures))
 
 pub returns : goal.returns
 unfolding table_parts
@@ -79,4 +82,6 @@ returns g c =
     let second = subst (λ (k : MapOfAddresses). option_map exports ((export_part k.opts (offset_of k) places).value bytes) ≡ Some (part_map (export_rows_view g.E.ExportCollector.items) c.in_ok-exports.exports))
     (sym c.in_ok-address_map.ensures.made) c.in_ok-exports.ensures in
     all-read (import_parts opts m places) (export_part opts m places) (relocation_part opts m places)
-    libraries exports bytes _ _ _ first second c.in_ok-relocations.ensures
+    libraries exports bytes _ _ _ first second
+    (subst (λ (k : MapOfAddresses). (relocation_part k.opts (offset_of k) places).value bytes ≡ Some (part_map relocation_bytes c.in_ok-relocations.relocations))
+    (sym c.in_ok-address_map.ensures.made) c.in_ok-relocations.ensures)

@@ -1,16 +1,27 @@
+use Rattle.std.proofs.Common.{ℕ, Option, subst}
+use Rattle.goblin_base.specs.Reading.{Reads}
+use Rattle.goblin_pe_sect.specs.declared.options.ParseOptions.{ParseOptions}
 use Rattle.goblin_pe_sect.specs.AddressReadings.{relocation_data}
 use Rattle.goblin_pe_sect.specs.BaseRelocations.{relocation_bytes}
 use Rattle.goblin_pe_sect.specs.Options.{is_strict}
-use Rattle.goblin_pe.specs.Whole.{offset_by, relocation_part, table_places}
+use Rattle.goblin_pe_tables.specs.Addresses.{offset_of, reads_strictly}
+use Rattle.goblin_pe.specs.Whole.{BecomesPart, relocation_part}
 use Rattle.goblin_pe.proofs.Parts.{becomes_read}
 use Rattle.goblin_pe.proofs.whole.Tables.relocations.Goals as goal
 
 pub returns : goal.returns
-unfolding relocation_part
+unfolding relocation_part relocation_data
 returns c =
-    let places = table_places c.args.self.now in
-    let offset_of = offset_by c.args.opts.now c.args.sections.now places in
+    let map = c.args.address_map.now in
+    let directory = c.in-Some.directory in
+    let read = subst
+    (λ (o : Option ℕ).
+    Reads relocation_bytes c.parse_at.result (relocation_data (λ _. o) directory) c.args.bytes.now)
+    c.offset_of-offset.ensures c.parse_at.ensures in
+    let made : BecomesPart (reads_strictly map) c.parse_at.result c.part_of.result =
+    subst
+    (λ (o : ParseOptions). BecomesPart (is_strict o.parse_mode) c.parse_at.result c.part_of.result)
+    c.opts.ensures c.part_of.ensures in
     rw c.in-Some.is
-    (becomes_read relocation_bytes (relocation_data offset_of c.in-Some.directory)
-    c.args.bytes.now (is_strict c.args.opts.now.parse_mode) c.parse_with_opts.result
-    c.part_of.result c.parse_with_opts.ensures c.part_of.ensures)
+    (becomes_read relocation_bytes (relocation_data (offset_of map) directory) c.args.bytes.now
+    (reads_strictly map) c.parse_at.result c.part_of.result read made)
