@@ -1,31 +1,31 @@
 //! The call that reads a whole file once, and keeps its tables in memory of their own.
 
-ghost use Rattle.std.specs.Prelude.{◌≡◌, IfErr, IfOk, Some, length, map, option_map};
+ghost use Rattle.std.specs.Prelude.{◌≡◌, IfErr, IfOk, Some, map, option_map};
 ghost use Rattle.goblin_base.specs.Answers.{IsMemory};
 ghost use Rattle.goblin_pe_sect.specs.Options.{is_strict};
 ghost use Rattle.goblin_pe_head.specs.HeaderReadings.{pe_header};
 ghost use Rattle.goblin_pe.specs.SectionRoom.{HasRoom};
 ghost use Rattle.goblin_pe.specs.Whole.{part_map, whole_file};
-ghost use Rattle.goblin_pe_c.specs.Blocks.{block_view, blocks_in};
+ghost use Rattle.goblin_pe_c.specs.Blocks.{block_view, blocks_in, relocations_of};
 ghost use Rattle.goblin_pe_c.specs.Calls.{ReadsInto, Reported};
 ghost use Rattle.goblin_pe_c.specs.Exports.{export_view};
-ghost use Rattle.goblin_pe_c.specs.Files.{entries_of, summary, table_of};
+ghost use Rattle.goblin_pe_c.specs.Files.{entries_of};
 ghost use Rattle.goblin_pe_c.specs.Filled.{alone};
 ghost use Rattle.goblin_pe_c.specs.Imports.{import_view};
 ghost use Rattle.goblin_pe_c.specs.Opened.{Opened, Opens, export_list, import_list};
 ghost use Rattle.goblin_pe_c.specs.Opened.{records_of_file, records_view};
 ghost use Rattle.goblin_pe_c.specs.Options.{options_of};
-ghost use Rattle.goblin_pe_c.specs.RichHeaders.{entries_in, entry_view};
+ghost use Rattle.goblin_pe_c.specs.RichHeaders.{entries_in, entry_view, rich_of};
 ghost use Rattle.goblin_pe_c.specs.Sections.{section_said};
 
-use crate::block::{PeBlock, block_records};
+use crate::block::{PeBlock, PeRelocations, block_records};
 use crate::directory::{PeDirectory, directories_of, fill_directories};
 use crate::export::{ExportRecords, PeExport};
 use crate::fault::{PeFault, fault_of, no_fault};
 use crate::file::{PeFile, file_of};
 use crate::import::{ImportRecords, PeImport};
 use crate::options::{PeOptions, options_of};
-use crate::rich::{PeRichEntry, entry_records};
+use crate::rich::{PeRichEntry, PeRichHeader, entry_records};
 use crate::section::{PeSection, section_records};
 use goblin_pe::options::ParseOptions;
 use goblin_pe::{CollectedFile, Part, Result};
@@ -50,10 +50,11 @@ pub struct PeTables<'a> {
 // What is made of a file beside the records of its imports and exports.
 #[derive(Drop)]
 struct Made<'a> {
-    file: PeFile,
     rich_entries: Vec<PeRichEntry>,
+    rich_header: PeRichHeader,
     sections: Vec<PeSection<'a>>,
     blocks: Vec<PeBlock<'a>>,
+    relocations: PeRelocations,
 }
 
 // What is made of a file that was read.
@@ -66,12 +67,10 @@ fn made_of<'a>(
     requires { option_map records_of_file ((whole_file opts.now).value bytes.now)
         ≡ Some (records_view whole.now) }
     ensures refused { IfErr result IsMemory }
-    ensures file { let v = records_view whole.now in
-        IfOk result
-        (λ m.
-        m.file
-        ≡ summary v.header (length v.sections) (table_of v.imports) (table_of v.exports)
-        v.relocations) }
+    ensures rich_header { let v = records_view whole.now in
+        IfOk result (λ m. m.rich_header ≡ rich_of v.header.rich_header) }
+    ensures relocations { let v = records_view whole.now in
+        IfOk result (λ m. m.relocations ≡ relocations_of v.relocations) }
     ensures rich_entries { let v = records_view whole.now in
         IfOk result (λ m. map entry_view m.rich_entries.items ≡ entries_in v.header.rich_header) }
     ensures sections { let v = records_view whole.now in
@@ -84,10 +83,11 @@ fn made_of<'a>(
     let (rich_entries, rich_header) = entry_records(alloc, &whole.header.rich_header)?;
     let (blocks, relocations) = block_records(alloc, &whole.relocations)?;
     Ok(Made {
-        file: file_of(whole, relocations, rich_header),
         rich_entries,
+        rich_header,
         sections,
         blocks,
+        relocations,
     })
 }
 
@@ -158,7 +158,7 @@ fn open<'a>(
     let whole = CollectedFile::read(alloc, bytes, opts, imports, exports)?;
     let made = made_of(alloc, &whole, bytes, opts)?;
     fill_directories(directories, directories_of(&whole.header.optional_header));
-    *file = made.file;
+    *file = file_of(&whole, made.relocations, made.rich_header);
     *tables = handed_over(made, whole.imports, whole.exports);
     Ok(())
 }
