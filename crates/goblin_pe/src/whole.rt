@@ -13,7 +13,7 @@ ghost use Rattle.goblin_pe_sect.specs.WindowIndex.{HasPieces};
 ghost use Rattle.goblin_pe_head.specs.HeaderReadings.{pe_header};
 ghost use Rattle.goblin_pe_head.specs.PeHeader.{header_value};
 ghost use Rattle.goblin_pe_head.specs.CoffHeader.{IsTooManySections};
-ghost use Rattle.goblin_pe_tables.specs.Addresses.{offset_of, reads_strictly};
+ghost use Rattle.goblin_pe_tables.specs.Addresses.{map_by, offset_of, reads_strictly};
 ghost use Rattle.goblin_pe_tables.specs.ExportReadings.{export_read};
 ghost use Rattle.goblin_pe_tables.specs.ImportReadings.{import_data};
 ghost use Rattle.goblin_pe_tables.specs.Imports.{IsImportsFault, imports_of};
@@ -21,7 +21,7 @@ ghost use Rattle.goblin_pe.specs.Whole.{BecomesPart, HasImports, IsImportsPartFa
 ghost use Rattle.goblin_pe.specs.Whole.{MapsAddresses, collected_exports, collected_file};
 ghost use Rattle.goblin_pe.specs.Whole.{collected_libraries, collected_tables, collected_view};
 ghost use Rattle.goblin_pe.specs.Whole.{entry_format, export_part, export_rows_view, import_part};
-ghost use Rattle.goblin_pe.specs.Whole.{import_parts, imports_part, items_part, offset_by, part_map};
+ghost use Rattle.goblin_pe.specs.Whole.{import_parts, imports_part, items_part, part_map};
 ghost use Rattle.goblin_pe.specs.Whole.{places_in, relocation_part, sections_after, table_parts};
 ghost use Rattle.goblin_pe.specs.Whole.{table_places, tables_view, whole_file};
 
@@ -175,12 +175,12 @@ impl Tables {
         imports: I,
     ) -> ResultOf<'e, I>
         requires { I.items imports ≡ [] }
-        ensures { let strict = reads_strictly address_map.now in
-            let m = offset_of address_map.now in
+        ensures { let m = address_map.now in
             let format = entry_format self.now.magic in
             let rva = directory.virtual_address in
             ReadsOrMemory I.items result
-            (mapped (flat_map (I.items_of format.width)) (import_data strict format m rva))
+            (mapped (flat_map (I.items_of format.width))
+            (import_data (reads_strictly m) format (offset_of m) rva))
             bytes.now }
     {
         if self.has_narrow_entries() {
@@ -199,11 +199,11 @@ impl Tables {
         imports: I,
     ) -> ResultOf<'e, Part<I>>
         requires { I.items imports ≡ [] }
-        ensures { let m = offset_of address_map.now in
+        ensures { let m = address_map.now in
             let places = table_places self.now in
             ReadsOrMemory (part_map I.items) result
             (mapped (part_map (flat_map (I.items_of (entry_format self.now.magic).width)))
-            (import_part address_map.now.opts m places))
+            (import_part m.opts (offset_of m) places))
             bytes.now }
     {
         let opts = address_map.opts();
@@ -225,11 +225,11 @@ impl Tables {
         imports: I,
     ) -> ResultOf<'e, Part<I>>
         requires { I.items imports ≡ [] }
-        ensures { let m = offset_of address_map.now in
+        ensures { let m = address_map.now in
             let places = table_places self.now in
             ReadsOrMemory (part_map I.items) result
             (mapped (collected_libraries I.items_of self.now.magic)
-            (import_parts address_map.now.opts m places))
+            (import_parts m.opts (offset_of m) places))
             bytes.now }
     {
         self.libraries(alloc, bytes, address_map, imports)
@@ -285,11 +285,11 @@ impl Tables {
         exports: E,
     ) -> ResultOf<'e, Part<(ExportData<'a>, E)>>
         requires { E.items exports ≡ [] }
-        ensures { let m = offset_of address_map.now in
+        ensures { let m = address_map.now in
             let places = table_places self.now in
             ReadsOrMemory (part_map (export_rows_view E.items)) result
             (mapped (part_map (collected_exports E.item_of))
-            (export_part address_map.now.opts m places))
+            (export_part m.opts (offset_of m) places))
             bytes.now }
     {
         match self.exports {
@@ -308,10 +308,10 @@ impl Tables {
         bytes: &'a [u8],
         address_map: &AddressMap,
     ) -> Result<Part<RelocationData<'a>>>
-        ensures { let m = offset_of address_map.now in
+        ensures { let m = address_map.now in
             let places = table_places self.now in
             Reads (part_map relocation_bytes) result
-            (relocation_part address_map.now.opts m places) bytes.now }
+            (relocation_part m.opts (offset_of m) places) bytes.now }
     {
         let Some(directory) = self.relocations else {
             return Ok(Part::Absent);
@@ -331,11 +331,8 @@ impl Tables {
         sections: &'s [SectionTable],
         opts: &ParseOptions,
     ) -> Result<AddressMap<'s>>
-        ensures made { GivesOrMemory (λ x. x) result (record {
-          sections = sections.now;
-          file_alignment = self.now.file_alignment;
-          opts = opts.now;
-        }) }
+        ensures made { GivesOrMemory (λ x. x) result
+            (map_by opts.now sections.now self.now.file_alignment) }
         ensures grown { IfErr result
             (λ e. MapsAddresses opts.now (table_places self.now)
             × HasPieces opts.now self.now.file_alignment) }
@@ -361,11 +358,11 @@ impl Tables {
     ) -> ResultOf<'e, FileTables<'a, I, E>>
         requires imports { I.items imports ≡ [] }
         requires exports { E.items exports ≡ [] }
-        ensures { let places = table_places self.now in
-            let m = offset_by opts.now sections.now places in
+        ensures { let m = map_by opts.now sections.now self.now.file_alignment in
+            let places = table_places self.now in
             ReadsOrMemory (tables_view I.items E.items) result
             (mapped (collected_tables I.items_of E.item_of self.now.magic)
-            (table_parts opts.now m places))
+            (table_parts m.opts (offset_of m) places))
             bytes.now }
     {
         let address_map = self.address_map(alloc, sections, opts)?;
@@ -398,9 +395,9 @@ fn exports_of<'a, 'e, E: ExportCollector<'a>>(
     exports: E,
 ) -> ResultOf<'e, (ExportData<'a>, E)>
     requires { E.items exports ≡ [] }
-    ensures { let m = offset_of address_map.now in
+    ensures { let m = address_map.now in
         ReadsOrMemory (export_rows_view E.items) result
-        (mapped (collected_exports E.item_of) (export_read m directory)) bytes.now }
+        (mapped (collected_exports E.item_of) (export_read (offset_of m) directory)) bytes.now }
 {
     let data = ExportData::parse_by(alloc, bytes, directory, address_map)?;
     let rows = Export::parse_into(bytes, &data, address_map, exports)?;
@@ -547,8 +544,9 @@ impl<'a> Whole<'a> {
     /// sections and the file alignment of its optional header. Without an optional header no
     /// address has one, unless `opts` says that addresses are offsets.
     pub fn find_offset(&self, rva: usize, opts: &ParseOptions) -> Option<usize>
-        ensures { result
-            ≡ offset_by opts.now self.now.sections (places_in self.now.header.optional_header) rva }
+        ensures { let places = places_in self.now.header.optional_header in
+            let m = map_by opts.now self.now.sections places.file_alignment in
+            result ≡ offset_of m rva }
     {
         let tables = Tables::of(&self.header.optional_header);
         find_offset(rva, &self.sections, tables.file_alignment, opts)
@@ -563,9 +561,9 @@ impl<'a> Whole<'a> {
     /// [`Cause::Unmapped`](goblin_base::Cause::Unmapped) if the address has no file offset, and
     /// [`Error::Read`](goblin_base::Error::Read) if there is no text.
     pub fn try_name<'b>(&self, bytes: &'b [u8], rva: usize, opts: &ParseOptions) -> Result<&'b str>
-        ensures { let m = offset_by opts.now self.now.sections
-            (places_in self.now.header.optional_header) in
-            Reads (λ s. s.now) result (text_at_address m rva) bytes.now }
+        ensures { let places = places_in self.now.header.optional_header in
+            let m = map_by opts.now self.now.sections places.file_alignment in
+            Reads (λ s. s.now) result (text_at_address (offset_of m) rva) bytes.now }
     {
         let tables = Tables::of(&self.header.optional_header);
         try_name(bytes, rva, &self.sections, tables.file_alignment, opts)

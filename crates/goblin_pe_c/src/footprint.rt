@@ -2,9 +2,8 @@
 
 ghost use Rattle.std.specs.Prelude.{◌≡◌, ◌<◌, ◌⊎◌, IfErr, IfOk, OnErr, length, map};
 ghost use Rattle.goblin_base.specs.Answers.{GivesOrMemory, IsMemory};
-ghost use Rattle.goblin_pe_sect.specs.Mapping.{file_offset};
-ghost use Rattle.goblin_pe_sect.specs.Options.{is_strict};
 ghost use Rattle.goblin_pe_sect.specs.WindowIndex.{HasPieces};
+ghost use Rattle.goblin_pe.specs.Addresses.{map_by, offset_of, reads_strictly};
 ghost use Rattle.goblin_pe.specs.ImportReadings.{import_data};
 ghost use Rattle.goblin_pe.specs.Whole.{entry_format};
 ghost use Rattle.goblin_pe_c.specs.Calls.{Reported};
@@ -92,16 +91,16 @@ fn footprint_at(
     sections: &[SectionTable],
     opts: &ParseOptions,
 ) -> Result<Vec<(usize, usize)>>
-    ensures ranges { let m = file_offset opts.now sections.now header.now.file_alignment in
-        let strict = is_strict opts.now.parse_mode in
+    ensures ranges { let m = map_by opts.now sections.now header.now.file_alignment in
         let format = entry_format header.now.magic in
-        IfOk result (λ v. v.items ≡ (import_data strict format m rva).reaches bytes.now) }
+        let reading = import_data (reads_strictly m) format (offset_of m) rva in
+        IfOk result (λ v. v.items ≡ reading.reaches bytes.now) }
     ensures refused { IfErr result IsMemory }
-    ensures grown { let m = file_offset opts.now sections.now header.now.file_alignment in
-        let strict = is_strict opts.now.parse_mode in
+    ensures grown { let m = map_by opts.now sections.now header.now.file_alignment in
         let format = entry_format header.now.magic in
-        let footprint = (import_data strict format m rva).reaches bytes.now in
-        OnErr result ((0 < length footprint) ⊎ HasPieces opts.now header.now.file_alignment) }
+        let reading = import_data (reads_strictly m) format (offset_of m) rva in
+        OnErr result
+        ((0 < length (reading.reaches bytes.now)) ⊎ HasPieces opts.now header.now.file_alignment) }
 {
     let directory = DataDirectory {
         virtual_address: rva,

@@ -17,6 +17,11 @@ pub record MapOfAddresses : Type 0 where
   pub file_alignment : ℕ
   pub opts : ParseOptions
 
+-- the map of addresses by these options, sections and file alignment
+abbrev pub map_by : ParseOptions → List Section → ℕ → MapOfAddresses
+map_by opts sections file_alignment =
+    record { sections = sections; file_alignment = file_alignment; opts = opts }
+
 -- the file offset of an address
 abbrev pub offset_of : MapOfAddresses → ℕ → Option ℕ
 offset_of m = file_offset m.opts m.sections m.file_alignment

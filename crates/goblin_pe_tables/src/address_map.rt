@@ -7,7 +7,7 @@ ghost use Rattle.goblin_base.specs.Reading.{Reads};
 ghost use Rattle.goblin_pe_sect.specs.AddressReadings.{name_or_none};
 ghost use Rattle.goblin_pe_sect.specs.Mapping.{file_offset};
 ghost use Rattle.goblin_base.specs.declared.permissive.ParseMode.TheVariants.{Permissive};
-ghost use Rattle.goblin_pe_tables.specs.Addresses.{looked_up, offset_of, reads_strictly};
+ghost use Rattle.goblin_pe_tables.specs.Addresses.{looked_up, map_by, offset_of, reads_strictly};
 ghost use Rattle.goblin_pe_sect.specs.WindowIndex.{HasPieces};
 
 use goblin_base::Result;
@@ -134,12 +134,11 @@ pub struct AddressMap<'s> {
 impl<'s> Model for AddressMap<'s> {
     ghost use Rattle.std.specs.Prelude.{◌≡◌, ℕ};
     ghost use Rattle.goblin_pe_sect.specs.Mapping.{file_offset};
-    ghost use Rattle.goblin_pe_tables.specs.Addresses.{MapOfAddresses, looked_up};
+    ghost use Rattle.goblin_pe_tables.specs.Addresses.{MapOfAddresses, looked_up, map_by};
 
     ghost Value = { MapOfAddresses };
 
-    ghost view = { λ x.
-        record { sections = x.sections.now; file_alignment = x.file_alignment; opts = x.opts } };
+    ghost view = { λ x. map_by x.opts x.sections.now x.file_alignment };
 
     ghost invariant = { λ x.
         let offset_of = file_offset x.opts x.sections.now x.file_alignment in
@@ -160,7 +159,7 @@ impl<'s> AddressMap<'s> {
         opts: &ParseOptions,
     ) -> Result<AddressMap<'s>>
         ensures made { GivesOrMemory (λ x. x) result
-            (record { sections = sections.now; file_alignment = file_alignment; opts = opts.now }) }
+            (map_by opts.now sections.now file_alignment) }
         ensures grown { IfErr result (λ e. HasPieces opts.now file_alignment) }
     {
         let look_up = LookUp::prepare(alloc, sections, file_alignment, opts)?;
@@ -180,11 +179,7 @@ impl<'s> AddressMap<'s> {
         file_alignment: u32,
         opts: &ParseOptions,
     ) -> AddressMap<'s>
-        ensures { result ≡ record {
-          sections = sections.now;
-          file_alignment = file_alignment;
-          opts = opts.now;
-        } }
+        ensures { result ≡ map_by opts.now sections.now file_alignment }
     {
         AddressMap {
             sections,

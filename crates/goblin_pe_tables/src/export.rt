@@ -9,9 +9,8 @@ ghost use Rattle.std.specs.Prelude.{OnOk, length, map, option_and_then, option_m
 ghost use Rattle.goblin_base.specs.Answers.{GivesOrMemory, IsMemory};
 ghost use Rattle.goblin_base.specs.Bytes.{text_at};
 ghost use Rattle.goblin_base.specs.Reading.{ReadsOrMemory};
-ghost use Rattle.goblin_pe_sect.specs.Mapping.{file_offset};
 ghost use Rattle.goblin_pe_sect.specs.Options.{default_options};
-ghost use Rattle.goblin_pe_tables.specs.Addresses.{offset_of};
+ghost use Rattle.goblin_pe_tables.specs.Addresses.{map_by, offset_of};
 ghost use Rattle.goblin_pe_tables.specs.ExportReadings as reading;
 ghost use Rattle.goblin_pe_tables.specs.Exports.{HasEntries, HasExports, export_data, export_row};
 ghost use Rattle.goblin_pe_tables.specs.Exports.{exports, rva_of};
@@ -68,9 +67,9 @@ fn reexport_of<'a>(
     address: &ExportAddressTableEntry,
     address_map: &AddressMap,
 ) -> Option<Option<Reexport<'a>>>
-    ensures { let m = offset_of address_map.now in
+    ensures { let m = address_map.now in
         option_map (option_map forwarder_value) result
-        ≡ (reading.reexport_of m address.now).value bytes.now }
+        ≡ (reading.reexport_of (offset_of m) address.now).value bytes.now }
 {
     match *address {
         ExportAddressTableEntry::ExportRVA(_) => Some(None),
@@ -129,10 +128,11 @@ impl<'a> ExportData<'a> {
         sections: &[SectionTable],
         file_alignment: u32,
     ) -> Result<ExportData<'a>>
-        ensures value { let m = file_offset default_options sections.now file_alignment in
-            ReadsOrMemory (λ x. x) result (reading.export_data m directory) bytes.now }
-        ensures grown { let m = file_offset default_options sections.now file_alignment in
-            IfErr result (λ e. IsMemory e → IsSomeAnd (export_data m directory bytes.now) HasEntries
+        ensures value { let m = map_by default_options sections.now file_alignment in
+            ReadsOrMemory (λ x. x) result (reading.export_data (offset_of m) directory) bytes.now }
+        ensures grown { let m = map_by default_options sections.now file_alignment in
+            IfErr result (λ e. IsMemory e →
+            IsSomeAnd (export_data (offset_of m) directory bytes.now) HasEntries
             ⊎ HasPieces default_options file_alignment) }
     {
         let opts = ParseOptions::default();
@@ -158,10 +158,11 @@ impl<'a> ExportData<'a> {
         file_alignment: u32,
         opts: &ParseOptions,
     ) -> Result<ExportData<'a>>
-        ensures value { let m = file_offset opts.now sections.now file_alignment in
-            ReadsOrMemory (λ x. x) result (reading.export_data m directory) bytes.now }
-        ensures grown { let m = file_offset opts.now sections.now file_alignment in
-            IfErr result (λ e. IsMemory e → IsSomeAnd (export_data m directory bytes.now) HasEntries
+        ensures value { let m = map_by opts.now sections.now file_alignment in
+            ReadsOrMemory (λ x. x) result (reading.export_data (offset_of m) directory) bytes.now }
+        ensures grown { let m = map_by opts.now sections.now file_alignment in
+            IfErr result (λ e. IsMemory e →
+            IsSomeAnd (export_data (offset_of m) directory bytes.now) HasEntries
             ⊎ HasPieces opts.now file_alignment) }
     {
         let address_map = AddressMap::prepare(alloc, sections, file_alignment, opts)?;
@@ -180,11 +181,11 @@ impl<'a> ExportData<'a> {
         directory: DataDirectory,
         address_map: &AddressMap,
     ) -> Result<ExportData<'a>>
-        ensures value { let m = offset_of address_map.now in
-            ReadsOrMemory (λ x. x) result (reading.export_data m directory) bytes.now }
-        ensures grown { let m = offset_of address_map.now in
+        ensures value { let m = address_map.now in
+            ReadsOrMemory (λ x. x) result (reading.export_data (offset_of m) directory) bytes.now }
+        ensures grown { let m = address_map.now in
             IfErr result (λ e. IsMemory e →
-            IsSomeAnd (export_data m directory bytes.now) HasEntries) }
+            IsSomeAnd (export_data (offset_of m) directory bytes.now) HasEntries) }
     {
         let mapped = |rva: u32| address_map.offset_of(rva);
         let Some(offset) = mapped(directory.virtual_address) else {
@@ -316,11 +317,11 @@ impl<'a> Export<'a> {
         sections: &[SectionTable],
         file_alignment: u32,
     ) -> Result<Vec<Export<'a>>>
-        ensures value { let m = file_offset default_options sections.now file_alignment in
-            GivesOrMemory (λ v. v.items) result (exports m bytes.now export_data.now) }
+        ensures value { let m = map_by default_options sections.now file_alignment in
+            GivesOrMemory (λ v. v.items) result (exports (offset_of m) bytes.now export_data.now) }
         ensures empty { length bytes.now ≡ 0 → IsOk result }
-        ensures grown { let m = file_offset default_options sections.now file_alignment in
-            OnErr result (HasExports m bytes.now export_data.now
+        ensures grown { let m = map_by default_options sections.now file_alignment in
+            OnErr result (HasExports (offset_of m) bytes.now export_data.now
             ⊎ HasPieces default_options file_alignment) }
     {
         let opts = ParseOptions::default();
@@ -344,11 +345,11 @@ impl<'a> Export<'a> {
         file_alignment: u32,
         opts: &ParseOptions,
     ) -> Result<Vec<Export<'a>>>
-        ensures value { let m = file_offset opts.now sections.now file_alignment in
-            GivesOrMemory (λ v. v.items) result (exports m bytes.now export_data.now) }
+        ensures value { let m = map_by opts.now sections.now file_alignment in
+            GivesOrMemory (λ v. v.items) result (exports (offset_of m) bytes.now export_data.now) }
         ensures empty { length bytes.now ≡ 0 → IsOk result }
-        ensures grown { let m = file_offset opts.now sections.now file_alignment in
-            OnErr result (HasExports m bytes.now export_data.now
+        ensures grown { let m = map_by opts.now sections.now file_alignment in
+            OnErr result (HasExports (offset_of m) bytes.now export_data.now
             ⊎ HasPieces opts.now file_alignment) }
     {
         if bytes.is_empty() {
@@ -369,10 +370,10 @@ impl<'a> Export<'a> {
         export_data: &ExportData,
         address_map: &AddressMap,
     ) -> Result<Vec<Export<'a>>>
-        ensures value { let m = offset_of address_map.now in
-            GivesOrMemory (λ v. v.items) result (exports m bytes.now export_data.now) }
-        ensures grown { let m = offset_of address_map.now in
-            OnErr result (HasExports m bytes.now export_data.now) }
+        ensures value { let m = address_map.now in
+            GivesOrMemory (λ v. v.items) result (exports (offset_of m) bytes.now export_data.now) }
+        ensures grown { let m = address_map.now in
+            OnErr result (HasExports (offset_of m) bytes.now export_data.now) }
     {
         Export::parse_into(bytes, export_data, address_map, Vec::new(alloc))
     }
@@ -389,10 +390,11 @@ impl<'a> Export<'a> {
         rows: E,
     ) -> ResultOf<'e, E>
         requires { E.items rows ≡ [] }
-        ensures value { let m = offset_of address_map.now in
-            GivesOrMemory E.items result (map E.item_of (exports m bytes.now export_data.now)) }
-        ensures grown { let m = offset_of address_map.now in
-            OnErr result (HasExports m bytes.now export_data.now) }
+        ensures value { let m = address_map.now in
+            GivesOrMemory E.items result
+            (map E.item_of (exports (offset_of m) bytes.now export_data.now)) }
+        ensures grown { let m = address_map.now in
+            OnErr result (HasExports (offset_of m) bytes.now export_data.now) }
     {
         let mut rows = rows;
         if bytes.is_empty() {

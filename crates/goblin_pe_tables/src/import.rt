@@ -10,10 +10,9 @@ ghost use Rattle.std.specs.List.{flat_map};
 ghost use Rattle.goblin_base.specs.Answers.{IsMemory};
 ghost use Rattle.goblin_base.specs.Reading.{ReadsOrMemory};
 ghost use Rattle.readings.specs.Reads.{mapped};
-ghost use Rattle.goblin_pe_sect.specs.Mapping.{file_offset};
 ghost use Rattle.goblin_pe_sect.specs.Options.{default_options, is_strict};
 ghost use Rattle.goblin_pe_sect.specs.WindowIndex.{HasPieces};
-ghost use Rattle.goblin_pe_tables.specs.Addresses.{offset_of, reads_strictly};
+ghost use Rattle.goblin_pe_tables.specs.Addresses.{map_by, offset_of, reads_strictly};
 ghost use Rattle.goblin_pe_tables.specs.ImportDirectory.{HasRecords};
 ghost use Rattle.goblin_pe_tables.specs.ImportReadings as reading;
 ghost use Rattle.goblin_pe_tables.specs.Imports.{library_imports};
@@ -71,10 +70,9 @@ fn kept_library<'a, 'e, T: Bitfield<'a>>(
     entry: ImportDirectoryEntry,
     address_map: &AddressMap,
 ) -> ResultOf<'e, Option<SyntheticImportDirectoryEntry<'a>>>
-    ensures value { ReadsOrMemory option_to_list result
-        (reading.kept_library (reads_strictly address_map.now) T.format (offset_of address_map.now)
-        entry)
-        bytes.now }
+    ensures value { let m = address_map.now in
+        ReadsOrMemory option_to_list result
+        (reading.kept_library (reads_strictly m) T.format (offset_of m) entry) bytes.now }
     ensures listed { IfOk result
         (λ kept. IfSome kept (λ library. IsSome (library_imports T.format.width library))) }
 {
@@ -94,11 +92,10 @@ fn libraries<'a, 'e, T: Bitfield<'a>, I: LibraryCollector<'a>>(
     mut imports: I,
 ) -> ResultOf<'e, I>
     requires { I.items imports ≡ [] }
-    ensures value { ReadsOrMemory I.items result
+    ensures value { let m = address_map.now in
+        ReadsOrMemory I.items result
         (mapped (flat_map (I.items_of T.format.width))
-        (reading.libraries_at (reads_strictly address_map.now) T.format (offset_of address_map.now)
-        offset))
-        bytes.now }
+        (reading.libraries_at (reads_strictly m) T.format (offset_of m) offset)) bytes.now }
     ensures grown { IfErr result (λ e. IsMemory e → HasRecords bytes.now offset) }
 {
     let mut place = offset;
@@ -134,15 +131,15 @@ impl<'a> ImportData<'a> {
         sections: &[SectionTable],
         file_alignment: u32,
     ) -> ResultOf<'e, ImportData<'a>>
-        ensures value { let m = file_offset default_options sections.now file_alignment in
+        ensures value { let m = map_by default_options sections.now file_alignment in
             let rva = directory.virtual_address in
-            ReadsOrMemory (λ x. x) result (reading.import_data true T.format m rva) bytes.now }
-        ensures grown { let place = file_offset default_options sections.now file_alignment
-            directory.virtual_address in
+            ReadsOrMemory (λ x. x) result
+            (reading.import_data true T.format (offset_of m) rva) bytes.now }
+        ensures grown { let m = map_by default_options sections.now file_alignment in
             IfErr result
             (λ e.
             IsMemory e
-            → IsSomeAnd place (HasRecords bytes.now)
+            → IsSomeAnd (offset_of m directory.virtual_address) (HasRecords bytes.now)
             ⊎ HasPieces default_options file_alignment) }
     {
         let opts = ParseOptions::default();
@@ -171,17 +168,17 @@ impl<'a> ImportData<'a> {
         file_alignment: u32,
         opts: &ParseOptions,
     ) -> ResultOf<'e, ImportData<'a>>
-        ensures value { let m = file_offset opts.now sections.now file_alignment in
-            let strict = is_strict opts.now.parse_mode in
+        ensures value { let m = map_by opts.now sections.now file_alignment in
             let rva = directory.virtual_address in
-            ReadsOrMemory (λ x. x) result (reading.import_data strict T.format m rva) bytes.now }
+            ReadsOrMemory (λ x. x) result
+            (reading.import_data (reads_strictly m) T.format (offset_of m) rva) bytes.now }
         ensures permissive { is_strict opts.now.parse_mode ≡ false → IfErr result IsMemory }
-        ensures grown { let place = file_offset opts.now sections.now file_alignment
-            directory.virtual_address in
+        ensures grown { let m = map_by opts.now sections.now file_alignment in
             IfErr result
             (λ e.
             IsMemory e
-            → IsSomeAnd place (HasRecords bytes.now) ⊎ HasPieces opts.now file_alignment) }
+            → IsSomeAnd (offset_of m directory.virtual_address) (HasRecords bytes.now)
+            ⊎ HasPieces opts.now file_alignment) }
     {
         let address_map = AddressMap::prepare(alloc, sections, file_alignment, opts)?;
         ImportData::parse_by::<T>(alloc, bytes, directory, &address_map)
@@ -199,16 +196,16 @@ impl<'a> ImportData<'a> {
         directory: DataDirectory,
         address_map: &AddressMap,
     ) -> ResultOf<'e, ImportData<'a>>
-        ensures value { ReadsOrMemory (λ x. x) result
-            (reading.import_data (reads_strictly address_map.now) T.format
-            (offset_of address_map.now) directory.virtual_address)
-            bytes.now }
+        ensures value { let m = address_map.now in
+            let rva = directory.virtual_address in
+            ReadsOrMemory (λ x. x) result
+            (reading.import_data (reads_strictly m) T.format (offset_of m) rva) bytes.now }
         ensures permissive { reads_strictly address_map.now ≡ false → IfErr result IsMemory }
-        ensures grown { IfErr result
+        ensures grown { let m = address_map.now in
+            IfErr result
             (λ e.
             IsMemory e
-            → IsSomeAnd (offset_of address_map.now directory.virtual_address)
-            (HasRecords bytes.now)) }
+            → IsSomeAnd (offset_of m directory.virtual_address) (HasRecords bytes.now)) }
     {
         let imports = ImportData {
             import_data: Vec::new(alloc),
@@ -231,17 +228,18 @@ impl<'a> ImportData<'a> {
         imports: I,
     ) -> ResultOf<'e, I>
         requires { I.items imports ≡ [] }
-        ensures value { ReadsOrMemory I.items result
+        ensures value { let m = address_map.now in
+            let rva = directory.virtual_address in
+            ReadsOrMemory I.items result
             (mapped (flat_map (I.items_of T.format.width))
-            (reading.import_data (reads_strictly address_map.now) T.format
-            (offset_of address_map.now) directory.virtual_address))
+            (reading.import_data (reads_strictly m) T.format (offset_of m) rva))
             bytes.now }
         ensures permissive { reads_strictly address_map.now ≡ false → IfErr result IsMemory }
-        ensures grown { IfErr result
+        ensures grown { let m = address_map.now in
+            IfErr result
             (λ e.
             IsMemory e
-            → IsSomeAnd (offset_of address_map.now directory.virtual_address)
-            (HasRecords bytes.now)) }
+            → IsSomeAnd (offset_of m directory.virtual_address) (HasRecords bytes.now)) }
     {
         let rva = directory.virtual_address;
         let is_permissive = address_map.is_permissive();

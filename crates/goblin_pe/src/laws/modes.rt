@@ -4,10 +4,10 @@ ghost use Rattle.std.specs.Prelude.{IfErr, IsSomeAnd, false, true};
 ghost use Rattle.goblin_base.specs.declared.permissive.ParseMode.TheVariants.{Permissive, Strict};
 ghost use Rattle.goblin_base.specs.Answers.{IsMemory};
 ghost use Rattle.goblin_base.specs.Reading.{InModes, Reads, ReadsOrMemory};
-ghost use Rattle.goblin_pe_sect.specs.Mapping.{file_offset};
 ghost use Rattle.goblin_pe_sect.specs.Options.{is_strict};
 ghost use Rattle.goblin_pe_head.specs.HeaderReadings.{pe_header};
 ghost use Rattle.goblin_pe_head.specs.PeHeader.{header_value};
+ghost use Rattle.goblin_pe_tables.specs.Addresses.{map_by, offset_of};
 ghost use Rattle.goblin_pe.specs.Modes.{ReadsInModes, in_mode, in_permissive_mode};
 ghost use Rattle.goblin_pe.specs.TableRuns.{AreGrown, AreInModes};
 ghost use Rattle.goblin_pe.specs.SectionRoom.{HasRoom};
@@ -102,12 +102,15 @@ pub fn mode_tables<'a, 'e, T: Bitfield<'a>, D: TryFromCtx<'a>>(
     file_alignment: u32,
     opts: &ParseOptions,
 ) -> (TablesOf<'a, 'e, D>, TablesOf<'a, 'e, D>)
-    ensures modes { AreInModes T.format D.plain D.value_of D.refusal
-        (file_offset opts.now sections.now file_alignment) request.now bytes.now result }
-    ensures strict_grown { AreGrown T.format true opts.now file_alignment
-        (file_offset opts.now sections.now file_alignment) bytes.now request.now result.0 }
-    ensures permissive_grown { AreGrown T.format false opts.now file_alignment
-        (file_offset opts.now sections.now file_alignment) bytes.now request.now result.1 }
+    ensures modes { let m = map_by opts.now sections.now file_alignment in
+        AreInModes T.format D.plain D.value_of D.refusal (offset_of m) request.now bytes.now
+        result }
+    ensures strict_grown { let m = map_by opts.now sections.now file_alignment in
+        AreGrown T.format true opts.now file_alignment (offset_of m) bytes.now request.now
+        result.0 }
+    ensures permissive_grown { let m = map_by opts.now sections.now file_alignment in
+        AreGrown T.format false opts.now file_alignment (offset_of m) bytes.now request.now
+        result.1 }
 {
     let strictly = opts.with_parse_mode(ParseMode::Strict);
     let permissively = opts.with_parse_mode(ParseMode::Permissive);

@@ -1,8 +1,7 @@
 //! The readers that map addresses, under two tables of sections.
 
-ghost use Rattle.goblin_pe_sect.specs.Mapping.{file_offset};
-ghost use Rattle.goblin_pe_sect.specs.Options.{is_strict};
 ghost use Rattle.goblin_pe_sect.specs.WindowOrder.{IsReordering};
+ghost use Rattle.goblin_pe_tables.specs.Addresses.{map_by, offset_of, reads_strictly};
 ghost use Rattle.goblin_pe.specs.TableRuns.{AreAlike, AreGrown, AreTables};
 
 use crate::data_directories::DataDirectory;
@@ -63,11 +62,12 @@ pub(super) fn read_tables<'a, 'e, T: Bitfield<'a>, D: TryFromCtx<'a>>(
     file_alignment: u32,
     opts: &ParseOptions,
 ) -> TablesOf<'a, 'e, D>
-    ensures read { AreTables T.format D.plain D.value_of D.refusal
-        (is_strict opts.now.parse_mode) (file_offset opts.now sections.now file_alignment) bytes.now
+    ensures read { let m = map_by opts.now sections.now file_alignment in
+        AreTables T.format D.plain D.value_of D.refusal (reads_strictly m) (offset_of m) bytes.now
         request.now result }
-    ensures grown { AreGrown T.format (is_strict opts.now.parse_mode) opts.now file_alignment
-        (file_offset opts.now sections.now file_alignment) bytes.now request.now result }
+    ensures grown { let m = map_by opts.now sections.now file_alignment in
+        AreGrown T.format (reads_strictly m) opts.now file_alignment (offset_of m) bytes.now
+        request.now result }
 {
     let lookup = SyntheticImportLookupTableEntry::parse_with_opts::<T>(
         alloc,
@@ -123,16 +123,18 @@ pub fn reorder_whole_tables<'a, 'e, T: Bitfield<'a>, D: TryFromCtx<'a>>(
     file_alignment: u32,
     opts: &ParseOptions,
 ) -> (TablesOf<'a, 'e, D>, TablesOf<'a, 'e, D>)
-    ensures first { AreTables T.format D.plain D.value_of D.refusal
-        (is_strict opts.now.parse_mode) (file_offset opts.now first.now file_alignment) bytes.now
+    ensures first { let m = map_by opts.now first.now file_alignment in
+        AreTables T.format D.plain D.value_of D.refusal (reads_strictly m) (offset_of m) bytes.now
         request.now result.0 }
-    ensures second { AreTables T.format D.plain D.value_of D.refusal
-        (is_strict opts.now.parse_mode) (file_offset opts.now second.now file_alignment) bytes.now
+    ensures second { let m = map_by opts.now second.now file_alignment in
+        AreTables T.format D.plain D.value_of D.refusal (reads_strictly m) (offset_of m) bytes.now
         request.now result.1 }
-    ensures first_grown { AreGrown T.format (is_strict opts.now.parse_mode) opts.now file_alignment
-        (file_offset opts.now first.now file_alignment) bytes.now request.now result.0 }
-    ensures second_grown { AreGrown T.format (is_strict opts.now.parse_mode) opts.now file_alignment
-        (file_offset opts.now second.now file_alignment) bytes.now request.now result.1 }
+    ensures first_grown { let m = map_by opts.now first.now file_alignment in
+        AreGrown T.format (reads_strictly m) opts.now file_alignment (offset_of m) bytes.now
+        request.now result.0 }
+    ensures second_grown { let m = map_by opts.now second.now file_alignment in
+        AreGrown T.format (reads_strictly m) opts.now file_alignment (offset_of m) bytes.now
+        request.now result.1 }
     ensures alike { IsReordering file_alignment first.now second.now
         → AreAlike D.plain result.0 result.1 }
 {

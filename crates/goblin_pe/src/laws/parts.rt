@@ -3,9 +3,8 @@
 ghost use Rattle.std.specs.Prelude.{IfErr, IsSomeAnd};
 ghost use Rattle.goblin_base.specs.Answers.{IsMemory};
 ghost use Rattle.goblin_base.specs.Reading.{ReadsOrMemory};
-ghost use Rattle.goblin_pe_sect.specs.Mapping.{file_offset};
-ghost use Rattle.goblin_pe_sect.specs.Options.{is_strict};
 ghost use Rattle.goblin_pe_head.specs.TeReadings.{te_header, te_image};
+ghost use Rattle.goblin_pe_tables.specs.Addresses.{map_by, offset_of, reads_strictly};
 ghost use Rattle.goblin_pe.specs.SectionRoom.{TakesSections};
 ghost use Rattle.goblin_pe.specs.TwinParts.{AreParts, ArePartsGrown, AreTwinParts, PartsAsked};
 ghost use Rattle.goblin_pe.specs.TwinParts.{te_view};
@@ -72,15 +71,16 @@ fn read_parts<'a, 'e, D: TryFromCtx<'a>>(
     file_alignment: u32,
     opts: &ParseOptions,
 ) -> PartsOf<'a, 'e, D>
-    ensures read { let asked : PartsAsked =
+    ensures read { let m = map_by opts.now sections.now file_alignment in
+        let asked : PartsAsked =
         record {
           coff_header = coff_header;
           offset = offset;
           relocations = relocations;
           value = value;
         } in
-        AreParts D.plain D.value_of D.refusal (is_strict opts.now.parse_mode)
-        (file_offset opts.now sections.now file_alignment) asked bytes.now result }
+        AreParts D.plain D.value_of D.refusal (reads_strictly m) (offset_of m) asked
+        bytes.now result }
     ensures grown { let asked : PartsAsked =
         record {
           coff_header = coff_header;
@@ -135,15 +135,16 @@ pub fn twin_parts<'a, 'e, D: TryFromCtx<'a>>(
     file_alignment: u32,
     opts: &ParseOptions,
 ) -> (PartsOf<'a, 'e, D>, PartsOf<'a, 'e, D>)
-    ensures twins { let asked : PartsAsked =
+    ensures twins { let m = map_by opts.now sections.now file_alignment in
+        let asked : PartsAsked =
         record {
           coff_header = coff_header;
           offset = offset;
           relocations = relocations;
           value = value;
         } in
-        AreTwinParts D.plain D.value_of D.refusal (is_strict opts.now.parse_mode)
-        (file_offset opts.now sections.now file_alignment) asked a.now b.now result }
+        AreTwinParts D.plain D.value_of D.refusal (reads_strictly m) (offset_of m) asked
+        a.now b.now result }
     ensures first_grown { let asked : PartsAsked =
         record {
           coff_header = coff_header;

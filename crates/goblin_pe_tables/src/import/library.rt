@@ -5,10 +5,9 @@ ghost use Rattle.std.specs.Prelude.{option_map, true};
 ghost use Rattle.goblin_base.specs.Answers.{IsMemory};
 ghost use Rattle.goblin_base.specs.Reading.{Reads, ReadsOrMemory};
 ghost use Rattle.readings.specs.Reads.{or_else};
-ghost use Rattle.goblin_pe_sect.specs.Mapping.{file_offset};
-ghost use Rattle.goblin_pe_sect.specs.Options.{default_options, is_strict};
+ghost use Rattle.goblin_pe_sect.specs.Options.{default_options};
 ghost use Rattle.goblin_pe_sect.specs.WindowIndex.{HasPieces};
-ghost use Rattle.goblin_pe_tables.specs.Addresses.{offset_of, reads_strictly};
+ghost use Rattle.goblin_pe_tables.specs.Addresses.{map_by, offset_of, reads_strictly};
 ghost use Rattle.goblin_pe_tables.specs.ImportDirectory.{KeepsImports, address_table_rva};
 ghost use Rattle.goblin_pe_tables.specs.ImportDirectory.{lookup_offset};
 ghost use Rattle.goblin_pe_tables.specs.ImportLookup.{KeepsEntries, entry_view};
@@ -73,16 +72,15 @@ fn lookup_table_if<'a, 'e, T: Bitfield<'a>>(
     offset: Option<usize>,
     address_map: &AddressMap,
 ) -> ResultOf<'e, (Option<ImportLookupTable<'a>>, Vec<usize>)>
-    ensures value { ReadsOrMemory (λ both. (option_map (map entry_view) both.0, both.1.items))
-        result
-        (lookup_if (reads_strictly address_map.now) T.format (offset_of address_map.now) offset)
-        bytes.now }
-    ensures grown { IfErr result
+    ensures value { let m = address_map.now in
+        ReadsOrMemory (λ both. (option_map (map entry_view) both.0, both.1.items)) result
+        (lookup_if (reads_strictly m) T.format (offset_of m) offset) bytes.now }
+    ensures grown { let m = address_map.now in
+        IfErr result
         (λ e.
         IsMemory e
         → IsSomeAnd offset
-        (KeepsEntries (reads_strictly address_map.now) T.format (offset_of address_map.now)
-        bytes.now)) }
+        (KeepsEntries (reads_strictly m) T.format (offset_of m) bytes.now)) }
 {
     let Some(offset) = offset else {
         return Ok((None, Vec::new(alloc)));
@@ -99,9 +97,9 @@ fn lookup_table_if<'a, 'e, T: Bitfield<'a>>(
 // The name of a library; in permissive mode the empty one where none can be read.
 #[tactic(auto, unfolding(goblin_pe_sect::specs::AddressReadings::name_or_none), using(crate::proofs::LibraryNames::taken, crate::proofs::LibraryNames::missing))]
 fn library_name<'a>(bytes: &'a [u8], rva: u32, address_map: &AddressMap) -> Result<&'a str>
-    ensures { Reads (λ s. s.now) result
-        (or_else (reads_strictly address_map.now) [] (name_at (offset_of address_map.now) rva))
-        bytes.now }
+    ensures { let m = address_map.now in
+        Reads (λ s. s.now) result
+        (or_else (reads_strictly m) [] (name_at (offset_of m) rva)) bytes.now }
 {
     let name = address_map.name_at(bytes, rva)?;
     Ok(name.unwrap_or(no_text(bytes)))
@@ -142,14 +140,14 @@ impl<'a> SyntheticImportDirectoryEntry<'a> {
         sections: &[SectionTable],
         file_alignment: u32,
     ) -> ResultOf<'e, SyntheticImportDirectoryEntry<'a>>
-        ensures value { let m = file_offset default_options sections.now file_alignment in
+        ensures value { let m = map_by default_options sections.now file_alignment in
             ReadsOrMemory (λ x. x) result
-            (reading.library_of true T.format m import_directory_entry) bytes.now }
-        ensures grown { let m = file_offset default_options sections.now file_alignment in
+            (reading.library_of true T.format (offset_of m) import_directory_entry) bytes.now }
+        ensures grown { let m = map_by default_options sections.now file_alignment in
             IfErr result
             (λ e.
             IsMemory e
-            → KeepsImports true T.format m bytes.now import_directory_entry
+            → KeepsImports true T.format (offset_of m) bytes.now import_directory_entry
             ⊎ HasPieces default_options file_alignment) }
     {
         let opts = ParseOptions::default();
@@ -188,15 +186,15 @@ impl<'a> SyntheticImportDirectoryEntry<'a> {
         file_alignment: u32,
         opts: &ParseOptions,
     ) -> ResultOf<'e, SyntheticImportDirectoryEntry<'a>>
-        ensures value { let m = file_offset opts.now sections.now file_alignment in
-            let strict = is_strict opts.now.parse_mode in
+        ensures value { let m = map_by opts.now sections.now file_alignment in
             ReadsOrMemory (λ x. x) result
-            (reading.library_of strict T.format m import_directory_entry) bytes.now }
-        ensures grown { let m = file_offset opts.now sections.now file_alignment in
+            (reading.library_of (reads_strictly m) T.format (offset_of m) import_directory_entry)
+            bytes.now }
+        ensures grown { let m = map_by opts.now sections.now file_alignment in
             IfErr result
             (λ e.
             IsMemory e
-            → KeepsImports (is_strict opts.now.parse_mode) T.format m bytes.now
+            → KeepsImports (reads_strictly m) T.format (offset_of m) bytes.now
             import_directory_entry
             ⊎ HasPieces opts.now file_alignment) }
     {
@@ -217,16 +215,17 @@ impl<'a> SyntheticImportDirectoryEntry<'a> {
         import_directory_entry: ImportDirectoryEntry,
         address_map: &AddressMap,
     ) -> ResultOf<'e, SyntheticImportDirectoryEntry<'a>>
-        ensures value { ReadsOrMemory (λ x. x) result
-            (reading.library_of (reads_strictly address_map.now) T.format
-            (offset_of address_map.now) import_directory_entry)
+        ensures value { let m = address_map.now in
+            ReadsOrMemory (λ x. x) result
+            (reading.library_of (reads_strictly m) T.format (offset_of m) import_directory_entry)
             bytes.now }
         ensures low { import_directory_entry.import_address_table_rva < 2 ^ 32 }
-        ensures grown { IfErr result
+        ensures grown { let m = address_map.now in
+            IfErr result
             (λ e.
             IsMemory e
-            → KeepsImports (reads_strictly address_map.now) T.format (offset_of address_map.now)
-            bytes.now import_directory_entry) }
+            → KeepsImports (reads_strictly m) T.format (offset_of m) bytes.now
+            import_directory_entry) }
     {
         let record = &import_directory_entry;
         let name = library_name(bytes, record.name_rva, address_map)?;

@@ -7,10 +7,9 @@ ghost use Rattle.std.specs.List.Sorted.{IsStrictlyIncreasing};
 ghost use Rattle.goblin_base.specs.Answers.{IsMemory};
 ghost use Rattle.goblin_base.specs.Reading.{Reads, ReadsOrMemory};
 ghost use Rattle.goblin_base.specs.Tables.{is_kept, stop};
-ghost use Rattle.goblin_pe_sect.specs.Mapping.{file_offset};
 ghost use Rattle.goblin_pe_sect.specs.Options.{default_options, is_strict};
 ghost use Rattle.goblin_pe_sect.specs.WindowIndex.{HasPieces};
-ghost use Rattle.goblin_pe_tables.specs.Addresses.{offset_of, reads_strictly};
+ghost use Rattle.goblin_pe_tables.specs.Addresses.{map_by, offset_of, reads_strictly};
 ghost use Rattle.goblin_pe_tables.specs.ImportLookup.{KeepsEntries};
 ghost use Rattle.goblin_pe_tables.specs.ImportLookup.{entry_slots, lookup_slots};
 ghost use Rattle.goblin_pe_tables.specs.ImportLookup.{entry_view, hint_name_view, kept_view};
@@ -105,10 +104,9 @@ impl<'a> SyntheticImportLookupTableEntry<'a> {
         bytes: &'a [u8],
         address_map: &AddressMap,
     ) -> ResultOf<'e, Option<SyntheticImportLookupTableEntry<'a>>>
-        ensures { Reads kept_view result
-            (reading.kept_entry (reads_strictly address_map.now) (offset_of address_map.now)
-            (T.value entry.now))
-            bytes.now }
+        ensures { let m = address_map.now in
+            Reads kept_view result
+            (reading.kept_entry (reads_strictly m) (offset_of m) (T.value entry.now)) bytes.now }
     {
         if entry.is_ordinal() {
             let ordinal = entry.to_ordinal();
@@ -144,14 +142,14 @@ impl<'a> SyntheticImportLookupTableEntry<'a> {
         sections: &[SectionTable],
         file_alignment: u32,
     ) -> ResultOf<'e, ImportLookupTable<'a>>
-        ensures value { let m = file_offset default_options sections.now file_alignment in
-            ReadsOrMemory (map entry_view) result (reading.lookup_table true T.format m offset)
-            bytes.now }
-        ensures grown { let m = file_offset default_options sections.now file_alignment in
+        ensures value { let m = map_by default_options sections.now file_alignment in
+            ReadsOrMemory (map entry_view) result
+            (reading.lookup_table true T.format (offset_of m) offset) bytes.now }
+        ensures grown { let m = map_by default_options sections.now file_alignment in
             IfErr result
             (λ e.
             IsMemory e
-            → KeepsEntries true T.format m bytes.now offset
+            → KeepsEntries true T.format (offset_of m) bytes.now offset
             ⊎ HasPieces default_options file_alignment) }
     {
         let opts = ParseOptions::default();
@@ -184,15 +182,14 @@ impl<'a> SyntheticImportLookupTableEntry<'a> {
         file_alignment: u32,
         opts: &ParseOptions,
     ) -> ResultOf<'e, ImportLookupTable<'a>>
-        ensures value { let m = file_offset opts.now sections.now file_alignment in
-            let strict = is_strict opts.now.parse_mode in
-            ReadsOrMemory (map entry_view) result (reading.lookup_table strict T.format m offset)
-            bytes.now }
-        ensures grown { let m = file_offset opts.now sections.now file_alignment in
+        ensures value { let m = map_by opts.now sections.now file_alignment in
+            ReadsOrMemory (map entry_view) result
+            (reading.lookup_table (reads_strictly m) T.format (offset_of m) offset) bytes.now }
+        ensures grown { let m = map_by opts.now sections.now file_alignment in
             IfErr result
             (λ e.
             IsMemory e
-            → KeepsEntries (is_strict opts.now.parse_mode) T.format m bytes.now offset
+            → KeepsEntries (reads_strictly m) T.format (offset_of m) bytes.now offset
             ⊎ HasPieces opts.now file_alignment) }
     {
         let (table, _) = SyntheticImportLookupTableEntry::parse_with_slots::<T>(
@@ -223,21 +220,20 @@ impl<'a> SyntheticImportLookupTableEntry<'a> {
         file_alignment: u32,
         opts: &ParseOptions,
     ) -> ResultOf<'e, (ImportLookupTable<'a>, Vec<usize>)>
-        ensures value { let m = file_offset opts.now sections.now file_alignment in
-            let strict = is_strict opts.now.parse_mode in
+        ensures value { let m = map_by opts.now sections.now file_alignment in
             ReadsOrMemory (λ both. map entry_view both.0) result
-            (reading.lookup_table strict T.format m offset) bytes.now }
-        ensures grown { let m = file_offset opts.now sections.now file_alignment in
+            (reading.lookup_table (reads_strictly m) T.format (offset_of m) offset) bytes.now }
+        ensures grown { let m = map_by opts.now sections.now file_alignment in
             IfErr result
             (λ e.
             IsMemory e
-            → KeepsEntries (is_strict opts.now.parse_mode) T.format m bytes.now offset
+            → KeepsEntries (reads_strictly m) T.format (offset_of m) bytes.now offset
             ⊎ HasPieces opts.now file_alignment) }
-        ensures slots { let m = file_offset opts.now sections.now file_alignment in
+        ensures slots { let m = map_by opts.now sections.now file_alignment in
             IfOk result
             (λ both.
             both.1.items
-            ≡ lookup_slots (is_strict opts.now.parse_mode) T.format m bytes.now offset) }
+            ≡ lookup_slots (reads_strictly m) T.format (offset_of m) bytes.now offset) }
         ensures counted { IfOk result (λ both. length both.0 ≡ length both.1.items) }
         ensures rising { IfOk result (λ both. IsStrictlyIncreasing both.1.items) }
         ensures below { IfOk result
@@ -256,15 +252,14 @@ impl<'a> SyntheticImportLookupTableEntry<'a> {
         offset: usize,
         address_map: &AddressMap,
     ) -> ResultOf<'e, (ImportLookupTable<'a>, Vec<usize>)>
-        ensures value { ReadsOrMemory (λ both. (map entry_view both.0, both.1.items)) result
-            (reading.lookup_with_slots (reads_strictly address_map.now) T.format
-            (offset_of address_map.now) offset)
-            bytes.now }
-        ensures grown { IfErr result
+        ensures value { let m = address_map.now in
+            ReadsOrMemory (λ both. (map entry_view both.0, both.1.items)) result
+            (reading.lookup_with_slots (reads_strictly m) T.format (offset_of m) offset) bytes.now }
+        ensures grown { let m = address_map.now in
+            IfErr result
             (λ e.
             IsMemory e
-            → KeepsEntries (reads_strictly address_map.now) T.format (offset_of address_map.now)
-            bytes.now offset) }
+            → KeepsEntries (reads_strictly m) T.format (offset_of m) bytes.now offset) }
         ensures counted { IfOk result (λ both. length both.0 ≡ length both.1.items) }
     {
         let size = T::size_of();

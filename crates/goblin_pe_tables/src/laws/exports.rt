@@ -3,8 +3,8 @@
 ghost use Rattle.std.specs.Prelude.{◌⊎◌, IfErr, IsSomeAnd};
 ghost use Rattle.goblin_base.specs.Answers.{IsMemory};
 ghost use Rattle.goblin_base.specs.Reading.{ReadsOrMemory, TwinsOrMemory};
-ghost use Rattle.goblin_pe_sect.specs.Mapping.{file_offset};
 ghost use Rattle.goblin_pe_sect.specs.WindowIndex.{HasPieces};
+ghost use Rattle.goblin_pe_tables.specs.Addresses.{map_by, offset_of};
 ghost use Rattle.goblin_pe_tables.specs.ExportReadings.{export_read};
 ghost use Rattle.goblin_pe_tables.specs.Exports.{HasEntries, export_data, export_read_view};
 
@@ -31,10 +31,11 @@ pub fn read_exports<'a>(
     file_alignment: u32,
     opts: &ParseOptions,
 ) -> Result<ExportRead<'a>>
-    ensures value { let m = file_offset opts.now sections.now file_alignment in
-        ReadsOrMemory export_read_view result (export_read m directory) bytes.now }
-    ensures grown { let m = file_offset opts.now sections.now file_alignment in
-        IfErr result (λ e. IsMemory e → IsSomeAnd (export_data m directory bytes.now) HasEntries
+    ensures value { let m = map_by opts.now sections.now file_alignment in
+        ReadsOrMemory export_read_view result (export_read (offset_of m) directory) bytes.now }
+    ensures grown { let m = map_by opts.now sections.now file_alignment in
+        IfErr result (λ e. IsMemory e →
+        IsSomeAnd (export_data (offset_of m) directory bytes.now) HasEntries
         ⊎ HasPieces opts.now file_alignment) }
 {
     let tables = ExportData::parse_with_opts(
@@ -68,13 +69,15 @@ pub fn twin_exports<'a>(
     file_alignment: u32,
     opts: &ParseOptions,
 ) -> (Result<ExportRead<'a>>, Result<ExportRead<'a>>)
-    ensures twins { let m = file_offset opts.now sections.now file_alignment in
-        TwinsOrMemory export_read_view (export_read m directory) a.now b.now result }
-    ensures first_grown { let m = file_offset opts.now sections.now file_alignment in
-        IfErr result.0 (λ e. IsMemory e → IsSomeAnd (export_data m directory a.now) HasEntries
+    ensures twins { let m = map_by opts.now sections.now file_alignment in
+        TwinsOrMemory export_read_view (export_read (offset_of m) directory) a.now b.now result }
+    ensures first_grown { let m = map_by opts.now sections.now file_alignment in
+        IfErr result.0 (λ e. IsMemory e →
+        IsSomeAnd (export_data (offset_of m) directory a.now) HasEntries
         ⊎ HasPieces opts.now file_alignment) }
-    ensures second_grown { let m = file_offset opts.now sections.now file_alignment in
-        IfErr result.1 (λ e. IsMemory e → IsSomeAnd (export_data m directory b.now) HasEntries
+    ensures second_grown { let m = map_by opts.now sections.now file_alignment in
+        IfErr result.1 (λ e. IsMemory e →
+        IsSomeAnd (export_data (offset_of m) directory b.now) HasEntries
         ⊎ HasPieces opts.now file_alignment) }
 {
     let first = read_exports(alloc, a, directory, sections, file_alignment, opts);

@@ -6,10 +6,8 @@ ghost use Rattle.std.specs.List.{All};
 ghost use Rattle.goblin_base.specs.Answers.{IsMemory};
 ghost use Rattle.goblin_base.specs.Footprints.{Covers, positions, slice_footprint};
 ghost use Rattle.goblin_base.specs.Footprints.{stretch_footprint};
-ghost use Rattle.goblin_pe_sect.specs.Mapping.{file_offset};
-ghost use Rattle.goblin_pe_sect.specs.Options.{is_strict};
 ghost use Rattle.goblin_pe_sect.specs.WindowIndex.{HasPieces};
-ghost use Rattle.goblin_pe_tables.specs.Addresses.{offset_of, reads_strictly};
+ghost use Rattle.goblin_pe_tables.specs.Addresses.{map_by, offset_of, reads_strictly};
 ghost use Rattle.goblin_pe_tables.specs.ImportReadings.{import_data, libraries_at, library_of};
 ghost use Rattle.goblin_pe_tables.specs.LookupReadings.{address_table, kept_entry, lookup_table};
 
@@ -80,14 +78,14 @@ fn add_entry<'a, 'e, T: Bitfield<'a>>(
     bytes: &'a [u8],
     address_map: &AddressMap,
 ) -> ResultOf<'e, ()>
-    ensures added { let m = offset_of address_map.now in
-        let strict = reads_strictly address_map.now in
-        let reached = (kept_entry strict m (T.value entry.now)).reaches bytes.now in
+    ensures added { let m = address_map.now in
+        let reached =
+        (kept_entry (reads_strictly m) (offset_of m) (T.value entry.now)).reaches bytes.now in
         OnOk result (ranges.new.items ≡ ranges.old.items ++ reached) }
     ensures refused { IfErr result IsMemory }
-    ensures grown { let m = offset_of address_map.now in
-        let strict = reads_strictly address_map.now in
-        let reached = (kept_entry strict m (T.value entry.now)).reaches bytes.now in
+    ensures grown { let m = address_map.now in
+        let reached =
+        (kept_entry (reads_strictly m) (offset_of m) (T.value entry.now)).reaches bytes.now in
         OnErr result (0 < length reached) }
 {
     if entry.is_ordinal() {
@@ -106,14 +104,14 @@ fn add_lookup_table<'a, 'e, T: Bitfield<'a>>(
     offset: usize,
     address_map: &AddressMap,
 ) -> ResultOf<'e, ()>
-    ensures added { let m = offset_of address_map.now in
-        let strict = reads_strictly address_map.now in
-        let reached = (lookup_table strict T.format m offset).reaches bytes.now in
+    ensures added { let m = address_map.now in
+        let reached =
+        (lookup_table (reads_strictly m) T.format (offset_of m) offset).reaches bytes.now in
         OnOk result (ranges.new.items ≡ ranges.old.items ++ reached) }
     ensures refused { IfErr result IsMemory }
-    ensures grown { let m = offset_of address_map.now in
-        let strict = reads_strictly address_map.now in
-        let reached = (lookup_table strict T.format m offset).reaches bytes.now in
+    ensures grown { let m = address_map.now in
+        let reached =
+        (lookup_table (reads_strictly m) T.format (offset_of m) offset).reaches bytes.now in
         OnErr result (0 < length reached) }
 {
     let size = T::size_of();
@@ -163,14 +161,14 @@ fn add_library<'a, 'e, T: Bitfield<'a>>(
     entry: &ImportDirectoryEntry,
     address_map: &AddressMap,
 ) -> ResultOf<'e, ()>
-    ensures added { let m = offset_of address_map.now in
-        let strict = reads_strictly address_map.now in
-        let reached = (library_of strict T.format m entry.now).reaches bytes.now in
+    ensures added { let m = address_map.now in
+        let reached =
+        (library_of (reads_strictly m) T.format (offset_of m) entry.now).reaches bytes.now in
         OnOk result (ranges.new.items ≡ ranges.old.items ++ reached) }
     ensures refused { IfErr result IsMemory }
-    ensures grown { let m = offset_of address_map.now in
-        let strict = reads_strictly address_map.now in
-        let reached = (library_of strict T.format m entry.now).reaches bytes.now in
+    ensures grown { let m = address_map.now in
+        let reached =
+        (library_of (reads_strictly m) T.format (offset_of m) entry.now).reaches bytes.now in
         OnErr result (0 < length reached) }
 {
     if let Some(offset) = address_map.offset_of(entry.name_rva) {
@@ -192,14 +190,14 @@ fn add_libraries<'a, 'e, T: Bitfield<'a>>(
     offset: usize,
     address_map: &AddressMap,
 ) -> ResultOf<'e, ()>
-    ensures added { let m = offset_of address_map.now in
-        let strict = reads_strictly address_map.now in
-        let reached = (libraries_at strict T.format m offset).reaches bytes.now in
+    ensures added { let m = address_map.now in
+        let reached =
+        (libraries_at (reads_strictly m) T.format (offset_of m) offset).reaches bytes.now in
         OnOk result (ranges.new.items ≡ ranges.old.items ++ reached) }
     ensures refused { IfErr result IsMemory }
-    ensures grown { let m = offset_of address_map.now in
-        let strict = reads_strictly address_map.now in
-        let reached = (libraries_at strict T.format m offset).reaches bytes.now in
+    ensures grown { let m = address_map.now in
+        let reached =
+        (libraries_at (reads_strictly m) T.format (offset_of m) offset).reaches bytes.now in
         OnErr result (0 < length reached) }
 {
     let mut place = offset;
@@ -223,13 +221,14 @@ fn import_ranges<'a, 'e, T: Bitfield<'a>>(
     rva: u32,
     address_map: &AddressMap,
 ) -> ResultOf<'e, Vec<(usize, usize)>>
-    ensures ranges { let m = offset_of address_map.now in
-        let strict = reads_strictly address_map.now in
-        IfOk result (λ v. v.items ≡ (import_data strict T.format m rva).reaches bytes.now) }
+    ensures ranges { let m = address_map.now in
+        IfOk result
+        (λ v.
+        v.items ≡ (import_data (reads_strictly m) T.format (offset_of m) rva).reaches bytes.now) }
     ensures refused { IfErr result IsMemory }
-    ensures grown { let m = offset_of address_map.now in
-        let strict = reads_strictly address_map.now in
-        let reached = (import_data strict T.format m rva).reaches bytes.now in
+    ensures grown { let m = address_map.now in
+        let reached =
+        (import_data (reads_strictly m) T.format (offset_of m) rva).reaches bytes.now in
         OnErr result (0 < length reached) }
 {
     let mut ranges = Vec::new(alloc);
@@ -257,22 +256,23 @@ pub fn footprint_imports<'a, 'e, T: Bitfield<'a>>(
     file_alignment: u32,
     opts: &ParseOptions,
 ) -> ResultOf<'e, Vec<(usize, usize)>>
-    ensures ranges { let m = file_offset opts.now sections.now file_alignment in
-        let strict = is_strict opts.now.parse_mode in
+    ensures ranges { let m = map_by opts.now sections.now file_alignment in
         let rva = directory.virtual_address in
-        IfOk result (λ v. v.items ≡ (import_data strict T.format m rva).reaches bytes.now) }
-    ensures covers { let m = file_offset opts.now sections.now file_alignment in
-        let strict = is_strict opts.now.parse_mode in
+        IfOk result
+        (λ v.
+        v.items ≡ (import_data (reads_strictly m) T.format (offset_of m) rva).reaches bytes.now) }
+    ensures covers { let m = map_by opts.now sections.now file_alignment in
         let rva = directory.virtual_address in
-        let footprint = (import_data strict T.format m rva).reaches bytes.now in
+        let footprint =
+        (import_data (reads_strictly m) T.format (offset_of m) rva).reaches bytes.now in
         IfOk result (λ v. (p : ℕ) → Covers v.items p ↔ Covers footprint p) }
     ensures within { IfOk result
         (λ v. All (λ range. (range.0 < range.1) × (range.1 ≤ length bytes.now)) v.items) }
     ensures refused { IfErr result IsMemory }
-    ensures grown { let m = file_offset opts.now sections.now file_alignment in
-        let strict = is_strict opts.now.parse_mode in
+    ensures grown { let m = map_by opts.now sections.now file_alignment in
         let rva = directory.virtual_address in
-        let footprint = (import_data strict T.format m rva).reaches bytes.now in
+        let footprint =
+        (import_data (reads_strictly m) T.format (offset_of m) rva).reaches bytes.now in
         OnErr result ((0 < length footprint) ⊎ HasPieces opts.now file_alignment) }
 {
     let address_map = AddressMap::prepare(alloc, sections, file_alignment, opts)?;

@@ -3,9 +3,8 @@
 ghost use Rattle.std.specs.Prelude.{◌⊎◌, IfErr, IsSomeAnd, map};
 ghost use Rattle.goblin_base.specs.Answers.{IsMemory};
 ghost use Rattle.goblin_base.specs.Reading.{TwinsOrMemory};
-ghost use Rattle.goblin_pe_sect.specs.Mapping.{file_offset};
-ghost use Rattle.goblin_pe_sect.specs.Options.{is_strict};
 ghost use Rattle.goblin_pe_sect.specs.WindowIndex.{HasPieces};
+ghost use Rattle.goblin_pe_tables.specs.Addresses.{map_by, offset_of, reads_strictly};
 ghost use Rattle.goblin_pe_tables.specs.ImportDirectory.{HasRecords};
 ghost use Rattle.goblin_pe_tables.specs.ImportLookup.{KeepsEntries, entry_view};
 ghost use Rattle.goblin_pe_tables.specs.ImportReadings.{import_data};
@@ -38,20 +37,20 @@ pub fn twin_lookup<'a, 'e, T: Bitfield<'a>>(
     ResultOf<'e, ImportLookupTable<'a>>,
     ResultOf<'e, ImportLookupTable<'a>>,
 )
-    ensures twins { let m = file_offset opts.now sections.now file_alignment in
-        let strict = is_strict opts.now.parse_mode in
-        TwinsOrMemory (map entry_view) (lookup_table strict T.format m offset) a.now b.now result }
-    ensures first_grown { let m = file_offset opts.now sections.now file_alignment in
+    ensures twins { let m = map_by opts.now sections.now file_alignment in
+        TwinsOrMemory (map entry_view)
+        (lookup_table (reads_strictly m) T.format (offset_of m) offset) a.now b.now result }
+    ensures first_grown { let m = map_by opts.now sections.now file_alignment in
         IfErr result.0
         (λ e.
         IsMemory e
-        → KeepsEntries (is_strict opts.now.parse_mode) T.format m a.now offset
+        → KeepsEntries (reads_strictly m) T.format (offset_of m) a.now offset
         ⊎ HasPieces opts.now file_alignment) }
-    ensures second_grown { let m = file_offset opts.now sections.now file_alignment in
+    ensures second_grown { let m = map_by opts.now sections.now file_alignment in
         IfErr result.1
         (λ e.
         IsMemory e
-        → KeepsEntries (is_strict opts.now.parse_mode) T.format m b.now offset
+        → KeepsEntries (reads_strictly m) T.format (offset_of m) b.now offset
         ⊎ HasPieces opts.now file_alignment) }
 {
     let first = SyntheticImportLookupTableEntry::parse_with_opts::<T>(
@@ -92,22 +91,22 @@ pub fn twin_imports<'a, 'e, T: Bitfield<'a>>(
     file_alignment: u32,
     opts: &ParseOptions,
 ) -> (ResultOf<'e, ImportData<'a>>, ResultOf<'e, ImportData<'a>>)
-    ensures twins { let m = file_offset opts.now sections.now file_alignment in
-        let strict = is_strict opts.now.parse_mode in
+    ensures twins { let m = map_by opts.now sections.now file_alignment in
         let rva = directory.virtual_address in
-        TwinsOrMemory (λ x. x) (import_data strict T.format m rva) a.now b.now result }
-    ensures first_grown { let place = file_offset opts.now sections.now file_alignment
-        directory.virtual_address in
+        TwinsOrMemory (λ x. x)
+        (import_data (reads_strictly m) T.format (offset_of m) rva) a.now b.now result }
+    ensures first_grown { let m = map_by opts.now sections.now file_alignment in
         IfErr result.0
         (λ e.
         IsMemory e
-        → IsSomeAnd place (HasRecords a.now) ⊎ HasPieces opts.now file_alignment) }
-    ensures second_grown { let place = file_offset opts.now sections.now file_alignment
-        directory.virtual_address in
+        → IsSomeAnd (offset_of m directory.virtual_address) (HasRecords a.now)
+        ⊎ HasPieces opts.now file_alignment) }
+    ensures second_grown { let m = map_by opts.now sections.now file_alignment in
         IfErr result.1
         (λ e.
         IsMemory e
-        → IsSomeAnd place (HasRecords b.now) ⊎ HasPieces opts.now file_alignment) }
+        → IsSomeAnd (offset_of m directory.virtual_address) (HasRecords b.now)
+        ⊎ HasPieces opts.now file_alignment) }
 {
     let first = ImportData::parse_with_opts::<T>(
         alloc,
