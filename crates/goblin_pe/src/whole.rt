@@ -93,8 +93,8 @@ impl<'a> Model for Whole<'a> {
 
 /// A whole file, and what two collectors have kept of its imports and its exports.
 ///
-/// Where all that is wanted is one list of imports or of exports, in records of a caller's own, this
-/// takes less time and memory than [`Whole`].
+/// For callers that want imports and exports in records of their own: no list of them is made
+/// between, and the memory of one library serves the next.
 #[derive(Drop)]
 pub struct CollectedFile<'a, I: Drop, E: Drop> {
     /// The header: everything before the section table.
@@ -453,8 +453,7 @@ fn sections_of(
 impl<'a, I: LibraryCollector<'a>, E: ExportCollector<'a>> CollectedFile<'a, I, E> {
     /// Reads a whole file as [`Whole::read`] does, and hands its imports to `imports`, library by
     /// library, and its exports to `exports`, one by one. Both are empty before. The file is refused
-    /// where [`Whole::read`] would refuse it for another cause than memory, and a list of imports
-    /// can be made of all libraries.
+    /// where [`Whole::read`] would refuse it for another cause than memory.
     ///
     /// # Errors
     /// As [`Whole::read`].
