@@ -33,6 +33,14 @@ pub record PartsAsked : Type 0 where
   pub relocations : DataDirectory
   pub value : DataDirectory
 
+abbrev pub asked_by : CoffHeader → ℕ → DataDirectory → DataDirectory → PartsAsked
+asked_by coff_header offset relocations value = record {
+  coff_header = coff_header;
+  offset = offset;
+  relocations = relocations;
+  value = value;
+}
+
 -- the sections that are asked for
 abbrev pub sections_asked : Bool → PartsAsked → Reading (List Section)
 sections_asked strict asked =

@@ -6,7 +6,7 @@ ghost use Rattle.goblin_base.specs.Reading.{ReadsOrMemory};
 ghost use Rattle.goblin_pe_head.specs.TeReadings.{te_header, te_image};
 ghost use Rattle.goblin_pe_tables.specs.Addresses.{map_by, offset_of, reads_strictly};
 ghost use Rattle.goblin_pe.specs.SectionRoom.{TakesSections};
-ghost use Rattle.goblin_pe.specs.TwinParts.{AreParts, ArePartsGrown, AreTwinParts, PartsAsked};
+ghost use Rattle.goblin_pe.specs.TwinParts.{AreParts, ArePartsGrown, AreTwinParts, asked_by};
 ghost use Rattle.goblin_pe.specs.TwinParts.{te_view};
 
 use crate::data_directories::DataDirectory;
@@ -72,22 +72,10 @@ fn read_parts<'a, 'e, D: TryFromCtx<'a>>(
     opts: &ParseOptions,
 ) -> PartsOf<'a, 'e, D>
     ensures read { let m = map_by opts.now sections.now file_alignment in
-        let asked : PartsAsked =
-        record {
-          coff_header = coff_header;
-          offset = offset;
-          relocations = relocations;
-          value = value;
-        } in
+        let asked = asked_by coff_header offset relocations value in
         AreParts D.plain D.value_of D.refusal (reads_strictly m) (offset_of m) asked
         bytes.now result }
-    ensures grown { let asked : PartsAsked =
-        record {
-          coff_header = coff_header;
-          offset = offset;
-          relocations = relocations;
-          value = value;
-        } in
+    ensures grown { let asked = asked_by coff_header offset relocations value in
         ArePartsGrown asked bytes.now result }
 {
     let mut end = offset;
@@ -136,30 +124,12 @@ pub fn twin_parts<'a, 'e, D: TryFromCtx<'a>>(
     opts: &ParseOptions,
 ) -> (PartsOf<'a, 'e, D>, PartsOf<'a, 'e, D>)
     ensures twins { let m = map_by opts.now sections.now file_alignment in
-        let asked : PartsAsked =
-        record {
-          coff_header = coff_header;
-          offset = offset;
-          relocations = relocations;
-          value = value;
-        } in
+        let asked = asked_by coff_header offset relocations value in
         AreTwinParts D.plain D.value_of D.refusal (reads_strictly m) (offset_of m) asked
         a.now b.now result }
-    ensures first_grown { let asked : PartsAsked =
-        record {
-          coff_header = coff_header;
-          offset = offset;
-          relocations = relocations;
-          value = value;
-        } in
+    ensures first_grown { let asked = asked_by coff_header offset relocations value in
         ArePartsGrown asked a.now result.0 }
-    ensures second_grown { let asked : PartsAsked =
-        record {
-          coff_header = coff_header;
-          offset = offset;
-          relocations = relocations;
-          value = value;
-        } in
+    ensures second_grown { let asked = asked_by coff_header offset relocations value in
         ArePartsGrown asked b.now result.1 }
 {
     let first = read_parts(
