@@ -172,7 +172,7 @@ impl<'s> AddressMap<'s> {
     }
 
     /// A map with nothing prepared: each address is looked up by a walk over the sections. It takes
-    /// no memory; use it for a file in which no address is looked up.
+    /// no memory; use it for a file in which few addresses are looked up.
     pub fn unprepared(
         alloc: Global,
         sections: &'s [SectionTable],
