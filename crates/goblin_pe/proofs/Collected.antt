@@ -127,16 +127,8 @@ module _ {A B C X Y : Type 0} (a : Reading A) (b : Reading B) (c : Reading C) (f
 -- ---- the tables of a file
 
 module _ {X Y : Type 0} (items_of : ℕ → ImportedLibrary → List X) (item_of : ExportRow → Y) where
-  export-tables : (p : Part (ExportTables × List ExportRow))
-      → part_map (λ read. read.0) (part_map (collected_exports item_of) p)
-      ≡ part_map (λ read. read.0) p
-  unfolding part_map
-  export-tables Absent = refl
-  export-tables (part.Read read) = refl
-  export-tables Refused = refl
-
   export-rows : (p : Part (ExportTables × List ExportRow))
-      → part_map (λ read. read.1) (part_map (collected_exports item_of) p)
+      → part_map (collected_exports item_of) p
       ≡ part_map (map item_of) (part_map (λ read. read.1) p)
   unfolding part_map
   export-rows Absent = refl
@@ -149,8 +141,7 @@ module _ {X Y : Type 0} (items_of : ℕ → ImportedLibrary → List X) (item_of
     header = h;
     sections = sections;
     imports = t.0.0;
-    export_data = part_map (λ read. read.0) t.0.1;
-    exports = part_map (λ read. read.1) t.0.1;
+    exports = t.0.1;
     relocations = t.1;
   }
 
@@ -159,7 +150,7 @@ module _ {X Y : Type 0} (items_of : ℕ → ImportedLibrary → List X) (item_of
       ≡ file_with h sections
       (collected_tables items_of item_of (places_in h.optional_header).magic parts)
   file-collected h sections parts =
-      rw (export-tables parts.0.1, export-rows parts.0.1) refl
+      rw (export-rows parts.0.1) refl
 
   module _ (opts : ParseOptions) (h : PeHeader) (sections : List Section) (bytes : List ℕ) where
     abbrev tables_of : Option TableParts
@@ -271,73 +262,3 @@ module _ (opts : ParseOptions) (bytes : List ℕ) (short : length bytes < 2 ^ 63
   collected-listed places offset_of view f (Err e) h =
       λ other. rw (unmapped f ((import_part opts offset_of places).value bytes) (h other).0)
       (refl, (h other).1)
-
--- ---- a file whose libraries and exports are all kept
-
-kept-libraries : (p : Part (List ImportedLibrary))
-    → part_map (flat_map (λ library. library ∷ [])) p ≡ p
-unfolding part_map
-kept-libraries Absent = refl
-kept-libraries (part.Read libraries) =
-    ap (λ (xs : List ImportedLibrary). part.Read xs)
-    (flat_map_single (λ (l : ImportedLibrary). l) libraries ∙ map-id libraries)
-kept-libraries Refused = refl
-
-kept-rows : (p : Part (List ExportRow)) → part_map (map (λ row. row)) p ≡ p
-unfolding part_map
-kept-rows Absent = refl
-kept-rows (part.Read rows) = ap (λ (xs : List ExportRow). part.Read xs) (map-id rows)
-kept-rows Refused = refl
-
-abbrev pub AllKept : Type 0
-AllKept = CollectedFileValue ImportedLibrary ExportRow
-
-abbrev pub all_kept : WholeFile → AllKept
-all_kept w = collected_file (λ size library. library ∷ []) (λ row. row) w
-
--- with its list of imports
-abbrev whole_with_imports : AllKept → Part (List ImportValue) → WholeFile
-whole_with_imports c imports = record {
-  header = c.header;
-  sections = c.sections;
-  import_data = c.imports;
-  imports = imports;
-  export_data = c.export_data;
-  exports = c.exports;
-  relocations = c.relocations;
-}
-
-all-kept : (w : WholeFile) → whole_with_imports (all_kept w) w.imports ≡ w
-all-kept w = rw (kept-libraries w.import_data, kept-rows w.exports) refl
-
-module _ (opts : ParseOptions) (bytes : List ℕ) (c : AllKept)
-    (is : option_map all_kept ((whole_file opts).value bytes) ≡ Some c) where
-  abbrev list_of : Option (Part (List ImportValue))
-  list_of = imports_part opts (places_in c.header.optional_header) c.imports
-
-  kept-list : (w : WholeFile) → all_kept w ≡ c
-      → imports_part opts (places_in w.header.optional_header) w.import_data ≡ list_of
-  kept-list w made =
-      ap (imports_part opts (places_in w.header.optional_header)) (sym (kept-libraries w.import_data))
-      ∙ ap (λ (k : AllKept). imports_part opts (places_in k.header.optional_header) k.imports) made
-
-  pub whole-kept : (imports : Part (List ImportValue)) → list_of ≡ Some imports
-      → (whole_file opts).value bytes ≡ Some (whole_with_imports c imports)
-  whole-kept imports listed =
-      let m = steps.mapped ((whole_file opts).value bytes) all_kept c is in
-      let w = m.value in
-      let own = sym (whole-imports opts bytes w m.is) ∙ kept-list w m.made ∙ listed in
-      let same = steps.same_value w.imports imports own in
-      m.is
-      ∙ ap (λ (x : WholeFile). Some x) (sym (all-kept w))
-      ∙ ap (λ (k : AllKept). Some (whole_with_imports k w.imports)) m.made
-      ∙ ap (λ (list : Part (List ImportValue)). Some (whole_with_imports c list)) same
-
-  pub list-there : list_of ≡ None → ⊥
-  list-there none =
-      let m = steps.mapped ((whole_file opts).value bytes) all_kept c is in
-      let there = sym (whole-imports opts bytes m.value m.is) ∙ kept-list m.value m.made ∙ none in
-      not-none m.value.imports there
-    where
-      not-none : {A : Type 0} (x : A) → Some x ≡ None → ⊥
-      not-none x e = absurd cc

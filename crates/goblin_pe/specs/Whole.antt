@@ -31,6 +31,7 @@ use Rattle.goblin_pe.specs.declared.whole.Part.TheVariants.{Absent, Refused}
 use Rattle.goblin_pe.specs.declared.whole.Part.TheVariants as part
 use Rattle.goblin_pe.specs.declared.whole.CollectedFile.{CollectedFile}
 use Rattle.goblin_pe.specs.declared.whole.FileTables.{FileTables}
+use Rattle.goblin_pe.specs.declared.whole.ListedTables.{ListedTables}
 use Rattle.goblin_pe.specs.declared.whole.Tables.{Tables}
 use Rattle.goblin_pe_tables.specs.ExportReadings.{export_read}
 use Rattle.goblin_pe_tables.specs.ExportRecords.{ExportRow, ExportTables, export_read_view}
@@ -234,11 +235,14 @@ whole_with opts h sections =
     let places = places_in h.optional_header in
     mapped (whole_of h sections) (table_parts opts (offset_by opts sections places) places)
 
+-- the file that begins with this header
+abbrev pub whole_after : ParseOptions → PeHeader → Reading WholeFile
+whole_after opts h =
+    sections_after (is_strict opts.parse_mode) h >>= λ sections. whole_with opts h sections
+
 -- a whole file: its header and its sections, which both modes require, and its tables
 unfoldable pub whole_file : ParseOptions → Reading WholeFile
-whole_file opts =
-    let strict = is_strict opts.parse_mode in
-    pe_header strict >>= λ h. sections_after strict h >>= λ sections. whole_with opts h sections
+whole_file opts = pe_header (is_strict opts.parse_mode) >>= λ h. whole_after opts h
 
 -- ---- what collectors keep of a file
 
@@ -248,14 +252,14 @@ abbrev pub collected_libraries : {X Y : Type 0} → (ℕ → ImportedLibrary →
 collected_libraries items_of magic read =
     part_map (flat_map (items_of (entry_format magic).width)) read.0
 
--- export data, and what is kept of its exports
+-- what is kept of the exports of a file
 abbrev pub collected_exports : {Y : Type 0} → (ExportRow → Y) → ExportTables × List ExportRow
-    → ExportTables × List Y
-collected_exports item_of read = (read.0, map item_of read.1)
+    → List Y
+collected_exports item_of read = map item_of read.1
 
 -- what is kept of the tables of a file
 abbrev pub CollectedParts : Type 0 → Type 0 → Type 0
-CollectedParts X Y = (Part (List X) × Part (ExportTables × List Y)) × Part (List ℕ)
+CollectedParts X Y = (Part (List X) × Part (List Y)) × Part (List ℕ)
 
 abbrev pub collected_tables : {X Y : Type 0} → (ℕ → ImportedLibrary → List X) → (ExportRow → Y)
     → ℕ → TableParts → CollectedParts X Y
@@ -272,7 +276,6 @@ pub record CollectedFileValue (X Y : Type 0) : Type 0 where
   pub header : PeHeader
   pub sections : List Section
   pub imports : Part (List X)
-  pub export_data : Part ExportTables
   pub exports : Part (List Y)
   pub relocations : Part (List ℕ)
 
@@ -284,7 +287,6 @@ collected_file items_of item_of w =
       header = w.header;
       sections = w.sections;
       imports = part_map (flat_map (items_of (entry_format magic).width)) w.import_data;
-      export_data = w.export_data;
       exports = part_map (map item_of) w.exports;
       relocations = w.relocations;
     }
@@ -300,27 +302,31 @@ unfoldable pub listed_imports : ℕ → Part (List ImportedLibrary) → Part (Li
 listed_imports magic libraries =
     part_map (λ l. unwrap_or (imports_of (entry_format magic).width l) []) libraries
 
--- export data, and what is held of its exports
-abbrev pub export_rows_view : {E Y : Type 0} → (E → List Y) → ExportTables × E
-    → ExportTables × List Y
-export_rows_view rows read = (read.0, rows read.1)
+-- import data and its imports, as their reader returns them
+abbrev pub import_read_view : Part (List ImportedLibrary) × Part (Vec ImportValue Global)
+    → Part (List ImportedLibrary) × Part (List ImportValue)
+import_read_view read = (read.0, items_part read.1)
+
+-- the tables that their reader returns
+abbrev pub listed_view : ListedTables → TableParts
+listed_view t = (
+  (import_read_view t.imports, part_map export_read_view t.exports),
+  part_map relocation_bytes t.relocations,
+)
 
 -- the tables that collectors hold
 abbrev pub tables_view : {I E X Y : Type 0} → (I → List X) → (E → List Y) → FileTables I E
     → CollectedParts X Y
-tables_view items rows t = (
-  (part_map items t.imports, part_map (export_rows_view rows) t.exports),
-  part_map relocation_bytes t.relocations,
-)
+tables_view items rows t =
+    ((part_map items t.imports, part_map rows t.exports), part_map relocation_bytes t.relocations)
 
--- the file that collectors hold
-abbrev pub collected_view : {I E X Y : Type 0} → (I → List X) → (E → List Y) → CollectedFile I E
-    → CollectedFileValue X Y
-collected_view items rows x = record {
-  header = header_value x.header;
+-- the file that collectors hold, after this header
+abbrev pub collected_view : {I E X Y : Type 0} → (I → List X) → (E → List Y) → PeHeader
+    → CollectedFile I E → CollectedFileValue X Y
+collected_view items rows header x = record {
+  header = header;
   sections = x.sections.items;
   imports = part_map items x.imports;
-  export_data = x.export_data;
   exports = part_map rows x.exports;
   relocations = part_map relocation_bytes x.relocations;
 }

@@ -15,15 +15,17 @@ ghost use Rattle.goblin_pe_head.specs.PeHeader.{header_value};
 ghost use Rattle.goblin_pe_head.specs.CoffHeader.{IsTooManySections};
 ghost use Rattle.goblin_pe_tables.specs.Addresses.{map_by, offset_of, reads_strictly};
 ghost use Rattle.goblin_pe_tables.specs.ExportReadings.{export_read};
+ghost use Rattle.goblin_pe_tables.specs.ExportRecords.{export_read_view};
 ghost use Rattle.goblin_pe_tables.specs.ImportReadings.{import_data};
 ghost use Rattle.goblin_pe_tables.specs.Imports.{IsImportsFault, imports_of};
 ghost use Rattle.goblin_pe.specs.Whole.{BecomesPart, HasImports, IsImportsPartFault};
 ghost use Rattle.goblin_pe.specs.Whole.{MapsAddresses, collected_exports, collected_file};
 ghost use Rattle.goblin_pe.specs.Whole.{collected_libraries, collected_tables, collected_view};
-ghost use Rattle.goblin_pe.specs.Whole.{entry_format, export_part, export_rows_view, import_part};
-ghost use Rattle.goblin_pe.specs.Whole.{import_parts, imports_part, items_part, part_map};
-ghost use Rattle.goblin_pe.specs.Whole.{places_in, relocation_part, sections_after, table_parts};
-ghost use Rattle.goblin_pe.specs.Whole.{table_places, tables_view, whole_file};
+ghost use Rattle.goblin_pe.specs.Whole.{entry_format, export_part, import_part, import_parts};
+ghost use Rattle.goblin_pe.specs.Whole.{import_read_view, imports_part, items_part, listed_view};
+ghost use Rattle.goblin_pe.specs.Whole.{part_map, places_in, relocation_part, sections_after};
+ghost use Rattle.goblin_pe.specs.Whole.{table_parts, table_places, tables_view, whole_after};
+ghost use Rattle.goblin_pe.specs.Whole.{whole_file};
 
 use crate::export::{Export, ExportCollector, ExportData};
 use crate::import::{Import, ImportData, LibraryCollector};
@@ -91,21 +93,18 @@ impl<'a> Model for Whole<'a> {
     } };
 }
 
-/// A whole file, and what two collectors have kept of its imports and its exports.
+/// What follows the header of a file: its sections, and what two collectors have kept of its imports
+/// and its exports.
 ///
 /// For callers that want imports and exports in records of their own: no list of them is made
 /// between, and the memory of one library serves the next.
 #[derive(Drop)]
 pub struct CollectedFile<'a, I: Drop, E: Drop> {
-    /// The header: everything before the section table.
-    pub header: Header<'a>,
     /// The sections, in the order of their records; they map the addresses.
     pub sections: Vec<SectionTable>,
     /// What was kept of the libraries that the import directory leads to.
     pub imports: Part<I>,
-    /// What the export directory leads to.
-    pub export_data: Part<ExportData<'a>>,
-    /// What was kept of the exports of the export data.
+    /// What was kept of the exports that the export directory lists.
     pub exports: Part<E>,
     /// The base relocations: the bytes of their directory, whose blocks are read one by one.
     pub relocations: Part<RelocationData<'a>>,
@@ -162,6 +161,50 @@ impl Tables {
         ensures { result ≡ (self.now.magic == 0x10B) }
     {
         self.magic == MAGIC_32
+    }
+
+    // The import data of a directory.
+    #[tactic(auto, unfolding(crate::specs::Whole::entry_format))]
+    fn import_data_of<'a>(
+        &self,
+        alloc: Global,
+        bytes: &'a [u8],
+        directory: DataDirectory,
+        address_map: &AddressMap,
+    ) -> Result<ImportData<'a>>
+        ensures { let m = address_map.now in
+            let format = entry_format self.now.magic in
+            let rva = directory.virtual_address in
+            ReadsOrMemory (λ x. x) result
+            (import_data (reads_strictly m) format (offset_of m) rva) bytes.now }
+    {
+        if self.has_narrow_entries() {
+            ImportData::parse_by::<u32>(alloc, bytes, directory, address_map)
+        } else {
+            ImportData::parse_by::<u64>(alloc, bytes, directory, address_map)
+        }
+    }
+
+    // The import data, if it was asked for.
+    #[tactic(auto, unfolding(crate::specs::Whole::import_part), using(crate::proofs::Parts::becomes_same))]
+    fn import_data<'a>(
+        &self,
+        alloc: Global,
+        bytes: &'a [u8],
+        address_map: &AddressMap,
+    ) -> Result<Part<ImportData<'a>>>
+        ensures { let m = address_map.now in
+            let places = table_places self.now in
+            ReadsOrMemory (λ x. x) result (import_part m.opts (offset_of m) places) bytes.now }
+    {
+        let opts = address_map.opts();
+        match self.imports {
+            Some(directory) if opts.parse_imports => part_of(
+                self.import_data_of(alloc, bytes, directory, address_map),
+                opts,
+            ),
+            _ => Ok(Part::Absent),
+        }
     }
 
     // The libraries of an import directory, as they are collected.
@@ -276,25 +319,67 @@ impl Tables {
         }
     }
 
-    // The export data, and the exports that it lists, as they are collected.
-    fn exports<'a, 'e, E: ExportCollector<'a>>(
+    // The import data, and the list of imports made from it.
+    #[tactic(auto, unfolding(crate::specs::Whole::import_parts))]
+    fn import_parts<'a>(
+        &self,
+        alloc: Global,
+        bytes: &'a [u8],
+        address_map: &AddressMap,
+        sections: &[SectionTable],
+    ) -> Result<ImportRead<'a>>
+        ensures { let m = address_map.now in
+            let places = table_places self.now in
+            ReadsOrMemory import_read_view result (import_parts m.opts (offset_of m) places)
+            bytes.now }
+    {
+        let import_data = self.import_data(alloc, bytes, address_map)?;
+        let imports = self.imports(alloc, bytes, &import_data, sections, address_map.opts())?;
+        Ok((import_data, imports))
+    }
+
+    // The export data, and the exports that it lists.
+    #[tactic(auto, unfolding(crate::specs::Whole::export_part, crate::specs::Whole::part_of, crate::specs::Whole::part_map))]
+    fn exports<'a>(
+        &self,
+        alloc: Global,
+        bytes: &'a [u8],
+        address_map: &AddressMap,
+    ) -> Result<Part<ExportRead<'a>>>
+        ensures { let m = address_map.now in
+            let places = table_places self.now in
+            ReadsOrMemory (part_map export_read_view) result
+            (export_part m.opts (offset_of m) places) bytes.now }
+    {
+        let Some(directory) = self.exports else {
+            return Ok(Part::Absent);
+        };
+        match exports_of(alloc, bytes, directory, address_map) {
+            Ok(read) => Ok(Part::Read(read)),
+            Err(error) if is_passed_over(&error, address_map.is_permissive()) => Ok(Part::Refused),
+            Err(error) => Err(error),
+        }
+    }
+
+    // The exports, as they are collected.
+    fn collected_exports<'a, 'e, E: ExportCollector<'a>>(
         &self,
         alloc: Global,
         bytes: &'a [u8],
         address_map: &AddressMap,
         exports: E,
-    ) -> ResultOf<'e, Part<(ExportData<'a>, E)>>
+    ) -> ResultOf<'e, Part<E>>
         requires { E.items exports ≡ [] }
         ensures { let m = address_map.now in
             let places = table_places self.now in
-            ReadsOrMemory (part_map (export_rows_view E.items)) result
+            ReadsOrMemory (part_map E.items) result
             (mapped (part_map (collected_exports E.item_of))
             (export_part m.opts (offset_of m) places))
             bytes.now }
     {
         match self.exports {
             Some(directory) => part_of(
-                exports_of(alloc, bytes, directory, address_map, exports),
+                rows_of(alloc, bytes, directory, address_map, exports),
                 address_map.opts(),
             ),
             None => Ok(Part::Absent),
@@ -345,9 +430,33 @@ impl Tables {
         }
     }
 
-    // All tables; refused for the first of them that refuses all. The list of imports is never the
-    // first.
-    fn read<'a, 'e, I: LibraryCollector<'a>, E: ExportCollector<'a>>(
+    // All tables; refused for the first of them that refuses all.
+    #[tactic(auto, unfolding(crate::specs::Whole::table_parts))]
+    fn listed<'a>(
+        &self,
+        alloc: Global,
+        bytes: &'a [u8],
+        sections: &[SectionTable],
+        opts: &ParseOptions,
+    ) -> Result<ListedTables<'a>>
+        ensures { let m = map_by opts.now sections.now self.now.file_alignment in
+            let places = table_places self.now in
+            ReadsOrMemory listed_view result (table_parts m.opts (offset_of m) places) bytes.now }
+    {
+        let address_map = self.address_map(alloc, sections, opts)?;
+        let imports = self.import_parts(alloc, bytes, &address_map, sections)?;
+        let exports = self.exports(alloc, bytes, &address_map)?;
+        let relocations = self.relocations(bytes, &address_map)?;
+        drop(address_map);
+        Ok(ListedTables {
+            imports,
+            exports,
+            relocations,
+        })
+    }
+
+    // All tables, as they are collected; refused for the first of them that refuses all.
+    fn collected<'a, 'e, I: LibraryCollector<'a>, E: ExportCollector<'a>>(
         &self,
         alloc: Global,
         bytes: &'a [u8],
@@ -367,7 +476,7 @@ impl Tables {
     {
         let address_map = self.address_map(alloc, sections, opts)?;
         let imports = self.listed_libraries(alloc, bytes, &address_map, imports)?;
-        let exports = self.exports(alloc, bytes, &address_map, exports)?;
+        let exports = self.collected_exports(alloc, bytes, &address_map, exports)?;
         let relocations = self.relocations(bytes, &address_map)?;
         Ok(FileTables {
             imports,
@@ -377,42 +486,68 @@ impl Tables {
     }
 }
 
+// Import data, and the imports made from it.
+type ImportRead<'a> = (Part<ImportData<'a>>, Part<Vec<Import<'a>>>);
+
+// Export data, and the exports that it lists.
+type ExportRead<'a> = (ExportData<'a>, Vec<Export<'a>>);
+
+// The tables of a file.
+struct ListedTables<'a> {
+    imports: ImportRead<'a>,
+    exports: Part<ExportRead<'a>>,
+    relocations: Part<RelocationData<'a>>,
+}
+
 // The tables of a file, as they are collected.
 #[derive(Drop)]
 struct FileTables<'a, I: Drop, E: Drop> {
     imports: Part<I>,
-    exports: Part<(ExportData<'a>, E)>,
+    exports: Part<E>,
     relocations: Part<RelocationData<'a>>,
 }
 
-// The export data of a directory, and the exports that it lists, as they are collected.
+// The export data of a directory, and the exports that it lists.
 #[tactic(auto, unfolding(goblin_pe_tables::specs::ExportReadings::export_read, goblin_pe_tables::specs::ExportReadings::exports))]
-fn exports_of<'a, 'e, E: ExportCollector<'a>>(
+fn exports_of<'a>(
+    alloc: Global,
+    bytes: &'a [u8],
+    directory: DataDirectory,
+    address_map: &AddressMap,
+) -> Result<ExportRead<'a>>
+    ensures { let m = address_map.now in
+        ReadsOrMemory export_read_view result (export_read (offset_of m) directory) bytes.now }
+{
+    let data = ExportData::parse_by(alloc, bytes, directory, address_map)?;
+    let exports = Export::parse_by(alloc, bytes, &data, address_map)?;
+    Ok((data, exports))
+}
+
+// The exports of a directory, as they are collected.
+#[tactic(auto, unfolding(goblin_pe_tables::specs::ExportReadings::export_read, goblin_pe_tables::specs::ExportReadings::exports))]
+fn rows_of<'a, 'e, E: ExportCollector<'a>>(
     alloc: Global,
     bytes: &'a [u8],
     directory: DataDirectory,
     address_map: &AddressMap,
     exports: E,
-) -> ResultOf<'e, (ExportData<'a>, E)>
+) -> ResultOf<'e, E>
     requires { E.items exports ≡ [] }
     ensures { let m = address_map.now in
-        ReadsOrMemory (export_rows_view E.items) result
+        ReadsOrMemory E.items result
         (mapped (collected_exports E.item_of) (export_read (offset_of m) directory)) bytes.now }
 {
     let data = ExportData::parse_by(alloc, bytes, directory, address_map)?;
     let rows = Export::parse_into(bytes, &data, address_map, exports)?;
-    Ok((data, rows))
+    Ok(rows)
 }
 
-// Export data and what was kept of its exports, each as a part of its own.
+// Export data and the exports that it lists, each as a part of its own.
 #[tactic(auto, unfolding(crate::specs::Whole::part_map))]
-fn export_parts<'a, E: ExportCollector<'a>>(
-    read: Part<(ExportData<'a>, E)>,
-) -> (Part<ExportData<'a>>, Part<E>)
-    ensures tables { let kept = part_map (export_rows_view E.items) read.entry in
-        result.0 ≡ part_map (λ x. x.0) kept }
-    ensures rows { let kept = part_map (export_rows_view E.items) read.entry in
-        part_map E.items result.1 ≡ part_map (λ x. x.1) kept }
+fn export_parts<'a>(read: Part<ExportRead<'a>>) -> (Part<ExportData<'a>>, Part<Vec<Export<'a>>>)
+    ensures data { result.0 ≡ part_map (λ x. x.0) (part_map export_read_view read.entry) }
+    ensures rows { items_part result.1
+        ≡ part_map (λ x. x.1) (part_map export_read_view read.entry) }
 {
     match read {
         Part::Absent => (Part::Absent, Part::Absent),
@@ -451,46 +586,41 @@ fn sections_of(
 }
 
 impl<'a, I: LibraryCollector<'a>, E: ExportCollector<'a>> CollectedFile<'a, I, E> {
-    /// Reads a whole file as [`Whole::read`] does, and hands its imports to `imports`, library by
-    /// library, and its exports to `exports`, one by one. Both are empty before. The file is refused
-    /// where [`Whole::read`] would refuse it for another cause than memory.
+    /// Reads what follows the header of a file as [`Whole::read`] does, and hands its imports to
+    /// `imports`, library by library, and its exports to `exports`, one by one. Both are empty
+    /// before. The file is refused where [`Whole::read`] would refuse it for another cause than
+    /// memory.
     ///
     /// # Errors
-    /// As [`Whole::read`].
-    #[tactic(auto, unfolding(crate::specs::Whole::whole_file, crate::specs::Whole::whole_with), using(goblin_pe_head::proofs::HeaderFaults::header_there, crate::proofs::Collected::file_read, crate::proofs::Collected::file_refused))]
+    /// As [`Whole::read`] of a file with this header.
+    #[tactic(auto, unfolding(crate::specs::Whole::whole_with), using(crate::proofs::Collected::file_read, crate::proofs::Collected::file_refused))]
     pub fn read<'e>(
         alloc: Global,
         bytes: &'a [u8],
+        header: &Header<'a>,
         opts: &ParseOptions,
         imports: I,
         exports: E,
     ) -> ResultOf<'e, CollectedFile<'a, I, E>>
         requires imports { I.items imports ≡ [] }
         requires exports { E.items exports ≡ [] }
-        ensures value { ReadsOrMemory (collected_view I.items E.items) result
-            (mapped (collected_file I.items_of E.item_of) (whole_file opts.now)) bytes.now }
-        ensures first { let found = (pe_header (is_strict opts.now.parse_mode)).value bytes.now in
-            IfSome found (λ header.
-            let count = header.coff_header.number_of_sections in
-            length bytes.now / 40 < count → IsErrAnd result (IsTooManySections count bytes.now)) }
-        ensures grown { IfErr result
-            (λ e.
-            IsMemory e → IsSome ((pe_header (is_strict opts.now.parse_mode)).value bytes.now)) }
+        ensures value { let before = header_value header.now in
+            ReadsOrMemory (collected_view I.items E.items before) result
+            (mapped (collected_file I.items_of E.item_of) (whole_after opts.now before))
+            bytes.now }
+        ensures first { let count = header.now.coff_header.number_of_sections in
+            length bytes.now / 40 < count → IsErrAnd result (IsTooManySections count bytes.now) }
     {
-        let header = Header::parse_with_opts(bytes, opts)?;
-        let sections = sections_of(alloc, bytes, &header, opts)?;
+        let sections = sections_of(alloc, bytes, header, opts)?;
         let tables = Tables::of(&header.optional_header);
         let FileTables {
             imports,
             exports,
             relocations,
-        } = tables.read(alloc, bytes, &sections, opts, imports, exports)?;
-        let (export_data, exports) = export_parts(exports);
+        } = tables.collected(alloc, bytes, &sections, opts, imports, exports)?;
         Ok(CollectedFile {
-            header,
             sections,
             imports,
-            export_data,
             exports,
             relocations,
         })
@@ -512,6 +642,7 @@ impl<'a> Whole<'a> {
     /// [`CoffHeader::sections_with_opts`](goblin_pe_head::CoffHeader::sections_with_opts); in
     /// strict mode as the readers of the tables; [`Error::Memory`] if memory is refused, in both
     /// modes, and never of a file whose header is refused.
+    #[tactic(auto, unfolding(crate::specs::Whole::whole_file, crate::specs::Whole::whole_with, crate::specs::Whole::part_map), using(goblin_pe_head::proofs::HeaderFaults::header_there))]
     pub fn read(alloc: Global, bytes: &'a [u8], opts: &ParseOptions) -> Result<Whole<'a>>
         ensures value { ReadsOrMemory (λ x. x) result (whole_file opts.now) bytes.now }
         ensures first { let found = (pe_header (is_strict opts.now.parse_mode)).value bytes.now in
@@ -522,20 +653,24 @@ impl<'a> Whole<'a> {
             (λ e.
             IsMemory e → IsSome ((pe_header (is_strict opts.now.parse_mode)).value bytes.now)) }
     {
-        let libraries = ImportData {
-            import_data: Vec::new(alloc),
-        };
-        let file = CollectedFile::read(alloc, bytes, opts, libraries, Vec::new(alloc))?;
-        let tables = Tables::of(&file.header.optional_header);
-        let imports = tables.imports(alloc, bytes, &file.imports, &file.sections, opts)?;
-        Ok(Whole {
-            header: file.header,
-            sections: file.sections,
-            import_data: file.imports,
+        let header = Header::parse_with_opts(bytes, opts)?;
+        let sections = sections_of(alloc, bytes, &header, opts)?;
+        let tables = Tables::of(&header.optional_header);
+        let ListedTables {
             imports,
-            export_data: file.export_data,
-            exports: file.exports,
-            relocations: file.relocations,
+            exports,
+            relocations,
+        } = tables.listed(alloc, bytes, &sections, opts)?;
+        let (import_data, imports) = imports;
+        let (export_data, exports) = export_parts(exports);
+        Ok(Whole {
+            header,
+            sections,
+            import_data,
+            imports,
+            export_data,
+            exports,
+            relocations,
         })
     }
 

@@ -1,6 +1,7 @@
 -- The tables of a whole file, which are in memory of their own.
 use Rattle.std.specs.Prelude.{◌≡◌, ℕ, List, map}
 use Rattle.goblin_pe.specs.Imports.{ImportValue}
+use Rattle.goblin_pe.specs.PeHeader.{PeHeader}
 use Rattle.goblin_pe.specs.Whole.{CollectedFileValue, WholeFile, collected_file, collected_view}
 use Rattle.goblin_pe.specs.declared.whole.CollectedFile.{CollectedFile}
 use Rattle.goblin_pe_c.specs.declared.directory.PeDirectory.{PeDirectory}
@@ -57,5 +58,5 @@ import_list x = map import_view x.records.items
 abbrev pub export_list : ExportRecords → List ExportSaid
 export_list x = map export_view x.records.items
 
-abbrev pub records_view : CollectedFile ImportRecords ExportRecords → RecordsOfFile
-records_view x = collected_view import_list export_list x
+abbrev pub records_view : PeHeader → CollectedFile ImportRecords ExportRecords → RecordsOfFile
+records_view header x = collected_view import_list export_list header x

@@ -1,6 +1,7 @@
 //! What a call says of the file as a whole.
 
 ghost use Rattle.std.specs.Prelude.{◌≡◌, length};
+ghost use Rattle.goblin_pe_head.specs.PeHeader.{header_value};
 ghost use Rattle.goblin_pe.specs.Whole.{part_map};
 ghost use Rattle.goblin_pe_c.specs.Blocks.{relocations_of};
 ghost use Rattle.goblin_pe_c.specs.Files.{summary, table_of};
@@ -15,6 +16,7 @@ use crate::headers::{
 };
 use crate::import::ImportRecords;
 use crate::rich::PeRichHeader;
+use goblin_pe::header::Header;
 use goblin_pe::{CollectedFile, Part};
 
 /// A table of the file.
@@ -84,24 +86,25 @@ fn exports_table(exports: &Part<ExportRecords>) -> PeTable
 
 /// What is said of a file as a whole: with what is said of its base relocations and its Rich header.
 pub fn file_of<'a>(
-    whole: &CollectedFile<'a, ImportRecords<'a>, ExportRecords<'a>>,
+    header: &Header<'a>,
+    file: &CollectedFile<'a, ImportRecords<'a>, ExportRecords<'a>>,
     relocations: PeRelocations,
     rich_header: PeRichHeader,
 ) -> PeFile
-    requires relocations { relocations ≡ relocations_of (records_view whole.now).relocations }
-    requires rich_header { rich_header ≡ rich_of (records_view whole.now).header.rich_header }
-    ensures { let v = records_view whole.now in
+    requires relocations { let v = records_view (header_value header.now) file.now in
+        relocations ≡ relocations_of v.relocations }
+    requires rich_header { rich_header ≡ rich_of (header_value header.now).rich_header }
+    ensures { let v = records_view (header_value header.now) file.now in
         result
         ≡ summary v.header (length v.sections) (table_of v.imports) (table_of v.exports)
         v.relocations }
 {
-    let header = &whole.header;
     PeFile {
         optional_header: optional_record(&header.optional_header),
         directories: directories_of(&header.optional_header).len(),
-        sections: whole.sections.len(),
-        imports: imports_table(&whole.imports),
-        exports: exports_table(&whole.exports),
+        sections: file.sections.len(),
+        imports: imports_table(&file.imports),
+        exports: exports_table(&file.exports),
         relocations,
         rich_header,
         dos_header: dos_record(&header.dos_header),

@@ -4,6 +4,7 @@ ghost use Rattle.std.specs.Prelude.{◌≡◌, IfErr, IfOk, Some, map, option_ma
 ghost use Rattle.goblin_base.specs.Answers.{IsMemory};
 ghost use Rattle.goblin_pe_sect.specs.Options.{is_strict};
 ghost use Rattle.goblin_pe_head.specs.HeaderReadings.{pe_header};
+ghost use Rattle.goblin_pe_head.specs.PeHeader.{header_value};
 ghost use Rattle.goblin_pe.specs.SectionRoom.{HasRoom};
 ghost use Rattle.goblin_pe.specs.Whole.{part_map, whole_file};
 ghost use Rattle.goblin_pe_c.specs.Blocks.{block_view, blocks_in, relocations_of};
@@ -27,6 +28,7 @@ use crate::import::{ImportRecords, PeImport};
 use crate::options::{PeOptions, options_of};
 use crate::rich::{PeRichEntry, PeRichHeader, entry_records};
 use crate::section::{PeSection, section_records};
+use goblin_pe::header::Header;
 use goblin_pe::options::ParseOptions;
 use goblin_pe::{CollectedFile, Part, Result};
 use std::alloc::Global;
@@ -60,28 +62,29 @@ struct Made<'a> {
 // What is made of a file that was read.
 fn made_of<'a>(
     alloc: Global,
-    whole: &CollectedFile<'a, ImportRecords<'a>, ExportRecords<'a>>,
+    header: &Header<'a>,
+    file: &CollectedFile<'a, ImportRecords<'a>, ExportRecords<'a>>,
     bytes: &'a [u8],
     opts: &ParseOptions,
 ) -> Result<Made<'a>>
     requires { option_map records_of_file ((whole_file opts.now).value bytes.now)
-        ≡ Some (records_view whole.now) }
+        ≡ Some (records_view (header_value header.now) file.now) }
     ensures refused { IfErr result IsMemory }
-    ensures rich_header { let v = records_view whole.now in
+    ensures rich_header { let v = records_view (header_value header.now) file.now in
         IfOk result (λ m. m.rich_header ≡ rich_of v.header.rich_header) }
-    ensures relocations { let v = records_view whole.now in
+    ensures relocations { let v = records_view (header_value header.now) file.now in
         IfOk result (λ m. m.relocations ≡ relocations_of v.relocations) }
-    ensures rich_entries { let v = records_view whole.now in
+    ensures rich_entries { let v = records_view (header_value header.now) file.now in
         IfOk result (λ m. map entry_view m.rich_entries.items ≡ entries_in v.header.rich_header) }
-    ensures sections { let v = records_view whole.now in
+    ensures sections { let v = records_view (header_value header.now) file.now in
         IfOk result (λ m. map section_said m.sections.items ≡ map alone v.sections) }
-    ensures blocks { let v = records_view whole.now in
+    ensures blocks { let v = records_view (header_value header.now) file.now in
         IfOk result (λ m. map block_view m.blocks.items ≡ blocks_in v.relocations) }
 {
-    let table = whole.header.coff_header.symbols_end();
-    let sections = section_records(alloc, bytes, &whole.sections, table, opts)?;
-    let (rich_entries, rich_header) = entry_records(alloc, &whole.header.rich_header)?;
-    let (blocks, relocations) = block_records(alloc, &whole.relocations)?;
+    let table = header.coff_header.symbols_end();
+    let sections = section_records(alloc, bytes, &file.sections, table, opts)?;
+    let (rich_entries, rich_header) = entry_records(alloc, &header.rich_header)?;
+    let (blocks, relocations) = block_records(alloc, &file.relocations)?;
     Ok(Made {
         rich_entries,
         rich_header,
@@ -137,7 +140,7 @@ fn handed_over<'a>(
 }
 
 // Reads a file and makes its tables.
-#[tactic(auto, using(goblin_pe::proofs::SectionRoom::whole_takes))]
+#[tactic(auto, unfolding(goblin_pe::specs::Whole::whole_file), using(goblin_pe::proofs::SectionRoom::whole_takes, goblin_pe_head::proofs::HeaderFaults::header_there))]
 fn open<'a>(
     alloc: Global,
     bytes: &'a [u8],
@@ -153,13 +156,14 @@ fn open<'a>(
         ReadsInto (pe_header (is_strict opts.now.parse_mode)) (HasRoom bytes.now)
         (whole_file opts.now) bytes.now (λ w. Opens w old new) (new ≡ old) result }
 {
+    let header = Header::parse_with_opts(bytes, opts)?;
     let imports = ImportRecords::new(alloc, bytes);
     let exports = ExportRecords::new(alloc, bytes);
-    let whole = CollectedFile::read(alloc, bytes, opts, imports, exports)?;
-    let made = made_of(alloc, &whole, bytes, opts)?;
-    fill_directories(directories, directories_of(&whole.header.optional_header));
-    *file = file_of(&whole, made.relocations, made.rich_header);
-    *tables = handed_over(made, whole.imports, whole.exports);
+    let read = CollectedFile::read(alloc, bytes, &header, opts, imports, exports)?;
+    let made = made_of(alloc, &header, &read, bytes, opts)?;
+    fill_directories(directories, directories_of(&header.optional_header));
+    *file = file_of(&header, &read, made.relocations, made.rich_header);
+    *tables = handed_over(made, read.imports, read.exports);
     Ok(())
 }
 

@@ -2,7 +2,7 @@ use Rattle.std.proofs.Common.{◌≡◌, ◌∙◌, List, ap, arith, map, subst,
 use Rattle.goblin_pe_sect.specs.Options.{is_strict}
 use Rattle.goblin_pe_sect.specs.SectionTable.{Section}
 use Rattle.goblin_pe_head.specs.CoffHeader.{symbols_end}
-use Rattle.goblin_pe_head.specs.PeHeader.{PeHeader}
+use Rattle.goblin_pe_head.specs.PeHeader.{PeHeader, header_value}
 use Rattle.goblin_pe_c.specs.Filled.{alone}
 use Rattle.goblin_pe_c.specs.Opened.{records_view}
 use Rattle.goblin_pe_c.specs.Sections.{named_in}
@@ -16,7 +16,7 @@ returns-clause-sections c =
     let opts = c.args.opts.now in
     let bytes = c.args.bytes.now in
     let strict = is_strict opts.parse_mode in
-    let v = records_view c.args.whole.now in
+    let v = records_view (header_value c.args.header.now) c.args.file.now in
     let of = file-of-records opts bytes v (omega arith)
     (λ k. (let fits = c.type_inv.bytes k in grind (arith, fits))) c.requires in
     let by_header = subst

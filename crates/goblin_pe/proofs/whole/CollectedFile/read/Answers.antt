@@ -3,18 +3,18 @@ use Rattle.std.specs.Prelude.{option_map}
 use Rattle.goblin_pe_head.specs.PeHeader.{header_value}
 use Rattle.goblin_pe_sect.specs.SectionTable.{Section}
 use Rattle.goblin_pe.specs.Whole.{TablePlaces, collected_tables, offset_by, places_in, table_parts}
-use Rattle.goblin_pe.specs.Whole.{tables_view, whole_file, whole_with}
+use Rattle.goblin_pe.specs.Whole.{tables_view, whole_with}
 use Rattle.goblin_pe.proofs.Collected.{file_read}
 use Rattle.goblin_pe.proofs.whole.CollectedFile.read.Goals as goal
 
 pub returns-clause-value : goal.returns-clause-value
-unfolding whole_file whole_with
+unfolding whole_with
 returns-clause-value g c =
     let opts = c.args.opts.now in
     let bytes = c.args.bytes.now in
     let items_of = g.I.LibraryCollector.items_of in
     let item_of = g.E.ExportCollector.item_of in
-    let header = header_value c.in_ok-header.header in
+    let header = header_value c.args.header.now in
     let tables = tables_view g.I.LibraryCollector.items g.E.ExportCollector.items c.in_ok-imports.field-0 in
     let at_places = subst
     (λ (k : TablePlaces).
@@ -27,5 +27,5 @@ returns-clause-value g c =
     option_map (collected_tables items_of item_of places.magic)
     ((table_parts opts (offset_by opts sections places) places).value bytes) ≡ Some tables)
     c.deref.ensures.value at_places in
-    rw (c.in_ok-header.ensures.value, c.in_ok-sections.ensures.value, c.export_parts-export_data.ensures.tables, c.export_parts-export_data.ensures.rows)
+    rw (c.in_ok-sections.ensures.value)
     (file_read items_of item_of opts header c.in_ok-sections.sections.items bytes tables read)

@@ -4,12 +4,12 @@ use Rattle.std.specs.Prelude.{option_map}
 use Rattle.readings.specs.Reads.{mapped}
 use Rattle.goblin_pe_sect.specs.BaseRelocations.{relocation_bytes}
 use Rattle.goblin_pe_tables.specs.Addresses.{MapOfAddresses, offset_of}
-use Rattle.goblin_pe.specs.Whole.{collected_exports, collected_libraries, export_part, export_rows_view}
+use Rattle.goblin_pe.specs.Whole.{collected_exports, collected_libraries, export_part}
 use Rattle.goblin_pe.specs.Whole.{import_parts, offset_by, part_map, relocation_part, table_parts}
 use Rattle.goblin_pe.specs.Whole.{table_places}
 use Rattle.goblin_pe.proofs.Collected.{IsRefused, all-read, first-refused, second-refused}
 use Rattle.goblin_pe.proofs.Collected.{third-refused}
-use Rattle.goblin_pe.proofs.whole.Tables.read.Goals as goal
+use Rattle.goblin_pe.proofs.whole.Tables.collected.Goals as goal
 
 pub returns-in_err-imports : goal.returns-in_err-imports
 unfolding table_parts
@@ -59,7 +59,7 @@ returns-in_err-relocations g c =
     let exports = part_map (collected_exports g.E.ExportCollector.item_of) in
     let first = subst (λ (k : MapOfAddresses). option_map libraries ((import_parts k.opts (offset_of k) places).value bytes) ≡ Some (part_map g.I.LibraryCollector.items c.in_ok-imports.imports))
     (sym c.in_ok-address_map.ensures.made) c.in_ok-imports.ensures in
-    let second = subst (λ (k : MapOfAddresses). option_map exports ((export_part k.opts (offset_of k) places).value bytes) ≡ Some (part_map (export_rows_view g.E.ExportCollector.items) c.in_ok-exports.exports))
+    let second = subst (λ (k : MapOfAddresses). option_map exports ((export_part k.opts (offset_of k) places).value bytes) ≡ Some (part_map g.E.ExportCollector.items c.in_ok-exports.exports))
     (sym c.in_ok-address_map.ensures.made) c.in_ok-exports.ensures in
     rw (error.1, error.2)
     (λ other.
@@ -79,7 +79,7 @@ returns g c =
     let exports = part_map (collected_exports g.E.ExportCollector.item_of) in
     let first = subst (λ (k : MapOfAddresses). option_map libraries ((import_parts k.opts (offset_of k) places).value bytes) ≡ Some (part_map g.I.LibraryCollector.items c.in_ok-imports.imports))
     (sym c.in_ok-address_map.ensures.made) c.in_ok-imports.ensures in
-    let second = subst (λ (k : MapOfAddresses). option_map exports ((export_part k.opts (offset_of k) places).value bytes) ≡ Some (part_map (export_rows_view g.E.ExportCollector.items) c.in_ok-exports.exports))
+    let second = subst (λ (k : MapOfAddresses). option_map exports ((export_part k.opts (offset_of k) places).value bytes) ≡ Some (part_map g.E.ExportCollector.items c.in_ok-exports.exports))
     (sym c.in_ok-address_map.ensures.made) c.in_ok-exports.ensures in
     all-read (import_parts opts m places) (export_part opts m places) (relocation_part opts m places)
     libraries exports bytes _ _ _ first second
