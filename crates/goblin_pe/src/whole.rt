@@ -426,7 +426,7 @@ impl Tables {
         if has_imports || self.exports.is_some() {
             AddressMap::prepare(alloc, sections, self.file_alignment, opts)
         } else {
-            Ok(AddressMap::unprepared(alloc, sections, self.file_alignment, opts))
+            Ok(AddressMap::unprepared(sections, self.file_alignment, opts))
         }
     }
 

@@ -8,7 +8,7 @@ ghost use Rattle.goblin_pe_sect.specs.AddressReadings.{name_or_none};
 ghost use Rattle.goblin_pe_sect.specs.Mapping.{file_offset};
 ghost use Rattle.goblin_base.specs.declared.permissive.ParseMode.TheVariants.{Permissive};
 ghost use Rattle.goblin_pe_tables.specs.Addresses.{looked_up, map_by, offset_of, reads_strictly};
-ghost use Rattle.goblin_pe_sect.specs.WindowIndex.{HasPieces};
+ghost use Rattle.goblin_pe_sect.specs.WindowIndex.{HasPieces, located};
 
 use goblin_base::Result;
 use goblin_pe_sect::options::ParseOptions;
@@ -22,103 +22,48 @@ use std::marker::Model;
 const FEW: usize = 16;
 
 // How addresses are looked up.
-#[derive(Copy, Clone)]
-enum Manner {
+#[derive(Drop)]
+enum Lookup {
     // By a walk over the sections themselves, for which nothing is prepared.
     Sections,
     // By a walk over the windows of few sections.
-    Windows,
+    Windows(WindowList),
     // By binary search in an index.
-    Index,
+    Index(WindowIndex),
 }
 
-// How addresses are looked up, and what is prepared for it: windows or an index. The other stays
-// empty and takes no memory.
-#[derive(Drop)]
-struct LookUp {
-    manner: Manner,
-    windows: WindowList,
-    index: WindowIndex,
-}
-
-impl LookUp {
-    // By the sections themselves.
-    #[tactic(auto, unfolding(crate::specs::Addresses::looked_up, crate::specs::Addresses::located_by))]
-    fn unprepared(alloc: Global) -> LookUp
-        ensures { (offset_of : ℕ → Option ℕ) (rva : ℕ)
-            → looked_up result offset_of rva ≡ offset_of rva }
-    {
-        LookUp {
-            manner: Manner::Sections,
-            windows: WindowList::without_windows(alloc),
-            index: WindowIndex::without_pieces(alloc, true),
-        }
-    }
-
-    // By the windows of few sections.
-    #[tactic(auto, unfolding(crate::specs::Addresses::looked_up, crate::specs::Addresses::located_by))]
-    fn by_windows(
-        alloc: Global,
-        sections: &[SectionTable],
-        file_alignment: u32,
-        opts: &ParseOptions,
-    ) -> Result<LookUp>
-        ensures mapped { let offset_of = file_offset opts.now sections.now file_alignment in
-            IfOk result
-            (λ l.
-            IsTrue opts.now.resolve_rva → (rva : ℕ)
-            → looked_up l offset_of rva ≡ offset_of rva) }
-        ensures refused { IfErr result IsMemory }
-        ensures grown { IfErr result (λ e. IsTrue (is_power_of_two file_alignment)) }
-    {
-        Ok(LookUp {
-            manner: Manner::Windows,
-            windows: WindowList::prepare(alloc, sections, file_alignment, opts)?,
-            index: WindowIndex::without_pieces(alloc, true),
-        })
-    }
-
-    // By an index of many sections.
-    #[tactic(auto, unfolding(crate::specs::Addresses::looked_up, crate::specs::Addresses::located_by))]
-    fn by_index(
-        alloc: Global,
-        sections: &[SectionTable],
-        file_alignment: u32,
-        opts: &ParseOptions,
-    ) -> Result<LookUp>
-        ensures mapped { let offset_of = file_offset opts.now sections.now file_alignment in
-            IfOk result (λ l. (rva : ℕ) → looked_up l offset_of rva ≡ offset_of rva) }
-        ensures refused { IfErr result IsMemory }
-        ensures grown { IfErr result (λ e. HasPieces opts.now file_alignment) }
-    {
-        Ok(LookUp {
-            manner: Manner::Index,
-            windows: WindowList::without_windows(alloc),
-            index: WindowIndex::prepare(alloc, sections, file_alignment, opts)?,
-        })
-    }
-
+impl Lookup {
     // By whatever suits this number of sections.
+    #[tactic(auto, unfolding(crate::specs::Addresses::looked_up))]
     fn prepare(
         alloc: Global,
         sections: &[SectionTable],
         file_alignment: u32,
         opts: &ParseOptions,
-    ) -> Result<LookUp>
+    ) -> Result<Lookup>
         ensures mapped { let offset_of = file_offset opts.now sections.now file_alignment in
             IfOk result (λ l. (rva : ℕ) → looked_up l offset_of rva ≡ offset_of rva) }
         ensures refused { IfErr result IsMemory }
         ensures grown { IfErr result (λ e. HasPieces opts.now file_alignment) }
     {
         if !opts.resolve_rva {
-            return Ok(LookUp::unprepared(alloc));
+            return Ok(Lookup::Sections);
         }
         if sections.len() <= FEW {
-            LookUp::by_windows(alloc, sections, file_alignment, opts)
-        } else {
-            LookUp::by_index(alloc, sections, file_alignment, opts)
+            let windows = WindowList::prepare(alloc, sections, file_alignment, opts)?;
+            return Ok(Lookup::Windows(windows));
         }
+        let index = WindowIndex::prepare(alloc, sections, file_alignment, opts)?;
+        Ok(Lookup::Index(index))
     }
+}
+
+// The file offset of an address, by binary search.
+#[inline(never)]
+fn offset_in_index(index: &WindowIndex, rva: u32) -> Option<usize>
+    ensures { result ≡ located index.now rva }
+{
+    index.find(rva as usize)
 }
 
 /// How addresses are mapped to file offsets, and how the bytes there are read: the sections, the
@@ -128,7 +73,7 @@ pub struct AddressMap<'s> {
     sections: &'s [SectionTable],
     file_alignment: u32,
     opts: ParseOptions,
-    look_up: LookUp,
+    lookup: Lookup,
 }
 
 impl<'s> Model for AddressMap<'s> {
@@ -142,7 +87,7 @@ impl<'s> Model for AddressMap<'s> {
 
     ghost invariant = { λ x.
         let offset_of = file_offset x.opts x.sections.now x.file_alignment in
-        (rva : ℕ) → looked_up x.look_up offset_of rva ≡ offset_of rva };
+        (rva : ℕ) → looked_up x.lookup offset_of rva ≡ offset_of rva };
 }
 
 impl<'s> AddressMap<'s> {
@@ -162,19 +107,19 @@ impl<'s> AddressMap<'s> {
             (map_by opts.now sections.now file_alignment) }
         ensures grown { IfErr result (λ e. HasPieces opts.now file_alignment) }
     {
-        let look_up = LookUp::prepare(alloc, sections, file_alignment, opts)?;
+        let lookup = Lookup::prepare(alloc, sections, file_alignment, opts)?;
         Ok(AddressMap {
             sections,
             file_alignment,
             opts: *opts,
-            look_up,
+            lookup,
         })
     }
 
     /// A map with nothing prepared: each address is looked up by a walk over the sections. It takes
     /// no memory; use it for a file in which few addresses are looked up.
+    #[tactic(auto, unfolding(crate::specs::Addresses::looked_up))]
     pub fn unprepared(
-        alloc: Global,
         sections: &'s [SectionTable],
         file_alignment: u32,
         opts: &ParseOptions,
@@ -185,7 +130,7 @@ impl<'s> AddressMap<'s> {
             sections,
             file_alignment,
             opts: *opts,
-            look_up: LookUp::unprepared(alloc),
+            lookup: Lookup::Sections,
         }
     }
 
@@ -203,17 +148,24 @@ impl<'s> AddressMap<'s> {
         self.opts.parse_mode.is_permissive()
     }
 
+    // The file offset of an address, by a walk over the sections.
+    #[inline(never)]
+    fn offset_by_sections(&self, rva: u32) -> Option<usize>
+        ensures { result ≡ offset_of self.now rva }
+    {
+        find_offset(rva as usize, self.sections, self.file_alignment, &self.opts)
+    }
+
     /// The file offset of an address.
-    #[tactic(auto, unfolding(crate::specs::Addresses::looked_up, crate::specs::Addresses::located_by))]
+    #[inline]
+    #[tactic(auto, unfolding(crate::specs::Addresses::looked_up))]
     pub fn offset_of(&self, rva: u32) -> Option<usize>
         ensures { result ≡ offset_of self.now rva }
     {
-        match self.look_up.manner {
-            Manner::Sections => {
-                find_offset(rva as usize, self.sections, self.file_alignment, &self.opts)
-            }
-            Manner::Windows => self.look_up.windows.find(rva),
-            Manner::Index => self.look_up.index.find(rva as usize),
+        match &self.lookup {
+            Lookup::Sections => self.offset_by_sections(rva),
+            Lookup::Windows(windows) => windows.find(rva),
+            Lookup::Index(index) => offset_in_index(index, rva),
         }
     }
 
