@@ -45,7 +45,25 @@ pub struct PeSection<'a> {
     pub has_real_name: bool,
 }
 
-// The name of a section from the string table at `table`.
+// The name of a section from the string table at `table`, by the number in its eight bytes.
+#[inline(never)]
+#[tactic(auto, unfolding(crate::specs::Sections::real_name_in))]
+fn name_in_table<'a>(
+    bytes: &'a [u8],
+    section: &SectionTable,
+    table: usize,
+    opts: &ParseOptions,
+) -> Option<&'a str>
+    ensures { option_map (λ s. s.now) result
+        ≡ real_name_in (is_strict opts.now.parse_mode) bytes.now table section.now.name }
+{
+    let offset = section.name_offset_with_opts(opts).ok()??;
+    pread_str(bytes, table.checked_add(offset)?).ok()
+}
+
+// The name of a section from the string table at `table`. Most names begin with no slash, and are the
+// eight bytes themselves.
+#[inline]
 #[tactic(auto, unfolding(crate::specs::Sections::real_name_in, goblin_pe_sect::specs::SectionName::name_value))]
 fn real_name<'a>(
     bytes: &'a [u8],
@@ -56,12 +74,11 @@ fn real_name<'a>(
     ensures { option_map (λ s. s.now) result
         ≡ real_name_in (is_strict opts.now.parse_mode) bytes.now table section.now.name }
 {
-    // Most names begin with no slash, and are the eight bytes themselves.
-    if section.name[0] != b'/' {
-        return None;
+    if section.name[0] == b'/' {
+        name_in_table(bytes, section, table, opts)
+    } else {
+        None
     }
-    let offset = section.name_offset_with_opts(opts).ok()??;
-    pread_str(bytes, table.checked_add(offset)?).ok()
 }
 
 // The record of a section with this name from the string table.
