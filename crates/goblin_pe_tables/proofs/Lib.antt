@@ -13,3 +13,4 @@ pub mod LookupSlots
 pub mod Modes
 pub mod PermissiveReads
 mod SomeRanges
+mod WholeEntries

@@ -1,7 +1,8 @@
 -- The record of an export directory, the entries of its tables, and the exports that these list, as
 -- values.
 use Rattle.std.specs.Prelude.{◌≤◌, ◌⊎◌, ℕ, ◌+◌, ◌&&◌, nat_le, nat_lt, if◌then◌else◌, Bool}
-use Rattle.std.specs.Prelude.{List, [], ◌∷◌, codes, Option, Vec}
+use Rattle.std.specs.Prelude.{List, [], ◌∷◌, codes, None, Option, Some, Vec}
+use Rattle.std.specs.Prelude.{◌*◌, ◌-◌, ◌/◌, length, min, option_map, slice_range}
 use Rattle.std.specs.Global.{Global}
 use Rattle.std.proofs.Common.{inl, inr}
 use Rattle.goblin_base.specs.declared.endian.Endian.{Endian}
@@ -10,9 +11,10 @@ use Rattle.goblin_base.specs.declared.error.ErrorOf.{ErrorOf}
 use Rattle.goblin_base.specs.Answers.{IsMemory, IsTooShort}
 use Rattle.goblin_base.specs.Bytes.{number}
 use Rattle.goblin_base.specs.Record.{FieldValue, uint}
-use Rattle.goblin_base.specs.Tables.{Format}
+use Rattle.goblin_base.specs.Tables.{Format, records_in}
 use Rattle.goblin_base.proofs.Picks.{by_cases-not_memory}
 use Rattle.goblin_pe_sect.specs.declared.data_directories.DataDirectory.{DataDirectory}
+use Rattle.goblin_pe_tables.specs.declared.export.entries.TablesInFile.{TablesInFile}
 use Rattle.goblin_pe_tables.specs.declared.export.tables.ExportAddressTableEntry.{ExportAddressTableEntry}
 use Rattle.goblin_pe_tables.specs.declared.export.tables.ExportAddressTableEntry.TheVariants.{ExportRVA}
 use Rattle.goblin_pe_tables.specs.declared.export.tables.ExportAddressTableEntry.TheVariants.{ForwarderRVA}
@@ -106,6 +108,29 @@ pub record ExportTables : Type 0 where
   pub export_name_pointer_table : List ℕ
   pub export_ordinal_table : List ℕ
   pub export_address_table : List ExportAddressTableEntry
+
+-- ---- the tables as bytes of the file
+
+-- The bytes of a table of `count` entries of `width` bytes at a place, up to the first that is not
+-- whole. A table without a place has none.
+abbrev pub table_bytes : ℕ → ℕ → List ℕ → Option ℕ → List ℕ
+table_bytes width count bytes None = []
+table_bytes width count bytes (Some o) =
+    slice_range bytes o (o + width * min ((length bytes - o) / width) count)
+
+-- the consecutive entries that bytes hold
+abbrev pub entries_in : {V : Type 0} → Format V → List ℕ → List V
+entries_in format bytes = records_in format.width format.value_of bytes
+
+-- the tables whose entries are these bytes of the file
+abbrev pub tables_in : TablesInFile → ExportTables
+tables_in t = record {
+  name = option_map (λ s. s.now) t.name;
+  export_directory_table = t.export_directory_table;
+  export_name_pointer_table = entries_in name_pointers t.name_pointers.now;
+  export_ordinal_table = entries_in ordinals t.ordinals.now;
+  export_address_table = entries_in (addresses t.directory) t.addresses.now;
+}
 
 -- ---- the exports
 

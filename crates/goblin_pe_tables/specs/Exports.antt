@@ -19,6 +19,14 @@ HasEntries tables =
     let t = tables.export_directory_table in
     (0 < t.number_of_name_pointers) ⊎ (0 < t.address_table_entries)
 
+-- where a table has entries, the record counts some
+abbrev pub AreCounted : ExportTables → Type 0
+AreCounted tables =
+    let t = tables.export_directory_table in
+    (0 < length tables.export_name_pointer_table → 0 < t.number_of_name_pointers)
+    × (0 < length tables.export_ordinal_table → 0 < t.number_of_name_pointers)
+    × (0 < length tables.export_address_table → 0 < t.address_table_entries)
+
 -- the row of the name pointer at index x
 abbrev pub export_row : (ℕ → Option ℕ) → List ℕ → ExportTables → ℕ → Option ExportRow
 export_row offset_of bytes tables x = (reading.export_row offset_of tables x).value bytes

@@ -4,11 +4,13 @@
 //! three tables. A name pointer and the ordinal with its index are a named export; the ordinal is
 //! the index of its address. An address inside the directory is that of a forwarder's text.
 
-ghost use Rattle.std.specs.Prelude.{◌≤◌, ◌≡◌, ◌++◌, ◌⊎◌, [], IfErr, IsOk, IsSome, IsSomeAnd, OnErr};
-ghost use Rattle.std.specs.Prelude.{OnOk, length, map, option_and_then, option_map, option_to_list};
+ghost use Rattle.std.specs.Prelude.{◌≤◌, ◌≡◌, ◌++◌, ◌⊎◌, ℕ, [], IfErr, IsOk, IsSome, IsSomeAnd};
+ghost use Rattle.std.specs.Prelude.{OnErr, OnOk, Option, length, map, option_and_then, option_map};
+ghost use Rattle.std.specs.Prelude.{option_to_list};
 ghost use Rattle.goblin_base.specs.Answers.{GivesOrMemory, IsMemory};
 ghost use Rattle.goblin_base.specs.Bytes.{text_at};
 ghost use Rattle.goblin_base.specs.Reading.{ReadsOrMemory};
+ghost use Rattle.readings.specs.Reads.{mapped};
 ghost use Rattle.goblin_pe_sect.specs.Options.{default_options};
 ghost use Rattle.goblin_pe_tables.specs.Addresses.{map_by, offset_of};
 ghost use Rattle.goblin_pe_tables.specs.ExportReadings as reading;
@@ -18,22 +20,23 @@ ghost use Rattle.goblin_pe_tables.specs.Forwarders.{forwarder_at, forwarder_valu
 ghost use Rattle.goblin_pe_sect.specs.WindowIndex.{HasPieces};
 
 use crate::address_map::AddressMap;
-use goblin_base::{Cause, Error, Result, ResultOf, pread_str};
+use goblin_base::{Result, ResultOf, pread_str};
 use goblin_pe_sect::{DataDirectory, ParseOptions, SectionTable};
 use std::alloc::Global;
 use std::marker::Model;
 
 mod collector;
+mod entries;
 mod forwarder;
 mod tables;
 
 pub use collector::ExportCollector;
+use entries::{Entries, TablesInFile};
 pub use forwarder::Reexport;
 pub use tables::{
     ExportAddressTable, ExportAddressTableEntry, ExportDirectoryTable, ExportNamePointerTable,
     ExportOrdinalTable, SIZEOF_EXPORT_ADDRESS_TABLE_ENTRY, SIZEOF_EXPORT_DIRECTORY_TABLE,
 };
-use tables::{addresses, name_pointers, ordinals, test_counts};
 
 // The text at an offset, where there are both.
 fn text_at(bytes: &[u8], offset: Option<usize>) -> Option<&str>
@@ -51,30 +54,30 @@ fn forwarder_at(bytes: &[u8], offset: Option<usize>) -> Option<Reexport<'_>>
 }
 
 // The address that an entry of the address table holds.
-fn rva_of(address: &ExportAddressTableEntry) -> u32
-    ensures { result ≡ rva_of address.now }
+fn rva_of(address: ExportAddressTableEntry) -> u32
+    ensures { result ≡ rva_of address }
 {
-    match *address {
+    match address {
         ExportAddressTableEntry::ExportRVA(rva) | ExportAddressTableEntry::ForwarderRVA(rva) => rva,
     }
 }
 
 // What an entry of the address table stands for in another library, if it is a forwarder that can
-// be read.
+// be read at the offset of its address.
 #[tactic(auto, unfolding(crate::specs::ExportReadings::reexport_of))]
 fn reexport_of<'a>(
     bytes: &'a [u8],
-    address: &ExportAddressTableEntry,
-    address_map: &AddressMap,
+    address: ExportAddressTableEntry,
+    offset: Option<usize>,
 ) -> Option<Option<Reexport<'a>>>
-    ensures { let m = address_map.now in
-        option_map (option_map forwarder_value) result
-        ≡ (reading.reexport_of (offset_of m) address.now).value bytes.now }
+    ensures { (offset_of : ℕ → Option ℕ) → offset_of (rva_of address) ≡ offset
+        → option_map (option_map forwarder_value) result
+        ≡ (reading.reexport_of offset_of address).value bytes.now }
 {
-    match *address {
+    match address {
         ExportAddressTableEntry::ExportRVA(_) => Some(None),
-        ExportAddressTableEntry::ForwarderRVA(rva) => {
-            let forwarder = forwarder_at(bytes, address_map.offset_of(rva))?;
+        ExportAddressTableEntry::ForwarderRVA(_) => {
+            let forwarder = forwarder_at(bytes, offset)?;
             Some(Some(forwarder))
         }
     }
@@ -174,7 +177,6 @@ impl<'a> ExportData<'a> {
     ///
     /// # Errors
     /// As [`ExportData::parse_with_opts`].
-    #[tactic(auto, unfolding(crate::specs::ExportReadings::export_data, crate::specs::ExportReadings::tables_if, crate::specs::ExportReadings::fitting, crate::specs::ExportReadings::export_tables, goblin_pe_sect::specs::AddressReadings::name_at,))]
     pub fn parse_by(
         alloc: Global,
         bytes: &'a [u8],
@@ -187,24 +189,13 @@ impl<'a> ExportData<'a> {
             IfErr result (λ e. IsMemory e →
             IsSomeAnd (export_data (offset_of m) directory bytes.now) HasEntries) }
     {
-        let mapped = |rva: u32| address_map.offset_of(rva);
-        let Some(offset) = mapped(directory.virtual_address) else {
-            let rva = directory.virtual_address as usize;
-            return Err(Error::Malformed(Cause::Unmapped(rva)));
-        };
-        let table = ExportDirectoryTable::parse(bytes, offset)?;
-        test_counts(bytes, &table)?;
-        let names = table.number_of_name_pointers;
-        let pointer_table = name_pointers(alloc, bytes, mapped(table.name_pointer_rva), names)?;
-        let ordinal_table = ordinals(alloc, bytes, mapped(table.ordinal_table_rva), names)?;
-        let place = mapped(table.export_address_table_rva);
-        let address_table = addresses(alloc, bytes, place, table.address_table_entries, directory)?;
+        let tables = TablesInFile::find(bytes, directory, address_map)?;
         Ok(ExportData {
-            name: text_at(bytes, mapped(table.name_rva)),
-            export_directory_table: table,
-            export_name_pointer_table: pointer_table,
-            export_ordinal_table: ordinal_table,
-            export_address_table: address_table,
+            name: tables.name,
+            export_directory_table: tables.export_directory_table,
+            export_name_pointer_table: tables.name_pointers(alloc)?,
+            export_ordinal_table: tables.ordinals(alloc)?,
+            export_address_table: tables.addresses(alloc)?,
         })
     }
 }
@@ -246,16 +237,25 @@ impl<'a> Model for Export<'a> {
     } };
 }
 
-// How many ordinals number an address that is not a forwarder's: if each has a name pointer, there
-// are at least this many exports.
-fn plain_count(tables: &ExportData) -> usize
-    ensures { result ≤ length tables.now.export_ordinal_table }
+// For so few name pointers room is made without a look at what they lead to.
+const FEW: usize = 32;
+
+// For how many exports to make room: for as many as there are name pointers, if these are few, else
+// for those that are not forwarders, of which each is there.
+fn expected_count<T: Entries>(tables: &T) -> usize
+    ensures { result ≤ length (T.entries tables.now).export_name_pointer_table }
 {
-    let addresses = tables.export_address_table.as_slice();
+    let pointers = tables.pointers();
+    if pointers <= FEW {
+        return pointers;
+    }
     let mut count = 0;
-    'ordinals: for ordinal in tables.export_ordinal_table.as_slice() {
-        if let Some(ExportAddressTableEntry::ExportRVA(_)) = addresses.get(usize::from(*ordinal)) {
-            count += 1;
+    'pointers: for index in 0..pointers {
+        if let Some(ordinal) = tables.ordinal(index) {
+            let address = tables.address(usize::from(ordinal));
+            if let Some(ExportAddressTableEntry::ExportRVA(_)) = address {
+                count += 1;
+            }
         }
     }
     count
@@ -279,30 +279,72 @@ fn add_row<'a, 'e, E: ExportCollector<'a>>(
 }
 
 impl<'a> Export<'a> {
-    // The export of the name pointer at an index, where its ordinal, its address and, of a
-    // forwarder, the text are there.
-    #[tactic(auto, unfolding(crate::specs::ExportReadings::export_row, crate::specs::ExportReadings::row_of, goblin_pe_sect::specs::AddressReadings::name_at,))]
-    fn of_pointer(
+    // The export of a name pointer and an address, where the text of a forwarder is there.
+    #[tactic(auto, unfolding(crate::specs::ExportReadings::row_of, goblin_pe_sect::specs::AddressReadings::name_at))]
+    fn of_address(
         bytes: &'a [u8],
-        tables: &ExportData,
-        index: usize,
+        pointer: u32,
+        address: ExportAddressTableEntry,
         address_map: &AddressMap,
     ) -> Option<Export<'a>>
-        ensures { result ≡ export_row (offset_of address_map.now) bytes.now tables.now index }
+        ensures { let m = address_map.now in
+            result ≡ (reading.row_of (offset_of m) pointer address).value bytes.now }
     {
-        let pointer = *tables.export_name_pointer_table.as_slice().get(index)?;
-        let ordinal = *tables.export_ordinal_table.as_slice().get(index)?;
-        let addresses = tables.export_address_table.as_slice();
-        let address = addresses.get(usize::from(ordinal))?;
-        let reexport = reexport_of(bytes, address, address_map)?;
         let rva = rva_of(address);
+        let offset = address_map.offset_of(rva);
+        let reexport = reexport_of(bytes, address, offset)?;
         Some(Export {
             name: text_at(bytes, address_map.offset_of(pointer)),
-            offset: address_map.offset_of(rva),
+            offset,
             rva: rva as usize,
             size: 0,
             reexport,
         })
+    }
+
+    // The export of the name pointer at an index, where its ordinal, its address and, of a
+    // forwarder, the text are there.
+    #[tactic(auto, unfolding(crate::specs::ExportReadings::export_row))]
+    fn of_pointer<T: Entries>(
+        bytes: &'a [u8],
+        tables: &T,
+        index: usize,
+        address_map: &AddressMap,
+    ) -> Option<Export<'a>>
+        ensures { let m = address_map.now in
+            result ≡ export_row (offset_of m) bytes.now (T.entries tables.now) index }
+    {
+        let pointer = tables.pointer(index)?;
+        let ordinal = tables.ordinal(index)?;
+        let address = tables.address(usize::from(ordinal))?;
+        Export::of_address(bytes, pointer, address, address_map)
+    }
+
+    // Hands the exports that tables list to `rows`, which is empty before.
+    #[tactic(auto, unfolding(crate::specs::ExportReadings::exports))]
+    fn list<'e, T: Entries, E: ExportCollector<'a>>(
+        bytes: &'a [u8],
+        tables: &T,
+        address_map: &AddressMap,
+        rows: E,
+    ) -> ResultOf<'e, E>
+        requires { E.items rows ≡ [] }
+        ensures value { let m = address_map.now in
+            GivesOrMemory E.items result
+            (map E.item_of (exports (offset_of m) bytes.now (T.entries tables.now))) }
+        ensures grown { let m = address_map.now in
+            OnErr result (HasExports (offset_of m) bytes.now (T.entries tables.now)) }
+    {
+        let mut rows = rows;
+        if bytes.is_empty() {
+            return Ok(rows);
+        }
+        let expected = expected_count(tables);
+        'rows: for index in 0..tables.pointers() {
+            let row = Export::of_pointer(bytes, tables, index, address_map);
+            add_row(&mut rows, row, expected)?;
+        }
+        Ok(rows)
     }
 
     /// The exports that export data lists, as [`Export::parse_with_opts`] reads them by the default
@@ -382,7 +424,6 @@ impl<'a> Export<'a> {
     ///
     /// # Errors
     /// As [`Export::parse_with_opts`].
-    #[tactic(auto, unfolding(crate::specs::ExportReadings::exports))]
     pub fn parse_into<'e, E: ExportCollector<'a>>(
         bytes: &'a [u8],
         export_data: &ExportData,
@@ -396,16 +437,33 @@ impl<'a> Export<'a> {
         ensures grown { let m = address_map.now in
             OnErr result (HasExports (offset_of m) bytes.now export_data.now) }
     {
-        let mut rows = rows;
-        if bytes.is_empty() {
-            return Ok(rows);
-        }
-        let pointers = export_data.export_name_pointer_table.as_slice().len();
-        let expected = plain_count(export_data).min(pointers);
-        'rows: for index in 0..pointers {
-            let row = Export::of_pointer(bytes, export_data, index, address_map);
-            add_row(&mut rows, row, expected)?;
-        }
-        Ok(rows)
+        Export::list(bytes, export_data, address_map, rows)
+    }
+
+    /// Hands the exports of an export directory to `rows`, which is empty before: those that
+    /// [`Export::parse_into`] hands over for what [`ExportData::parse_by`] reads, in the same
+    /// order. They are read from the bytes where the three tables stand, and no table is kept.
+    ///
+    /// # Errors
+    /// As [`ExportData::parse_by`]; memory is asked for only by `rows`, for an export.
+    #[tactic(auto, unfolding(crate::specs::ExportReadings::export_read, crate::specs::ExportReadings::exports))]
+    pub fn read_into<'e, E: ExportCollector<'a>>(
+        bytes: &'a [u8],
+        directory: DataDirectory,
+        address_map: &AddressMap,
+        rows: E,
+    ) -> ResultOf<'e, E>
+        requires { E.items rows ≡ [] }
+        ensures value { let m = address_map.now in
+            ReadsOrMemory E.items result
+            (mapped (λ read. map E.item_of read.1) (reading.export_read (offset_of m) directory))
+            bytes.now }
+        ensures grown { let m = address_map.now in
+            IfErr result (λ e. IsMemory e →
+            IsSomeAnd (export_data (offset_of m) directory bytes.now)
+            (HasExports (offset_of m) bytes.now)) }
+    {
+        let tables = TablesInFile::find(bytes, directory, address_map)?;
+        Export::list(bytes, &tables, address_map, rows)
     }
 }

@@ -1,24 +1,20 @@
 //! The export directory's record, and the three tables that it leads to.
 
-ghost use Rattle.std.specs.Prelude.{◌≡◌, ◌<◌, ◌≤◌, List, ℕ, IfOk, IsSome, OnErr, length};
-ghost use Rattle.goblin_base.specs.Answers.{GivesOrMemory, IsSliceFault, Writes};
+ghost use Rattle.std.specs.Prelude.{◌≡◌, ◌<◌, ◌-◌, ◌/◌, IfOk, length, min};
+ghost use Rattle.goblin_base.specs.Answers.{IsSliceFault, Writes};
 ghost use Rattle.goblin_base.specs.Reading.{Reads};
-ghost use Rattle.goblin_base.specs.Tables.{counted_table_if};
 ghost use Rattle.goblin_base.specs.Record.{ReadsBack, WritesBack, encoding, record_over};
 ghost use Rattle.goblin_pe_tables.specs.declared.export.tables.ExportDirectoryTable.{ExportDirectoryTable};
 ghost use Rattle.goblin_pe_tables.specs.ExportReadings.{fitting, record_here};
-ghost use Rattle.goblin_pe_tables.specs.ExportRecords.{address_entry, addresses};
+ghost use Rattle.goblin_pe_tables.specs.ExportRecords.{address_entry};
 ghost use Rattle.goblin_pe_tables.specs.ExportRecords.{export_directory_fields};
 ghost use Rattle.goblin_pe_tables.specs.ExportRecords.{export_directory_record};
-ghost use Rattle.goblin_pe_tables.specs.ExportRecords.{name_pointers, ordinals};
+ghost use Rattle.goblin_pe_tables.specs.ExportRecords.{table_bytes};
 
 use crate::table::Table;
-use goblin_base::{
-    Cause, Endian, Error, Field, Record, Result, field_u16, field_u32, pread_slice, put_fields,
-};
+use goblin_base::{Cause, Endian, Error, Field, Record, Result, field_u16, field_u32, put_fields};
 use goblin_pe_sect::DataDirectory;
 use goblin_pe_sect::utils::is_in_range;
-use std::alloc::Global;
 
 /// The size of an export directory's record, in bytes.
 pub const SIZEOF_EXPORT_DIRECTORY_TABLE: usize = 40;
@@ -31,9 +27,9 @@ pub const SIZEOF_EXPORT_ADDRESS_TABLE_ENTRY: usize = 4;
 const _: () = prove!(SIZEOF_EXPORT_ADDRESS_TABLE_ENTRY == 4);
 
 // The sizes of a name pointer and of an ordinal, in bytes.
-const SIZEOF_NAME_POINTER: usize = 4;
+pub(super) const SIZEOF_NAME_POINTER: usize = 4;
 
-const SIZEOF_ORDINAL: usize = 2;
+pub(super) const SIZEOF_ORDINAL: usize = 2;
 
 /// The record that an image's exports begin with.
 ///
@@ -187,7 +183,7 @@ pub type ExportOrdinalTable = Table<u16>;
 impl ExportAddressTableEntry {
     // What an address stands for under an export directory.
     #[tactic(auto, unfolding(crate::specs::ExportRecords::address_entry))]
-    fn of_rva(directory: DataDirectory, rva: u32) -> ExportAddressTableEntry
+    pub(super) fn of_rva(directory: DataDirectory, rva: u32) -> ExportAddressTableEntry
         ensures { result ≡ address_entry directory rva }
     {
         let begin = directory.virtual_address as usize;
@@ -200,104 +196,33 @@ impl ExportAddressTableEntry {
     }
 }
 
-// How many whole entries of `width` bytes the file may have from here on, of `count`.
-fn room(bytes: &[u8], begin: usize, width: usize, count: u32) -> usize
-    ensures { result ≤ count }
+// The bytes of a table of `count` entries of `width` bytes, up to the first that is not whole;
+// without an offset it has none.
+#[tactic(auto, using(crate::proofs::WholeEntries::entries_inside))]
+pub(super) fn whole_entries(bytes: &[u8], offset: Option<usize>, width: usize, count: u32) -> &[u8]
+    requires { 0 < width }
+    ensures value { result.now ≡ table_bytes width count bytes.now offset }
+    ensures none { count ≡ 0 → length result.now ≡ 0 }
 {
-    if width == 0 || bytes.len() < begin {
+    let Some(begin) = offset else {
+        return &bytes[..0];
+    };
+    let whole = room(bytes, begin, width, count);
+    if whole == 0 {
+        return &bytes[..0];
+    }
+    &bytes[begin..begin + width * whole]
+}
+
+// How many whole entries of `width` bytes the file has from here on, of `count`.
+fn room(bytes: &[u8], begin: usize, width: usize, count: u32) -> usize
+    requires { 0 < width }
+    ensures { result ≡ min ((length bytes.now - begin) / width) count }
+{
+    if bytes.len() < begin {
         return 0;
     }
     ((bytes.len() - begin) / width).min(count as usize)
-}
-
-// The table of `count` entries of `width` bytes, cut at the first that is not whole; without an
-// offset it has none.
-fn counted_table<V: Drop, F: Fn(&[u8]) -> V>(
-    alloc: Global,
-    bytes: &[u8],
-    offset: Option<usize>,
-    width: usize,
-    count: u32,
-    value_of: F,
-) -> Result<Table<V>>
-    requires { (entry : _) → length entry.now ≡ width → F.pre value_of entry }
-    ensures value { (value : List ℕ → V)
-        → ((entry : _) (v : V) → length entry.now ≡ width → F.post value_of entry v
-        → v ≡ value entry.now)
-        → GivesOrMemory (λ t. t) result
-        (counted_table_if (record { width = width; value_of = value }) count bytes.now offset) }
-    ensures grown { OnErr result (IsSome offset × (0 < count)) }
-{
-    let Some(begin) = offset else {
-        return Ok(Table::from(Vec::new(alloc)));
-    };
-    let mut entries = Vec::with_capacity(alloc, room(bytes, begin, width, count))?;
-    let mut place = begin;
-    'entries: for _ in 0..count {
-        let Ok(entry) = pread_slice(bytes, place, width) else {
-            return Ok(Table::from(entries));
-        };
-        entries.push(value_of(entry))?;
-        place += width;
-    }
-    Ok(Table::from(entries))
-}
-
-// The name pointers at an offset.
-pub(super) fn name_pointers(
-    alloc: Global,
-    bytes: &[u8],
-    offset: Option<usize>,
-    count: u32,
-) -> Result<ExportNamePointerTable>
-    ensures value { let entries = counted_table_if name_pointers count bytes.now offset in
-        GivesOrMemory (λ t. t) result entries }
-    ensures grown { OnErr result (0 < count) }
-{
-    counted_table(alloc, bytes, offset, SIZEOF_NAME_POINTER, count, |entry| {
-        field_u32(entry, 0, Endian::Little)
-    })
-}
-
-// The ordinals at an offset.
-pub(super) fn ordinals(
-    alloc: Global,
-    bytes: &[u8],
-    offset: Option<usize>,
-    count: u32,
-) -> Result<ExportOrdinalTable>
-    ensures value { let entries = counted_table_if ordinals count bytes.now offset in
-        GivesOrMemory (λ t. t) result entries }
-    ensures grown { OnErr result (0 < count) }
-{
-    counted_table(alloc, bytes, offset, SIZEOF_ORDINAL, count, |entry| {
-        field_u16(entry, 0, Endian::Little)
-    })
-}
-
-// The addresses at an offset, under an export directory.
-pub(super) fn addresses(
-    alloc: Global,
-    bytes: &[u8],
-    offset: Option<usize>,
-    count: u32,
-    directory: DataDirectory,
-) -> Result<ExportAddressTable>
-    ensures value { let entries = counted_table_if (addresses directory) count bytes.now offset in
-        GivesOrMemory (λ t. t) result entries }
-    ensures grown { OnErr result (0 < count) }
-{
-    counted_table(
-        alloc,
-        bytes,
-        offset,
-        SIZEOF_EXPORT_ADDRESS_TABLE_ENTRY,
-        count,
-        |entry| {
-            let rva = field_u32(entry, 0, Endian::Little);
-            ExportAddressTableEntry::of_rva(directory, rva)
-        },
-    )
 }
 
 // Refuses a record that counts more entries than the file has bytes.
