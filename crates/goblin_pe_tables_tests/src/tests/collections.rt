@@ -1,19 +1,19 @@
 //! Collections that receive the libraries of an import directory, or the exports of an image.
 
-ghost use Rattle.std.specs.Prelude.{◌∷◌, [], List, map, ℕ};
+ghost use Rattle.std.specs.Prelude.{◌≡◌, ◌∷◌, [], List, map, ℕ};
 ghost use Rattle.goblin_pe_tables.specs.ImportDirectory.{ImportedLibrary};
 
-use fixture::sample::{put, sample, sample_section};
+use fixture::sample::{SAMPLE, SAMPLE_LEN, put, sample, sample_section, section};
 use fixture_tables::imports::{ALIGNMENT, DIRECTORY, RECORD};
 use goblin_base::{Endian, ParseMode, ResultOf};
-use goblin_pe_sect::{DataDirectory, ParseOptions};
+use goblin_pe_sect::{DataDirectory, ParseOptions, SectionTable};
 use goblin_pe_tables::address_map::AddressMap;
 use goblin_pe_tables::export::{Export, ExportCollector, ExportData};
 use goblin_pe_tables::import::{
     ImportData, ImportDirectoryEntry, LibraryCollector, SIZEOF_IMPORT_DIRECTORY_ENTRY,
     SyntheticImportDirectoryEntry,
 };
-use std::alloc::Global;
+use std::alloc::{AllocError, Global};
 use std::test::Fail;
 
 /// The names of libraries, and nothing else of them.
@@ -86,10 +86,11 @@ const EXPORTS: DataDirectory = DataDirectory {
     size: 0x60,
 };
 
-/// The addresses of exports, and nothing else of them.
+/// The addresses of exports, and nothing else of them; and how many exports were told of.
 #[derive(Drop)]
 struct Addresses {
     addresses: Vec<usize>,
+    expected: usize,
 }
 
 impl<'a> ExportCollector<'a> for Addresses {
@@ -99,9 +100,20 @@ impl<'a> ExportCollector<'a> for Addresses {
 
     ghost item_of = { λ export. export.rva };
 
-    fn add(&mut self, export: Export<'a>, _expected: usize) -> goblin_base::Result<()> {
+    fn add(&mut self, export: Export<'a>, expected: usize) -> goblin_base::Result<()> {
+        self.expected = expected;
         self.addresses.push(export.rva)?;
         Ok(())
+    }
+}
+
+/// No addresses yet.
+fn no_addresses(alloc: Global) -> Addresses
+    ensures { result.addresses.items ≡ [] }
+{
+    Addresses {
+        addresses: Vec::new(alloc),
+        expected: 0,
     }
 }
 
@@ -111,20 +123,56 @@ fn addresses_of(alloc: Global, file: &[u8]) -> goblin_base::Result<Addresses> {
     let sections = [sample_section()];
     let address_map = AddressMap::prepare(alloc, &sections, ALIGNMENT, &opts)?;
     let tables = ExportData::parse_by(alloc, file, EXPORTS, &address_map)?;
-    let addresses = Addresses {
-        addresses: Vec::new(alloc),
-    };
-    Export::parse_into(file, &tables, &address_map, addresses)
+    Export::parse_into(file, &tables, &address_map, no_addresses(alloc))
 }
 
-/// Whether these addresses were kept, in this order.
-fn were_kept(read: goblin_base::Result<Addresses>, want: &[usize]) -> bool {
-    matches!(&read, Ok(kept) if kept.addresses.as_slice() == want)
+/// The addresses of exports at the sample's directory, by this section, read without tables in
+/// memory.
+fn addresses_in(
+    alloc: Global,
+    file: &[u8],
+    section: SectionTable,
+) -> goblin_base::Result<Addresses> {
+    let opts = ParseOptions::default();
+    let sections = [section];
+    let address_map = AddressMap::prepare(alloc, &sections, ALIGNMENT, &opts)?;
+    Export::read_into(file, EXPORTS, &address_map, no_addresses(alloc))
+}
+
+/// Whether these addresses were kept, in this order, where so many were told of.
+fn were_kept(read: goblin_base::Result<Addresses>, expected: usize, want: &[usize]) -> bool {
+    matches!(&read, Ok(kept) if kept.addresses.as_slice() == want && kept.expected == expected)
 }
 
 #[test]
 fn a_collection_receives_each_export_in_order(rt: HostRuntime) -> Result<(), Fail> {
     let file = sample(rt.alloc())?;
-    assert!(rt; were_kept(addresses_of(rt.alloc(), &file), &[0x1010, 0x10E0]));
+    let want = [0x1010, 0x10E0];
+    assert!(rt; were_kept(addresses_of(rt.alloc(), &file), 2, &want));
+    assert!(rt; were_kept(addresses_in(rt.alloc(), &file, sample_section()), 2, &want));
+    Ok(())
+}
+
+/// The sample file with 40 name pointers, behind which 40 ordinals stand: the first three number an
+/// address, and the others none.
+fn with_few_exports(alloc: Global) -> Result<Vec<u8>, AllocError> {
+    let mut file = vec![in alloc; 0u8; SAMPLE_LEN + 0x100]?;
+    for (offset, bytes) in SAMPLE {
+        put(&mut file, *offset, bytes);
+    }
+    put(&mut file, 0x2B8, b"\x28");
+    put(&mut file, 0x2C0, b"\x00\x11\x00\x00\xA0\x11");
+    for ordinal in 3..40 {
+        put(&mut file, 0x3A0 + 2 * ordinal, b"\x09");
+    }
+    Ok(file)
+}
+
+#[test]
+fn no_more_exports_are_told_of_than_are_there(rt: HostRuntime) -> Result<(), Fail> {
+    let file = with_few_exports(rt.alloc())?;
+    let section = section(0x1000, 0x200, 0x200, 0x200);
+    let read = addresses_in(rt.alloc(), &file, section);
+    assert!(rt; were_kept(read, 3, &[0x1010, 0x1010, 0x1010]));
     Ok(())
 }

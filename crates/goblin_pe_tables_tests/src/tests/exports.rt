@@ -6,6 +6,7 @@ use fixture_tables::exports::{FORWARDED, PLAIN, Row, are};
 use goblin_base::{Cause, Endian, Error, gread_with};
 use goblin_pe_sect::utils::get_data;
 use goblin_pe_sect::{DataDirectory, ParseOptions, RawPointerRule, SectionTable};
+use goblin_pe_tables::address_map::AddressMap;
 use goblin_pe_tables::export::{
     Export, ExportAddressTable, ExportAddressTableEntry, ExportData, ExportDirectoryTable,
     Reexport, SIZEOF_EXPORT_DIRECTORY_TABLE,
@@ -42,6 +43,23 @@ fn exports_of(alloc: Global, file: &[u8]) -> goblin_base::Result<Vec<Export<'_>>
     listed(alloc, file, &tables)
 }
 
+/// The exports of a directory of a file with the sample's section, read without tables in memory.
+fn read_in(
+    alloc: Global,
+    file: &[u8],
+    directory: DataDirectory,
+) -> goblin_base::Result<Vec<Export<'_>>> {
+    let opts = ParseOptions::default();
+    let sections = [sample_section()];
+    let address_map = AddressMap::prepare(alloc, &sections, ALIGNMENT, &opts)?;
+    Export::read_into(file, directory, &address_map, Vec::new(alloc))
+}
+
+/// The exports of a file with the sample's section and directory, read without tables in memory.
+fn read_of(alloc: Global, file: &[u8]) -> goblin_base::Result<Vec<Export<'_>>> {
+    read_in(alloc, file, DIRECTORY)
+}
+
 #[test]
 fn a_default_export_has_nothing(rt: HostRuntime) {
     assert!(rt; are(&[Export::default()], &[(None, None, 0, None)]));
@@ -68,6 +86,10 @@ fn exports_are_dropped_for_a_missing_part_and_not_for_a_name(rt: HostRuntime) ->
             are_listed(exports_of(rt.alloc(), &file), want),
             "at {offset:#x}"
         );
+        assert!(rt;
+            are_listed(read_of(rt.alloc(), &file), want),
+            "read at {offset:#x}"
+        );
     }
     Ok(())
 }
@@ -91,13 +113,13 @@ fn tables_are_cut_at_the_end_of_the_file(rt: HostRuntime) -> Result<(), Fail> {
     let file = sample_with(rt.alloc(), 0x2B8, b"\x00\x03")?;
     assert!(rt; table_lengths(rt.alloc(), &file)? == (12, 20));
     assert!(rt; export_count(rt.alloc(), &file)? == 9);
+    assert!(rt; read_of(rt.alloc(), &file)?.len() == 9);
     Ok(())
 }
 
-/// Whether the exports of a file are refused, since it is too short for 769 of what the text names.
-fn is_too_short(alloc: Global, file: &[u8], want: &str) -> bool {
-    let refused = exports_of(alloc, file).err();
-    matches!(refused, Some(Error::BufferTooShort(769, what)) if what == want)
+/// Whether a file was refused, since it is too short for 769 of what the text names.
+fn is_too_short(read: goblin_base::Result<Vec<Export>>, want: &str) -> bool {
+    matches!(read.err(), Some(Error::BufferTooShort(769, what)) if what == want)
 }
 
 #[test]
@@ -105,7 +127,11 @@ fn counts_above_the_length_of_the_file_are_refused(rt: HostRuntime) -> Result<()
     for (offset, want) in [(0x2B8, "name pointers"), (0x2B4, "address table entries")] {
         let mut file = sample_with(rt.alloc(), 0x2B4, b"\x01\x03")?;
         put(&mut file, offset, b"\x01\x03");
-        assert!(rt; is_too_short(rt.alloc(), &file, want), "{want}");
+        assert!(rt; is_too_short(exports_of(rt.alloc(), &file), want), "{want}");
+        assert!(rt;
+            is_too_short(read_of(rt.alloc(), &file), want),
+            "read {want}"
+        );
     }
     Ok(())
 }
@@ -328,6 +354,8 @@ fn each_refusal_of_exports_tells_its_cause(rt: HostRuntime) -> Result<(), Fail> 
             virtual_address,
             size: 0x28,
         };
+        let read = read_in(rt.alloc(), &file, directory);
+        assert!(rt; is_told(read, cause), "read at {virtual_address:#x}");
         let read = ExportData::parse(rt.alloc(), &file, directory, &[sample_section()], ALIGNMENT);
         assert!(rt; is_told(read, cause), "{virtual_address:#x}");
     }
