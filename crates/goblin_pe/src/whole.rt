@@ -364,7 +364,6 @@ impl Tables {
     // The exports, as they are collected.
     fn collected_exports<'a, 'e, E: ExportCollector<'a>>(
         &self,
-        alloc: Global,
         bytes: &'a [u8],
         address_map: &AddressMap,
         exports: E,
@@ -379,7 +378,7 @@ impl Tables {
     {
         match self.exports {
             Some(directory) => part_of(
-                rows_of(alloc, bytes, directory, address_map, exports),
+                Export::read_into(bytes, directory, address_map, exports),
                 address_map.opts(),
             ),
             None => Ok(Part::Absent),
@@ -476,7 +475,7 @@ impl Tables {
     {
         let address_map = self.address_map(alloc, sections, opts)?;
         let imports = self.listed_libraries(alloc, bytes, &address_map, imports)?;
-        let exports = self.collected_exports(alloc, bytes, &address_map, exports)?;
+        let exports = self.collected_exports(bytes, &address_map, exports)?;
         let relocations = self.relocations(bytes, &address_map)?;
         Ok(FileTables {
             imports,
@@ -521,25 +520,6 @@ fn exports_of<'a>(
     let data = ExportData::parse_by(alloc, bytes, directory, address_map)?;
     let exports = Export::parse_by(alloc, bytes, &data, address_map)?;
     Ok((data, exports))
-}
-
-// The exports of a directory, as they are collected.
-#[tactic(auto, unfolding(goblin_pe_tables::specs::ExportReadings::export_read, goblin_pe_tables::specs::ExportReadings::exports))]
-fn rows_of<'a, 'e, E: ExportCollector<'a>>(
-    alloc: Global,
-    bytes: &'a [u8],
-    directory: DataDirectory,
-    address_map: &AddressMap,
-    exports: E,
-) -> ResultOf<'e, E>
-    requires { E.items exports ≡ [] }
-    ensures { let m = address_map.now in
-        ReadsOrMemory E.items result
-        (mapped (collected_exports E.item_of) (export_read (offset_of m) directory)) bytes.now }
-{
-    let data = ExportData::parse_by(alloc, bytes, directory, address_map)?;
-    let rows = Export::parse_into(bytes, &data, address_map, exports)?;
-    Ok(rows)
 }
 
 // Export data and the exports that it lists, each as a part of its own.

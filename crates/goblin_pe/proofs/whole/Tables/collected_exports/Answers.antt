@@ -11,15 +11,15 @@ pub returns-in-Some : goal.returns-in-Some
 unfolding export_part
 returns-in-Some g c =
     let map = c.args.address_map.now in
-    let made : BecomesPart (reads_strictly map) c.rows_of.result c.part_of.result =
+    let made : BecomesPart (reads_strictly map) c.read_into.result c.part_of.result =
     subst
-    (λ (o : ParseOptions). BecomesPart (is_strict o.parse_mode) c.rows_of.result c.part_of.result)
+    (λ (o : ParseOptions). BecomesPart (is_strict o.parse_mode) c.read_into.result c.part_of.result)
     c.opts.ensures c.part_of.ensures in
     rw c.in-Some.is
     (becomes_mapped g.E.ExportCollector.items
     (collected_exports g.E.ExportCollector.item_of)
     (export_read (offset_of map) c.in-Some.directory) c.args.bytes.now (reads_strictly map)
-    c.rows_of.result c.part_of.result c.rows_of.ensures made)
+    c.read_into.result c.part_of.result c.read_into.ensures.value made)
 
 pub returns-in-None : goal.returns-in-None
 unfolding export_part
