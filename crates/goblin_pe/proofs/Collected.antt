@@ -19,17 +19,18 @@ use Rattle.goblin_pe_head.specs.PeHeader.{PeHeader}
 use Rattle.goblin_pe_tables.proofs.ImportBound.{pair_of-left, pair_of-right}
 use Rattle.goblin_pe_tables.specs.ExportRecords.{ExportRow, ExportTables}
 use Rattle.goblin_pe_tables.specs.ImportRecords.{ImportedLibrary}
-use Rattle.goblin_pe_tables.specs.Imports.{ImportValue}
+use Rattle.goblin_pe_tables.specs.Imports.{ImportValue, kept_imports}
 use Rattle.goblin_pe.specs.declared.whole.Part.{Part}
 use Rattle.goblin_pe.specs.declared.whole.Part.TheVariants.{Absent, Refused}
 use Rattle.goblin_pe.specs.declared.whole.Part.TheVariants as part
 use Rattle.goblin_pe.specs.Whole.{BecomesPart, CollectedFileValue, CollectedParts, HasImports}
 use Rattle.goblin_pe.specs.Whole.{TablePlaces, TableParts, WholeFile, collected_exports}
-use Rattle.goblin_pe.specs.Whole.{collected_file, collected_tables, import_part, import_parts}
-use Rattle.goblin_pe.specs.Whole.{imports_part}
+use Rattle.goblin_pe.specs.Whole.{collected_file, collected_imports, collected_tables}
+use Rattle.goblin_pe.specs.Whole.{entry_format, import_part, import_parts, imports_part}
 use Rattle.goblin_pe.specs.Whole.{offset_by, part_at, part_map, part_of, places_in}
 use Rattle.goblin_pe.specs.Whole.{sections_after}
 use Rattle.goblin_pe.specs.Whole.{table_parts, whole_file, whole_of, whole_with}
+use Rattle.goblin_pe.proofs.KeptImports.{part-kept}
 use Rattle.goblin_pe.proofs.ListedImports.{data-listed}
 use Rattle.goblin_pe.proofs.Parts.{becomes_part}
 
@@ -126,10 +127,10 @@ module _ {A B C X Y : Type 0} (a : Reading A) (b : Reading B) (c : Reading C) (f
 
 -- ---- the tables of a file
 
-module _ {X Y : Type 0} (items_of : ℕ → ImportedLibrary → List X) (item_of : ExportRow → Y) where
+module _ {X Y : Type 0} (import_of : ImportValue → X) (export_of : ExportRow → Y) where
   export-rows : (p : Part (ExportTables × List ExportRow))
-      → part_map (collected_exports item_of) p
-      ≡ part_map (map item_of) (part_map (λ read. read.1) p)
+      → part_map (collected_exports export_of) p
+      ≡ part_map (map export_of) (part_map (λ read. read.1) p)
   unfolding part_map
   export-rows Absent = refl
   export-rows (part.Read read) = refl
@@ -146,9 +147,9 @@ module _ {X Y : Type 0} (items_of : ℕ → ImportedLibrary → List X) (item_of
   }
 
   file-collected : (h : PeHeader) (sections : List Section) (parts : TableParts)
-      → collected_file items_of item_of (whole_of h sections parts)
+      → collected_file import_of export_of (whole_of h sections parts)
       ≡ file_with h sections
-      (collected_tables items_of item_of (places_in h.optional_header).magic parts)
+      (collected_tables import_of export_of parts)
   file-collected h sections parts =
       rw (export-rows parts.0.1) refl
 
@@ -159,9 +160,9 @@ module _ {X Y : Type 0} (items_of : ℕ → ImportedLibrary → List X) (item_of
         (table_parts opts (offset_by opts sections places) places).value bytes
 
     pub file_read : (t : CollectedParts X Y)
-        → option_map (collected_tables items_of item_of (places_in h.optional_header).magic)
+        → option_map (collected_tables import_of export_of)
         tables_of ≡ Some t
-        → option_map (collected_file items_of item_of) (option_map (whole_of h sections) tables_of)
+        → option_map (collected_file import_of export_of) (option_map (whole_of h sections) tables_of)
         ≡ Some (file_with h sections t)
     file_read t e =
         let m = steps.mapped tables_of _ t e in
@@ -170,9 +171,9 @@ module _ {X Y : Type 0} (items_of : ℕ → ImportedLibrary → List X) (item_of
         ∙ ap (λ (x : CollectedParts X Y). Some (file_with h sections x)) m.made)
 
     pub file_refused :
-        option_map (collected_tables items_of item_of (places_in h.optional_header).magic)
+        option_map (collected_tables import_of export_of)
         tables_of ≡ None
-        → option_map (collected_file items_of item_of) (option_map (whole_of h sections) tables_of)
+        → option_map (collected_file import_of export_of) (option_map (whole_of h sections) tables_of)
         ≡ None
     file_refused e = rw (unmapped _ tables_of e) refl
 
@@ -248,17 +249,21 @@ module _ (opts : ParseOptions) (bytes : List ℕ) (short : length bytes < 2 ^ 63
       let read = parts-libraries opts bytes offset_of places is.parts is.read in
       rw (← is.made) (data-listed opts bytes places short fit offset_of is.parts.0.0.0 read)
 
-  -- libraries are collected as the import data of which a list can be made
-  pub collected-listed : {R Z : Type 0} (places : TablePlaces) (offset_of : ℕ → Option ℕ)
-      (view : R → Z) (f : Part (List ImportedLibrary) → Z) (read : Result R ErrorOf)
-      → ReadsOrMemory view read (mapped f (import_part opts offset_of places)) bytes
-      → ReadsOrMemory view read (mapped (λ both. f both.0) (import_parts opts offset_of places))
+  -- what is kept of each library's imports is kept of the list of imports that can be made
+  pub collected-listed : {R X : Type 0} (places : TablePlaces) (offset_of : ℕ → Option ℕ)
+      (view : R → Part (List X)) (import_of : ImportValue → X) (read : Result R ErrorOf)
+      → let kept = kept_imports import_of (entry_format places.magic).width in
+      ReadsOrMemory view read (mapped (part_map (flat_map kept)) (import_part opts offset_of places))
       bytes
+      → ReadsOrMemory view read
+      (mapped (collected_imports import_of) (import_parts opts offset_of places)) bytes
   unfolding import_parts
-  collected-listed {R} {Z} places offset_of view f (Ok r) h =
-      let m = steps.mapped ((import_part opts offset_of places).value bytes) f (view r) h in
-      rw (m.is, data-listed opts bytes places short fit offset_of m.value m.is)
-      (ap (λ (z : Z). Some z) m.made)
-  collected-listed places offset_of view f (Err e) h =
-      λ other. rw (unmapped f ((import_part opts offset_of places).value bytes) (h other).0)
+  collected-listed {R} {X} places offset_of view import_of (Ok r) h =
+      let kept = kept_imports import_of (entry_format places.magic).width in
+      let m = steps.mapped ((import_part opts offset_of places).value bytes) (part_map (flat_map kept)) (view r) h in
+      let listed = data-listed opts bytes places short fit offset_of m.value m.is in
+      rw (m.is, listed)
+      (ap (λ (p : Part (List X)). Some p) (sym (part-kept import_of opts places m.value listed) ∙ m.made))
+  collected-listed places offset_of view import_of (Err e) h =
+      λ other. rw (unmapped _ ((import_part opts offset_of places).value bytes) (h other).0)
       (refl, (h other).1)

@@ -2,7 +2,6 @@
 use Rattle.std.specs.Prelude.{◌≡◌, ℕ, ◌+◌, ◌==◌, Bool, true, false, if◌then◌else◌, List, [], Option}
 use Rattle.std.specs.Prelude.{◌⊎◌, Some, None, Result, Ok, Err, Vec, IsSome, IsSomeAnd, IsTrue}
 use Rattle.std.specs.Prelude.{map, unwrap_or}
-use Rattle.std.specs.List.{flat_map}
 use Rattle.std.specs.Global.{Global}
 use Rattle.std.specs.declared.alloc.AllocError.{AllocError}
 use Rattle.std.proofs.Common.{inl, inr}
@@ -246,28 +245,24 @@ whole_file opts = pe_header (is_strict opts.parse_mode) >>= λ h. whole_after op
 
 -- ---- what collectors keep of a file
 
--- What is kept of the libraries of a file, whose entries have the size that this magic says.
-abbrev pub collected_libraries : {X Y : Type 0} → (ℕ → ImportedLibrary → List X) → ℕ
-    → Part (List ImportedLibrary) × Y → Part (List X)
-collected_libraries items_of magic read =
-    part_map (flat_map (items_of (entry_format magic).width)) read.0
+-- what is kept of the imports that were read with their libraries
+abbrev pub collected_imports : {X : Type 0} → (ImportValue → X)
+    → Part (List ImportedLibrary) × Part (List ImportValue) → Part (List X)
+collected_imports import_of read = part_map (map import_of) read.1
 
--- what is kept of the exports of a file
+-- what is kept of the exports that were read with their tables
 abbrev pub collected_exports : {Y : Type 0} → (ExportRow → Y) → ExportTables × List ExportRow
     → List Y
-collected_exports item_of read = map item_of read.1
+collected_exports export_of read = map export_of read.1
 
 -- what is kept of the tables of a file
 abbrev pub CollectedParts : Type 0 → Type 0 → Type 0
 CollectedParts X Y = (Part (List X) × Part (List Y)) × Part (List ℕ)
 
-abbrev pub collected_tables : {X Y : Type 0} → (ℕ → ImportedLibrary → List X) → (ExportRow → Y)
-    → ℕ → TableParts → CollectedParts X Y
-collected_tables items_of item_of magic parts = (
-  (
-    collected_libraries items_of magic parts.0.0,
-    part_map (collected_exports item_of) parts.0.1,
-  ),
+abbrev pub collected_tables : {X Y : Type 0} → (ImportValue → X) → (ExportRow → Y) → TableParts
+    → CollectedParts X Y
+collected_tables import_of export_of parts = (
+  (collected_imports import_of parts.0.0, part_map (collected_exports export_of) parts.0.1),
   parts.1,
 )
 
@@ -279,17 +274,15 @@ pub record CollectedFileValue (X Y : Type 0) : Type 0 where
   pub exports : Part (List Y)
   pub relocations : Part (List ℕ)
 
-abbrev pub collected_file : {X Y : Type 0} → (ℕ → ImportedLibrary → List X) → (ExportRow → Y)
-    → WholeFile → CollectedFileValue X Y
-collected_file items_of item_of w =
-    let magic = (places_in w.header.optional_header).magic in
-    record {
-      header = w.header;
-      sections = w.sections;
-      imports = part_map (flat_map (items_of (entry_format magic).width)) w.import_data;
-      exports = part_map (map item_of) w.exports;
-      relocations = w.relocations;
-    }
+abbrev pub collected_file : {X Y : Type 0} → (ImportValue → X) → (ExportRow → Y) → WholeFile
+    → CollectedFileValue X Y
+collected_file import_of export_of w = record {
+  header = w.header;
+  sections = w.sections;
+  imports = part_map (map import_of) w.imports;
+  exports = part_map (map export_of) w.exports;
+  relocations = w.relocations;
+}
 
 -- ---- what contracts see
 

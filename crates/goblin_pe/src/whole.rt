@@ -17,10 +17,10 @@ ghost use Rattle.goblin_pe_tables.specs.Addresses.{map_by, offset_of, reads_stri
 ghost use Rattle.goblin_pe_tables.specs.ExportReadings.{export_read};
 ghost use Rattle.goblin_pe_tables.specs.ExportRecords.{export_read_view};
 ghost use Rattle.goblin_pe_tables.specs.ImportReadings.{import_data};
-ghost use Rattle.goblin_pe_tables.specs.Imports.{IsImportsFault, imports_of};
+ghost use Rattle.goblin_pe_tables.specs.Imports.{IsImportsFault, imports_of, kept_imports};
 ghost use Rattle.goblin_pe.specs.Whole.{BecomesPart, HasImports, IsImportsPartFault};
 ghost use Rattle.goblin_pe.specs.Whole.{MapsAddresses, collected_exports, collected_file};
-ghost use Rattle.goblin_pe.specs.Whole.{collected_libraries, collected_tables, collected_view};
+ghost use Rattle.goblin_pe.specs.Whole.{collected_imports, collected_tables, collected_view};
 ghost use Rattle.goblin_pe.specs.Whole.{entry_format, export_part, import_part, import_parts};
 ghost use Rattle.goblin_pe.specs.Whole.{import_read_view, imports_part, items_part, listed_view};
 ghost use Rattle.goblin_pe.specs.Whole.{part_map, places_in, relocation_part, sections_after};
@@ -28,7 +28,7 @@ ghost use Rattle.goblin_pe.specs.Whole.{table_parts, table_places, tables_view, 
 ghost use Rattle.goblin_pe.specs.Whole.{whole_file};
 
 use crate::export::{Export, ExportCollector, ExportData};
-use crate::import::{Import, ImportData, LibraryCollector};
+use crate::import::{Import, ImportData, ImportCollector};
 use crate::utils::{find_offset, try_name};
 use goblin_base::{Result, ResultOf, is_passed_over};
 use goblin_pe_head::header::{Header, SIZEOF_COFF_HEADER, SIZEOF_PE_MAGIC};
@@ -97,12 +97,12 @@ impl<'a> Model for Whole<'a> {
 /// and its exports.
 ///
 /// For callers that want imports and exports in records of their own: no list of them is made
-/// between, and the memory of one library serves the next.
+/// between, and none of their tables.
 #[derive(Drop)]
 pub struct CollectedFile<'a, I: Drop, E: Drop> {
     /// The sections, in the order of their records; they map the addresses.
     pub sections: Vec<SectionTable>,
-    /// What was kept of the libraries that the import directory leads to.
+    /// What was kept of the imports that the import directory leads to.
     pub imports: Part<I>,
     /// What was kept of the exports that the export directory lists.
     pub exports: Part<E>,
@@ -207,11 +207,10 @@ impl Tables {
         }
     }
 
-    // The libraries of an import directory, as they are collected.
+    // What is kept of the imports of a directory.
     #[tactic(auto, unfolding(crate::specs::Whole::entry_format))]
-    fn libraries_of<'a, 'e, I: LibraryCollector<'a>>(
+    fn kept_imports_of<'a, 'e, I: ImportCollector<'a>>(
         &self,
-        alloc: Global,
         bytes: &'a [u8],
         directory: DataDirectory,
         address_map: &AddressMap,
@@ -222,21 +221,20 @@ impl Tables {
             let format = entry_format self.now.magic in
             let rva = directory.virtual_address in
             ReadsOrMemory I.items result
-            (mapped (flat_map (I.items_of format.width))
+            (mapped (flat_map (kept_imports I.item_of format.width))
             (import_data (reads_strictly m) format (offset_of m) rva))
             bytes.now }
     {
         if self.has_narrow_entries() {
-            ImportData::parse_into::<u32, I>(alloc, bytes, directory, address_map, imports)
+            ImportData::read_into::<u32, I>(bytes, directory, address_map, imports)
         } else {
-            ImportData::parse_into::<u64, I>(alloc, bytes, directory, address_map, imports)
+            ImportData::read_into::<u64, I>(bytes, directory, address_map, imports)
         }
     }
 
-    // The libraries, if they were asked for.
-    fn libraries<'a, 'e, I: LibraryCollector<'a>>(
+    // What is kept of the imports of each library, if they were asked for.
+    fn kept_imports<'a, 'e, I: ImportCollector<'a>>(
         &self,
-        alloc: Global,
         bytes: &'a [u8],
         address_map: &AddressMap,
         imports: I,
@@ -244,25 +242,25 @@ impl Tables {
         requires { I.items imports ≡ [] }
         ensures { let m = address_map.now in
             let places = table_places self.now in
+            let width = (entry_format self.now.magic).width in
             ReadsOrMemory (part_map I.items) result
-            (mapped (part_map (flat_map (I.items_of (entry_format self.now.magic).width)))
+            (mapped (part_map (flat_map (kept_imports I.item_of width)))
             (import_part m.opts (offset_of m) places))
             bytes.now }
     {
         let opts = address_map.opts();
         match self.imports {
             Some(directory) if opts.parse_imports => part_of(
-                self.libraries_of(alloc, bytes, directory, address_map, imports),
+                self.kept_imports_of(bytes, directory, address_map, imports),
                 opts,
             ),
             _ => Ok(Part::Absent),
         }
     }
 
-    // The libraries, of which a list of imports can be made.
-    fn listed_libraries<'a, 'e, I: LibraryCollector<'a>>(
+    // The imports, as they are collected.
+    fn collected_imports<'a, 'e, I: ImportCollector<'a>>(
         &self,
-        alloc: Global,
         bytes: &'a [u8],
         address_map: &AddressMap,
         imports: I,
@@ -271,11 +269,10 @@ impl Tables {
         ensures { let m = address_map.now in
             let places = table_places self.now in
             ReadsOrMemory (part_map I.items) result
-            (mapped (collected_libraries I.items_of self.now.magic)
-            (import_parts m.opts (offset_of m) places))
+            (mapped (collected_imports I.item_of) (import_parts m.opts (offset_of m) places))
             bytes.now }
     {
-        self.libraries(alloc, bytes, address_map, imports)
+        self.kept_imports(bytes, address_map, imports)
     }
 
     // The imports of import data.
@@ -455,7 +452,7 @@ impl Tables {
     }
 
     // All tables, as they are collected; refused for the first of them that refuses all.
-    fn collected<'a, 'e, I: LibraryCollector<'a>, E: ExportCollector<'a>>(
+    fn collected<'a, 'e, I: ImportCollector<'a>, E: ExportCollector<'a>>(
         &self,
         alloc: Global,
         bytes: &'a [u8],
@@ -469,12 +466,12 @@ impl Tables {
         ensures { let m = map_by opts.now sections.now self.now.file_alignment in
             let places = table_places self.now in
             ReadsOrMemory (tables_view I.items E.items) result
-            (mapped (collected_tables I.items_of E.item_of self.now.magic)
+            (mapped (collected_tables I.item_of E.item_of)
             (table_parts m.opts (offset_of m) places))
             bytes.now }
     {
         let address_map = self.address_map(alloc, sections, opts)?;
-        let imports = self.listed_libraries(alloc, bytes, &address_map, imports)?;
+        let imports = self.collected_imports(bytes, &address_map, imports)?;
         let exports = self.collected_exports(bytes, &address_map, exports)?;
         let relocations = self.relocations(bytes, &address_map)?;
         Ok(FileTables {
@@ -565,11 +562,10 @@ fn sections_of(
     coff_header.sections_with_opts(alloc, bytes, &mut offset, opts)
 }
 
-impl<'a, I: LibraryCollector<'a>, E: ExportCollector<'a>> CollectedFile<'a, I, E> {
+impl<'a, I: ImportCollector<'a>, E: ExportCollector<'a>> CollectedFile<'a, I, E> {
     /// Reads what follows the header of a file as [`Whole::read`] does, and hands its imports to
-    /// `imports`, library by library, and its exports to `exports`, one by one. Both are empty
-    /// before. The file is refused where [`Whole::read`] would refuse it for another cause than
-    /// memory.
+    /// `imports` and its exports to `exports`, one by one. Both are empty before. The file is refused
+    /// where [`Whole::read`] would refuse it for another cause than memory.
     ///
     /// # Errors
     /// As [`Whole::read`] of a file with this header.
@@ -586,7 +582,7 @@ impl<'a, I: LibraryCollector<'a>, E: ExportCollector<'a>> CollectedFile<'a, I, E
         requires exports { E.items exports ≡ [] }
         ensures value { let before = header_value header.now in
             ReadsOrMemory (collected_view I.items E.items before) result
-            (mapped (collected_file I.items_of E.item_of) (whole_after opts.now before))
+            (mapped (collected_file I.item_of E.item_of) (whole_after opts.now before))
             bytes.now }
         ensures first { let count = header.now.coff_header.number_of_sections in
             length bytes.now / 40 < count → IsErrAnd result (IsTooManySections count bytes.now) }

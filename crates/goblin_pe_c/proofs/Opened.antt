@@ -23,11 +23,10 @@ use Rattle.goblin_pe_c.specs.Directories.{directories_of, directory_record}
 use Rattle.goblin_pe_c.specs.Exports.{ExportSaid, export_said, export_view}
 use Rattle.goblin_pe_c.specs.Files.{entries_of, file_of, summary, table_of}
 use Rattle.goblin_pe_c.specs.Filled.{Filled, alone}
-use Rattle.goblin_pe_c.specs.Imports.{import_view, own_records}
+use Rattle.goblin_pe_c.specs.Imports.{import_view}
 use Rattle.goblin_pe_c.specs.Opened.{Opened, Opens, RecordsOfFile, records_of_file}
 use Rattle.goblin_pe_c.specs.RichHeaders.{entries_in, entry_view}
 use Rattle.goblin_pe_c.specs.Sections.{section_said}
-use Rattle.goblin_pe_c.proofs.Listed.{part-collected}
 
 -- ---- tables by what is made of each entry
 
@@ -45,18 +44,6 @@ entries-same Absent q f is = rw (← is) refl
 entries-same (part.Read xs) q f is = rw (← is) refl
 entries-same Refused q f is = rw (← is) refl
 
--- the records of libraries, one by one, as those of the list of imports
-imports-same : (opts : ParseOptions) (places : TablePlaces) (p : Part (List ImportedLibrary))
-    → imports_part opts places p ≡ Some (listed_imports places.magic p)
-    → part_map (map alone) (listed_imports places.magic p)
-    ≡ part_map (flat_map (own_records (entry_format places.magic).width)) p
-unfolding listed_imports part_map
-imports-same opts places Absent h = refl
-imports-same opts places (part.Read libraries) h =
-    ap (λ (xs : List (ImportValue × List ℕ)). part.Read xs)
-    (sym (part-collected opts places (part.Read libraries) h))
-imports-same opts places Refused h = refl
-
 -- ---- a file whose records were collected
 
 -- The file of which these are the records.
@@ -72,19 +59,12 @@ pub record IsOf (opts : ParseOptions) (bytes : List ℕ) (v : RecordsOfFile) : T
   pub exports_table : table_of whole.exports ≡ table_of v.exports
 
 pub file-of-records : (opts : ParseOptions) (bytes : List ℕ) (v : RecordsOfFile)
-    → length bytes < 2 ^ 63 → IsBytes bytes
     → option_map records_of_file ((whole_file opts).value bytes) ≡ Some v → IsOf opts bytes v
-file-of-records opts bytes v short fit is =
+file-of-records opts bytes v is =
     let m = steps.mapped ((whole_file opts).value bytes) records_of_file v is in
     let w = m.value in
-    let places = places_in w.header.optional_header in
-    let listed = whole-listed opts bytes short fit w m.is in
-    let list = steps.same_value w.imports (listed_imports places.magic w.import_data)
-    (sym (whole-imports opts bytes w m.is) ∙ listed) in
     let imports : part_map (map alone) w.imports ≡ v.imports =
-    ap (λ (p : Part (List ImportValue)). part_map (map alone) p) list
-    ∙ imports-same opts places w.import_data listed
-    ∙ ap (λ (x : RecordsOfFile). x.imports) m.made in
+    ap (λ (x : RecordsOfFile). x.imports) m.made in
     let exports : part_map (map export_said) w.exports ≡ v.exports =
     ap (λ (x : RecordsOfFile). x.exports) m.made in
     record {

@@ -14,7 +14,7 @@ use Rattle.goblin_pe_c.specs.declared.import.ImportRecords.{ImportRecords}
 use Rattle.goblin_pe_c.specs.Exports.{ExportSaid, export_said, export_view}
 use Rattle.goblin_pe_c.specs.Files.{entries_of, file_of}
 use Rattle.goblin_pe_c.specs.Filled.{Filled, alone}
-use Rattle.goblin_pe_c.specs.Imports.{import_view, own_records}
+use Rattle.goblin_pe_c.specs.Imports.{import_view}
 use Rattle.goblin_pe_c.specs.RichHeaders.{entries_in, entry_view}
 use Rattle.goblin_pe_c.specs.Sections.{section_said}
 
@@ -49,7 +49,7 @@ abbrev pub RecordsOfFile : Type 0
 RecordsOfFile = CollectedFileValue (ImportValue × List ℕ) ExportSaid
 
 abbrev pub records_of_file : WholeFile → RecordsOfFile
-records_of_file w = collected_file own_records export_said w
+records_of_file w = collected_file alone export_said w
 
 -- the records that are held of imports, and of exports
 abbrev pub import_list : ImportRecords → List (ImportValue × List ℕ)

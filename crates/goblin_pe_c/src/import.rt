@@ -1,18 +1,14 @@
 //! The records of imports.
 
-ghost use Rattle.std.specs.Prelude.{◌≡◌, ◌<◌, ◌+◌, ◌*◌, ◌++◌, ◌^◌, [], IfErr, IsSome, List, length};
-ghost use Rattle.std.specs.Prelude.{map, true, ℕ};
-ghost use Rattle.goblin_base.specs.Answers.{GivesOrMemory, IsMemory};
+ghost use Rattle.std.specs.Prelude.{◌≡◌, [], IfErr, List, map, ℕ};
+ghost use Rattle.goblin_base.specs.Answers.{IsMemory};
 ghost use Rattle.goblin_pe.specs.ImportLookup.{entry_view};
-ghost use Rattle.goblin_pe.specs.Imports.{ImportValue, has_slots, import_of, imports_by};
-ghost use Rattle.goblin_pe.specs.Imports.{kept_entries};
+ghost use Rattle.goblin_pe.specs.Imports.{ImportValue, import_of};
 ghost use Rattle.goblin_pe_c.specs.Filled.{alone};
-ghost use Rattle.goblin_pe_c.specs.Imports.{import_view, own_imports, own_records, table_entries};
+ghost use Rattle.goblin_pe_c.specs.Imports.{import_view};
 
 use goblin_pe::Result;
-use goblin_pe::import::{
-    LibraryCollector, SyntheticImportDirectoryEntry, SyntheticImportLookupTableEntry,
-};
+use goblin_pe::import::{ImportCollector, SyntheticImportLookupTableEntry};
 use std::alloc::Global;
 
 /// An import.
@@ -77,90 +73,21 @@ fn import_record<'a>(
     }
 }
 
-// The address of a slot of an address table.
-fn slot_offset(rva: u32, size: usize, slot: usize) -> usize
-    requires { rva + size * slot < 2 ^ 64 }
-    ensures { result ≡ rva + size * slot }
-{
-    rva as usize + size * slot
-}
+// How many records there is room for first.
+const FIRST_ROOM: usize = 4;
 
-// Appends the records of a table's entries, each in its slot of `size` bytes of the address table
-// at `rva`.
-fn push_entries<'a>(
-    records: &mut Vec<PeImport<'a>>,
-    bytes: &'a [u8],
-    entries: &[SyntheticImportLookupTableEntry<'a>],
-    slots: &[usize],
-    dll: &'a str,
-    rva: u32,
-    size: usize,
-) -> Result<()>
-    requires counted { length slots.now ≡ length entries.now }
-    requires there { IsSome (imports_by size dll.now rva (map entry_view entries.now) slots.now) }
-    ensures { let made = table_entries
-        (imports_by size dll.now rva (map entry_view entries.now) slots.now) in
-        GivesOrMemory (λ _. map import_view records.new.items) result
-        (map import_view records.old.items ++ map alone made) }
-{
-    'entries: for (position, entry) in entries.iter().enumerate() {
-        let slot = slots[position];
-        let offset = slot_offset(rva, size, slot);
-        records.push(import_record(bytes, entry, dll, slot, offset, size))?;
-    }
-    Ok(())
-}
-
-// The entries that a library's lookup table keeps.
-fn kept_entries<'b, 'a>(
-    library: &'b SyntheticImportDirectoryEntry<'a>,
-) -> &'b [SyntheticImportLookupTableEntry<'a>]
-    ensures entries { map entry_view result.now ≡ kept_entries library.now }
-    ensures count { length result.now ≡ length (kept_entries library.now) }
-{
-    match &library.import_lookup_table {
-        Some(table) => table.as_slice(),
-        None => &[],
-    }
-}
-
-// Makes room for so many more records, or for half as many as there are, where they don't fit. The
-// records of one library take no more room than they need, and those of many are seldom moved.
-fn make_room(records: &mut Vec<PeImport>, more: usize) -> Result<()>
+// Makes room for another record, and for half as many more as there are, where it doesn't fit: many
+// records are seldom moved, and a file asks for at most half as much again as they take.
+#[inline]
+fn make_room(records: &mut Vec<PeImport>) -> Result<()>
     ensures kept { records.new.items ≡ records.old.items }
     ensures refused { IfErr result IsMemory }
 {
-    if records.capacity().saturating_sub(records.len()) < more {
-        records.reserve_exact(more.max(records.len() / 2))?;
+    let count = records.len();
+    if count == records.capacity() {
+        records.reserve_exact(FIRST_ROOM.max(count / 2))?;
     }
     Ok(())
-}
-
-// Appends the records of the imports from a library, whose address table has entries of `size`
-// bytes.
-fn push_library<'a>(
-    records: &mut Vec<PeImport<'a>>,
-    bytes: &'a [u8],
-    library: &SyntheticImportDirectoryEntry<'a>,
-    size: usize,
-) -> Result<()>
-    requires counted { has_slots library.now ≡ true }
-    requires there { IsSome (own_imports size library.now) }
-    ensures { let made = table_entries (own_imports size library.now) in
-        GivesOrMemory (λ _. map import_view records.new.items) result
-        (map import_view records.old.items ++ map alone made) }
-{
-    let entries = kept_entries(library);
-    make_room(records, entries.len())?;
-    push_entries(
-        records,
-        bytes,
-        entries,
-        &library.import_lookup_slots,
-        library.name,
-        library.import_directory_entry.import_address_table_rva,
-        size,
-    )
 }
 
 /// The records of imports, library by library.
@@ -183,19 +110,28 @@ impl<'a> ImportRecords<'a> {
     }
 }
 
-impl<'a> LibraryCollector<'a> for ImportRecords<'a> {
+impl<'a> ImportCollector<'a> for ImportRecords<'a> {
     ghost Item = { ImportValue × List ℕ };
 
     ghost items = { λ imports. map import_view imports.records.items };
 
-    ghost items_of = { own_records };
+    ghost item_of = { alone };
 
-    /// Appends the records of the imports from a library, and lets go of it.
+    /// Appends the record of an import.
     ///
     /// # Errors
     /// Where memory is refused.
-    #[tactic(auto, using(crate::proofs::Listed::has_a_slot_each, crate::proofs::Listed::has_own_imports))]
-    fn add(&mut self, library: SyntheticImportDirectoryEntry<'a>, size: usize) -> Result<()> {
-        push_library(&mut self.records, self.bytes, &library, size)
+    fn add(
+        &mut self,
+        entry: SyntheticImportLookupTableEntry<'a>,
+        dll: &'a str,
+        slot: usize,
+        offset: usize,
+        size: usize,
+    ) -> Result<()> {
+        make_room(&mut self.records)?;
+        self.records
+            .push(import_record(self.bytes, &entry, dll, slot, offset, size))?;
+        Ok(())
     }
 }

@@ -3,6 +3,8 @@ pub mod ExportDirectoryRoundTrip
 mod ExportGrowths
 mod ExportRows
 mod Grammar
+mod HandedLibraries
+mod HandedOver
 pub mod ImportBound
 pub mod ImportDirectoryRoundTrip
 pub mod Imports

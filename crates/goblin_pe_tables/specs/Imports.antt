@@ -1,7 +1,7 @@
 -- The imports of import data: one for each entry that a lookup table keeps, in the order of the
 -- libraries and of the entries.
 use Rattle.std.specs.Prelude.{◌≡◌, ◌⊎◌, ℕ, ◌+◌, ◌*◌, ◌^◌, ◌++◌, ◌==◌, nat_lt, not, IsSomeAnd, Bool}
-use Rattle.std.specs.Prelude.{true, false, if◌then◌else◌, codes, List, [], length, slice_get}
+use Rattle.std.specs.Prelude.{true, false, if◌then◌else◌, codes, List, [], length, map, slice_get}
 use Rattle.std.specs.Prelude.{sum_by, Option, Some, None, unwrap_or}
 use Rattle.std.specs.Fmt.{decimal}
 use Rattle.std.specs.List.{find}
@@ -81,6 +81,10 @@ imports_by size dll rva entries slots =
 abbrev pub kept_entries : ImportedLibrary → List LookupEntry
 kept_entries library = unwrap_or library.import_lookup_table []
 
+-- these imports as a list; of tables that were read it is there
+abbrev pub table_imports : ℕ → List ℕ → ℕ → List LookupEntry → List ℕ → List ImportValue
+table_imports size dll rva entries slots = unwrap_or (imports_by size dll rva entries slots) []
+
 -- how many entries the lookup tables of libraries keep
 abbrev pub kept_count : List ImportedLibrary → ℕ
 kept_count libraries = sum_by (λ library. length (kept_entries library)) libraries
@@ -96,6 +100,11 @@ library_imports size library =
     then imports_by size library.name library.import_directory_entry.import_address_table_rva
     (kept_entries library) library.import_lookup_slots
     else None
+
+-- What is kept of each of the imports from a library, in order. A library that was read has a slot
+-- for each of its entries, and no offset that overflows 64 bits.
+abbrev pub kept_imports : {X : Type 0} → (ImportValue → X) → ℕ → ImportedLibrary → List X
+kept_imports item_of size library = map item_of (unwrap_or (library_imports size library) [])
 
 -- the imports from all libraries, of entries of `size` bytes
 unfoldable pub imports_of : ℕ → List ImportedLibrary → Option (List ImportValue)

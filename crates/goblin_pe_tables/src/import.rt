@@ -4,8 +4,7 @@
 //! library. Each leads to a lookup table and an address table, whose entries with one index are one
 //! import: the lookup table says which, and the loader puts its address into the other.
 
-ghost use Rattle.std.specs.Prelude.{◌≡◌, ◌⊎◌, [], IfErr, IfOk, IfSome, IsSome, IsSomeAnd, false};
-ghost use Rattle.std.specs.Prelude.{option_to_list, true};
+ghost use Rattle.std.specs.Prelude.{◌≡◌, ◌⊎◌, [], IfErr, IsSomeAnd, false, option_to_list, true};
 ghost use Rattle.std.specs.List.{flat_map};
 ghost use Rattle.goblin_base.specs.Answers.{IsMemory};
 ghost use Rattle.goblin_base.specs.Reading.{ReadsOrMemory};
@@ -15,7 +14,7 @@ ghost use Rattle.goblin_pe_sect.specs.WindowIndex.{HasPieces};
 ghost use Rattle.goblin_pe_tables.specs.Addresses.{map_by, offset_of, reads_strictly};
 ghost use Rattle.goblin_pe_tables.specs.ImportDirectory.{HasRecords};
 ghost use Rattle.goblin_pe_tables.specs.ImportReadings as reading;
-ghost use Rattle.goblin_pe_tables.specs.Imports.{library_imports};
+ghost use Rattle.goblin_pe_tables.specs.Imports.{kept_imports};
 
 use crate::address_map::AddressMap;
 use goblin_base::{Cause, Endian, Error, Record, ResultOf, is_passed_over};
@@ -29,6 +28,7 @@ mod address_table;
 mod bitfield;
 mod collector;
 mod directory_entry;
+mod handed_over;
 mod library;
 mod listed;
 mod lookup_table;
@@ -38,8 +38,10 @@ pub(crate) use bitfield::read_entry;
 pub use bitfield::{
     Bitfield, IMPORT_BY_ORDINAL_32, IMPORT_BY_ORDINAL_64, IMPORT_RVA_MASK_32, IMPORT_RVA_MASK_64,
 };
-pub use collector::LibraryCollector;
+pub use collector::ImportCollector;
+use collector::RecordCollector;
 pub use directory_entry::{ImportDirectoryEntry, SIZEOF_IMPORT_DIRECTORY_ENTRY};
+use handed_over::EachImport;
 pub use library::SyntheticImportDirectoryEntry;
 pub(crate) use library::{address_table_rva, lookup_offset};
 pub use listed::Import;
@@ -70,11 +72,9 @@ fn kept_library<'a, 'e, T: Bitfield<'a>>(
     entry: ImportDirectoryEntry,
     address_map: &AddressMap,
 ) -> ResultOf<'e, Option<SyntheticImportDirectoryEntry<'a>>>
-    ensures value { let m = address_map.now in
+    ensures { let m = address_map.now in
         ReadsOrMemory option_to_list result
         (reading.kept_library (reads_strictly m) T.format (offset_of m) entry) bytes.now }
-    ensures listed { IfOk result
-        (λ kept. IfSome kept (λ library. IsSome (library_imports T.format.width library))) }
 {
     match SyntheticImportDirectoryEntry::parse_by::<T>(alloc, bytes, entry, address_map) {
         Ok(library) => Ok(Some(library)),
@@ -83,18 +83,17 @@ fn kept_library<'a, 'e, T: Bitfield<'a>>(
     }
 }
 
-// The libraries of the directory at an offset, handed to `imports` one by one.
-fn libraries<'a, 'e, T: Bitfield<'a>, I: LibraryCollector<'a>>(
-    alloc: Global,
+// The libraries of the directory at an offset, whose records are handed to `imports` one by one.
+fn libraries<'a, 'e, T: Bitfield<'a>, C: RecordCollector<'a, T>>(
     bytes: &'a [u8],
     offset: usize,
     address_map: &AddressMap,
-    mut imports: I,
-) -> ResultOf<'e, I>
-    requires { I.items imports ≡ [] }
+    mut imports: C,
+) -> ResultOf<'e, C>
+    requires { C.items imports ≡ [] }
     ensures value { let m = address_map.now in
-        ReadsOrMemory I.items result
-        (mapped (flat_map (I.items_of T.format.width))
+        ReadsOrMemory C.items result
+        (mapped (flat_map C.items_of)
         (reading.libraries_at (reads_strictly m) T.format (offset_of m) offset)) bytes.now }
     ensures grown { IfErr result (λ e. IsMemory e → HasRecords bytes.now offset) }
 {
@@ -109,13 +108,40 @@ fn libraries<'a, 'e, T: Bitfield<'a>, I: LibraryCollector<'a>>(
         if !record.is_possibly_valid() {
             break 'records;
         }
-        let kept = kept_library::<T>(alloc, bytes, record, address_map)?;
-        if let Some(library) = kept {
-            imports.add(library, T::size_of())?;
-        }
+        imports.add_record(bytes, record, address_map)?;
         place += SIZEOF_IMPORT_DIRECTORY_ENTRY;
     }
     Ok(imports)
+}
+
+// The libraries of the directory at an address, whose records are handed to `imports` one by one.
+#[tactic(auto, unfolding(crate::specs::ImportReadings::import_data, crate::specs::ImportReadings::libraries_past_front))]
+fn read_directory<'a, 'e, T: Bitfield<'a>, C: RecordCollector<'a, T>>(
+    bytes: &'a [u8],
+    rva: u32,
+    address_map: &AddressMap,
+    imports: C,
+) -> ResultOf<'e, C>
+    requires { C.items imports ≡ [] }
+    ensures value { let m = address_map.now in
+        ReadsOrMemory C.items result
+        (mapped (flat_map C.items_of)
+        (reading.import_data (reads_strictly m) T.format (offset_of m) rva))
+        bytes.now }
+    ensures permissive { reads_strictly address_map.now ≡ false → IfErr result IsMemory }
+    ensures grown { let m = address_map.now in
+        IfErr result (λ e. IsMemory e → IsSomeAnd (offset_of m rva) (HasRecords bytes.now)) }
+{
+    let is_permissive = address_map.is_permissive();
+    let offset = match address_map.offset_of(rva) {
+        Some(offset) => offset,
+        None if is_permissive => 0,
+        None => return Err(Error::Malformed(Cause::Unmapped(rva as usize))),
+    };
+    if is_permissive && offset == 0 {
+        return Ok(imports);
+    }
+    libraries::<T, C>(bytes, offset, address_map, imports)
 }
 
 impl<'a> ImportData<'a> {
@@ -210,18 +236,21 @@ impl<'a> ImportData<'a> {
         let imports = ImportData {
             import_data: Vec::new(alloc),
         };
-        ImportData::parse_into::<T, ImportData>(alloc, bytes, directory, address_map, imports)
+        read_directory::<T, ImportData>(bytes, directory.virtual_address, address_map, imports)
     }
 
-    /// The imports as [`ImportData::parse_by`] reads them, handed to `imports` library by library:
-    /// each library is handed over as soon as it is read, before the next one is. `imports` must be
-    /// empty; it comes back with what it keeps of all libraries, in their order.
+    /// The imports as [`ImportData::parse_by`] reads them, handed to `imports` one by one: each as
+    /// soon as its entry is read, before the next one is. No list of the libraries is made, and no
+    /// table of theirs is kept: this takes no memory but what `imports` takes. `imports` must be
+    /// empty; it comes back with what it keeps of the imports of all libraries, in their order.
+    ///
+    /// A library that is refused for its address table is left out in permissive mode, before an
+    /// import of it is handed over. In strict mode `imports` is let go with the refusal.
     ///
     /// # Errors
-    /// As [`ImportData::parse_with_opts`]; [`Error::Memory`] also if memory is refused to `imports`.
-    #[tactic(auto, unfolding(crate::specs::ImportReadings::import_data, crate::specs::ImportReadings::libraries_past_front))]
-    pub fn parse_into<'e, T: Bitfield<'a>, I: LibraryCollector<'a>>(
-        alloc: Global,
+    /// As [`ImportData::parse_with_opts`], but [`Error::Memory`] only if memory is refused to
+    /// `imports`.
+    pub fn read_into<'e, T: Bitfield<'a>, I: ImportCollector<'a>>(
         bytes: &'a [u8],
         directory: DataDirectory,
         address_map: &AddressMap,
@@ -231,7 +260,7 @@ impl<'a> ImportData<'a> {
         ensures value { let m = address_map.now in
             let rva = directory.virtual_address in
             ReadsOrMemory I.items result
-            (mapped (flat_map (I.items_of T.format.width))
+            (mapped (flat_map (kept_imports I.item_of T.format.width))
             (reading.import_data (reads_strictly m) T.format (offset_of m) rva))
             bytes.now }
         ensures permissive { reads_strictly address_map.now ≡ false → IfErr result IsMemory }
@@ -241,16 +270,9 @@ impl<'a> ImportData<'a> {
             IsMemory e
             → IsSomeAnd (offset_of m directory.virtual_address) (HasRecords bytes.now)) }
     {
+        let each = EachImport { imports };
         let rva = directory.virtual_address;
-        let is_permissive = address_map.is_permissive();
-        let offset = match address_map.offset_of(rva) {
-            Some(offset) => offset,
-            None if is_permissive => 0,
-            None => return Err(Error::Malformed(Cause::Unmapped(rva as usize))),
-        };
-        if is_permissive && offset == 0 {
-            return Ok(imports);
-        }
-        libraries::<T, I>(alloc, bytes, offset, address_map, imports)
+        let read = read_directory::<T, EachImport<I>>(bytes, rva, address_map, each)?;
+        Ok(read.imports)
     }
 }

@@ -96,7 +96,11 @@ fn lookup_table_if<'a, 'e, T: Bitfield<'a>>(
 
 // The name of a library; in permissive mode the empty one where none can be read.
 #[tactic(auto, unfolding(goblin_pe_sect::specs::AddressReadings::name_or_none), using(crate::proofs::LibraryNames::taken, crate::proofs::LibraryNames::missing))]
-fn library_name<'a>(bytes: &'a [u8], rva: u32, address_map: &AddressMap) -> Result<&'a str>
+pub(super) fn library_name<'a>(
+    bytes: &'a [u8],
+    rva: u32,
+    address_map: &AddressMap,
+) -> Result<&'a str>
     ensures { let m = address_map.now in
         Reads (λ s. s.now) result
         (or_else (reads_strictly m) [] (name_at (offset_of m) rva)) bytes.now }

@@ -99,7 +99,7 @@ pub enum SyntheticImportLookupTableEntry<'a> {
 impl<'a> SyntheticImportLookupTableEntry<'a> {
     // What a table keeps of an entry: `None` if it leads nowhere, or in permissive mode to no hint.
     #[tactic(auto, unfolding(crate::specs::LookupReadings::kept_entry, crate::specs::LookupReadings::kept_name))]
-    fn kept<'e, T: Bitfield<'a>>(
+    pub(super) fn kept<'e, T: Bitfield<'a>>(
         entry: &T,
         bytes: &'a [u8],
         address_map: &AddressMap,

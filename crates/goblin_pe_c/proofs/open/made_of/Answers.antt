@@ -17,8 +17,7 @@ returns-clause-sections c =
     let bytes = c.args.bytes.now in
     let strict = is_strict opts.parse_mode in
     let v = records_view (header_value c.args.header.now) c.args.file.now in
-    let of = file-of-records opts bytes v (omega arith)
-    (λ k. (let fits = c.type_inv.bytes k in grind (arith, fits))) c.requires in
+    let of = file-of-records opts bytes v c.requires in
     let by_header = subst
     (λ (h : PeHeader). map (named_in strict bytes (symbols_end h.coff_header)) of.whole.sections ≡ of.whole.sections)
     of.header (sections-named opts bytes of.whole of.read) in

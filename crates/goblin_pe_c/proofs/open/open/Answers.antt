@@ -24,8 +24,7 @@ returns-in_err-made c =
     let v = records_view (header_value c.in_ok-header.header) c.in_ok-read.read in
     let read : option_map records_of_file ((whole_file opts).value bytes) ≡ Some v =
     rw c.in_ok-header.ensures.value c.in_ok-read.ensures.value in
-    let of = file-of-records opts bytes v (omega arith)
-    (λ k. (let fits = c.type_inv.bytes k in grind (arith, fits))) read in
+    let of = file-of-records opts bytes v read in
     let there = header-there opts bytes of.whole of.read in
     let roomy = room-there ((pe_header (is_strict opts.parse_mode)).value bytes) bytes
     (rw c.in_ok-header.ensures.value c.in_ok-read.ensures.first) there in
@@ -39,6 +38,5 @@ returns c =
     let v = records_view (header_value c.in_ok-header.header) c.in_ok-read.read in
     let read : option_map records_of_file ((whole_file opts).value bytes) ≡ Some v =
     rw c.in_ok-header.ensures.value c.in_ok-read.ensures.value in
-    let of = file-of-records opts bytes v (omega arith)
-    (λ k. (let fits = c.type_inv.bytes k in grind (arith, fits))) read in
+    let of = file-of-records opts bytes v read in
     rw (of.read, of.header, of.sections, of.relocations, of.imports, of.exports, of.imports_table, of.exports_table) (search rules)

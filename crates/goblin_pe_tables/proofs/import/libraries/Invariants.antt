@@ -10,8 +10,8 @@ invariant-records g l =
     AtCollected import_slots
     (kept_library (reads_strictly l.fn.address_map) g.T.Bitfield.format
     (offset_of l.fn.address_map))
-    (g.I.LibraryCollector.items_of g.T.Bitfield.format.width) l.fn.bytes l.fn.offset l.place
-    (g.I.LibraryCollector.items l.imports)
+    g.C.RecordCollector.items_of l.fn.bytes l.fn.offset l.place
+    (g.C.RecordCollector.items l.imports)
 
 abbrev pub decreases-records : goal.decreases-records
 decreases-records g l = length l.fn.bytes - l.place

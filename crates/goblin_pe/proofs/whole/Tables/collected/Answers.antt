@@ -4,7 +4,7 @@ use Rattle.std.specs.Prelude.{option_map}
 use Rattle.readings.specs.Reads.{mapped}
 use Rattle.goblin_pe_sect.specs.BaseRelocations.{relocation_bytes}
 use Rattle.goblin_pe_tables.specs.Addresses.{MapOfAddresses, offset_of}
-use Rattle.goblin_pe.specs.Whole.{collected_exports, collected_libraries, export_part}
+use Rattle.goblin_pe.specs.Whole.{collected_exports, collected_imports, export_part}
 use Rattle.goblin_pe.specs.Whole.{import_parts, offset_by, part_map, relocation_part, table_parts}
 use Rattle.goblin_pe.specs.Whole.{table_places}
 use Rattle.goblin_pe.proofs.Collected.{IsRefused, all-read, first-refused, second-refused}
@@ -19,7 +19,7 @@ returns-in_err-imports g c =
     let places = table_places c.args.self.now in
     let opts = c.args.opts.now in
     let m = offset_by opts c.args.sections.now places in
-    let libraries = collected_libraries g.I.LibraryCollector.items_of c.args.self.now.magic in
+    let libraries = collected_imports g.I.ImportCollector.item_of in
     let exports = part_map (collected_exports g.E.ExportCollector.item_of) in
     rw (error.1, error.2)
     (λ other.
@@ -36,9 +36,9 @@ returns-in_err-exports g c =
     let places = table_places c.args.self.now in
     let opts = c.args.opts.now in
     let m = offset_by opts c.args.sections.now places in
-    let libraries = collected_libraries g.I.LibraryCollector.items_of c.args.self.now.magic in
+    let libraries = collected_imports g.I.ImportCollector.item_of in
     let exports = part_map (collected_exports g.E.ExportCollector.item_of) in
-    let first = subst (λ (k : MapOfAddresses). option_map libraries ((import_parts k.opts (offset_of k) places).value bytes) ≡ Some (part_map g.I.LibraryCollector.items c.in_ok-imports.imports))
+    let first = subst (λ (k : MapOfAddresses). option_map libraries ((import_parts k.opts (offset_of k) places).value bytes) ≡ Some (part_map g.I.ImportCollector.items c.in_ok-imports.imports))
     (sym c.in_ok-address_map.ensures.made) c.in_ok-imports.ensures in
     rw (error.1, error.2)
     (λ other.
@@ -55,9 +55,9 @@ returns-in_err-relocations g c =
     let places = table_places c.args.self.now in
     let opts = c.args.opts.now in
     let m = offset_by opts c.args.sections.now places in
-    let libraries = collected_libraries g.I.LibraryCollector.items_of c.args.self.now.magic in
+    let libraries = collected_imports g.I.ImportCollector.item_of in
     let exports = part_map (collected_exports g.E.ExportCollector.item_of) in
-    let first = subst (λ (k : MapOfAddresses). option_map libraries ((import_parts k.opts (offset_of k) places).value bytes) ≡ Some (part_map g.I.LibraryCollector.items c.in_ok-imports.imports))
+    let first = subst (λ (k : MapOfAddresses). option_map libraries ((import_parts k.opts (offset_of k) places).value bytes) ≡ Some (part_map g.I.ImportCollector.items c.in_ok-imports.imports))
     (sym c.in_ok-address_map.ensures.made) c.in_ok-imports.ensures in
     let second = subst (λ (k : MapOfAddresses). option_map exports ((export_part k.opts (offset_of k) places).value bytes) ≡ Some (part_map g.E.ExportCollector.items c.in_ok-exports.exports))
     (sym c.in_ok-address_map.ensures.made) c.in_ok-exports.ensures in
@@ -75,9 +75,9 @@ returns g c =
     let places = table_places c.args.self.now in
     let opts = c.args.opts.now in
     let m = offset_by opts c.args.sections.now places in
-    let libraries = collected_libraries g.I.LibraryCollector.items_of c.args.self.now.magic in
+    let libraries = collected_imports g.I.ImportCollector.item_of in
     let exports = part_map (collected_exports g.E.ExportCollector.item_of) in
-    let first = subst (λ (k : MapOfAddresses). option_map libraries ((import_parts k.opts (offset_of k) places).value bytes) ≡ Some (part_map g.I.LibraryCollector.items c.in_ok-imports.imports))
+    let first = subst (λ (k : MapOfAddresses). option_map libraries ((import_parts k.opts (offset_of k) places).value bytes) ≡ Some (part_map g.I.ImportCollector.items c.in_ok-imports.imports))
     (sym c.in_ok-address_map.ensures.made) c.in_ok-imports.ensures in
     let second = subst (λ (k : MapOfAddresses). option_map exports ((export_part k.opts (offset_of k) places).value bytes) ≡ Some (part_map g.E.ExportCollector.items c.in_ok-exports.exports))
     (sym c.in_ok-address_map.ensures.made) c.in_ok-exports.ensures in

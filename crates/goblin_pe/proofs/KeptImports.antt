@@ -1,0 +1,92 @@
+-- What is kept of each library's imports is what is kept of the list of all imports.
+use Rattle.std.proofs.Common.{◌≡◌, ◌∙◌, ◌≤◌, ◌++◌, ◌∷◌, ℕ, zero, suc, List, [], Bool, true, false}
+use Rattle.std.proofs.Common.{Option, Some, None, IsSome, append-nil, ap, arith, length, map, refl}
+use Rattle.std.proofs.Common.{sym, take_all}
+use Rattle.std.specs.Prelude.{get_or, slice_get, take, unwrap_or}
+use Rattle.std.specs.List.{flat_map}
+use Rattle.std.proofs.Math.Seq.{take-suc}
+use Rattle.std.proofs.lemmas.List.{map-append}
+use Rattle.std.proofs.lemmas.List.Concat.{flat_map-append}
+use Rattle.std.proofs.lemmas.Option.{get_or_from_slice_get}
+use Rattle.goblin_base.specs.Tables.{each_below}
+use Rattle.goblin_base.proofs.Below.{join-parts}
+use Rattle.goblin_base.proofs.Steps.{same_value, step}
+use Rattle.goblin_pe_sect.specs.declared.options.ParseOptions.{ParseOptions}
+use Rattle.goblin_pe_sect.specs.Options.{is_strict}
+use Rattle.goblin_pe_tables.specs.ImportRecords.{ImportedLibrary}
+use Rattle.goblin_pe_tables.specs.Imports.{ImportValue, imports_of, kept_imports, library_imports}
+use Rattle.goblin_pe_tables.proofs.Imports.{imported_at}
+use Rattle.goblin_pe.specs.declared.whole.Part.{Part}
+use Rattle.goblin_pe.specs.declared.whole.Part.TheVariants.{Absent, Refused}
+use Rattle.goblin_pe.specs.declared.whole.Part.TheVariants as part
+use Rattle.goblin_pe.specs.Whole.{HasList, TablePlaces, entry_format, imports_part, listed_imports}
+use Rattle.goblin_pe.specs.Whole.{part_map, part_of, part_then}
+
+there-is : {A : Type 0} (o : Option (List A)) → IsSome o → o ≡ Some (unwrap_or o [])
+there-is None there = absurd cc
+there-is (Some xs) there = refl
+
+read-there : (strict : Bool) (table : Option (List ImportValue))
+    → part_of strict table ≡ Some (part.Read (unwrap_or table [])) → IsSome table
+unfolding part_of
+read-there strict (Some xs) h = refl
+read-there true None h = absurd cc
+read-there false None h = absurd cc
+
+libraries-there : (opts : ParseOptions) (places : TablePlaces) (libraries : List ImportedLibrary)
+    → HasList opts places (part.Read libraries)
+    → IsSome (imports_of (entry_format places.magic).width libraries)
+unfolding imports_part part_then listed_imports part_map
+libraries-there opts places libraries h =
+    read-there (is_strict opts.parse_mode) (imports_of (entry_format places.magic).width libraries) h
+
+module _ {X : Type 0} (import_of : ImportValue → X) where
+  module _ (size : ℕ) (libraries : List ImportedLibrary) where
+    -- those of a library that is there
+    library-kept : (library : ImportedLibrary) (xs : List ImportValue)
+        → library_imports size library ≡ Some xs
+        → kept_imports import_of size library ≡ map import_of xs
+    library-kept library xs is =
+        ap (λ (made : Option (List ImportValue)). map import_of (unwrap_or made [])) is
+
+    first-kept : (n : ℕ) (xs : List ImportValue) → n ≤ length libraries
+        → each_below (imported_at size libraries) n ≡ Some xs
+        → flat_map (kept_imports import_of size) (take n libraries) ≡ map import_of xs
+    unfolding each_below
+    first-kept zero xs within e = ap (map import_of) (same_value [] xs e)
+    first-kept (suc n) xs within e =
+        let parts = join-parts (each_below (imported_at size libraries) n) (imported_at size libraries n) xs e in
+        let before = first-kept n parts.0 (omega (arith, within)) parts.2 in
+        let s = step (slice_get libraries n) (library_imports size) parts.1 parts.3 in
+        let here : get_or libraries n s.value ≡ s.value = get_or_from_slice_get libraries n s.value s.value s.is in
+        let front : take (suc n) libraries ≡ take n libraries ++ s.value ∷ [] =
+        take-suc libraries n s.value (omega (arith, within)) ∙ ap (λ (l : ImportedLibrary). take n libraries ++ l ∷ []) here in
+        let kept = kept_imports import_of size in
+        ap (flat_map kept) front
+        ∙ flat_map-append kept (take n libraries) (s.value ∷ [])
+        ∙ ap (λ (ys : List X). flat_map kept (take n libraries) ++ ys)
+        (append-nil (kept s.value) ∙ library-kept s.value parts.1 s.then)
+        ∙ ap (λ (ys : List X). ys ++ map import_of parts.1) before
+        ∙ sym (map-append import_of parts.0 parts.1) ∙ ap (map import_of) (sym parts.4)
+
+    all-kept : IsSome (imports_of size libraries)
+        → flat_map (kept_imports import_of size) libraries
+        ≡ map import_of (unwrap_or (imports_of size libraries) [])
+    unfolding imports_of
+    all-kept there =
+        ap (flat_map (kept_imports import_of size))
+        (sym (take_all (length libraries) libraries (omega arith)))
+        ∙ first-kept (length libraries) (unwrap_or (imports_of size libraries) []) (omega arith)
+        (there-is (imports_of size libraries) there)
+
+  -- those of a file's import data
+  pub part-kept : (opts : ParseOptions) (places : TablePlaces) (p : Part (List ImportedLibrary))
+      → HasList opts places p
+      → part_map (flat_map (kept_imports import_of (entry_format places.magic).width)) p
+      ≡ part_map (map import_of) (listed_imports places.magic p)
+  unfolding listed_imports part_map
+  part-kept opts places Absent h = refl
+  part-kept opts places (part.Read libraries) h =
+      ap (λ (xs : List X). part.Read xs)
+      (all-kept (entry_format places.magic).width libraries (libraries-there opts places libraries h))
+  part-kept opts places Refused h = refl
