@@ -1,59 +1,79 @@
-//! Collections that receive the libraries of an import directory, or the exports of an image.
+//! Collections that receive the imports of an import directory, or the exports of an image.
 
-ghost use Rattle.std.specs.Prelude.{◌≡◌, ◌∷◌, [], List, map, ℕ};
-ghost use Rattle.goblin_pe_tables.specs.ImportDirectory.{ImportedLibrary};
+ghost use Rattle.std.specs.Prelude.{[], ◌≡◌, List, map, ℕ};
 
-use fixture::sample::{SAMPLE, SAMPLE_LEN, put, sample, sample_section, section};
+use super::shared::is_told;
+use fixture::sample::{SAMPLE, SAMPLE_LEN, put, sample, sample_section, sample_with, section};
 use fixture_tables::imports::{ALIGNMENT, DIRECTORY, RECORD};
-use goblin_base::{Endian, ParseMode, ResultOf};
+use goblin_base::{Cause, Endian, ParseMode, ResultOf};
 use goblin_pe_sect::{DataDirectory, ParseOptions, SectionTable};
 use goblin_pe_tables::address_map::AddressMap;
 use goblin_pe_tables::export::{Export, ExportCollector, ExportData};
 use goblin_pe_tables::import::{
-    ImportData, ImportDirectoryEntry, LibraryCollector, SIZEOF_IMPORT_DIRECTORY_ENTRY,
-    SyntheticImportDirectoryEntry,
+    ImportCollector, ImportData, ImportDirectoryEntry, SIZEOF_IMPORT_DIRECTORY_ENTRY,
+    SyntheticImportLookupTableEntry,
 };
 use std::alloc::{AllocError, Global};
 use std::test::Fail;
 
-/// The names of libraries, and nothing else of them.
+/// What is kept of an import: its library, its ordinal or hint, its slot, and the slot's address.
+type Place<'a> = (&'a str, u16, usize, usize);
+
+/// Imports, by what is kept of them.
 #[derive(Drop)]
-struct Names<'a> {
-    names: Vec<&'a str>,
+struct Places<'a> {
+    places: Vec<Place<'a>>,
 }
 
-impl<'a> LibraryCollector<'a> for Names<'a> {
-    ghost Item = { List ℕ };
+impl<'a> ImportCollector<'a> for Places<'a> {
+    ghost Item = { List ℕ × ℕ × ℕ × ℕ };
 
-    ghost items = { λ kept. map (λ name. name.now) kept.names.items };
+    ghost items = { λ kept.
+        map (λ place. (place.0.now, place.1, place.2, place.3)) kept.places.items };
 
-    ghost items_of = { λ size library. library.name ∷ [] };
+    ghost item_of = { λ import. (import.dll, import.ordinal, import.slot, import.offset) };
 
+    #[tactic(auto, unfolding(goblin_pe_tables::specs::Imports::import_of))]
     fn add(
         &mut self,
-        library: SyntheticImportDirectoryEntry<'a>,
+        entry: SyntheticImportLookupTableEntry<'a>,
+        dll: &'a str,
+        slot: usize,
+        offset: usize,
         _size: usize,
     ) -> goblin_base::Result<()> {
-        self.names.push(library.name)?;
+        match entry {
+            SyntheticImportLookupTableEntry::OrdinalNumber(ordinal) => {
+                self.places.push((dll, ordinal, slot, offset))?;
+            }
+            SyntheticImportLookupTableEntry::HintNameTableRVA((_, named)) => {
+                self.places.push((dll, named.hint, slot, offset))?;
+            }
+        }
         Ok(())
     }
 }
 
-/// The names of the libraries of a file with the sample's section.
-fn names_of(alloc: Global, file: &[u8], mode: ParseMode) -> goblin_base::Result<Names<'_>> {
+/// What is kept of the imports of a file with the sample's section.
+fn places_of(alloc: Global, file: &[u8], mode: ParseMode) -> goblin_base::Result<Places<'_>> {
     let opts = ParseOptions::default().with_parse_mode(mode);
     let sections = [sample_section()];
     let address_map = AddressMap::prepare(alloc, &sections, ALIGNMENT, &opts)?;
-    let names = Names {
-        names: Vec::new(alloc),
+    let places = Places {
+        places: Vec::new(alloc),
     };
-    ImportData::parse_into::<u32, Names>(alloc, file, DIRECTORY, &address_map, names)
+    ImportData::read_into::<u32, Places>(file, DIRECTORY, &address_map, places)
 }
 
-/// The sample file with a second record, whose library has the name from the third byte on.
-fn with_two_libraries<'e>(alloc: Global) -> ResultOf<'e, Vec<u8>> {
+/// The sample file with a second record: that of the first library, but for these two addresses.
+fn with_second<'e>(
+    alloc: Global,
+    name_rva: u32,
+    import_address_table_rva: u32,
+) -> ResultOf<'e, Vec<u8>> {
     let record = ImportDirectoryEntry {
-        name_rva: 0x1082,
+        name_rva,
+        import_address_table_rva,
         ..RECORD
     };
     let mut second = [0; SIZEOF_IMPORT_DIRECTORY_ENTRY];
@@ -63,20 +83,53 @@ fn with_two_libraries<'e>(alloc: Global) -> ResultOf<'e, Vec<u8>> {
     Ok(file)
 }
 
-/// Whether two names were kept, in this order.
-fn are_kept(read: goblin_base::Result<Names>, first: &str, second: &str) -> bool {
-    matches!(&read, Ok(kept) if kept.names.as_slice() == [first, second].as_slice())
+/// Whether these imports were kept, in this order.
+fn are_kept(read: goblin_base::Result<Places>, want: &[Place]) -> bool {
+    matches!(&read, Ok(kept) if kept.places.as_slice() == want)
 }
 
+/// The imports of the sample file's library.
+const OF_A: [Place; 2] = [("a.dll", 5, 0, 0x1060), ("a.dll", 7, 1, 0x1064)];
+
 #[test]
-fn a_collection_receives_each_library_in_order(rt: HostRuntime) -> Result<(), Fail> {
-    let file = with_two_libraries(rt.alloc())?;
+fn a_collection_receives_each_import_in_order(rt: HostRuntime) -> Result<(), Fail> {
+    let file = with_second(rt.alloc(), 0x1082, 0x1064)?;
+    let want = [
+        ("a.dll", 5, 0, 0x1060),
+        ("a.dll", 7, 1, 0x1064),
+        ("dll", 5, 0, 0x1064),
+        ("dll", 7, 1, 0x1068),
+    ];
     for mode in [ParseMode::Strict, ParseMode::Permissive] {
         assert!(rt;
-            are_kept(names_of(rt.alloc(), &file, mode), "a.dll", "dll"),
+            are_kept(places_of(rt.alloc(), &file, mode), &want),
             "{mode:?}"
         );
     }
+    Ok(())
+}
+
+#[test]
+fn an_entry_that_is_left_out_keeps_its_slot(rt: HostRuntime) -> Result<(), Fail> {
+    let file = sample_with(rt.alloc(), 0x240, b"\x00\x90")?;
+    let want = [("a.dll", 7, 1, 0x1064)];
+    for mode in [ParseMode::Strict, ParseMode::Permissive] {
+        assert!(rt;
+            are_kept(places_of(rt.alloc(), &file, mode), &want),
+            "{mode:?}"
+        );
+    }
+    Ok(())
+}
+
+#[test]
+fn nothing_is_received_from_a_library_without_an_address_table(
+    rt: HostRuntime,
+) -> Result<(), Fail> {
+    let file = with_second(rt.alloc(), 0x1082, 0x9000)?;
+    let unmapped = Cause::Unmapped(0x9000);
+    assert!(rt; is_told(places_of(rt.alloc(), &file, ParseMode::Strict), unmapped));
+    assert!(rt; are_kept(places_of(rt.alloc(), &file, ParseMode::Permissive), &OF_A));
     Ok(())
 }
 
