@@ -1,35 +1,28 @@
 -- What collectors keep of a file is made of the file's own value.
-use Rattle.std.proofs.Common.{◌≡◌, ◌∙◌, ℕ, ◌<◌, ◌^◌, List, [], ◌∷◌, length, map, Bool, true, false}
+use Rattle.std.proofs.Common.{◌≡◌, ◌∙◌, ℕ, ◌<◌, ◌^◌, List, length, map, Bool, true, false}
 use Rattle.std.proofs.Common.{Option, Some, None, refl, sym, ap, inl, inr}
-use Rattle.std.specs.Prelude.{◌⊎◌, IfSome, Result, Ok, Err, option_map}
+use Rattle.std.specs.Prelude.{◌⊎◌, Result, Ok, Err, option_map}
 use Rattle.std.specs.List.{flat_map}
-use Rattle.std.proofs.lemmas.List.{map-id}
-use Rattle.std.proofs.lemmas.List.Concat.{flat_map_single}
 use Rattle.goblin_base.specs.declared.error.ErrorOf.{ErrorOf}
 use Rattle.goblin_base.specs.Bytes.{IsBytes}
 use Rattle.goblin_base.specs.Reading.{Reading, ReadsOrMemory}
 use Rattle.goblin_base.proofs.Steps as steps
-use Rattle.readings.specs.Reads.{◌beside◌, given, mapped, pair_of, pick, turned}
+use Rattle.readings.specs.Reads.{◌beside◌, given, mapped, pick, turned}
 use Rattle.goblin_pe_sect.specs.declared.data_directories.DataDirectory.{DataDirectory}
 use Rattle.goblin_pe_sect.specs.declared.options.ParseOptions.{ParseOptions}
-use Rattle.goblin_pe_sect.specs.Options.{is_strict}
 use Rattle.goblin_pe_sect.specs.SectionTable.{Section}
-use Rattle.goblin_pe_head.specs.HeaderReadings.{pe_header}
 use Rattle.goblin_pe_head.specs.PeHeader.{PeHeader}
-use Rattle.goblin_pe_tables.proofs.ImportBound.{pair_of-left, pair_of-right}
 use Rattle.goblin_pe_tables.specs.ExportRecords.{ExportRow, ExportTables}
-use Rattle.goblin_pe_tables.specs.ImportRecords.{ImportedLibrary}
 use Rattle.goblin_pe_tables.specs.Imports.{ImportValue, kept_imports}
 use Rattle.goblin_pe.specs.declared.whole.Part.{Part}
 use Rattle.goblin_pe.specs.declared.whole.Part.TheVariants.{Absent, Refused}
 use Rattle.goblin_pe.specs.declared.whole.Part.TheVariants as part
-use Rattle.goblin_pe.specs.Whole.{BecomesPart, CollectedFileValue, CollectedParts, HasImports}
-use Rattle.goblin_pe.specs.Whole.{TablePlaces, TableParts, WholeFile, collected_exports}
+use Rattle.goblin_pe.specs.Whole.{BecomesPart, CollectedFileValue, CollectedParts}
+use Rattle.goblin_pe.specs.Whole.{TablePlaces, TableParts, collected_exports}
 use Rattle.goblin_pe.specs.Whole.{collected_file, collected_imports, collected_tables}
-use Rattle.goblin_pe.specs.Whole.{entry_format, import_part, import_parts, imports_part}
+use Rattle.goblin_pe.specs.Whole.{entry_format, import_part, import_parts}
 use Rattle.goblin_pe.specs.Whole.{offset_by, part_at, part_map, part_of, places_in}
-use Rattle.goblin_pe.specs.Whole.{sections_after}
-use Rattle.goblin_pe.specs.Whole.{table_parts, whole_file, whole_of, whole_with}
+use Rattle.goblin_pe.specs.Whole.{table_parts, whole_of}
 use Rattle.goblin_pe.proofs.KeptImports.{part-kept}
 use Rattle.goblin_pe.proofs.ListedImports.{data-listed}
 use Rattle.goblin_pe.proofs.Parts.{becomes_part}
@@ -177,78 +170,10 @@ module _ {X Y : Type 0} (import_of : ImportValue → X) (export_of : ExportRow �
         ≡ None
     file_refused e = rw (unmapped _ tables_of e) refl
 
--- ---- the whole file
-
--- The header of a file that was read, its sections, and its tables.
-pub record IsWhole (opts : ParseOptions) (bytes : List ℕ) (w : WholeFile) : Type 0 where
-  pub header : PeHeader
-  pub sections : List Section
-  pub parts : TableParts
-  pub read : (table_parts opts (offset_by opts sections (places_in header.optional_header))
-      (places_in header.optional_header)).value bytes ≡ Some parts
-  pub made : whole_of header sections parts ≡ w
-
-pub whole-parts : (opts : ParseOptions) (bytes : List ℕ) (w : WholeFile)
-    → (whole_file opts).value bytes ≡ Some w → IsWhole opts bytes w
-unfolding whole_file whole_with
-whole-parts opts bytes w e =
-    let strict = is_strict opts.parse_mode in
-    let first = steps.step ((pe_header strict).value bytes) _ w e in
-    let second = steps.step ((sections_after strict first.value).value bytes) _ w first.then in
-    let places = places_in first.value.optional_header in
-    let tables = (table_parts opts (offset_by opts second.value places) places).value bytes in
-    let last = steps.mapped tables _ w second.then in
-    record {
-      header = first.value;
-      sections = second.value;
-      parts = last.value;
-      read = last.is;
-      made = last.made;
-    }
-
-module _ (opts : ParseOptions) (bytes : List ℕ) (offset_of : ℕ → Option ℕ) (places : TablePlaces)
-  where
-    -- the tables that were read have import data, and the list of imports that is made of it
-    pub parts-libraries : (parts : TableParts)
-        → (table_parts opts offset_of places).value bytes ≡ Some parts
-        → (import_part opts offset_of places).value bytes ≡ Some parts.0.0.0
-    unfolding table_parts import_parts
-    parts-libraries parts e =
-        let both = pair_of-left _ _ parts.0 (pair_of-left _ _ parts e) in
-        let found = steps.step ((import_part opts offset_of places).value bytes) _ parts.0.0 both in
-        found.is ∙ pair_of-left (Some found.value) _ parts.0.0 found.then
-
-    pub parts-imports : (parts : TableParts)
-        → (table_parts opts offset_of places).value bytes ≡ Some parts
-        → imports_part opts places parts.0.0.0 ≡ Some parts.0.0.1
-    unfolding table_parts import_parts
-    parts-imports parts e =
-        let both = pair_of-left _ _ parts.0 (pair_of-left _ _ parts e) in
-        let found = steps.step ((import_part opts offset_of places).value bytes) _ parts.0.0 both in
-        let same = steps.same_value found.value parts.0.0.0 (pair_of-left (Some found.value) _ parts.0.0 found.then) in
-        rw (← same) (pair_of-right (Some found.value) _ parts.0.0 found.then)
-
--- the list of imports of a file is made of its import data
-pub whole-imports : (opts : ParseOptions) (bytes : List ℕ) (w : WholeFile)
-    → (whole_file opts).value bytes ≡ Some w
-    → imports_part opts (places_in w.header.optional_header) w.import_data ≡ Some w.imports
-whole-imports opts bytes w e =
-    let is = whole-parts opts bytes w e in
-    let places = places_in is.header.optional_header in
-    let made = parts-imports opts bytes (offset_by opts is.sections places) places is.parts is.read in
-    rw (← is.made) made
+-- ---- the imports
 
 module _ (opts : ParseOptions) (bytes : List ℕ) (short : length bytes < 2 ^ 63)
     (fit : IsBytes bytes) where
-  -- of a file that was read a list of imports can be made
-  pub whole-listed : (w : WholeFile) → (whole_file opts).value bytes ≡ Some w → HasImports opts w
-  whole-listed w e =
-      let is = whole-parts opts bytes w e in
-      let places = places_in is.header.optional_header in
-      let offset_of = offset_by opts is.sections places in
-      let read = parts-libraries opts bytes offset_of places is.parts is.read in
-      rw (← is.made) (data-listed opts bytes places short fit offset_of is.parts.0.0.0 read)
-
   -- what is kept of each library's imports is kept of the list of imports that can be made
   pub collected-listed : {R X : Type 0} (places : TablePlaces) (offset_of : ℕ → Option ℕ)
       (view : R → Part (List X)) (import_of : ImportValue → X) (read : Result R ErrorOf)

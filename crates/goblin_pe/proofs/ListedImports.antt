@@ -1,13 +1,12 @@
 -- Of the part of a file that is its import data a list of imports can be made.
 use Rattle.std.proofs.Common.{◌≡◌, ℕ, ◌<◌, ◌^◌, Bool, true, false, cond, List, [], length, Option, Some, None, IsSome, refl, subst}
-use Rattle.std.specs.Prelude.{IfOk, Result, Ok, Err, unwrap_or}
-use Rattle.goblin_base.specs.declared.error.ErrorOf.{ErrorOf}
+use Rattle.std.specs.Prelude.{unwrap_or}
 use Rattle.goblin_base.specs.Bytes.{IsBytes}
 use Rattle.goblin_base.proofs.Steps.{same_value}
 use Rattle.goblin_pe_sect.specs.declared.data_directories.DataDirectory.{DataDirectory}
 use Rattle.goblin_pe_sect.specs.declared.options.ParseOptions.{ParseOptions}
 use Rattle.goblin_pe_sect.specs.Options.{is_strict}
-use Rattle.goblin_base.specs.Reading.{Reading, ReadsOrMemory}
+use Rattle.goblin_base.specs.Reading.{Reading}
 use Rattle.goblin_pe_tables.specs.ImportReadings as directory
 use Rattle.goblin_pe_tables.specs.ImportRecords.{ImportedLibrary}
 use Rattle.goblin_pe_tables.specs.Imports.{imports_of}

@@ -22,7 +22,7 @@ use Rattle.goblin_pe_sect.specs.Options.{is_strict}
 use Rattle.goblin_pe_sect.specs.SectionTable.{Section}
 use Rattle.goblin_pe_head.specs.declared.optional_header.OptionalHeader.{OptionalHeader}
 use Rattle.goblin_pe_head.specs.HeaderReadings.{pe_header}
-use Rattle.goblin_pe_head.specs.PeHeader.{PeHeader, header_value}
+use Rattle.goblin_pe_head.specs.PeHeader.{PeHeader}
 use Rattle.goblin_pe_head.specs.CoffHeader.{symbols_end}
 use Rattle.goblin_pe_head.specs.CoffReadings.{sections_at}
 use Rattle.goblin_pe.specs.declared.whole.Part.{Part}
@@ -328,7 +328,3 @@ collected_view items rows header x = record {
 abbrev pub HasList : ParseOptions → TablePlaces → Part (List ImportedLibrary) → Type 0
 HasList opts places libraries =
     imports_part opts places libraries ≡ Some (listed_imports places.magic libraries)
-
--- a list of imports can be made from a file's import data
-abbrev pub HasImports : ParseOptions → WholeFile → Type 0
-HasImports opts w = HasList opts (places_in w.header.optional_header) w.import_data

@@ -18,7 +18,7 @@ ghost use Rattle.goblin_pe_tables.specs.ExportReadings.{export_read};
 ghost use Rattle.goblin_pe_tables.specs.ExportRecords.{export_read_view};
 ghost use Rattle.goblin_pe_tables.specs.ImportReadings.{import_data};
 ghost use Rattle.goblin_pe_tables.specs.Imports.{IsImportsFault, imports_of, kept_imports};
-ghost use Rattle.goblin_pe.specs.Whole.{BecomesPart, HasImports, IsImportsPartFault};
+ghost use Rattle.goblin_pe.specs.Whole.{BecomesPart, IsImportsPartFault};
 ghost use Rattle.goblin_pe.specs.Whole.{MapsAddresses, collected_exports, collected_file};
 ghost use Rattle.goblin_pe.specs.Whole.{collected_imports, collected_tables, collected_view};
 ghost use Rattle.goblin_pe.specs.Whole.{entry_format, export_part, import_part, import_parts};

@@ -1,32 +1,18 @@
 -- The records that were collected of a file are those of its imports and its exports.
-use Rattle.std.proofs.Common.{◌≡◌, ◌∙◌, ◌<◌, ◌^◌, ℕ, List, length, map, Some, refl, subst, sym, ap}
-use Rattle.std.specs.Prelude.{IsSomeAnd, option_map}
-use Rattle.std.specs.List.{flat_map}
+use Rattle.std.proofs.Common.{◌≡◌, ℕ, List, map, Some, refl, ap}
+use Rattle.std.specs.Prelude.{option_map}
 use Rattle.std.proofs.lemmas.List.{length-map}
-use Rattle.goblin_base.specs.Bytes.{IsBytes}
 use Rattle.goblin_base.proofs.Steps as steps
 use Rattle.goblin_pe_sect.specs.declared.options.ParseOptions.{ParseOptions}
-use Rattle.goblin_pe_sect.specs.SectionTable.{Section}
-use Rattle.goblin_pe_head.specs.PeHeader.{PeHeader}
 use Rattle.goblin_pe.specs.declared.whole.Part.{Part}
 use Rattle.goblin_pe.specs.declared.whole.Part.TheVariants.{Absent, Refused}
 use Rattle.goblin_pe.specs.declared.whole.Part.TheVariants as part
-use Rattle.goblin_pe.specs.ExportRecords.{ExportRow}
-use Rattle.goblin_pe.specs.ImportRecords.{ImportedLibrary}
-use Rattle.goblin_pe.specs.Imports.{ImportValue}
-use Rattle.goblin_pe.specs.Whole.{TablePlaces, WholeFile, entry_format, imports_part}
-use Rattle.goblin_pe.specs.Whole.{listed_imports, part_map, places_in, whole_file}
-use Rattle.goblin_pe.proofs.Collected.{whole-imports, whole-listed}
-use Rattle.goblin_pe_c.specs.declared.file.PeTable.{PeTable}
-use Rattle.goblin_pe_c.specs.Blocks.{block_view, blocks_in}
-use Rattle.goblin_pe_c.specs.Directories.{directories_of, directory_record}
-use Rattle.goblin_pe_c.specs.Exports.{ExportSaid, export_said, export_view}
-use Rattle.goblin_pe_c.specs.Files.{entries_of, file_of, summary, table_of}
-use Rattle.goblin_pe_c.specs.Filled.{Filled, alone}
-use Rattle.goblin_pe_c.specs.Imports.{import_view}
-use Rattle.goblin_pe_c.specs.Opened.{Opened, Opens, RecordsOfFile, records_of_file}
-use Rattle.goblin_pe_c.specs.RichHeaders.{entries_in, entry_view}
-use Rattle.goblin_pe_c.specs.Sections.{section_said}
+use Rattle.goblin_pe.specs.Whole.{WholeFile}
+use Rattle.goblin_pe.specs.Whole.{part_map, whole_file}
+use Rattle.goblin_pe_c.specs.Exports.{export_said}
+use Rattle.goblin_pe_c.specs.Files.{entries_of, table_of}
+use Rattle.goblin_pe_c.specs.Filled.{alone}
+use Rattle.goblin_pe_c.specs.Opened.{RecordsOfFile, records_of_file}
 
 -- ---- tables by what is made of each entry
 

@@ -1,5 +1,5 @@
 -- A header is never refused for want of memory, so want of memory tells that it is there.
-use Rattle.std.proofs.Common.{◌≡◌, ◌<◌, ◌≤◌, List, ℕ, arith, length}
+use Rattle.std.proofs.Common.{◌≡◌, ◌<◌, List, ℕ, arith, length}
 use Rattle.std.specs.Prelude.{◌/◌, IfSome, IsSome, IsSomeAnd, Option, None, Some}
 use Rattle.goblin_base.specs.declared.error.ErrorOf.{ErrorOf}
 use Rattle.goblin_base.specs.Answers.{IsMemory}

@@ -1,5 +1,5 @@
 -- What a call that reads a file reports.
-use Rattle.std.specs.Prelude.{◌≡◌, List, ℕ, Option, None, IsSomeAnd, Result, Ok, Err}
+use Rattle.std.specs.Prelude.{◌≡◌, List, ℕ, None, IsSomeAnd, Result, Ok, Err}
 use Rattle.goblin_base.specs.declared.error.ErrorOf.{ErrorOf}
 use Rattle.goblin_base.specs.Answers.{IsMemory}
 use Rattle.goblin_base.specs.Reading.{Reading}

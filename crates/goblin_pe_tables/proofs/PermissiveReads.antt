@@ -1,5 +1,5 @@
 -- What strict mode reads of imports, permissive mode reads, too.
-use Rattle.std.proofs.Common.{◌+◌, ℕ, true, false, List, [], ◌∷◌, Option, None, Some}
+use Rattle.std.proofs.Common.{◌+◌, ℕ, true, false, [], ◌∷◌, Option, None, Some}
 use Rattle.goblin_base.specs.Reading.{Repeats}
 use Rattle.goblin_base.specs.Tables.{Format}
 use Rattle.readings.specs.Reads.{given, text_at}
