@@ -29,9 +29,9 @@ use Rattle.goblin_pe.specs.declared.whole.Part.{Part}
 use Rattle.goblin_pe.specs.declared.whole.Part.TheVariants.{Absent, Refused}
 use Rattle.goblin_pe.specs.declared.whole.Part.TheVariants as part
 use Rattle.goblin_pe.specs.declared.whole.CollectedFile.{CollectedFile}
-use Rattle.goblin_pe.specs.declared.whole.FileTables.{FileTables}
-use Rattle.goblin_pe.specs.declared.whole.ListedTables.{ListedTables}
-use Rattle.goblin_pe.specs.declared.whole.Tables.{Tables}
+use Rattle.goblin_pe.specs.declared.whole.tables.CollectedTables.{CollectedTables}
+use Rattle.goblin_pe.specs.declared.whole.tables.ListedTables.{ListedTables}
+use Rattle.goblin_pe.specs.declared.whole.tables.Tables.{Tables}
 use Rattle.goblin_pe_tables.specs.ExportReadings.{export_read}
 use Rattle.goblin_pe_tables.specs.ExportRecords.{ExportRow, ExportTables, export_read_view}
 use Rattle.goblin_pe_tables.specs.ImportEntries.{EntryValue}
@@ -308,7 +308,7 @@ listed_view t = (
 )
 
 -- the tables that collectors hold
-abbrev pub tables_view : {I E X Y : Type 0} → (I → List X) → (E → List Y) → FileTables I E
+abbrev pub tables_view : {I E X Y : Type 0} → (I → List X) → (E → List Y) → CollectedTables I E
     → CollectedParts X Y
 tables_view items rows t =
     ((part_map items t.imports, part_map rows t.exports), part_map relocation_bytes t.relocations)

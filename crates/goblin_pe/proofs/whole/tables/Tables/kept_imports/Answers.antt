@@ -9,8 +9,8 @@ use Rattle.goblin_pe_tables.specs.ImportReadings.{import_data}
 use Rattle.goblin_pe_tables.specs.Imports.{kept_imports}
 use Rattle.goblin_pe.specs.Whole.{BecomesPart, entry_format, import_part, part_at, part_map}
 use Rattle.goblin_pe.proofs.Collected.{becomes_mapped, picked_mapped, unasked_mapped}
-use Rattle.goblin_pe.proofs.whole.Tables.kept_imports.Goals as goal
-use Rattle.goblin_pe.proofs.whole.Tables.kept_imports.Goals.{in_default-via-in-Some+else-opts, in_default-via-in_default}
+use Rattle.goblin_pe.proofs.whole.tables.Tables.kept_imports.Goals as goal
+use Rattle.goblin_pe.proofs.whole.tables.Tables.kept_imports.Goals.{in_default-via-in-Some+else-opts, in_default-via-in_default}
 
 pub returns-in-Some : goal.returns-in-Some
 unfolding import_part

@@ -2,7 +2,7 @@ use Rattle.std.proofs.Common.{arith}
 use Rattle.goblin_pe_tables.specs.Addresses.{offset_of}
 use Rattle.goblin_pe.specs.Whole.{part_map, table_places}
 use Rattle.goblin_pe.proofs.Collected.{collected-listed}
-use Rattle.goblin_pe.proofs.whole.Tables.collected_imports.Goals as goal
+use Rattle.goblin_pe.proofs.whole.tables.Tables.collected_imports.Goals as goal
 
 pub returns : goal.returns
 returns g c =

@@ -9,7 +9,7 @@ use Rattle.goblin_pe.specs.Whole.{import_parts, offset_by, part_map, relocation_
 use Rattle.goblin_pe.specs.Whole.{table_places}
 use Rattle.goblin_pe.proofs.Collected.{IsRefused, all-read, first-refused, second-refused}
 use Rattle.goblin_pe.proofs.Collected.{third-refused}
-use Rattle.goblin_pe.proofs.whole.Tables.collected.Goals as goal
+use Rattle.goblin_pe.proofs.whole.tables.Tables.collected.Goals as goal
 
 pub returns-in_err-imports : goal.returns-in_err-imports
 unfolding table_parts

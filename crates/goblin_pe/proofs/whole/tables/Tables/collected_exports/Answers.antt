@@ -5,7 +5,7 @@ use Rattle.goblin_pe_tables.specs.Addresses.{offset_of, reads_strictly}
 use Rattle.goblin_pe_tables.specs.ExportReadings.{export_read}
 use Rattle.goblin_pe.specs.Whole.{BecomesPart, collected_exports, export_part}
 use Rattle.goblin_pe.proofs.Collected.{absent_mapped, becomes_mapped}
-use Rattle.goblin_pe.proofs.whole.Tables.collected_exports.Goals as goal
+use Rattle.goblin_pe.proofs.whole.tables.Tables.collected_exports.Goals as goal
 
 pub returns-in-Some : goal.returns-in-Some
 unfolding export_part
