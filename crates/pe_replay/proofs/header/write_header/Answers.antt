@@ -1,7 +1,7 @@
 use Rattle.std.proofs.Common.{arith}
 use Rattle.goblin_pe_head.specs.HeaderLaws.{HeaderReadsBack}
 use Rattle.goblin_pe_head.specs.PeHeader.{header_value}
-use Rattle.pe_replay.proofs.write_header.Goals as goal
+use Rattle.pe_replay.proofs.header.write_header.Goals as goal
 
 pub returns-clause-again : goal.returns-clause-again
 unfolding HeaderReadsBack
