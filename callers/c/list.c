@@ -1,5 +1,5 @@
-/* Lists a file as pe_list does: list [--permissive] FILE. With --symbols the symbols of an object, as
-   pe_replay does, and with --te the header of a Terse Executable and its sections. */
+/* Lists a file as pe_list does: list [--permissive] FILE. With --symbols the symbols of an object, and
+   with --te the header of a Terse Executable, as pe_replay shows them. */
 #include "goblin_pe.h"
 
 #include <inttypes.h>

@@ -1,5 +1,5 @@
-"""Lists a file as pe_list does. With --symbols it lists the symbols of an object, as pe_replay does, and with --te the
-header of a Terse Executable and its sections."""
+"""Lists a file as pe_list does. With --symbols it lists the symbols of an object, and with --te the header of a Terse
+Executable, as pe_replay shows them."""
 import argparse
 import os
 import sys

@@ -5,6 +5,7 @@
 mod header;
 mod look_ups;
 mod symbols;
+mod te;
 
 use goblin_base::Error;
 use goblin_pe_sect::ParseOptions;
@@ -42,6 +43,7 @@ fn show(rt: &HostRuntime, file: &[u8], word: &str, count: &str, rule: &str) -> i
         "header" => header::show(rt, file),
         "footprint" => header::show_footprint(rt, file),
         "symbols" => symbols::show(rt, file),
+        "te" => te::show(rt, file),
         "walk" => look_ups::show_walk(rt, file, count.parse().unwrap_or(0), &opts),
         "index" => look_ups::show_index(rt, file, count.parse().unwrap_or(0), &opts),
         _ => Err(ErrorKind::InvalidInput.into()),
