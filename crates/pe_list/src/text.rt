@@ -1,12 +1,14 @@
 //! The pieces of a line: numbers and names as text.
 
-ghost use Rattle.std.specs.Prelude.{[], ◌≡◌, ◌++◌, ◌∷◌, ◌<◌, IsTrue, OnOk, false, string_bytes};
-ghost use Rattle.std.specs.Fmt.{digit_glyph, digits};
+ghost use Rattle.std.specs.Prelude.{◌≡◌, ◌++◌, ◌^◌, ◌<◌, ◌≤◌, IsAscii, IsTrue, OnOk, drop, false};
+ghost use Rattle.std.specs.Prelude.{string_bytes};
+ghost use Rattle.std.specs.Fmt.{decimal, digit_glyph, digits};
 ghost use Rattle.std.specs.List.{list_all};
 ghost use Rattle.pe_list.specs.Text.{decimal_field, escaped, escaped_byte, hex_field, is_plain};
 ghost use Rattle.pe_list.specs.Text.{name_field};
 
 use std::alloc::AllocError;
+use std::str;
 
 /// Appends a label, and a number as `0x` and lower-case hexadecimal digits without leading zeros.
 #[tactic(auto, unfolding(crate::specs::Text::hex_field))]
@@ -21,31 +23,67 @@ pub fn push_hex(text: &mut String, label: &str, number: u64) -> Result<(), Alloc
     Ok(())
 }
 
-// Appends the digits of a number, without leading zeros.
-#[tactic(auto, using(std::proofs::lemmas::Fmt::hex_one_digit, crate::proofs::HexDigits::more_digits))]
+// Appends a number in lower-case hexadecimal digits, without leading zeros.
 fn push_hex_digits(text: &mut String, number: u64) -> Result<(), AllocError>
     ensures { OnOk result
         (string_bytes text.new ≡ string_bytes text.old ++ digits 16 false number) }
 {
-    if number < 16 {
-        return push_hex_digit(text, number);
-    }
-    push_hex_digits(text, number / 16)?;
-    push_hex_digit(text, number % 16)?;
-    Ok(())
+    push_digits(text, 16, number)
 }
 
-fn push_hex_digit(text: &mut String, value: u64) -> Result<(), AllocError>
-    requires { value < 16 }
-    ensures { OnOk result
-        (string_bytes text.new ≡ string_bytes text.old ++ digit_glyph false value ∷ []) }
+// Appends a number in decimal digits, without leading zeros.
+fn push_decimal_digits(text: &mut String, number: u64) -> Result<(), AllocError>
+    ensures { OnOk result (string_bytes text.new ≡ string_bytes text.old ++ decimal number) }
 {
-    text.push(hex_digit(value) as char)
+    push_digits(text, 10, number)
 }
 
-fn hex_digit(value: u64) -> u8
+// Appends the digits of a number, without leading zeros: all at once, since each call tests for
+// room. The base is a literal where this is inlined.
+#[tactic(auto, using(crate::proofs::Digits::one_digit, crate::proofs::Digits::digits_are_text))]
+#[inline(always)]
+fn push_digits(text: &mut String, base: u64, number: u64) -> Result<(), AllocError>
+    requires lowest { 2 ≤ base }
+    requires highest { base ≤ 16 }
+    requires room { number < base ^ 20 }
+    ensures { OnOk result
+        (string_bytes text.new ≡ string_bytes text.old ++ digits base false number) }
+{
+    if number < base {
+        return text.push(digit(number) as char);
+    }
+    let mut places = [0; 20];
+    let start = fill_digits(&mut places, base, number);
+    text.push_str(unsafe { str::from_utf8_unchecked(&places[start..]) })
+}
+
+// Writes the digits of a number to the last places, the last digit first, and returns where they
+// start.
+#[inline(always)]
+fn fill_digits(places: &mut [u8; 20], base: u64, number: u64) -> usize
+    requires lowest { 2 ≤ base }
+    requires highest { base ≤ 16 }
+    requires room { number < base ^ 20 }
+    ensures start { result ≤ 20 }
+    ensures value { drop result places.new ≡ digits base false number }
+    ensures ascii { IsAscii (drop result places.new) }
+{
+    let mut start = 19;
+    let mut rest = number;
+    'filling: while rest >= base {
+        places[start] = digit(rest % base);
+        rest /= base;
+        start -= 1;
+    }
+    places[start] = digit(rest);
+    start
+}
+
+#[inline(always)]
+fn digit(value: u64) -> u8
     requires { value < 16 }
-    ensures { result ≡ digit_glyph false value }
+    ensures value { result ≡ digit_glyph false value }
+    ensures ascii { result < 128 }
 {
     if value < 10 {
         b'0' + value as u8
@@ -62,7 +100,7 @@ pub fn push_decimal(text: &mut String, label: &str, number: u64) -> Result<(), A
         (string_bytes text.new ≡ string_bytes text.old ++ decimal_field label.now number) }
 {
     text.push_str(label)?;
-    write!(text, "{number}")?;
+    push_decimal_digits(text, number)?;
     Ok(())
 }
 
