@@ -11,7 +11,7 @@ use Rattle.goblin_base.specs.declared.error.CauseOf.{CauseOf}
 use Rattle.goblin_base.specs.declared.error.ErrorOf.{ErrorOf}
 use Rattle.goblin_base.specs.declared.error.ErrorOf.TheVariants.{BadMagic, BufferTooShort}
 use Rattle.goblin_base.specs.declared.error.ErrorOf.TheVariants.{Malformed, Memory, Read}
-use Rattle.goblin_base.specs.Answers.{◌>>=◌, FirstFault, IsBoundedTextFault, IsMemory}
+use Rattle.goblin_base.specs.Answers.{◌>>=◌, FirstFault, IsMemory}
 use Rattle.goblin_base.specs.Answers.{IsSliceFault, IsTextFault}
 use Rattle.goblin_base.specs.Footprints.{Agree, led_to, rest_footprint, slot_footprint}
 use Rattle.goblin_base.specs.Reading.{Reading, Reads, ReadsOrMemory, Twins, TwinsOrMemory}
@@ -77,10 +77,6 @@ slice-not_memory bytes p n = by_cases-not_memory (IsSliceFault bytes p n) (λ m 
 pub text-not_memory : (bytes : List ℕ) (p : ℕ) (e : ErrorOf)
     → IsTextFault bytes p e → ¬ IsMemory e
 text-not_memory bytes p = by_cases-not_memory (IsTextFault bytes p) (λ m h. h)
-
-pub bounded_text-not_memory : (bytes : List ℕ) (p n : ℕ) (e : ErrorOf)
-    → IsBoundedTextFault bytes p n e → ¬ IsMemory e
-bounded_text-not_memory bytes p n = by_cases-not_memory (IsBoundedTextFault bytes p n) (λ m h. h)
 
 -- ---- a typed value, which may depend on all bytes that follow
 

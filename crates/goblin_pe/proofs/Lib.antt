@@ -2,7 +2,6 @@ pub mod Collected
 pub mod HeaderThere
 pub mod KeptImports
 pub mod ListedImports
-pub mod LookupReach
 pub mod Parts
 pub mod PermissiveReads
 pub mod SectionRoom

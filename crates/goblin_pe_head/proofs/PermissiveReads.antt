@@ -28,10 +28,6 @@ repeats-header =
     (repeats-beside (reading.stub_in true dos.pe_pointer) (reading.stub_in false dos.pe_pointer)
     rest rest (repeats-or_else default_stub stub stub (repeats-same stub)) (repeats-same rest)))
 
-pub header-kept : (bytes : List ℕ)
-    → Keeps ((reading.pe_header true).value bytes) ((reading.pe_header false).value bytes)
-header-kept bytes = repeats-header.kept bytes
-
 pub sections_at-kept : (table n : ℕ) (bytes : List ℕ) (p : ℕ)
     → Keeps ((coff.sections_at true table n p).value bytes)
     ((coff.sections_at false table n p).value bytes)

@@ -34,23 +34,6 @@ all_more P xs n x here below this k y lt is =
           subst P one this
     ]
 
-only_zero : (sections : List Section) (alignment x : ℕ) → Contains (0 ∷ []) x → IsBorder sections alignment x
-only_zero sections alignment x has =
-    elim (Contains-push_cases [] 0 x has) [
-      | inl none ↦ absurd (omega (arith, none.1))
-      | inr at ↦ inl (sym at)
-    ]
-
-pub cuts_none : (sections : List Section) (alignment : ℕ) → HasCuts sections alignment (0 ∷ []) 0
-cuts_none sections alignment = record {
-  start = (0, omega arith, refl);
-  begins = λ k s lt. absurd (omega arith);
-  ends = λ k s lt. absurd (omega arith);
-  only = only_zero sections alignment;
-  near = λ k s lt. absurd (omega arith);
-  few = omega arith;
-}
-
 pub cuts_empty : (sections : List Section) (alignment : ℕ) (points : List ℕ) (n : ℕ) (s : Section) → HasCuts sections alignment points n → slice_get sections n ≡ Some s → read_size s alignment ≡ 0 → HasCuts sections alignment points (n + 1)
 cuts_empty sections alignment points n s h here empty = record {
   start = h.start;

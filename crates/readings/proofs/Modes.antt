@@ -8,16 +8,12 @@ use Rattle.goblin_base.proofs.Kept.{Keeps, kept_slots-kept, map-kept, or_left_ou
 use Rattle.goblin_base.proofs.Kept.{slot_table-kept, then-kept}
 use Rattle.goblin_base.proofs.Steps.{mapped as mapped_value, same_value, step}
 use Rattle.readings.specs.Reads as reads
-use Rattle.readings.specs.Reads.{◌beside◌, because, in_its_place, mapped, or_else, or_left_out}
-use Rattle.readings.specs.Reads.{pair_of, pick, table, table_with_slots, with_slots}
+use Rattle.readings.specs.Reads.{◌beside◌, in_its_place, mapped, or_else, or_left_out}
+use Rattle.readings.specs.Reads.{pair_of, table, table_with_slots, with_slots}
 
 -- the same read in both modes
 pub repeats-same : {A : Type 0} (r : Reading A) → Repeats r r
 repeats-same r = record { kept = λ bytes x is. is }
-
-pub repeats-because : {A : Type 0} (cause other : CauseOf) (r s : Reading A) → Repeats r s
-    → Repeats (because cause r) (because other s)
-repeats-because cause other r s h = record { kept = h.kept }
 
 pub repeats-mapped : {A B : Type 0} (f : A → B) (r s : Reading A) → Repeats r s
     → Repeats (mapped f r) (mapped f s)
@@ -68,11 +64,6 @@ pub repeats-pick : {A : Type 0} (test : Bool) (r s p q : Reading A) → Repeats 
     → Repeats p q → Repeats (cond test r p) (cond test s q)
 repeats-pick true r s p q h k = h
 repeats-pick false r s p q h k = k
-
-pub repeats-either : {A : Type 0} (test : Bool) (r s p q : Reading A) → Repeats r s
-    → Repeats p q → Repeats (pick test r p) (pick test s q)
-repeats-either true r s p q h k = record { kept = h.kept }
-repeats-either false r s p q h k = record { kept = k.kept }
 
 -- a table whose end strict mode needs
 module _ {V A : Type 0} (slots : SlotFormat V) (missing other : ℕ → Reading V)

@@ -8,7 +8,7 @@ use Rattle.goblin_base.specs.declared.error.CauseOf.{CauseOf}
 use Rattle.goblin_base.specs.declared.error.ErrorOf.{ErrorOf}
 use Rattle.goblin_base.specs.declared.error.ErrorOf.TheVariants.{Malformed}
 use Rattle.goblin_base.specs.Answers as answers
-use Rattle.goblin_base.specs.Answers.{FirstFault, IsBoundedTextFault, IsFirstMissing, IsMemory}
+use Rattle.goblin_base.specs.Answers.{FirstFault, IsFirstMissing, IsMemory}
 use Rattle.goblin_base.specs.Answers.{IsSliceFault, IsTextFault, all_at}
 use Rattle.goblin_base.specs.Bytes as bytes_of
 use Rattle.goblin_base.specs.Footprints.{counted_footprint, led_to, rest_footprint}
@@ -25,7 +25,7 @@ use Rattle.goblin_base.specs.Tables.{slot_table}
 use Rattle.goblin_base.specs.Values as values
 use Rattle.goblin_base.specs.Values.{IsValueFault}
 use Rattle.goblin_base.proofs.Below.{concat_below-agree}
-use Rattle.goblin_base.proofs.Footprints.{agree-below, same-all_at, same-bounded_text_at}
+use Rattle.goblin_base.proofs.Footprints.{agree-below, same-all_at}
 use Rattle.goblin_base.proofs.Footprints.{same-counted_table_if, same-number_at}
 use Rattle.goblin_base.proofs.Footprints.{same-record_at, same-slice_at, same-text_at}
 use Rattle.goblin_base.proofs.Inside.{below-in, counted-in, led-in, none-in, rest-in, slice-in}
@@ -34,7 +34,7 @@ use Rattle.goblin_base.proofs.Parts.{agree-moved, agree-moved_slice, between-in,
 use Rattle.goblin_base.proofs.Parts.{same-bytes_between, same-front_through, same-string_table}
 use Rattle.goblin_base.proofs.Parts.{search-in, slice-moved-in, string_table-not_memory}
 use Rattle.goblin_base.proofs.Picks.{checked-not_memory, pick-inside, pick-local, pick-not_memory}
-use Rattle.goblin_base.proofs.Readings.{beside-inside, beside-local, bounded_text-not_memory}
+use Rattle.goblin_base.proofs.Readings.{beside-inside, beside-local}
 use Rattle.goblin_base.proofs.Readings.{kept-local, malformed-not_memory, slice-not_memory}
 use Rattle.goblin_base.proofs.Readings.{table-inside, table-local, table-not_memory}
 use Rattle.goblin_base.proofs.Readings.{text-not_memory, then-inside, then-local}
@@ -121,17 +121,6 @@ text_at p = record {
   is_local = λ a b agree. same-text_at a b p agree;
   is_inside = λ bytes. stretch-in bytes p;
   not_memory = λ bytes. text-not_memory bytes p;
-}
-
--- the text at p within n bytes; it reaches all n
-abbrev pub bounded_text_at : ℕ → ℕ → Reading (List ℕ)
-bounded_text_at p n = record {
-  value = λ bytes. bytes_of.bounded_text_at bytes p n;
-  IsCause = λ bytes. IsBoundedTextFault bytes p n;
-  reaches = λ bytes. slice_footprint bytes p n;
-  is_local = λ a b agree. same-bounded_text_at a b p n agree;
-  is_inside = λ bytes. slice-in bytes p n;
-  not_memory = λ bytes. bounded_text-not_memory bytes p n;
 }
 
 -- the string table of n bytes at p
