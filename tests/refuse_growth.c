@@ -1,5 +1,5 @@
-// Stands before the C library's malloc and realloc in a program that ./test runs: the growth whose number is in
-// REFUSED is refused, and file descriptor 3 gets a line that says so.
+// Stands before the C library's malloc and realloc in a program that the tests run: the growth whose number is in
+// REFUSED is refused, and the file descriptor whose number is in TOLD gets a line that says so.
 void *__libc_malloc(unsigned long size);
 void *__libc_realloc(void *block, unsigned long size);
 char *getenv(const char *name);
@@ -12,7 +12,7 @@ static int is_refused(void) {
     const char *refused = getenv("REFUSED");
     if (!refused || ++growths != atoi(refused))
         return 0;
-    write(3, "refused\n", 8);
+    write(atoi(getenv("TOLD")), "refused\n", 8);
     return 1;
 }
 

@@ -1,0 +1,106 @@
+"""Images and objects that the tests and tools/benchmark make, as bytes."""
+import struct
+
+
+def large_image(libraries=64, functions=1500, exports=60000, blocks=20000, size=16 << 20):
+    """An image for 64 bits with many imports, exports and base relocations, and data after them."""
+    base = 0x1000
+    raw = bytearray()
+
+    def put(data, alignment=1):
+        while len(raw) % alignment:
+            raw.append(0)
+        place = base + len(raw)
+        raw.extend(data)
+        return place
+
+    code = put(bytes(0x1000))
+    directory = []
+    for i in range(libraries):
+        name = put(b"library%03d.dll\0" % i)
+        hints = [put(struct.pack("<H", j) + b"function_%05d_of_%03d\0" % (j, i), 2) for j in range(functions)]
+        table = struct.pack("<%dQ" % (functions + 1), *hints, 0)
+        directory.append(struct.pack("<5I", put(table, 8), 0, 0, name, put(table, 8)))
+    imports = put(b"".join(directory) + bytes(20), 4)
+    record = put(bytes(40), 4)
+    own = put(b"large.dll\0")
+    names = [put(b"export_%06d\0" % i) for i in range(exports)]
+    addresses = put(struct.pack("<%dI" % exports, *[code + i % 0x1000 for i in range(exports)]), 4)
+    pointers = put(struct.pack("<%dI" % exports, *names), 4)
+    ordinals = put(struct.pack("<%dH" % exports, *range(exports)), 2)
+    struct.pack_into("<IIHHIIIIIII", raw, record - base, 0, 0, 0, 0, own, 1, exports, exports, addresses, pointers, ordinals)
+    exports_size = base + len(raw) - record
+    raw.extend(bytes(max(0, size - len(raw))))
+    raw.extend(bytes(-len(raw) % 0x1000))
+    words = struct.pack("<HH", 0xA000, 0xA008)
+    relocations = b"".join(struct.pack("<II", base + 4096 * i, 8 + len(words)) + words for i in range(blocks))
+    end = base + len(raw)
+    tables = [(0, record, exports_size), (1, imports, 20 * (libraries + 1)), (5, end, len(relocations))]
+    tables = tables if blocks else tables[:2]
+    headers = image_headers(0x200, len(tables) - 1, end + (len(relocations) + 0xFFF) // 0x1000 * 0x1000, tables)
+    put_section(headers, 0x148, b".rdata", raw, base, 0x200)
+    if blocks:
+        put_section(headers, 0x170, b".reloc", relocations, end, 0x200 + len(raw))
+    return headers + raw + relocations + bytes(-len(relocations) % 0x200)
+
+
+def hostile_image(size):
+    """An image of a section and an import for each 64 bytes, whose names are all found in the last of the sections."""
+    count = size // 64 - 16
+    start = (0x148 + 40 * count + 0x1FF) // 0x200 * 0x200
+    base = 0x1000
+    names = base + 0x100 + 16 * (count + 1)
+    hints = struct.pack("<%dQ" % (count + 1), *[names + 8 * i for i in range(count)], 0)
+    tables = base + 0x100
+    data = struct.pack("<5I", tables, 0, 0, base + 0x80, tables + len(hints)) + bytes(20)
+    data = data.ljust(0x80, b"\0") + b"library.dll\0"
+    data = data.ljust(0x100, b"\0") + hints + hints + b"".join(struct.pack("<H5sB", 0, b"%05d" % i, 0) for i in range(count))
+    data = data.ljust(size - start, b"\0")
+    headers = image_headers(start, count, 0x7FFFF000, ((1, base, 40),))
+    for i in range(count - 1):
+        put_section(headers, 0x148 + 40 * i, b".empty", b"x", 0x10000000 + 0x1000 * i, start)
+    put_section(headers, 0x148 + 40 * (count - 1), b".idata", data, base, start)
+    return headers + data
+
+
+def shared_image(libraries, functions):
+    """An image of many libraries that share one table of imports, all of them by the ordinal 1: with 20,000 and 50,000 it
+    has less than a megabyte, and asks for more memory than a machine has."""
+    base = 0x1000
+    tables = base + 20 * (libraries + 1)
+    name = tables + 8 * (functions + 1)
+    data = struct.pack("<5I", tables, 0, 0, name, tables) * libraries + bytes(20)
+    data += struct.pack("<Q", 1 << 63 | 1) * functions + bytes(8) + b"a.dll\0"
+    headers = image_headers(0x200, 1, 0x7FFFF000, ((1, base, 20 * (libraries + 1)),))
+    put_section(headers, 0x148, b".idata", data, base, 0x200)
+    return headers + data + bytes(-len(data) % 0x200)
+
+
+def image_headers(length, sections, image_size, directories):
+    """The headers of an image for 64 bits, with room for the records of its sections up to this length."""
+    headers = bytearray(length)
+    headers[0:2] = b"MZ"
+    struct.pack_into("<I", headers, 0x3C, 0x40)
+    struct.pack_into("<4sHHIIIHH", headers, 0x40, b"PE\0\0", 0x8664, sections, 0, 0, 0, 240, 0x2022)
+    struct.pack_into("<HBBIIIII", headers, 0x58, 0x20B, 14, 0, 0, 0, 0, 0x1000, 0x1000)
+    struct.pack_into("<QIIHHHHHHIIIIHH", headers, 0x70, 0x180000000, 0x1000, 0x200, 6, 0, 0, 0, 6, 0, 0, image_size, length, 0, 3, 0)
+    struct.pack_into("<QQQQII", headers, 0xA0, 0x100000, 0x1000, 0x100000, 0x1000, 0, 16)
+    for index, address, size in directories:
+        struct.pack_into("<II", headers, 0xC8 + 8 * index, address, size)
+    return headers
+
+
+def put_section(headers, place, name, data, address, pointer):
+    """Writes the record of a section whose data stands at an address, and in the file at a pointer."""
+    raw_size = (len(data) + 0x1FF) // 0x200 * 0x200
+    struct.pack_into("<8sIIIIIIHHI", headers, place, name, len(data), address, raw_size, pointer, 0, 0, 0, 0, 0x40000040)
+
+
+def many_sections(count, size=0x1000, past=0):
+    """An object of many sections of a size, whose windows lie side by side; their data begin so many bytes past such
+    places in the file."""
+    headers = bytearray(20 + 40 * count)
+    struct.pack_into("<HHIIIHH", headers, 0, 0x8664, count, 0, 0, 0, 0, 0)
+    for i in range(count):
+        struct.pack_into("<8sIIIIIIHHI", headers, 20 + 40 * i, b".data", size, size * i, size, size * i + past, 0, 0, 0, 0, 0)
+    return headers

@@ -1,0 +1,117 @@
+"""The library's calls in the test program pe_replay: headers written back, footprints, addresses among many sections, and
+each call that takes memory with each of its growths refused."""
+import struct
+
+from tests import images
+from tests.programs import CRATES, IMAGES, PE_REPLAY, Case, run
+
+# The forms of a call: without options, or by those of a mode.
+MODES = ("strict", "permissive")
+EACH = ("default", *MODES)
+DEFAULT = ("default",)
+
+# Calls that take memory, and their answers. A law has two answers: where one is refused memory, the other stands in its
+# place, and so it is for each of them.
+TAKE_MEMORY = [
+    (EACH, "section", "5"),
+    (DEFAULT, "clone", "5"),
+    (DEFAULT, "data", "6"),
+    (DEFAULT, "data_of_32_mib", "33554432"),
+    (EACH, "sections", "5"),
+    (DEFAULT, "te_sections", "5"),
+    (DEFAULT, "te_sections_moved", "5"),
+    (MODES, "index", "5"),
+    (EACH, "lookup", "2"),
+    (MODES, "slots", "2"),
+    (MODES, "no_slots", "0"),
+    (EACH, "library", "2"),
+    (EACH, "import_data", "1"),
+    (DEFAULT, "imports", "11"),
+    (EACH, "export_data", "2"),
+    (EACH, "exports", "6"),
+    (MODES, "footprint_imports", "6"),
+    (MODES, "whole", "22"),
+    (MODES, "twin_lookup", "2 1"),
+    (("strict",), "twin_imports", "1 refused"),
+    (("permissive",), "twin_imports", "1 0"),
+    (MODES, "twin_exports", "6 1"),
+    (MODES, "twin_whole", "22 6"),
+    (MODES, "twin_parts", "8 8"),
+    (DEFAULT, "mode_whole", "22 22"),
+    (DEFAULT, "mode_tables", "9 9"),
+    (MODES, "reorder_whole_tables", "9 9"),
+]
+TAKE_NONE = [
+    (EACH, "section_with_empty_name", "0"),
+    (DEFAULT, "clone_with_empty_name", "0"),
+    (DEFAULT, "clone_with_short_name", "6"),
+    (DEFAULT, "data_without_zeros", "4"),
+    (DEFAULT, "data_past_the_file", "0"),
+    (DEFAULT, "string_table", "3"),
+    (DEFAULT, "strings", "3"),
+    (DEFAULT, "no_strings", "0"),
+    (EACH, "no_sections", "0"),
+    (DEFAULT, "no_te_sections", "0"),
+    (MODES, "index_of_no_alignment", "0"),
+    (MODES, "index_of_offsets", "0"),
+    (DEFAULT, "no_imports", "0"),
+    (EACH, "exports_of_no_bytes", "0"),
+]
+
+
+def setUpModule():
+    if not PE_REPLAY.exists():
+        folder = CRATES / "pe_replay"
+        run(["rt", "run", "--", *(folder / "args").read_text().split()], folder / "stdin", cwd=folder)
+
+
+class Growths(Case):
+    def growths(self, call, form, answer):
+        """What a call writes where one of its growths is refused, for each of them."""
+        return self.each_growth([PE_REPLAY, call, form], f"{answer}\n".encode())
+
+    def test_calls_that_take_memory(self):
+        own = len(self.growths("nothing", "default", "0"))
+        for forms, call, answer in TAKE_MEMORY:
+            first, _, second = answer.partition(" ")
+            refused = {f"{first} memory\n".encode(), f"memory {second}\n".encode()} if second else {b"memory\n"}
+            for form in forms:
+                with self.subTest(call=call, form=form):
+                    written = self.growths(call, form, answer)
+                    self.assertGreater(len(written), own)
+                    self.assertEqual(set(written) - {b""}, refused)
+
+    def test_calls_that_take_none(self):
+        """No growth is refused but those of the program for its words."""
+        own = len(self.growths("nothing", "default", "0"))
+        for forms, call, answer in TAKE_NONE:
+            for form in forms:
+                with self.subTest(call=call, form=form):
+                    self.assertEqual(self.growths(call, form, answer), [b""] * own)
+
+
+class Answers(Case):
+    def assert_shows(self, stdin, wanted, *words):
+        self.assert_runs([PE_REPLAY, *words], (0, wanted, b""), stdin)
+
+    def test_a_header_is_written_as_it_was_read(self):
+        """The file's own bytes up to the section table."""
+        for sample in IMAGES:
+            with self.subTest(sample=sample.name):
+                data = sample.read_bytes()
+                pe = struct.unpack_from("<I", data, 60)[0]
+                self.assert_shows(sample, data[:pe + 24 + struct.unpack_from("<H", data, pe + 20)[0]], "header")
+
+    def test_a_footprint_of_many_ranges(self):
+        image = images.large_image(libraries=64, functions=2400, exports=0, blocks=0, size=1 << 20)
+        self.assert_shows(image, b"%#x\n" % (64 * (2 * 2400 + 3) + 1), "footprint")
+
+    def test_addresses_among_many_sections(self):
+        """By both rules for raw pointers each is found where the format says."""
+        made = images.many_sections(count=5000, size=0xD000, past=0x10)
+        places = [i * 0x9E3779B1 % (1 << 28) for i in range(5000)]
+        found = [place for place in places if place < 5000 * 0xD000]
+        for way in ("walk", "index"):
+            for rule, wanted in (("stored", sum(found) + 0x10 * len(found)), ("rounded", sum(found))):
+                with self.subTest(way=way, rule=rule):
+                    self.assert_shows(made, b"%#x\n" % wanted, way, "5000", rule)

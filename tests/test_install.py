@@ -1,0 +1,138 @@
+"""The library for callers as its users install it: by pkg-config, as a crate in Rust, and as a package in Python."""
+import functools
+import pathlib
+import platform
+import re
+import shutil
+import unittest
+
+from tests.programs import BY_NAME, CALLERS, CC, FLAGS, Case, beside, environment, library, need, run, succeed
+
+CARGO = ["cargo", "-q", "--offline", "--locked"]
+LISTED = (0, beside(BY_NAME, "listing"), b"")
+
+
+def setUpModule():
+    library()
+
+
+def install(prefix, **more):
+    need(CC, "pkg-config")
+    succeed([CALLERS / "install", prefix], env=environment(GOBLIN_PE_LIB=str(library()), **more))
+
+
+class Library(Case):
+    """For programs in C, by pkg-config."""
+
+    def example(self, *flags, told=()):
+        """The example, built as pkg-config tells."""
+        install(self.folder)
+        words = succeed(["pkg-config", "--cflags", "--libs", *told, "goblin_pe"], env=environment(PKG_CONFIG_PATH=f"{self.folder}/lib/pkgconfig"))
+        succeed([CC, "-std=c99", *FLAGS, *flags, "-o", self.folder / "list", CALLERS / "c/list.c", *words.split()])
+        return self.folder / "list"
+
+    def test_a_program_over_the_shared_library(self):
+        """It asks for the library by the version of the interface."""
+        program = self.example()
+        (self.folder / "lib/libgoblin_pe.so").unlink()
+        self.assert_runs([program, BY_NAME], LISTED, env=environment(LD_LIBRARY_PATH=f"{self.folder}/lib"))
+
+    def test_a_program_over_the_archive(self):
+        self.assert_runs([self.example("-static", told=["--static"]), BY_NAME], LISTED, env={})
+
+    def test_a_package_is_for_its_prefix(self):
+        install("/usr", DESTDIR=str(self.folder))
+        self.assertIn("prefix=/usr\n", (self.folder / "usr/lib/pkgconfig/goblin_pe.pc").read_text("ascii"))
+
+
+class Crate(Case):
+    """What cargo packs, with the library that pkg-config tells of, with another one, or with none."""
+
+    def setUp(self):
+        need("cargo")
+        super().setUp()
+        succeed([*CARGO, "package", "--no-verify", "--allow-dirty", "--manifest-path", CALLERS / "rust/Cargo.toml", "--target-dir", self.folder])
+        packed, = self.folder.glob("package/*.crate")
+        shutil.unpack_archive(packed, self.folder, "gztar")
+        self.manifest = self.folder / packed.stem / "Cargo.toml"
+        self.other = self.folder / "other"
+        self.other.mkdir()
+
+    def build(self, **more):
+        """Builds the example: what cargo answers."""
+        return run([*CARGO, "build", "--example", "list", "--manifest-path", self.manifest, "--target-dir", self.folder], env=environment(**more))
+
+    def assert_lists_by(self, **more):
+        status, _, said = self.build(**more)
+        self.assertEqual(status, 0, said)
+        self.assert_runs([self.folder / "debug/examples/list", BY_NAME], LISTED)
+
+    def test_by_pkg_config(self):
+        install(self.folder / "prefix")
+        self.assert_lists_by(PKG_CONFIG_PATH=str(self.folder / "prefix/lib/pkgconfig"))
+
+    def test_by_the_folder_lib_beside_it(self):
+        (self.folder / "lib").mkdir()
+        shutil.copy(library() / "libgoblin_pe.a", self.folder / "lib")
+        self.assert_lists_by(PKG_CONFIG_LIBDIR=str(self.other))
+
+    def test_without_a_library(self):
+        status, _, said = self.build(PKG_CONFIG_LIBDIR=str(self.other))
+        self.assertNotEqual(status, 0)
+        self.assertIn(b"run callers/build", said)
+
+    def test_over_another_interface(self):
+        need(CC, "ar")
+        names = re.findall(r"(?m)^ *(?:safe )?fn (goblin_pe_[a-z_]*)[<(]", (CALLERS / "rust/src/raw.rs").read_text("utf-8"))
+        source = self.written("other.c", b"".join(b"int %s(void) { return -1; }\n" % name.encode() for name in names))
+        succeed([CC, "-c", "-o", self.folder / "other.o", source])
+        succeed(["ar", "r", self.other / "libgoblin_pe.a", self.folder / "other.o"])
+        status, _, said = self.build(GOBLIN_PE_LIB=str(self.other))
+        self.assertEqual(status, 0, said)
+        for words in ([], ["--symbols"], ["--te"]):
+            with self.subTest(words=words):
+                status, _, said = run([self.folder / "debug/examples/list", *words, BY_NAME])
+                self.assertEqual(status, 101)
+                self.assertIn(b"another interface", said)
+
+
+@functools.cache
+def python():
+    """A Python that has what builds a package."""
+    need(CC)  # (for the shared library)
+    for it in ("python3", "/usr/bin/python3"):
+        if shutil.which(it) and not run([it, "-c", "import setuptools, wheel, pip, venv, ensurepip"])[0]:
+            return it
+    raise unittest.SkipTest("no Python with setuptools, wheel, pip and venv")
+
+
+class Package(Case):
+    """In an environment of its own, with no variable of ours."""
+
+    def setUp(self):
+        python()
+        super().setUp()
+        self.package = self.folder / "python"
+        shutil.copytree(CALLERS / "python", self.package)
+        (self.folder / "lib").mkdir()
+        shutil.copy(library() / "libgoblin_pe.so", self.folder / "lib")
+
+    def installed(self, what, venv=(), pip=()):
+        """The Python of a new environment, with the package installed, which has to list."""
+        made = self.folder / "environment"
+        succeed([python(), "-m", "venv", *venv, made])
+        succeed([made / "bin/pip", "install", "-q", "--no-deps", *pip, what], cwd="/", env={})
+        self.assert_runs([made / "bin/python", "-m", "goblin_pe", BY_NAME], LISTED, cwd="/", env={})
+        return made / "bin/python"
+
+    def test_a_wheel(self):
+        wheels = self.folder / "wheels"
+        succeed([python(), "-m", "pip", "wheel", "-q", "--no-build-isolation", "--no-deps", "-w", wheels, self.package], env=environment())
+        wheel, = wheels.iterdir()
+        self.assertRegex(wheel.name, f"^goblin_pe-.*-py3-none-linux_{platform.machine()}\\.whl$")
+        self.installed(wheel, pip=["--no-index"])
+
+    def test_the_folder_of_the_package(self):
+        it = self.installed(self.package, venv=["--system-site-packages"], pip=["--no-build-isolation"])
+        module = succeed([it, "-c", "import goblin_pe; print(goblin_pe.__file__)"], cwd="/", env={})
+        self.assertTrue(pathlib.Path(module.strip()).with_name("py.typed").exists(), "the type hints are not there")

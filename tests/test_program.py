@@ -1,0 +1,133 @@
+"""The built program pe_list: listings, refusals, wrong uses, refused memory, and input and output that fail."""
+import collections
+import itertools
+import os
+import random
+import struct
+import subprocess
+
+from tests import images
+from tests.programs import CRATES, IMAGES, OBJECTS, PE_LIST, SAMPLES, TERSE, TOP, Case, beside, milliseconds, modes, run, with_memory
+
+BOTH_MODES = ([], ["--permissive"])
+USAGE = b"usage: pe_list [--permissive]\n"
+REFUSED = (1, b"", b"refused\n")
+NO_MEMORY = (1, b"", b"out of memory\n")
+SMALL = SAMPLES / "align16_x86.dll"
+
+
+def setUpModule():
+    """Where the program is not built, or a source is newer, it is proved and built first."""
+    with open(SMALL, "rb") as sample:
+        subprocess.run([TOP / "pe_list"], stdin=sample, stdout=subprocess.DEVNULL, check=True, env={**os.environ, "PE_LIST_PROVED": "only"})
+
+
+class Listings(Case):
+    def test_each_sample_is_listed(self):
+        for sample in IMAGES:
+            for words, wanted in modes(sample):
+                with self.subTest(sample=sample.name, words=words):
+                    self.assert_runs([PE_LIST, *words], (0, wanted, b""), sample)
+
+    def test_what_is_no_image_is_refused(self):
+        for file in (os.devnull, TOP / "LICENSE", *OBJECTS, *TERSE):
+            for words in BOTH_MODES:
+                with self.subTest(file=os.path.basename(file), words=words):
+                    self.assert_runs([PE_LIST, *words], REFUSED, file)
+
+    def test_bytes_without_a_meaning_are_refused(self):
+        for seed in range(1, 9):
+            data = random.Random(seed).randbytes(1536)
+            for signature, words in itertools.product((b"", b"MZ"), BOTH_MODES):
+                with self.subTest(seed=seed, signature=signature, words=words):
+                    self.assert_runs([PE_LIST, *words], REFUSED, signature + data)
+
+    def test_a_sample_cut_at_each_length(self):
+        """Without its whole section table it is refused. After that, permissive mode lists its header and its sections,
+        whatever became of its tables, and strict mode refuses the file or lists as much."""
+        whole = SMALL.read_bytes()
+        pe = struct.unpack_from("<I", whole, 60)[0]
+        sections, optional_header = struct.unpack_from("<H", whole, pe + 6)[0], struct.unpack_from("<H", whole, pe + 20)[0]
+        end = pe + 24 + optional_header + 40 * sections
+        front = beside(SMALL, "listing").splitlines()[:1 + sections]
+        for length in range(len(whole)):
+            for words in BOTH_MODES:
+                with self.subTest(length=length, words=words):
+                    status, out, said = run([PE_LIST, *words], whole[:length])
+                    if length < end or status == 1 and not words:
+                        self.assertEqual((status, out, said), REFUSED)
+                    else:
+                        self.assertEqual((status, out.splitlines()[:1 + sections], said), (0, front, b""))
+
+    def test_a_wrong_use_is_found_before_anything_is_read(self):
+        for name, words in (("an unknown word", ["x"]),
+                            ("an empty word", [""]),
+                            ("a word that is not UTF-8", [b"\xff"]),
+                            ("the mode twice", ["--permissive", "--permissive"]),
+                            ("a word after the mode", ["--permissive", "x"])):
+            with self.subTest(name):
+                self.assert_runs([PE_LIST, *words], (2, b"", USAGE), TOP)  # (reading a folder would fail)
+
+
+class Memory(Case):
+    def assert_each_growth(self, words, wanted, stdin):
+        """Where a growth is refused nothing is listed."""
+        self.assertEqual(set(self.each_growth([PE_LIST, *words], wanted, stdin)), {b""})
+
+    def test_each_growth_is_refused(self):
+        stored = CRATES / "pe_list/stdin"
+        for words in BOTH_MODES:
+            with self.subTest("the stored run", words=words):
+                self.assert_each_growth(words, stored.with_name("stdout").read_bytes(), stored)
+        for sample in IMAGES:
+            for words, wanted in modes(sample):
+                with self.subTest(sample=sample.name, words=words):
+                    self.assert_each_growth(words, wanted, sample)
+
+    def test_a_large_image(self):
+        """It is listed, and refused where memory is short, be it to read the image or to list it."""
+        image = images.large_image(blocks=100000)
+        with self.subTest("ample memory"):
+            self.assert_counts(image, {"import": 96000, "export": 60000, "block": 100000}, lines=256006)
+        for kibibytes in (16000, 32000, 48000, 64000, 80000):
+            with self.subTest(kibibytes=kibibytes):
+                self.assert_runs(with_memory(kibibytes, [PE_LIST]), NO_MEMORY, image)
+
+    def test_many_imports(self):
+        self.assert_counts(images.shared_image(libraries=1000, functions=1100), {"import": 1100000})
+
+    def assert_counts(self, image, wanted, lines=None):
+        status, out, said = run([PE_LIST], image)
+        listed = out.splitlines()
+        found = collections.Counter(line.split(b" ", 1)[0].decode() for line in listed)
+        self.assertEqual((status, said, {word: found[word] for word in wanted}), (0, b"", wanted))
+        self.assertIn(lines, (None, len(listed)))
+
+
+class Time(Case):
+    def test_addresses_are_looked_up_by_an_index(self):
+        """Twice the sections, and twice the addresses, take no more than three times as long. A walk over the sections
+        for each address takes four times."""
+        least = []
+        for mebibytes in (1, 2):
+            image = self.written("hostile.dll", images.hostile_image(mebibytes << 20))
+            least.append(min(milliseconds([PE_LIST], image) for _ in range(9)))
+        self.assertLessEqual(least[1], 3 * least[0])
+
+
+class Faults(Case):
+    def test_a_folder_as_input(self):
+        for words in BOTH_MODES:
+            with self.subTest(words=words):
+                self.assert_runs([PE_LIST, *words], (1, b"", b"read failed\n"), TOP)
+
+    def test_a_full_device_as_output(self):
+        self.assert_runs(["sh", "-c", 'exec "$0" > /dev/full', PE_LIST], (1, b"", b"write failed\n"), SMALL)
+
+    def test_the_status_is_the_same_with_standard_error_closed(self):
+        for name, words, stdin, status, out in (("a listing", [], SMALL, 0, beside(SMALL, "listing")),
+                                                ("a refused file", [], TOP / "LICENSE", 1, b""),
+                                                ("a folder as input", [], TOP, 1, b""),
+                                                ("a wrong use", ["x"], SMALL, 2, b"")):
+            with self.subTest(name):
+                self.assert_runs(["sh", "-c", 'exec "$0" "$@" 2>&-', PE_LIST, *words], (status, out, b""), stdin)

@@ -1,0 +1,56 @@
+"""The crate for callers in Rust, and goblin beside it."""
+import functools
+import pathlib
+import shutil
+
+from tests.programs import CALLERS, IMAGES, SAMPLES, Case, environment, folder, library, need, run, succeed
+
+REGISTRY = pathlib.Path("/usr/share/cargo/registry")
+
+
+def setUpModule():
+    need("cargo")
+    library()
+
+
+def cargo(verb, *words, **more):
+    """Calls cargo in the crate."""
+    env = environment(GOBLIN_PE_LIB=str(library()), GOBLIN_PE_SAMPLES=str(SAMPLES), CARGO_TARGET_DIR=str(folder() / "target"), **more)
+    succeed(["cargo", verb, "-q", "--offline", "--locked", "--manifest-path", CALLERS / "rust/Cargo.toml", *words], env=env)
+
+
+@functools.cache
+def example():
+    cargo("build", "--example", "list")
+    return folder() / "target/debug/examples/list"
+
+
+class Crate(Case):
+    def test_its_own_tests(self):
+        cargo("test")
+
+    def test_the_samples_are_listed(self):
+        self.assert_lists([example()])
+
+    def test_too_little_memory_is_told(self):
+        self.assert_says_no_memory([example()])
+
+    def test_its_documentation(self):
+        cargo("doc", RUSTDOCFLAGS="-D warnings")
+
+    def test_clippy_warns_of_nothing(self):
+        if run(["cargo", "clippy", "--version"])[0]:
+            self.skipTest("no clippy")
+        cargo("clippy", "--all-targets", "--", "-D", "warnings")
+
+
+class BesideGoblin(Case):
+    def test_changed_samples(self):
+        if not (REGISTRY / "goblin-0.2.1").exists():
+            self.skipTest(f"no goblin 0.2.1 in {REGISTRY}")
+        for name in ("rust", "beside_goblin"):
+            shutil.copytree(CALLERS / name, self.folder / name, ignore=shutil.ignore_patterns("target"))
+        succeed(["cargo", "build", "-q", "--release", "--offline", "--bin", "differ", "--manifest-path", self.folder / "beside_goblin/Cargo.toml",
+                 "--config", 'source.crates-io.replace-with="here"', "--config", f'source.here.directory="{REGISTRY}"'],
+                env=environment(GOBLIN_PE_LIB=str(library()), CARGO_TARGET_DIR=str(self.folder)))
+        print(succeed([self.folder / "release/differ", "100000", *IMAGES]).splitlines()[-1])

@@ -1,0 +1,79 @@
+"""The script ./pe_list that users call, with a toolchain that answers what it is told."""
+import os
+import shutil
+import subprocess
+
+from tests.programs import CRATES, PE_LIST, SAMPLES, TOP, Case, beside, run
+
+SAMPLE = SAMPLES / "program_x64.exe"
+LISTING = beside(SAMPLE, "listing")
+RT = b"""#!/bin/sh
+case $1 in
+try) cat > /dev/null; cat "$HERE/tried"; echo try >> "$HERE/called"; echo 'run=ended status=0 runners=1 proved=no' >&2 ;;
+lib) [ ! -e "$HERE/fails" ] ;;
+run) mkdir -p out && cp "$PROGRAM" out/pe_list ;;
+esac
+"""
+
+
+def setUpModule():
+    """It lists what is built; where there is no program, or a source is newer, this call proves and builds it."""
+    with open(SAMPLE, "rb") as file:
+        out = subprocess.check_output([TOP / "pe_list"], stdin=file, env={**os.environ, "PE_LIST_PROVED": "only"})
+    assert out == LISTING, out
+
+
+class Wrapper(Case):
+    """In a copy of the repository without a program, in which `rt try` lists what stands in `tried`."""
+
+    def setUp(self):
+        super().setUp()
+        for it in ("samples", "bin", *(f"crates/{crate.name}/src" for crate in CRATES.iterdir())):
+            (self.folder / it).mkdir(parents=True)
+        for it in ("pe_list", "crates.txt", "tools", "samples/program_x64.exe"):
+            (shutil.copytree if (TOP / it).is_dir() else shutil.copy)(TOP / it, self.folder / it)
+        self.written("bin/rt", RT).chmod(0o755)
+        self.written("tried", LISTING)
+        self.env = {**os.environ, "PATH": f"{self.folder}/bin:{os.environ['PATH']}", "HERE": str(self.folder), "PROGRAM": str(PE_LIST)}
+        self.env.pop("PE_LIST_PROVED", None)
+
+    def assert_calls(self, status, out, said, stdin=SAMPLE, command=(), **more):
+        """A call of the script: its status, its output, and words of what it says."""
+        found = run([*command, self.folder / "pe_list"], stdin, env={**self.env, **more})
+        self.assertEqual(found[:2], (status, out), found[2])
+        self.assertRegex(found[2].decode(), said)
+
+    def assert_tried(self, times):
+        """How often it ran unproved."""
+        called = self.folder / "called"
+        self.assertEqual(called.read_text("ascii").count("try") if called.exists() else 0, times)
+
+    def test_it_lists_before_its_proof_and_says_so(self):
+        self.assert_calls(0, LISTING, "BEFORE ITS PROOF")
+        self.assert_calls(0, LISTING, "^$")
+        self.assert_tried(1)
+
+    def test_it_proves_again_where_a_source_is_newer(self):
+        self.assert_calls(0, LISTING, "BEFORE ITS PROOF")
+        os.utime(self.written("crates/goblin_base/src/lib.rt", b""), (2 ** 32, 2 ** 32))
+        self.assert_calls(0, LISTING, "BEFORE ITS PROOF")
+
+    def test_a_proof_that_fails(self):
+        self.written("fails", b"")
+        self.assert_calls(3, LISTING, "could not be built")
+
+    def test_only_what_is_proved(self):
+        self.assert_calls(0, LISTING, r"crate (\d+) of \1,", PE_LIST_PROVED="only")
+        self.assert_tried(0)
+
+    def test_an_answer_that_is_another_once_it_is_proved(self):
+        self.written("tried", b"another\n")
+        self.assert_calls(3, b"another\n", "ANSWERS OTHERWISE")
+
+    def test_a_folder_as_input(self):
+        self.assert_calls(1, b"", "(?m)^read failed$", stdin=TOP)
+        self.assert_tried(0)
+
+    def test_an_input_that_there_is_no_room_for(self):
+        self.assert_calls(3, b"", "can't be kept", command=["sh", "-c", 'ulimit -f 1; exec "$0"'])
+        self.assert_tried(0)
