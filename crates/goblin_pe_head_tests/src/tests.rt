@@ -1,12 +1,16 @@
 //! Worked values of headers, and what is read through a header.
 
-mod first_faults;
 mod header;
-mod headers;
 mod optional_header;
 mod rich;
-mod sample;
-mod string_tables;
 mod symbols;
 mod te;
 mod written;
+
+use goblin_base::Error;
+use std::alloc::Global;
+
+/// Whether an error prints this text.
+fn prints(alloc: Global, error: &Error, want: &str) -> bool {
+    format!(in alloc; "{error}").is_ok_and(|text| text.as_str() == want)
+}

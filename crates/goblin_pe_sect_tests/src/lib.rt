@@ -1,4 +1,4 @@
-//! The tests of goblin_pe_sect: worked values of sections, directories, addresses and relocations.
+//! The tests of goblin_pe_sect, and of goblin_base below it.
 #![tactic(auto)]
 
 #[cfg(test)]

@@ -1,9 +1,7 @@
-//! Worked values of sections, directories, addresses, windows and relocations.
+//! Worked values of what is read and written, of sections, directories, addresses and relocations.
 
 mod addresses;
+mod base;
 mod directories;
-mod names;
-mod options;
 mod relocations;
 mod sections;
-mod windows;

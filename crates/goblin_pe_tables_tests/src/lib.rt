@@ -1,5 +1,6 @@
-//! The tests of goblin_pe_tables: worked values of imports and exports.
+//! The tests of goblin_pe_tables, and what they share with those of whole files.
 #![tactic(auto)]
 
+pub mod rows;
 #[cfg(test)]
 mod tests;

@@ -2,7 +2,12 @@
 
 mod collections;
 mod exports;
-mod import_bound;
 mod imports;
 mod overlapping;
-mod shared;
+
+use goblin_base::{Cause, Error};
+
+/// Whether a call was refused for this cause.
+fn is_told<T: Drop>(read: goblin_base::Result<T>, cause: Cause) -> bool {
+    matches!(read.err(), Some(Error::Malformed(told)) if told == cause)
+}

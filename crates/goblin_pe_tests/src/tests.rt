@@ -1,10 +1,10 @@
-//! Worked values of whole files.
+//! Worked values of whole files, and of readers with two answers.
 //!
 //! A [`Whole`](goblin_pe::Whole) ends in `drop`: what is proved of its parts is then proved once,
 //! and not in each function that has one. What owns memory is looked at by a function that borrows
 //! it, or takes it.
 
-mod counts;
-mod large_file;
-mod raw_pointers;
+mod footprints;
+mod modes;
+mod sample;
 mod whole;

@@ -4,7 +4,8 @@ ghost use Rattle.std.specs.Prelude.{◌≡◌, ◌≤◌, IfOk, OnOk, length, Is
 ghost use Rattle.goblin_pe_head.specs.HeaderReadings.{pe_header};
 ghost use Rattle.goblin_pe_head.specs.PeHeader.{header_bytes};
 
-use crate::{ALIGNMENT, refused};
+use crate::refused;
+use fixture::sample::ALIGNMENT;
 use goblin_base::Endian;
 use goblin_pe::laws::footprint_imports;
 use goblin_pe_head::Header;

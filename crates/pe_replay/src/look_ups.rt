@@ -1,6 +1,7 @@
 //! Look-ups of many addresses among the sections of an object.
 
-use crate::{ALIGNMENT, refused};
+use crate::refused;
+use fixture::sample::ALIGNMENT;
 use goblin_pe_head::CoffHeader;
 use goblin_pe_sect::utils::find_offset;
 use goblin_pe_sect::{ParseOptions, SectionTable, WindowIndex};

@@ -1,9 +1,8 @@
 //! The Rich header and its entries.
 
 use fixture::sample::put;
-use goblin_base::{Cause, Endian, Error, ParseMode, ReadFault, TryFromCtx, pwrite_u32};
-use goblin_pe_head::{DosStub, Header, RichHeader, RichMetadata, RichMetadataIterator};
-use goblin_pe_sect::ParseOptions;
+use goblin_base::{Cause, Endian, Error, ReadFault, pwrite_u32};
+use goblin_pe_head::{DosStub, RichHeader, RichMetadata, RichMetadataIterator};
 use std::test::Fail;
 
 /// The key of the larger header.
@@ -108,33 +107,6 @@ fn the_entries_of_a_rich_header_are_read_in_turn(rt: HostRuntime) -> Result<(), 
     Ok(())
 }
 
-#[test]
-fn entries_of_a_rich_header_have_a_count(rt: HostRuntime) -> Result<(), Fail> {
-    let file = large()?;
-    let read = RichHeader::parse(&file);
-    assert!(rt; matches!(read, Ok(Some(rich)) if rich.metadatas().count() == 10));
-    Ok(())
-}
-
-/// Whether an entry was read, and has the use count of the row at a place.
-fn is_at(place: usize, read: goblin_base::Result<RichMetadata>) -> bool {
-    let want = ENTRIES.get(place).map(|(_, _, _, use_count)| *use_count);
-    matches!(read, Ok(entry) if want == Some(entry.use_count))
-}
-
-#[test]
-fn entries_of_a_rich_header_have_places(rt: HostRuntime) -> Result<(), Fail> {
-    let file = large()?;
-    let entries = entries_of(&file).ok_or("there is no Rich header")?;
-    let mut last = None;
-    for (place, entry) in entries.enumerate() {
-        assert!(rt; is_at(place, entry), "{place}");
-        last = Some(place);
-    }
-    assert!(rt; last == Some(9));
-    Ok(())
-}
-
 /// Whether a file's Rich header is refused since its first marker is missing.
 fn has_no_dans(file: &[u8]) -> bool {
     matches!(
@@ -166,65 +138,12 @@ fn a_first_marker_after_the_second_is_refused(rt: HostRuntime) {
 }
 
 #[test]
-fn data_that_are_no_whole_words_are_refused(rt: HostRuntime) {
-    let mut file = small();
-    put(&mut file, 0x41, b"\x45\x61\x6E\x53");
-    let read = RichHeader::parse(&file);
-    assert!(rt; matches!(read, Err(Error::Read(ReadFault::TooBig))));
-}
-
-/// Whether a file has no Rich header.
-fn has_none(file: &[u8]) -> bool {
-    matches!(RichHeader::parse(file), Ok(None))
-}
-
-#[test]
 fn a_stub_without_second_marker_has_no_rich_header(rt: HostRuntime) {
     let mut file = [0; 0x47];
     put(&mut file, 0, b"MZ");
     put(&mut file, 0x3C, b"\x43");
     put(&mut file, 0x43, b"PE");
-    assert!(rt; has_none(&file));
-    let mut file = small();
-    put(&mut file, 0x58, b"r");
-    assert!(rt; has_none(&file));
-}
-
-/// Whether a file has a Rich header in a mode, and its header has the same.
-fn is_part_of_header(file: &[u8], mode: ParseMode) -> bool {
-    let opts = ParseOptions::default().with_parse_mode(mode);
-    let header = Header::parse_with_opts(file, &opts);
-    match RichHeader::parse_with_opts(file, &opts) {
-        Ok(Some(rich)) => matches!(header, Ok(header) if header.rich_header == Some(rich)),
-        _ => false,
-    }
-}
-
-/// The file of one entry, and what follows its signature.
-fn small_with_coff() -> [u8; 0x78] {
-    let mut file = [0; 0x78];
-    put(&mut file, 0, &small());
-    file
-}
-
-#[test]
-fn a_rich_header_is_part_of_the_header_in_both_modes(rt: HostRuntime) {
-    let file = small_with_coff();
-    for mode in [ParseMode::Strict, ParseMode::Permissive] {
-        assert!(rt; is_part_of_header(&file, mode), "{mode:?}");
-    }
-}
-
-#[test]
-fn a_refused_rich_header_refuses_the_header_in_both_modes(rt: HostRuntime) {
-    let mut file = small_with_coff();
-    put(&mut file, 0x40, b"\x44");
-    for mode in [ParseMode::Strict, ParseMode::Permissive] {
-        let opts = ParseOptions::default().with_parse_mode(mode);
-        let read = Header::parse_with_opts(&file, &opts);
-        let is_refused = matches!(read, Err(Error::Malformed(Cause::NoDans)));
-        assert!(rt; is_refused, "{mode:?}");
-    }
+    assert!(rt; matches!(RichHeader::parse(&file), Ok(None)));
 }
 
 /// Whether these are that entry and a rest, which is refused once.
@@ -243,36 +162,6 @@ fn a_rest_that_is_no_whole_entry_is_refused_once(rt: HostRuntime) {
         ..RichHeader::default()
     };
     assert!(rt; are_entry_and_rest(header.metadatas()));
-}
-
-/// The record of an entry, by whose bytes its order shows.
-const RECORD: [u8; 8] = [1, 2, 3, 4, 5, 6, 7, 8];
-
-/// Whether that record is read as this entry, and written for it, in an order.
-fn is_read_and_written(entry: RichMetadata, endian: Endian) -> bool {
-    let mut room = [0; 8];
-    let size = RichMetadata::size_with(&endian);
-    matches!(
-        RichMetadata::try_from_ctx(&RECORD, endian),
-        Ok((read, taken)) if read == entry && taken == size
-    ) && matches!(entry.try_into_ctx(&mut room, endian), Ok(8))
-        && room == RECORD
-}
-
-#[test]
-fn an_entry_is_read_and_written_in_both_orders(rt: HostRuntime) {
-    let rows = [
-        (Endian::Little, 0x0201, 0x0403, 0x0807_0605),
-        (Endian::Big, 0x0102, 0x0304, 0x0506_0708),
-    ];
-    for (endian, build, product, use_count) in rows {
-        let entry = RichMetadata {
-            build,
-            product,
-            use_count,
-        };
-        assert!(rt; is_read_and_written(entry, endian), "{endian:?}");
-    }
 }
 
 /// A file with a Rich header of one entry, and nothing after its signature.

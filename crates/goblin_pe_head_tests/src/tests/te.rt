@@ -1,11 +1,10 @@
 //! The header of a Terse Executable and its sections.
 
-use super::headers::prints;
-use fixture::sample::{put, section};
+use super::prints;
+use fixture::sample::{directory, put, section};
 use goblin_base::{Cause, Endian, Error};
 use goblin_pe_head::TeHeader;
 use goblin_pe_head::header::TE_MAGIC;
-use goblin_pe_sect::DataDirectory;
 use std::test::Fail;
 
 /// A header of a file of which `stripped_size` bytes were stripped, with an entry point and one
@@ -32,19 +31,18 @@ fn file(stripped_size: u16) -> goblin_base::Result<[u8; 80]> {
 
 /// Whether a header's entry point and relocations are adjusted.
 fn is_adjusted(header: &TeHeader) -> bool {
-    let reloc_dir = DataDirectory {
-        virtual_address: 0xFFFF_FF00,
-        size: 0,
-    };
-    header.entry_point == 0xF10 && header.reloc_dir == reloc_dir
+    header.entry_point == 0xF10 && header.reloc_dir == directory(0xFFFF_FF00, 0)
 }
 
 #[test]
-fn a_header_is_adjusted_by_what_was_stripped(rt: HostRuntime) -> Result<(), Fail> {
+fn addresses_are_adjusted_by_what_was_stripped(rt: HostRuntime) -> Result<(), Fail> {
     let file = file(0x128)?;
     let mut offset = 0;
     let read = TeHeader::parse(&file, &mut offset);
     assert!(rt; matches!(&read, Ok(header) if is_adjusted(header)) && offset == 40);
+    let sections = header(0x128).sections(rt.alloc(), &file, &mut offset);
+    let want = [section(0xF00, 0, 0, 0x100)];
+    assert!(rt; matches!(&sections, Ok(sections) if sections.as_slice() == want.as_slice()));
     Ok(())
 }
 
@@ -61,17 +59,6 @@ fn a_header_of_which_too_little_was_stripped_is_refused(rt: HostRuntime) -> Resu
 }
 
 #[test]
-fn sections_are_adjusted_by_what_was_stripped(rt: HostRuntime) -> Result<(), Fail> {
-    let file = file(0x128)?;
-    let want = [section(0xF00, 0, 0, 0x100)];
-    let mut offset = 40;
-    let read = header(0x128).sections(rt.alloc(), &file, &mut offset);
-    let is_read = matches!(&read, Ok(sections) if sections.as_slice() == want.as_slice());
-    assert!(rt; is_read && offset == 80);
-    Ok(())
-}
-
-#[test]
 fn sections_of_a_header_of_which_too_little_was_stripped_are_refused(rt: HostRuntime) {
     let short = TeHeader {
         stripped_size: 0x27,
@@ -81,10 +68,7 @@ fn sections_of_a_header_of_which_too_little_was_stripped_are_refused(rt: HostRun
     let refused = short.sections(rt.alloc(), &[], &mut offset);
     let is_refused = matches!(&refused, Err(Error::Malformed(Cause::StrippedSize(0x27))));
     assert!(rt; is_refused && offset == 1);
-}
-
-#[test]
-fn more_sections_than_the_file_holds_are_refused_before_the_stripped_size(rt: HostRuntime) {
+    // More sections than the file holds are told before that.
     let refused = header(0x27).sections(rt.alloc(), &[0; 39], &mut 1);
     assert!(rt; matches!(&refused, Err(Error::BufferTooShort(1, "sections"))));
 }

@@ -1,11 +1,9 @@
 //! Headers written back, and headers that are not written.
 
-use super::sample::sample_coff;
 use fixture::sample::{SAMPLE_LEN, TABLE, put, sample};
-use goblin_base::{Cause, Endian, Error, TryFromCtx};
-use goblin_pe_head::header::SIZEOF_COFF_HEADER;
+use goblin_base::{Cause, Endian, Error};
 use goblin_pe_head::optional_header::MAGIC_32;
-use goblin_pe_head::{CoffHeader, DosStub, Header};
+use goblin_pe_head::{DosStub, Header};
 use std::test::Fail;
 
 /// Writes the header of a file, and answers how many bytes it has.
@@ -83,26 +81,4 @@ fn a_stub_without_bytes_wants_a_place_to_begin(rt: HostRuntime) {
     let mut byte = [0xAA];
     let written = stub.try_into_ctx(&mut byte, Endian::Little);
     assert!(rt; matches!(written, Ok(0)) && byte == [0xAA]);
-}
-
-/// Whether the sample file's COFF header is written in an order, with these bytes first, and read
-/// again.
-fn is_written_and_read(endian: Endian, front: &[u8; 4]) -> bool {
-    let mut record = [0; SIZEOF_COFF_HEADER];
-    let is_written = sample_coff().try_into_ctx(&mut record, endian).is_ok();
-    let read = CoffHeader::try_from_ctx(&record, endian);
-    is_written
-        && record.starts_with(front)
-        && matches!(read, Ok((header, 20)) if header == sample_coff())
-}
-
-#[test]
-fn a_coff_header_is_written_and_read_in_either_order(rt: HostRuntime) {
-    let want: [(Endian, &[u8; 4]); 2] = [
-        (Endian::Little, b"\x4C\x01\x01\x00"),
-        (Endian::Big, b"\x01\x4C\x00\x01"),
-    ];
-    for (endian, front) in want {
-        assert!(rt; is_written_and_read(endian, front), "{endian:?}");
-    }
 }

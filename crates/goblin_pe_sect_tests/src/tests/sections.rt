@@ -1,70 +1,132 @@
-//! Section records, read and written, and the data of sections.
+//! Section records with their names, and the data of sections.
 
-use super::names::is_named;
 use fixture::sample::{
-    ELSEWHERE, TABLE, TABLE_END, import_name, sample, sample_named, sample_section, section,
+    ELSEWHERE, MODES, TABLE, TABLE_END, import_name, in_mode, sample_named, sample_section, section,
 };
-use goblin_base::{Endian, Error, ReadFault};
+use goblin_base::{Cause, Endian, Error, ParseMode};
 use goblin_pe_sect::SectionTable;
 use std::alloc::{AllocError, Global};
 use std::borrow::CowSlice;
 use std::test::Fail;
 
-/// The sample file's section with its name elsewhere.
-fn section_elsewhere(alloc: Global) -> Result<SectionTable, AllocError> {
-    let real_name = import_name(alloc)?;
-    Ok(SectionTable {
-        name: *ELSEWHERE,
-        real_name,
-        ..sample_section()
-    })
-}
-
-/// What is read of the sample file that has that section, and the offset after it.
-fn read_elsewhere(alloc: Global) -> goblin_base::Result<(SectionTable, usize)> {
-    let file = sample_named(alloc, ELSEWHERE)?;
-    let mut offset = TABLE;
-    let read = SectionTable::parse(alloc, &file, &mut offset, 0)?;
-    Ok((read, offset))
-}
-
-#[test]
-fn a_section_is_read_with_its_name_elsewhere(rt: HostRuntime) -> Result<(), Fail> {
-    let want = section_elsewhere(rt.alloc())?;
-    let (read, offset) = read_elsewhere(rt.alloc())?;
-    assert!(rt; read == want && offset == TABLE_END && is_named(&read, "a.dll"));
-    Ok(())
-}
-
-/// A name that says that the section's name stands elsewhere in the file: where a NUL does.
-const EMPTY_ELSEWHERE: &[u8; 8] = b"/50\0\0\0\0\0";
-
-/// The sample file's section with that name.
-fn section_with_an_empty_name(alloc: Global) -> SectionTable {
+/// A section with this name.
+fn named(name: &[u8; 8]) -> SectionTable {
     SectionTable {
-        name: *EMPTY_ELSEWHERE,
-        real_name: Some(String::new(alloc)),
-        ..sample_section()
+        name: *name,
+        ..SectionTable::default()
     }
 }
 
 #[test]
-fn a_section_is_read_with_an_empty_name_elsewhere(rt: HostRuntime) -> Result<(), Fail> {
-    let file = sample_named(rt.alloc(), EMPTY_ELSEWHERE)?;
-    let want = section_with_an_empty_name(rt.alloc());
-    let mut offset = TABLE;
-    let read = SectionTable::parse(rt.alloc(), &file, &mut offset, 0);
-    assert!(rt; matches!(&read, Ok(section) if *section == want) && offset == TABLE_END);
-    Ok(())
+fn a_name_says_its_offset_in_both_modes(rt: HostRuntime) {
+    let rows: [(&[u8; 8], Option<usize>); 5] = [
+        (b".rdata\0\0", None),
+        (b"/+12\0\0\0\0", Some(12)),
+        (b"/12\0\xFF\xFF\xFF\xFF", Some(12)),
+        (b"//\0\0\0\0\0\0", Some(0)),
+        (b"////////", Some(68_719_476_735)),
+    ];
+    for mode in MODES {
+        for (name, want) in rows {
+            let said = named(name).name_offset_with_opts(&in_mode(mode));
+            assert!(rt;
+                matches!(said, Ok(offset) if offset == want),
+                "{name:?} {mode:?}"
+            );
+        }
+    }
 }
 
 #[test]
-fn a_section_that_is_not_whole_is_refused(rt: HostRuntime) -> Result<(), Fail> {
-    let mut file = sample(rt.alloc())?;
-    file.truncate(TABLE_END - 1);
-    let mut offset = TABLE;
-    let read = SectionTable::parse(rt.alloc(), &file, &mut offset, 0);
-    assert!(rt; matches!(read, Err(Error::Read(ReadFault::TooBig))) && offset == TABLE);
+fn a_name_without_a_number_is_refused_in_both_modes(rt: HostRuntime) {
+    let rows: [(&[u8; 8], Cause); 4] = [
+        (b"/\0\0\0\0\0\0\0", Cause::NameDecimal),
+        (b"/+\0\0\0\0\0\0", Cause::NameDecimal),
+        (b"/\xC3\xA9\0\0\0\0\0", Cause::NameDecimal),
+        (b"//-\0\0\0\0\0", Cause::NameBase64),
+    ];
+    for mode in MODES {
+        for (name, want) in rows {
+            let said = named(name).name_offset_with_opts(&in_mode(mode));
+            assert!(rt;
+                matches!(said, Err(Error::Malformed(cause)) if cause == want),
+                "{name:?} {mode:?}"
+            );
+        }
+    }
+}
+
+#[test]
+fn a_name_that_is_no_text_says_none_in_permissive_mode_alone(rt: HostRuntime) {
+    let section = named(b"/\xFF\0\0\0\0\0\0");
+    let strict = section.name_offset();
+    let permissive = section.name_offset_with_opts(&in_mode(ParseMode::Permissive));
+    assert!(rt; matches!(strict, Err(Error::Malformed(Cause::NameText))));
+    assert!(rt; matches!(permissive, Ok(None)));
+}
+
+/// Whether a name that is made to say an offset has these bytes, and says it.
+fn is_made(offset: usize, want: &[u8; 8]) -> bool {
+    let mut section = sample_section();
+    section.set_name_offset(offset).is_ok()
+        && section.name == *want
+        && matches!(section.name_offset(), Ok(Some(said)) if said == offset)
+}
+
+#[test]
+fn a_name_is_made_to_say_an_offset(rt: HostRuntime) {
+    let rows: [(usize, &[u8; 8]); 4] = [
+        (0, b"/0\0\0\0\0\0\0"),
+        (9_999_999, b"/9999999"),
+        (10_000_000, b"//AAmJaA"),
+        (68_719_476_735, b"////////"),
+    ];
+    for (offset, want) in rows {
+        assert!(rt; is_made(offset, want), "{offset}");
+    }
+}
+
+#[test]
+fn an_offset_that_no_name_can_say_leaves_the_name(rt: HostRuntime) {
+    let mut section = sample_section();
+    let said = section.set_name_offset(68_719_476_736);
+    assert!(rt; said.is_err() && section == sample_section());
+}
+
+/// The sample file's section with its name elsewhere.
+fn section_elsewhere(alloc: Global) -> Result<SectionTable, AllocError> {
+    Ok(SectionTable {
+        name: *ELSEWHERE,
+        real_name: import_name(alloc)?,
+        ..sample_section()
+    })
+}
+
+/// What is read of the sample file that has that section, by the reader without options and in
+/// permissive mode.
+fn read_elsewhere(alloc: Global, file: &[u8]) -> goblin_base::Result<[SectionTable; 2]> {
+    let opts = in_mode(ParseMode::Permissive);
+    let (mut first, mut second) = (TABLE, TABLE);
+    let read = [
+        SectionTable::parse(alloc, file, &mut first, 0)?,
+        SectionTable::parse_with_opts(alloc, file, &mut second, 0, &opts)?,
+    ];
+    Ok(read)
+}
+
+/// Whether a section's name is this.
+fn is_named(section: &SectionTable, want: &str) -> bool {
+    matches!(section.name(), Ok(name) if name == want)
+}
+
+#[test]
+fn a_section_is_read_with_its_name_elsewhere(rt: HostRuntime) -> Result<(), Fail> {
+    let file = sample_named(rt.alloc(), ELSEWHERE)?;
+    let want = section_elsewhere(rt.alloc())?;
+    for read in read_elsewhere(rt.alloc(), &file)? {
+        assert!(rt; read == want && is_named(&read, "a.dll"));
+    }
+    assert!(rt; is_named(&sample_section(), ".rdata"));
     Ok(())
 }
 
@@ -72,50 +134,26 @@ fn a_section_that_is_not_whole_is_refused(rt: HostRuntime) -> Result<(), Fail> {
 fn is_own(mut original: SectionTable, copy: &SectionTable) -> bool {
     let was_equal = *copy == original;
     original.real_name = None;
-    was_equal && *copy != original && is_named(copy, "a.dll")
+    was_equal && is_named(copy, "a.dll")
 }
 
 #[test]
 fn a_clone_has_a_name_of_its_own(rt: HostRuntime) -> Result<(), Fail> {
-    let original = SectionTable {
-        real_name: import_name(rt.alloc())?,
-        ..sample_section()
-    };
+    let original = section_elsewhere(rt.alloc())?;
     let copy = original.clone(rt.alloc())?;
     assert!(rt; is_own(original, &copy));
     Ok(())
 }
 
 #[test]
-fn a_clone_has_the_empty_name_too(rt: HostRuntime) {
-    let original = section_with_an_empty_name(rt.alloc());
-    let copy = original.clone(rt.alloc());
-    assert!(rt; matches!(&copy, Ok(copy) if *copy == original));
-}
-
-/// Whether a section is written as these bytes, by the call that may refuse and by the one that
-/// does not.
-fn is_written(section: &SectionTable, want: &[u8]) -> bool {
-    let mut tried = [0xFF; 40];
-    let mut written = [0xFF; 40];
-    section.into_ctx(&mut written, Endian::Little);
-    matches!(section.try_into_ctx(&mut tried, Endian::Little), Ok(40))
-        && tried.as_slice() == want
-        && written.as_slice() == want
-}
-
-#[test]
 fn a_section_is_written_as_it_stood(rt: HostRuntime) -> Result<(), Fail> {
     let file = sample_named(rt.alloc(), ELSEWHERE)?;
-    let (read, _) = read_elsewhere(rt.alloc())?;
-    assert!(rt; is_written(&read, file.get(TABLE..TABLE_END).unwrap_or(&[])));
+    let section = section_elsewhere(rt.alloc())?;
+    let mut written = [0xFF; 40];
+    section.into_ctx(&mut written, Endian::Little);
+    assert!(rt; file.get(TABLE..TABLE_END) == Some(written.as_slice()));
     Ok(())
 }
-
-/// A record whose numbers are written with their highest bytes first: the bytes after its name go
-/// up.
-const HIGHEST_FIRST: &[u8] = b".rdata\0\0\x01\x02\x03\x04\x05\x06\x07\x08\x09\x0A\x0B\x0C\
-    \x0D\x0E\x0F\x10\x11\x12\x13\x14\x15\x16\x17\x18\x19\x1A\x1B\x1C\x1D\x1E\x1F\x20";
 
 #[test]
 fn a_section_is_written_with_its_highest_bytes_first(rt: HostRuntime) {
@@ -128,21 +166,11 @@ fn a_section_is_written_with_its_highest_bytes_first(rt: HostRuntime) {
         characteristics: 0x1D1E_1F20,
         ..section(0x0506_0708, 0x0102_0304, 0x090A_0B0C, 0x0D0E_0F10)
     };
+    let want: &[u8; 40] = b".rdata\0\0\x01\x02\x03\x04\x05\x06\x07\x08\x09\x0A\x0B\x0C\
+        \x0D\x0E\x0F\x10\x11\x12\x13\x14\x15\x16\x17\x18\x19\x1A\x1B\x1C\x1D\x1E\x1F\x20";
     let mut room = [0; 40];
-    let is_written = section.try_into_ctx(&mut room, Endian::Big).is_ok();
-    assert!(rt; is_written && room.as_slice() == HIGHEST_FIRST);
-}
-
-#[test]
-fn a_section_has_40_bytes(rt: HostRuntime) {
-    assert!(rt; SectionTable::size_with(&Endian::Big) == 40);
-}
-
-#[test]
-fn a_section_without_room_leaves_the_bytes(rt: HostRuntime) {
-    let mut room = [0xFF; 39];
-    let written = sample_section().try_into_ctx(&mut room, Endian::Little);
-    assert!(rt; matches!(written, Err(Error::Read(ReadFault::TooBig))) && room == [0xFF; 39]);
+    let written = section.try_into_ctx(&mut room, Endian::Big);
+    assert!(rt; matches!(written, Ok(40)) && room == *want);
 }
 
 /// Whether raw data overlaps, each by its offset and size, as either section says.
@@ -176,11 +204,7 @@ fn is_borrowed(alloc: Global, section: &SectionTable, want: &[u8]) -> bool {
 
 #[test]
 fn data_is_borrowed_where_no_zeros_follow(rt: HostRuntime) {
-    let rows: [((u32, u32, u32), &[u8]); 3] = [
-        ((4, 4, 4), &[0; 4]),
-        ((2, 4, 4), &[0; 4]),
-        ((0, 0, 16), &[]),
-    ];
+    let rows: [((u32, u32, u32), &[u8]); 2] = [((4, 4, 4), &[0; 4]), ((0, 0, 16), &[])];
     for (row, want) in rows {
         assert!(rt; is_borrowed(rt.alloc(), &section_of(row), want), "{row:?}");
     }
@@ -203,43 +227,10 @@ fn data_goes_on_with_zeros_up_to_the_size_in_memory(rt: HostRuntime) {
 }
 
 #[test]
-fn data_that_passes_the_file_is_none(rt: HostRuntime) {
-    for row in [(4, 4, 13), (0, 0, 17), (6, u32::MAX, u32::MAX)] {
-        let data = section_of(row).data(rt.alloc(), &[0; 16]);
-        assert!(rt; matches!(&data, Ok(None)), "{row:?}");
-    }
-}
-
-/// Whether a section's raw data of six letters is this.
-fn is_raw(section: &SectionTable, want: &[u8]) -> bool {
-    matches!(section.raw_data(b"abcdef"), Ok(data) if data == want)
-}
-
-#[test]
-fn raw_data_has_no_zeros_after_it(rt: HostRuntime) {
-    let rows: [((u32, u32, u32), &[u8]); 4] = [
-        ((u32::MAX, 3, 1), b"bcd"),
-        ((1, 3, 2), b"cde"),
-        ((4, 0, 6), b""),
-        ((4, 0, 0), b""),
-    ];
-    for (row, want) in rows {
-        assert!(rt; is_raw(&section_of(row), want), "{row:?}");
-    }
-}
-
-#[test]
-fn raw_data_that_passes_the_file_is_refused(rt: HostRuntime) {
-    for (size, pointer, want) in [
-        (7, 0, ReadFault::TooBig),
-        (1, 6, ReadFault::BadOffset),
-        (0, 7, ReadFault::BadOffset),
-        (u32::MAX, u32::MAX, ReadFault::BadOffset),
-    ] {
-        let refused = section(0, 0, size, pointer).raw_data(b"abcdef");
-        assert!(rt;
-            matches!(refused, Err(Error::Read(fault)) if fault == want),
-            "{pointer}"
-        );
-    }
+fn data_that_passes_the_file_is_none_and_raw_data_is_refused(rt: HostRuntime) {
+    let section = section_of((4, 4, 13));
+    let data = section.data(rt.alloc(), &[0; 16]);
+    assert!(rt; matches!(&data, Ok(None)) && section.raw_data(&[0; 16]).is_err());
+    let raw = section_of((4, 3, 13));
+    assert!(rt; matches!(raw.raw_data(&[0; 16]), Ok(data) if data == [0; 3].as_slice()));
 }

@@ -1,35 +1,22 @@
 //! Two sections that overlap, in both orders: each reader takes what stands where `find_offset`
 //! says.
 
-use fixture::sample::{put, section};
-use goblin_base::read::{pread_str, pread_u32};
+use crate::rows::are_exports;
+use fixture::sample::{ALIGNMENT, directory, put_all, section};
 use goblin_base::{Endian, Record};
 use goblin_pe_sect::utils::find_offset;
-use goblin_pe_sect::{DataDirectory, ParseOptions, SectionTable};
+use goblin_pe_sect::{ParseOptions, SectionTable};
 use goblin_pe_tables::export::{Export, ExportData};
 use goblin_pe_tables::import::{
-    HintNameTableEntry, ImportData, ImportDirectoryEntry, SyntheticImportDirectoryEntry,
+    ImportData, ImportDirectoryEntry, ImportLookupTable, SyntheticImportDirectoryEntry,
     SyntheticImportLookupTableEntry,
 };
 use std::alloc::{AllocError, Global};
 use std::test::Fail;
 
-/// The file alignment.
-const ALIGNMENT: u32 = 0x200;
-
-/// Where the directories begin, in the wide section alone.
-const IMPORTS: DataDirectory = DataDirectory {
-    virtual_address: 0x1000,
-    size: 40,
-};
-
-const EXPORTS: DataDirectory = DataDirectory {
-    virtual_address: 0x1100,
-    size: 40,
-};
-
-/// What stands in the file: the import record and the export record, which lead to addresses that
-/// lie in both sections; what the narrow section has there, and what the wide one has.
+/// What stands in the file: an import record at the address 0x1000 and an export record at 0x1100,
+/// which lead to addresses that lie in both sections; what the narrow section has there, and what
+/// the wide one has.
 const BYTES: &[(usize, &[u8])] = &[
     (0x800, b"\x10\x12"),
     (0x80C, b"\x40\x12\x00\x00\x20\x12"),
@@ -48,173 +35,140 @@ const BYTES: &[(usize, &[u8])] = &[
     (0xA80, b"\xA0\x12\x00\x00\x40\x12"),
 ];
 
-/// Where an address lies in the file, and 0 where it does not.
-fn at(rva: usize, sections: &[SectionTable]) -> usize {
-    find_offset(rva, sections, ALIGNMENT, &ParseOptions::default()).unwrap_or(0)
+/// What one of the sections has: where its part of the overlap begins in the file, the library's
+/// name, its first address, the first import's hint and name, and the export's address.
+struct Held {
+    begin: usize,
+    name: &'static str,
+    address: u64,
+    hint: u16,
+    import: &'static str,
+    export: usize,
 }
 
-/// Whether an address table begins with a number.
-fn begins_with(table: &[u64], number: u32) -> bool {
-    matches!(table, [first, ..] if *first == u64::from(number))
-}
+const NARROW: Held = Held {
+    begin: 0x400,
+    name: "narrow",
+    address: 0x0B,
+    hint: 5,
+    import: "f",
+    export: 0x1290,
+};
 
-/// Whether a library has the name and the number that stand where `find_offset` says.
-fn is_library(
-    library: &SyntheticImportDirectoryEntry,
-    file: &[u8],
-    sections: &[SectionTable],
-) -> bool {
-    let name = pread_str(file, at(0x1240, sections));
-    let number = pread_u32(file, at(0x1220, sections), Endian::Little);
-    match (name, number) {
-        (Ok(name), Ok(number)) => library.name == name
-            && begins_with(library.import_address_table.as_slice(), number),
-        _ => false,
-    }
-}
+const WIDE: Held = Held {
+    begin: 0xA00,
+    name: "wide",
+    address: 0x16,
+    hint: 6,
+    import: "g",
+    export: 0x12A0,
+};
 
-/// Whether an entry of a lookup table has this name.
-fn is_named(entry: &SyntheticImportLookupTableEntry, want: &HintNameTableEntry) -> bool {
-    match entry {
-        SyntheticImportLookupTableEntry::HintNameTableRVA((_, named)) => named.hint == want.hint
-            && named.name == want.name,
-        SyntheticImportLookupTableEntry::OrdinalNumber(_) => false,
-    }
-}
-
-/// Whether a lookup table begins with the name that stands where `find_offset` says.
-fn begins_with_name(
-    entries: &[SyntheticImportLookupTableEntry],
-    file: &[u8],
-    sections: &[SectionTable],
-) -> bool {
-    match (
-        entries,
-        HintNameTableEntry::parse(file, at(0x1250, sections)),
-    ) {
-        ([first, ..], Ok(want)) => is_named(first, &want),
-        _ => false,
-    }
-}
-
-/// Whether a lookup table takes the name that stands where `find_offset` says.
-fn names_agree(alloc: Global, file: &[u8], sections: &[SectionTable]) -> goblin_base::Result<bool> {
-    let offset = at(0x1210, sections);
-    let table = SyntheticImportLookupTableEntry::parse::<u32>(
-        alloc, file, offset, sections, ALIGNMENT,
-    )?;
-    Ok(begins_with_name(table.as_slice(), file, sections))
-}
-
-/// Whether a library has what stands where `find_offset` says.
-fn libraries_agree(
-    alloc: Global,
-    file: &[u8],
-    sections: &[SectionTable],
-) -> goblin_base::Result<bool> {
-    let record = ImportDirectoryEntry::read_at(file, at(0x1000, sections), Endian::Little)?;
-    let library = SyntheticImportDirectoryEntry::parse::<u32>(
-        alloc, file, record, sections, ALIGNMENT,
-    )?;
-    Ok(is_library(&library, file, sections))
-}
-
-/// Whether import data begin with the library that stands where `find_offset` says.
-fn imports_agree(
-    alloc: Global,
-    file: &[u8],
-    sections: &[SectionTable],
-) -> goblin_base::Result<bool> {
-    let imports = ImportData::parse::<u32>(alloc, file, IMPORTS, sections, ALIGNMENT)?;
-    Ok(match imports.import_data.as_slice() {
-        [first, ..] => is_library(first, file, sections),
-        [] => false,
+/// Whether addresses in both sections lie where this one has them.
+fn are_mapped(sections: &[SectionTable], held: &Held) -> bool {
+    let opts = ParseOptions::default();
+    [0x1210, 0x1220, 0x1240, 0x1250, 0x1280].iter().all(|rva| {
+        find_offset(*rva, sections, ALIGNMENT, &opts) == Some(*rva - 0x1200 + held.begin)
     })
 }
 
-/// Whether exports begin with one of this name, address and offset.
-fn begins_with_export(exports: &[Export], name: &str, rva: usize, offset: Option<usize>) -> bool {
-    match exports {
-        [first, ..] => first.name == Some(name) && first.rva == rva && first.offset == offset,
-        [] => false,
-    }
-}
-
-/// Whether exports were read that begin with what stands where `find_offset` says.
-fn are_exports(
-    read: goblin_base::Result<Vec<Export>>,
-    file: &[u8],
-    sections: &[SectionTable],
-) -> bool {
-    let name = pread_str(file, at(0x1240, sections));
-    let rva = pread_u32(file, at(0x1280, sections), Endian::Little);
-    match (&read, name, rva) {
-        (Ok(exports), Ok(name), Ok(rva)) => {
-            let rva = rva as usize;
-            let offset = find_offset(rva, sections, ALIGNMENT, &ParseOptions::default());
-            begins_with_export(exports, name, rva, offset)
-        }
+fn is_table(table: &ImportLookupTable, held: &Held) -> bool {
+    match table.as_slice() {
+        [SyntheticImportLookupTableEntry::HintNameTableRVA((_, named))] => named.hint == held.hint
+            && named.name == held.import,
         _ => false,
     }
 }
 
-/// Whether export data have the name that stands where `find_offset` says.
-fn is_library_name(tables: &ExportData, file: &[u8], sections: &[SectionTable]) -> bool {
-    matches!(pread_str(file, at(0x1240, sections)), Ok(name) if tables.name == Some(name))
+fn is_library(library: &SyntheticImportDirectoryEntry, held: &Held) -> bool {
+    matches!(&library.import_lookup_table, Some(table) if is_table(table, held))
+        && library.import_address_table.as_slice() == [held.address].as_slice()
+        && library.name == held.name
 }
 
-/// Whether the readers of exports take what stands where `find_offset` says.
-fn exports_agree(
+/// Whether the readers of imports find what this section has.
+fn are_imports_read(
     alloc: Global,
     file: &[u8],
     sections: &[SectionTable],
+    held: &Held,
 ) -> goblin_base::Result<bool> {
-    let tables = ExportData::parse(alloc, file, EXPORTS, sections, ALIGNMENT)?;
-    let exports = Export::parse(alloc, file, &tables, sections, ALIGNMENT);
-    let are_right = are_exports(exports, file, sections);
-    Ok(are_right && is_library_name(&tables, file, sections))
+    let place = held.begin + 0x10;
+    let table = SyntheticImportLookupTableEntry::parse::<u32>(
+        alloc, file, place, sections, ALIGNMENT,
+    )?;
+    Ok(is_table(&table, held))
 }
 
-/// Whether the name stands at this offset, and all readers take what stands where `find_offset`
-/// says.
-fn readers_agree(
+fn is_library_read(
     alloc: Global,
     file: &[u8],
     sections: &[SectionTable],
-    name_offset: usize,
+    held: &Held,
+) -> goblin_base::Result<bool> {
+    let record = ImportDirectoryEntry::read_at(file, 0x800, Endian::Little)?;
+    let library = SyntheticImportDirectoryEntry::parse::<u32>(
+        alloc, file, record, sections, ALIGNMENT,
+    )?;
+    Ok(is_library(&library, held))
+}
+
+fn is_import_data_read(
+    alloc: Global,
+    file: &[u8],
+    sections: &[SectionTable],
+    held: &Held,
+) -> goblin_base::Result<bool> {
+    let place = directory(0x1000, 40);
+    let data = ImportData::parse::<u32>(alloc, file, place, sections, ALIGNMENT)?;
+    Ok(matches!(data.import_data.as_slice(), [library] if is_library(library, held)))
+}
+
+/// Whether the readers of exports do.
+fn are_exports_read(
+    alloc: Global,
+    file: &[u8],
+    sections: &[SectionTable],
+    held: &Held,
+) -> goblin_base::Result<bool> {
+    let tables = ExportData::parse(alloc, file, directory(0x1100, 40), sections, ALIGNMENT)?;
+    let exports = Export::parse(alloc, file, &tables, sections, ALIGNMENT)?;
+    let offset = Some(held.export - 0x1200 + held.begin);
+    let is_right = are_exports(&exports, &[(Some(held.name), offset, held.export, None)]);
+    Ok(is_right && tables.name == Some(held.name))
+}
+
+/// Whether all readers find what this section has.
+fn are_read(
+    alloc: Global,
+    file: &[u8],
+    sections: &[SectionTable],
+    held: &Held,
 ) -> goblin_base::Result<bool> {
     Ok(
-        at(0x1240, sections) == name_offset
-            && names_agree(alloc, file, sections)?
-            && libraries_agree(alloc, file, sections)?
-            && imports_agree(alloc, file, sections)?
-            && exports_agree(alloc, file, sections)?,
+        are_mapped(sections, held)
+            && are_imports_read(alloc, file, sections, held)?
+            && is_library_read(alloc, file, sections, held)?
+            && is_import_data_read(alloc, file, sections, held)?
+            && are_exports_read(alloc, file, sections, held)?,
     )
 }
 
 /// The file in which [`BYTES`] stand.
 fn overlapping_file(alloc: Global) -> Result<Vec<u8>, AllocError> {
     let mut file = vec![in alloc; 0u8; 0x1000]?;
-    for (offset, bytes) in BYTES {
-        put(&mut file, *offset, bytes);
-    }
+    put_all(&mut file, BYTES);
     Ok(file)
-}
-
-/// The section that lies within the other.
-fn narrow() -> SectionTable {
-    section(0x1200, 0x200, 0x200, 0x400)
-}
-
-/// The section around it.
-fn wide() -> SectionTable {
-    section(0x1000, 0x800, 0x800, 0x800)
 }
 
 #[test]
 fn each_reader_takes_the_first_of_two_overlapping_sections(rt: HostRuntime) -> Result<(), Fail> {
     let file = overlapping_file(rt.alloc())?;
-    assert!(rt; readers_agree(rt.alloc(), &file, &[narrow(), wide()], 0x440)?);
-    assert!(rt; readers_agree(rt.alloc(), &file, &[wide(), narrow()], 0xA40)?);
+    let narrow = section(0x1200, 0x200, 0x200, 0x400);
+    let wide = section(0x1000, 0x800, 0x800, 0x800);
+    let mut sections = [narrow, wide];
+    assert!(rt; are_read(rt.alloc(), &file, &sections, &NARROW)?);
+    sections.reverse();
+    assert!(rt; are_read(rt.alloc(), &file, &sections, &WIDE)?);
     Ok(())
 }

@@ -69,11 +69,36 @@ impl<A, B: Amount> Amount for (A, B) {
     }
 }
 
-/// A slot is one, and so is a range.
-impl Amount for usize {
+impl<V> Amount for Table<V> {
     fn amount(&self) -> Result<usize, Refusal> {
-        Ok(1)
+        Ok(self.len())
     }
+}
+
+// Values whose amount is always known.
+macro_rules! amounts {
+    ($($it:ident: $type:ty => $amount:expr;)*) => {
+        $(
+            impl Amount for $type {
+                fn amount(&self) -> Result<usize, Refusal> {
+                    let $it = self;
+                    Ok($amount)
+                }
+            }
+        )*
+    };
+}
+
+amounts! {
+    _slot_or_range: usize => 1;
+    data: CowSlice<'_, u8, Global> => data.len();
+    strings: Strtab<'_> => strings.len();
+    index: WindowIndex => index.pieces();
+    library: SyntheticImportDirectoryEntry<'_> => library.import_address_table.len();
+    data: ImportData<'_> => data.import_data.len();
+    import: Import<'_> => import.name.len();
+    data: ExportData<'_> => data.export_address_table.len();
+    export: Export<'_> => export.name.unwrap_or("").len();
 }
 
 /// The length of its name.
@@ -86,91 +111,31 @@ impl Amount for SectionTable {
     }
 }
 
-impl Amount for CowSlice<'_, u8, Global> {
-    fn amount(&self) -> Result<usize, Refusal> {
-        Ok(self.len())
-    }
+// The amounts of three answers, or why one of them was refused.
+fn sum_of(
+    first: &impl Amount,
+    second: &impl Amount,
+    third: &impl Amount,
+) -> Result<usize, Refusal> {
+    let sum = first.amount()?.saturating_add(second.amount()?);
+    Ok(sum.saturating_add(third.amount()?))
 }
 
-impl Amount for Strtab<'_> {
-    fn amount(&self) -> Result<usize, Refusal> {
-        Ok(self.len())
-    }
-}
-
-impl Amount for WindowIndex {
-    fn amount(&self) -> Result<usize, Refusal> {
-        Ok(self.pieces())
-    }
-}
-
-impl<V> Amount for Table<V> {
-    fn amount(&self) -> Result<usize, Refusal> {
-        Ok(self.len())
-    }
-}
-
-/// How many addresses it has.
-impl Amount for SyntheticImportDirectoryEntry<'_> {
-    fn amount(&self) -> Result<usize, Refusal> {
-        Ok(self.import_address_table.len())
-    }
-}
-
-/// How many libraries it has.
-impl Amount for ImportData<'_> {
-    fn amount(&self) -> Result<usize, Refusal> {
-        Ok(self.import_data.len())
-    }
-}
-
-/// The length of its name.
-impl Amount for Import<'_> {
-    fn amount(&self) -> Result<usize, Refusal> {
-        Ok(self.name.len())
-    }
-}
-
-/// How many addresses it has.
-impl Amount for ExportData<'_> {
-    fn amount(&self) -> Result<usize, Refusal> {
-        Ok(self.export_address_table.len())
-    }
-}
-
-/// The length of its name.
-impl Amount for Export<'_> {
-    fn amount(&self) -> Result<usize, Refusal> {
-        match self.name {
-            Some(name) => Ok(name.len()),
-            None => Ok(0),
-        }
-    }
-}
-
-/// That of its sections, imports and exports.
 impl Amount for Whole<'_> {
     fn amount(&self) -> Result<usize, Refusal> {
-        let tables = self
-            .imports
-            .amount()?
-            .saturating_add(self.exports.amount()?);
-        Ok(self.sections.amount()?.saturating_add(tables))
+        sum_of(&self.sections, &self.imports, &self.exports)
     }
 }
 
-/// That of its entries, libraries and exports.
 impl<D> Amount for TablesOf<'_, '_, D> {
     fn amount(&self) -> Result<usize, Refusal> {
-        let imports = self.lookup.amount()?.saturating_add(self.imports.amount()?);
-        Ok(self.exports.amount()?.saturating_add(imports))
+        sum_of(&self.lookup, &self.imports, &self.exports)
     }
 }
 
 /// That of its sections, by a COFF header and as a Terse Executable's, and of its strings.
 impl<D> Amount for PartsOf<'_, '_, D> {
     fn amount(&self) -> Result<usize, Refusal> {
-        let sections = self.sections.amount()?.saturating_add(self.te.amount()?);
-        Ok(self.strings.amount()?.saturating_add(sections))
+        sum_of(&self.sections, &self.te, &self.strings)
     }
 }

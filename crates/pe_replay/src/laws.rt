@@ -1,8 +1,10 @@
 //! Laws, each of which has two answers.
 
 use crate::answer::show_answers;
-use crate::sample::{ALIGNMENT, EXPORTS, IMPORTS, LOOKUP, other_section, put_other};
-use fixture::sample::{SAMPLE_LEN, put, sample_section};
+use crate::sample::{other_section, put_other};
+use fixture::sample::{
+    ALIGNMENT, EXPORTS, IMPORTS, LOOKUP, SAMPLE_LEN, directory, put_all, sample_section,
+};
 use goblin_pe::import::ImportDirectoryEntry;
 use goblin_pe::laws::{
     Request, mode_tables, mode_whole, reorder_whole_tables, twin_exports, twin_imports,
@@ -101,18 +103,20 @@ fn show_orders(
 // section, too. Both have names.
 fn show_parts(rt: &HostRuntime, opts: &ParseOptions) -> io::Result<()> {
     let mut file = [0; 0x58];
-    put(&mut file, 0x00, b"ab\0\0\x01\0\x28");
-    put(&mut file, 0x28, b"cde");
-    put(&mut file, 0x50, b"\x07\0\0\0abc");
+    put_all(
+        &mut file,
+        &[
+            (0x00, b"ab\0\0\x01\0\x28"),
+            (0x28, b"cde"),
+            (0x50, b"\x07\0\0\0abc"),
+        ],
+    );
     let header = CoffHeader {
         number_of_sections: 1,
         pointer_to_symbol_table: 0x50,
         ..CoffHeader::default()
     };
-    let strings = DataDirectory {
-        virtual_address: 0x50,
-        size: 7,
-    };
+    let strings = directory(0x50, 7);
     let opts = ParseOptions::te().with_parse_mode(opts.parse_mode);
     show_answers(
         rt,

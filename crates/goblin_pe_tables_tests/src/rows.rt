@@ -1,17 +1,16 @@
-//! The imports of the sample file, and a file with an import directory at its front.
+//! What tests of tables share: the imports and exports of the sample file, and an import entry of
+//! two bytes.
 
 ghost use Rattle.std.proofs.Common.{lit≤};
 ghost use Rattle.goblin_base.specs.Bytes.{number};
 ghost use Rattle.goblin_base.specs.declared.endian.Endian.TheVariants.{Little};
-ghost use Rattle.fixture_tables.specs.ShortEntry.{short_value};
+ghost use Rattle.goblin_pe_tables_tests.specs.ShortEntry.{short_value};
 
-use fixture::sample::put;
 use goblin_base::{Endian, field_u16};
-use goblin_pe_sect::DataDirectory;
+use goblin_pe_tables::export::{Export, Reexport};
 use goblin_pe_tables::import::{
     Bitfield, Import, ImportDirectoryEntry, ImportLookupTable, SyntheticImportLookupTableEntry,
 };
-use std::alloc::{AllocError, Global};
 
 /// An entry of two bytes, by ordinal from 2^15 on.
 #[derive(Debug, PartialEq, Eq, Copy, Clone)]
@@ -60,15 +59,6 @@ impl<'a> Bitfield<'a> for Short {
     ghost positive = { lit≤ tt };
 }
 
-/// Where the sample file's import directory lies.
-pub const DIRECTORY: DataDirectory = DataDirectory {
-    virtual_address: 0x1000,
-    size: 0x28,
-};
-
-/// The sample file's file alignment.
-pub const ALIGNMENT: u32 = 0x200;
-
 /// The record of the sample file's import directory.
 pub const RECORD: ImportDirectoryEntry = ImportDirectoryEntry {
     import_lookup_table_rva: 0x1040,
@@ -78,17 +68,17 @@ pub const RECORD: ImportDirectoryEntry = ImportDirectoryEntry {
     import_address_table_rva: 0x1060,
 };
 
-/// An import, by what is wanted of it: name, ordinal, offset, address, size and slot.
-pub type Row = (&'static str, u16, usize, usize, usize, usize);
+/// An import by its name, ordinal, offset, address, size and slot.
+pub type ImportRow = (&'static str, u16, usize, usize, usize, usize);
 
 /// The first of the sample file's imports.
-pub const GO: Row = ("Go", 5, 0x1060, 0x1090, 4, 0);
+pub const GO: ImportRow = ("Go", 5, 0x1060, 0x1090, 4, 0);
 
 /// The second of them, by ordinal.
-pub const SEVEN: Row = ("ORDINAL 7", 7, 0x1064, 0, 4, 1);
+pub const SEVEN: ImportRow = ("ORDINAL 7", 7, 0x1064, 0, 4, 1);
 
 /// Whether these are the imports from `a.dll`.
-pub fn are_rows(imports: &[Import], rows: &[Row]) -> bool {
+pub fn are_imports(imports: &[Import], rows: &[ImportRow]) -> bool {
     imports.len() == rows.len()
         && imports.iter().zip(rows).all(|(import, row)| {
             import.dll == "a.dll"
@@ -126,17 +116,27 @@ pub fn is_sample_table(table: &ImportLookupTable) -> bool {
     }
 }
 
-/// A file with an import directory at its front.
-pub fn front_file(alloc: Global) -> Result<Vec<u8>, AllocError> {
-    let mut file = vec![in alloc; 0u8; 0x40]?;
-    let parts: [(usize, &[u8]); 4] = [
-        (0x00, b"\x28\x10"),
-        (0x0C, b"\x30\x10\x00\x00\x28\x10"),
-        (0x28, b"\x01\x00\x00\x80"),
-        (0x30, b"x"),
-    ];
-    for (offset, bytes) in parts {
-        put(&mut file, offset, bytes);
-    }
-    Ok(file)
+/// An export by its name, file offset, address, and what it stands for.
+pub type ExportRow<'a> = (Option<&'a str>, Option<usize>, usize, Option<Reexport<'a>>);
+
+/// The first of the sample file's exports.
+pub const PLAIN: ExportRow = (Some("f"), Some(0x210), 0x1010, None);
+
+/// The second of them, a forwarder.
+pub const FORWARDED: ExportRow = (
+    Some("a.dll"),
+    Some(0x2E0),
+    0x10E0,
+    Some(Reexport::DLLOrdinal {
+        ordinal: 12,
+        lib: "b",
+    }),
+);
+
+/// Whether these are the exports, in this order.
+pub fn are_exports(exports: &[Export], rows: &[ExportRow]) -> bool {
+    exports.len() == rows.len()
+        && exports.iter().zip(rows).all(|(export, row)| {
+            (export.name, export.offset, export.rva, export.reexport) == *row && export.size == 0
+        })
 }

@@ -2,10 +2,8 @@
 
 use crate::answer::show_answer;
 use crate::laws;
-use crate::sample::{
-    ALIGNMENT, EXPORTS, IMPORTS, LIBRARY, LOOKUP, LOOKUP_END, counting, no_exports,
-};
-use fixture::sample::{TABLE, TABLE_END, section};
+use crate::sample::{counting, library, no_exports};
+use fixture::sample::{ALIGNMENT, EXPORTS, IMPORTS, LOOKUP, TABLE, TABLE_END, section};
 use goblin_pe::Whole;
 use goblin_pe::export::{Export, ExportData};
 use goblin_pe::import::{
@@ -80,11 +78,11 @@ fn show_imports(
         ),
         "no_slots" => show_answer(
             rt,
-            Lookup::parse_with_slots::<u32>(alloc, file, LOOKUP_END, sections, ALIGNMENT, opts),
+            Lookup::parse_with_slots::<u32>(alloc, file, LOOKUP + 8, sections, ALIGNMENT, opts),
         ),
         "library" => show_answer(
             rt,
-            Library::parse_with_opts::<u32>(alloc, file, LIBRARY, sections, ALIGNMENT, opts),
+            Library::parse_with_opts::<u32>(alloc, file, library(file)?, sections, ALIGNMENT, opts),
         ),
         "import_data" => show_answer(
             rt,

@@ -2,8 +2,11 @@
 
 use crate::answer::{show_answer, show_side};
 use crate::laws;
-use crate::sample::{ALIGNMENT, EXPORTS, IMPORTS, LIBRARY, LOOKUP, counting, no_exports, terse};
-use fixture::sample::{TABLE, TABLE_END, import_name, put, sample_section, section};
+use crate::sample::{counting, library, no_exports, terse};
+use fixture::sample::{
+    ALIGNMENT, EXPORTS, IMPORTS, LOOKUP, TABLE, TABLE_END, import_name, put, sample_section,
+    section,
+};
 use goblin_base::Strtab;
 use goblin_pe::export::{Export, ExportData};
 use goblin_pe::import::{
@@ -102,7 +105,7 @@ fn show_imports(
         ),
         "library" => show_answer(
             rt,
-            Library::parse::<u32>(alloc, file, LIBRARY, sections, ALIGNMENT),
+            Library::parse::<u32>(alloc, file, library(file)?, sections, ALIGNMENT),
         ),
         "import_data" => show_answer(
             rt,

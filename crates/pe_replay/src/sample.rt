@@ -1,42 +1,17 @@
 //! What calls are made with.
 
-use fixture::sample::{ELSEWHERE, SAMPLE, TABLE, TABLE_END, put, section};
+use crate::refused;
+use fixture::sample::{ELSEWHERE, IMPORT_RECORD, SAMPLE, TABLE, TABLE_END, put, put_all, section};
+use goblin_base::{Endian, Record};
 use goblin_pe::export::{ExportData, ExportDirectoryTable};
 use goblin_pe::import::ImportDirectoryEntry;
 use goblin_pe::table::Table;
 use goblin_pe_head::{CoffHeader, TeHeader};
-use goblin_pe_sect::{DataDirectory, SectionTable};
+use goblin_pe_sect::SectionTable;
 use std::alloc::Global;
+use std::io;
 
-/// The file alignment of the sample file.
-pub const ALIGNMENT: u32 = 0x200;
-
-/// Its import directory, and the record there.
-pub const IMPORTS: DataDirectory = DataDirectory {
-    virtual_address: 0x1000,
-    size: 0x28,
-};
-
-pub const LIBRARY: ImportDirectoryEntry = ImportDirectoryEntry {
-    import_lookup_table_rva: 0x1040,
-    time_date_stamp: 0,
-    forwarder_chain: 0,
-    name_rva: 0x1080,
-    import_address_table_rva: 0x1060,
-};
-
-/// Its import lookup table, and where that ends.
-pub const LOOKUP: usize = 0x240;
-
-pub const LOOKUP_END: usize = 0x248;
-
-/// Its export directory.
-pub const EXPORTS: DataDirectory = DataDirectory {
-    virtual_address: 0x10A0,
-    size: 0x60,
-};
-
-/// A section that lies apart from its own.
+/// A section that lies apart from the sample file's own.
 pub fn other_section() -> SectionTable {
     section(0x3000, 0x100, 0x100, 0x100)
 }
@@ -44,11 +19,8 @@ pub fn other_section() -> SectionTable {
 /// Makes zeros the sample file whose section has its name elsewhere. After the section table stands
 /// a record whose name is elsewhere too, and empty.
 pub fn put_sample(file: &mut [u8]) {
-    for (offset, bytes) in SAMPLE {
-        put(file, *offset, bytes);
-    }
-    put(file, TABLE, ELSEWHERE);
-    put(file, TABLE_END, b"/50\0");
+    put_all(file, SAMPLE);
+    put_all(file, &[(TABLE, ELSEWHERE), (TABLE_END, b"/50\0")]);
 }
 
 /// The same without its imports, the second entry of its lookup table and its second export.
@@ -57,6 +29,11 @@ pub fn put_other(file: &mut [u8]) {
     put(file, 0x20C, b"\0\0");
     put(file, 0x244, b"\0\0\0\0");
     put(file, 0x2B8, b"\x01");
+}
+
+/// The one record of the sample file's import directory.
+pub fn library(file: &[u8]) -> io::Result<ImportDirectoryEntry> {
+    ImportDirectoryEntry::read_at(file, IMPORT_RECORD, Endian::Little).map_err(refused)
 }
 
 /// Headers of a file with so many sections; of a Terse Executable so many bytes were stripped.

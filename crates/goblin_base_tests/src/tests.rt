@@ -1,6 +1,0 @@
-//! Worked values that no contract says.
-
-mod bytes;
-mod errors;
-mod modes;
-mod string_tables;
