@@ -250,7 +250,7 @@ impl OptionalHeader {
     /// Writes the optional header to the front of `bytes` and returns how many bytes it takes, 224
     /// or 240: the fields that its magic asks for and always sixteen directories, those that are
     /// `None` as zeros. Standard fields are written modulo 2^32. In little-endian order, a header
-    /// that was read is written back unchanged.
+    /// that was read is written as its bytes, and zeros for the directories that it lacks.
     ///
     /// # Errors
     /// In this order: [`Error::BadMagic`] of a magic other than [`MAGIC_32`] and [`MAGIC_64`];
