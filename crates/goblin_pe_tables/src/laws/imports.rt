@@ -82,6 +82,7 @@ pub fn twin_lookup<'a, 'e, T: Bitfield<'a>>(
 ///
 /// # Errors
 /// For each file as [`ImportData::parse_with_opts`].
+#[tactic(auto, using(goblin_base::proofs::Readings::twins_or_memory))]
 pub fn twin_imports<'a, 'e, T: Bitfield<'a>>(
     alloc: Global,
     a: &'a [u8],
