@@ -78,6 +78,13 @@ def need(*tools):
 
 
 @functools.cache
+def build_pe_list():
+    """Has ./pe_list list an image. Where the program is not built, or a source is newer, it is proved and built first."""
+    with open(BY_NAME, "rb") as file:
+        subprocess.run([TOP / "pe_list"], stdin=file, stdout=subprocess.DEVNULL, check=True, env={**os.environ, "PE_LIST_PROVED": "only"})
+
+
+@functools.cache
 def folder():
     """A folder for what is built once for all tests, until they end."""
     made = tempfile.mkdtemp()

@@ -5,29 +5,6 @@ import os
 from tests import programs
 from tests.programs import BY_NAME, CALLERS, CC, FLAGS, IMAGES, OBJECTS, SAMPLES, TERSE, Case, library, need, succeed
 
-CAUSES = {
-    10: "the data of the Rich header would begin at offset 0xffffffffffffffff of the DOS stub, but end at 0xffffffffffffffff",
-    32: "the words of a base relocation block can't be read: 0xffffffffffffffff bytes at offset 0xffffffffffffffff of the directory",
-    34: "a library of imports has 18446744073709551615 entries, but 18446744073709551615 slots",
-}
-IN_CXX = b"""
-#include "goblin_pe.h"
-int main()
-{
-    goblin_pe_options options = GOBLIN_PE_DEFAULT_OPTIONS;
-    goblin_pe_file file{};
-    goblin_pe_directory directory{};
-    goblin_pe_tables tables = GOBLIN_PE_NO_TABLES;
-    goblin_pe_section section = GOBLIN_PE_EMPTY_SECTION;
-    goblin_pe_symbol symbol = GOBLIN_PE_EMPTY_SYMBOL;
-    goblin_pe_ranges ranges = GOBLIN_PE_NO_RANGES;
-    goblin_pe_fault fault = goblin_pe_open(section.name, sizeof section.name, &options, &file, &directory, 1, &tables);
-    goblin_pe_free(&tables);
-    goblin_pe_free_ranges(&ranges);
-    return symbol.has_name || fault.cause != GOBLIN_PE_CAUSE_DOS_MAGIC || goblin_pe_interface() != GOBLIN_PE_INTERFACE;
-}
-"""
-
 
 def setUpModule():
     need(CC)
@@ -55,11 +32,6 @@ class Programs(Case):
     def test_threads_with_stacks_of_16_kib(self):
         succeed([built("threads", "-std=c11", "-pthread"), "16", "1", BY_NAME])
 
-    def test_texts_of_causes_with_the_greatest_numbers(self):
-        for cause, text in CAUSES.items():
-            with self.subTest(cause=cause):
-                self.assert_runs([built("texts"), "1", str(cause), str(2**64 - 1), str(2**64 - 1)], (0, f"{text}\n".encode(), b""))
-
     def test_each_growth_is_refused(self):
         for kind, samples in (("image", IMAGES), ("footprint", IMAGES), ("object", OBJECTS), ("te", TERSE)):
             for sample in samples:
@@ -68,9 +40,9 @@ class Programs(Case):
 
     def test_a_program_in_cxx_finds_the_interface_that_it_declares(self):
         need("c++")
-        source = self.written("main.cc", IN_CXX)
-        succeed(["c++", "-std=c++11", *FLAGS, f"-I{CALLERS / 'c'}", "-o", self.folder / "main", source, library() / "libgoblin_pe.a"])
-        succeed([self.folder / "main"])
+        program = self.folder / "interface"
+        succeed(["c++", "-std=c++11", *FLAGS, "-o", program, CALLERS / "c/interface.cc", library() / "libgoblin_pe.a"])
+        succeed([program])
 
 
 class Reuse(Case):

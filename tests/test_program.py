@@ -4,10 +4,10 @@ import itertools
 import os
 import random
 import struct
-import subprocess
 
 from tests import images
-from tests.programs import CRATES, IMAGES, OBJECTS, PE_LIST, SAMPLES, TERSE, TOP, Case, beside, milliseconds, modes, run, with_memory
+from tests.programs import (CRATES, IMAGES, OBJECTS, PE_LIST, SAMPLES, TERSE, TOP, Case, beside, build_pe_list, milliseconds, modes, run,
+                            with_memory)
 
 BOTH_MODES = ([], ["--permissive"])
 USAGE = b"usage: pe_list [--permissive]\n"
@@ -17,9 +17,7 @@ SMALL = SAMPLES / "align16_x86.dll"
 
 
 def setUpModule():
-    """Where the program is not built, or a source is newer, it is proved and built first."""
-    with open(SMALL, "rb") as sample:
-        subprocess.run([TOP / "pe_list"], stdin=sample, stdout=subprocess.DEVNULL, check=True, env={**os.environ, "PE_LIST_PROVED": "only"})
+    build_pe_list()
 
 
 class Listings(Case):

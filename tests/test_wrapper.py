@@ -1,9 +1,8 @@
 """The script ./pe_list that users call, with a toolchain that answers what it is told."""
 import os
 import shutil
-import subprocess
 
-from tests.programs import CRATES, PE_LIST, SAMPLES, TOP, Case, beside, run
+from tests.programs import CRATES, PE_LIST, SAMPLES, TOP, Case, beside, build_pe_list, run
 
 SAMPLE = SAMPLES / "program_x64.exe"
 LISTING = beside(SAMPLE, "listing")
@@ -17,10 +16,7 @@ esac
 
 
 def setUpModule():
-    """It lists what is built; where there is no program, or a source is newer, this call proves and builds it."""
-    with open(SAMPLE, "rb") as file:
-        out = subprocess.check_output([TOP / "pe_list"], stdin=file, env={**os.environ, "PE_LIST_PROVED": "only"})
-    assert out == LISTING, out
+    build_pe_list()
 
 
 class Wrapper(Case):
@@ -47,6 +43,9 @@ class Wrapper(Case):
         """How often it ran unproved."""
         called = self.folder / "called"
         self.assertEqual(called.read_text("ascii").count("try") if called.exists() else 0, times)
+
+    def test_the_built_program(self):
+        self.assert_runs([TOP / "pe_list"], (0, LISTING, b""), SAMPLE)
 
     def test_it_lists_before_its_proof_and_says_so(self):
         self.assert_calls(0, LISTING, "BEFORE ITS PROOF")

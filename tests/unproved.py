@@ -19,19 +19,17 @@ def tried(crate, *words):
 
 
 def tests_of(crate):
-    """Runs a crate's tests: how many passed and failed."""
+    """Runs a crate's tests: how many passed and failed, and what is said where one failed."""
     said, status = tried(crate, "--test")
     found = re.search(r"(?m)^test result: \w+\. (\d+) passed; (\d+) failed;", said)
     passed, failed = map(int, found.groups()) if found else (0, 0)
-    if status or not passed:
-        failed = failed or 1
-        print(*[it for it in said.splitlines() if not it.endswith(" ... ok")], sep="\n")
-    print(f"the tests of {crate.name}: {passed} passed, {failed} failed", flush=True)
-    return passed, failed
+    if not status and passed and not failed:
+        return f"the tests of {crate.name}", passed, 0, ""
+    return f"the tests of {crate.name}", passed, failed or 1, re.sub(r"(?m)^.* \.\.\. ok\n", "", said)
 
 
 def listings():
-    """Lists each image in both modes, and a text that is refused: how many of them went as wanted."""
+    """Lists each image in both modes, and a text that is refused: how many went as wanted and did not, and what is said."""
     cases = {"refused": (TOP / "LICENSE", [], b"", 1)}
     for image in IMAGES:
         for words, wanted in modes(image):
@@ -42,19 +40,20 @@ def listings():
             pathlib.Path(f"{folder}/{name}.args").write_text("\n".join(words), "ascii")
             pathlib.Path(f"{folder}/{name}.stdout").write_bytes(wanted)
         said, _ = tried(CRATES / "pe_list", "--cases", folder)
-    failed = [name for name, (*_, status) in cases.items()
-              if not re.search(rf"(?m)^case={re.escape(name)} run=ended status={status} .*output=expected", said)]
-    if failed:
-        print(said, *failed, sep="\n")
-    print(f"listings: {len(cases) - len(failed)} passed, {len(failed)} failed", flush=True)
-    return len(cases) - len(failed), len(failed)
+    passed = sum(f"case={name} run=ended status={status} " in line and "output=expected" in line
+                 for name, (*_, status) in cases.items() for line in said.splitlines())
+    failed = len(cases) - passed
+    return "the listings", passed, failed, said if failed else ""
 
 
 def main():
     with_tests = sorted({CRATES / it.relative_to(CRATES).parts[0] for it in CRATES.glob("*/src/**/*.rt") if "#[test]" in it.read_text("utf-8")})
+    passed = failed = 0
     with concurrent.futures.ThreadPoolExecutor(len(os.sched_getaffinity(0))) as pool:
-        runs = [pool.submit(listings), *[pool.submit(tests_of, it) for it in with_tests]]
-    passed, failed = map(sum, zip(*[it.result() for it in runs]))
+        for it in concurrent.futures.as_completed([pool.submit(listings), *[pool.submit(tests_of, crate) for crate in with_tests]]):
+            name, went_well, went_wrong, said = it.result()
+            print(f"{said}{name}: {went_well} passed, {went_wrong} failed", flush=True)
+            passed, failed = passed + went_well, failed + went_wrong
     print(f"{passed} passed, {failed} failed")
     return 1 if failed else 0
 

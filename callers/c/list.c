@@ -1,5 +1,5 @@
-/* Lists a file as pe_list does: list [--permissive] FILE. With --symbols the symbols of an object, and
-   with --te the header of a Terse Executable, as pe_replay shows them. */
+/* Lists a file as pe_list does: list [--permissive] FILE. With --symbols it lists the symbols of an object,
+   and with --te the header of a Terse Executable, as beside the samples. */
 #include "goblin_pe.h"
 
 #include <inttypes.h>

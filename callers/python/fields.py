@@ -81,6 +81,8 @@ def texts():
     told = [str(Refused(1, cause, 2**64 - 1, 2**64 - 1)) for cause in range(36)]
     assert told[0] == told[1] == told[35] == "", told
     assert len(set(told[2:35])) == 33, told
+    assert told[10] == ("the data of the Rich header would begin at offset 0xffffffffffffffff of the DOS stub, "
+                        "but end at 0xffffffffffffffff"), told[10]
     assert told[32] == ("the words of a base relocation block can't be read: 0xffffffffffffffff bytes "
                         "at offset 0xffffffffffffffff of the directory"), told[32]
     assert told[34] == ("a library of imports has 18446744073709551615 entries, but 18446744073709551615 slots"), told[34]

@@ -1,5 +1,5 @@
 """Lists a file as pe_list does. With --symbols it lists the symbols of an object, and with --te the header of a Terse
-Executable, as pe_replay shows them."""
+Executable, as beside the samples."""
 import argparse
 import os
 import sys

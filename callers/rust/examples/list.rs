@@ -1,5 +1,5 @@
 //! Lists a file as pe_list does: list [--permissive] FILE. With --symbols the symbols of an object, and
-//! with --te the header of a Terse Executable, as pe_replay shows them.
+//! with --te the header of a Terse Executable, as beside the samples.
 use goblin_pe::{Forwarder, Object, Options, Part, Pe, Te};
 use std::error::Error;
 
