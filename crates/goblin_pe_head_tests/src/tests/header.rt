@@ -100,7 +100,9 @@ fn the_sections_end_where_the_file_may_end(rt: HostRuntime) -> Result<(), Fail> 
     file.truncate(TABLE_END);
     assert!(rt; has_section(rt.alloc(), &file));
     file.truncate(TABLE_END - 1);
-    assert!(rt; !has_section(rt.alloc(), &file));
+    let mut offset = TABLE;
+    let refused = sample_coff().sections(rt.alloc(), &file, &mut offset);
+    assert!(rt; matches!(refused, Err(Error::Read(_))) && offset == TABLE);
     Ok(())
 }
 
