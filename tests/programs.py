@@ -20,6 +20,7 @@ PE_REPLAY = CRATES / "pe_replay/out/pe_replay"
 IMAGES = sorted(it for it in SAMPLES.iterdir() if it.suffix in (".dll", ".exe", ".efi"))
 OBJECTS = sorted(SAMPLES.glob("*.obj"))
 TERSE = sorted(SAMPLES.glob("*.te"))
+assert IMAGES and OBJECTS and TERSE, f"{SAMPLES} lacks images, objects or Terse Executables"
 BY_NAME = SAMPLES / "imports_by_name_x64.dll"
 CC = os.environ.get("CC", "cc")
 FLAGS = ["-O2", "-Wall", "-Wextra", "-Werror"]

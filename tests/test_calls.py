@@ -62,7 +62,9 @@ TAKE_NONE = [
 def setUpModule():
     if not PE_REPLAY.exists():
         folder = CRATES / "pe_replay"
-        run(["rt", "run", "--", *(folder / "args").read_text().split()], folder / "stdin", cwd=folder)
+        status, _, said = run(["rt", "run", "--", *(folder / "args").read_text().split()], folder / "stdin", cwd=folder)
+        if status:
+            raise AssertionError(f"pe_replay is not built: {said.decode()}")
 
 
 class Growths(Case):

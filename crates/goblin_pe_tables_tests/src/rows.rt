@@ -9,7 +9,8 @@ ghost use Rattle.goblin_pe_tables_tests.specs.ShortEntry.{short_value};
 use goblin_base::{Endian, field_u16};
 use goblin_pe_tables::export::{Export, Reexport};
 use goblin_pe_tables::import::{
-    Bitfield, Import, ImportDirectoryEntry, ImportLookupTable, SyntheticImportLookupTableEntry,
+    Bitfield, Import, ImportDirectoryEntry, ImportLookupTable, SyntheticImportDirectoryEntry,
+    SyntheticImportLookupTableEntry,
 };
 
 /// An entry of two bytes, by ordinal from 2^15 on.
@@ -114,6 +115,17 @@ pub fn is_sample_table(table: &ImportLookupTable) -> bool {
         [first, second] => is_go(first) && is_seven(second),
         _ => false,
     }
+}
+
+/// Whether a library is the sample file's, but for the record that it comes from.
+pub fn is_sample_library(
+    library: &SyntheticImportDirectoryEntry,
+    from: &ImportDirectoryEntry,
+) -> bool {
+    matches!(&library.import_lookup_table, Some(table) if is_sample_table(table))
+        && library.import_address_table.as_slice() == [0x1090, 0x8000_0007].as_slice()
+        && library.import_directory_entry == *from
+        && library.name == "a.dll"
 }
 
 /// An export by its name, file offset, address, and what it stands for.

@@ -6,5 +6,6 @@
 
 mod footprints;
 mod modes;
+mod refusals;
 mod sample;
 mod whole;

@@ -100,7 +100,9 @@ fn the_sections_end_where_the_file_may_end(rt: HostRuntime) -> Result<(), Fail> 
     file.truncate(TABLE_END);
     assert!(rt; has_section(rt.alloc(), &file));
     file.truncate(TABLE_END - 1);
-    assert!(rt; !has_section(rt.alloc(), &file));
+    let mut offset = TABLE;
+    let refused = sample_coff().sections(rt.alloc(), &file, &mut offset);
+    assert!(rt; matches!(refused, Err(Error::Read(_))) && offset == TABLE);
     Ok(())
 }
 
@@ -174,16 +176,35 @@ fn the_default_stub_prints_its_message(rt: HostRuntime) {
     assert!(rt; stub.bytes == want.as_slice() && Header::default().dos_stub == stub);
 }
 
-/// The stub of `samples/program_x64.exe`, up to the signature, with two zero bytes at its end.
+/// The stub of the programs of `samples/`, up to the signature, with two zero bytes at its end.
 const PROGRAM_STUB: &[u8; 56] =
     b"\x0E\x1F\xBA\x0E\x00\xB4\x09\xCD\x21\xB8\x01\x4C\xCD\x21This program cannot be run in DOS mode.$\0\0";
 
-/// What that program has up to its section table: the bytes that are not zero, by their offsets.
-const PROGRAM: &[(usize, &[u8])] = &[
+/// What both programs have up to their signatures: the bytes that are not zero, by their offsets.
+const PROGRAM_FRONT: &[(usize, &[u8])] = &[
     (0x00, b"MZx\x00\x01\x00\x00\x00\x04"),
     (0x18, b"\x40"),
     (0x3C, b"\x78"),
     (0x40, PROGRAM_STUB),
+];
+
+/// What `samples/program_x86.exe` has from there up to its section table.
+const PROGRAM_X86: &[(usize, &[u8])] = &[
+    (0x78, b"PE\x00\x00\x4C\x01\x04"),
+    (0x8C, b"\xE0\x00\x02\x01"),
+    (0x90, b"\x0B\x01\x0E\x00\x00\x02\x00\x00\x00\x06"),
+    (0xA0, b"\x20\x10\x00\x00\x00\x10"),
+    (0xAE, b"\x40\x00\x00\x10\x00\x00\x00\x02\x00\x00\x06"),
+    (0xC0, b"\x06"),
+    (0xC8, b"\x00\x50\x00\x00\x00\x04"),
+    (0xD4, b"\x03\x00\x40\x85\x00\x00\x10"),
+    (0xDD, b"\x10\x00\x00\x00\x00\x10\x00\x00\x10"),
+    (0xEC, b"\x10\x00\x00\x00\x04\x20\x00\x00\x4D"),
+    (0x118, b"\x00\x40\x00\x00\x20"),
+];
+
+/// What `samples/program_x64.exe` has there.
+const PROGRAM_X64: &[(usize, &[u8])] = &[
     (0x78, b"PE\x00\x00\x64\x86\x04"),
     (0x8C, b"\xF0\x00\x22"),
     (0x90, b"\x0B\x02\x0E\x00\x00\x02\x00\x00\x00\x06"),
@@ -200,8 +221,8 @@ const PROGRAM: &[(usize, &[u8])] = &[
     (0x128, b"\x00\x40\x00\x00\x10"),
 ];
 
-/// Its header, as another tool shows it.
-fn program_header() -> Header<'static> {
+/// What both headers have alike, and what each has of its own: here as another tool shows them.
+fn program_header(coff_header: CoffHeader, optional_header: OptionalHeader) -> Header<'static> {
     Header {
         dos_header: DosHeader {
             signature: DOS_MAGIC,
@@ -217,24 +238,23 @@ fn program_header() -> Header<'static> {
         },
         signature: PE_MAGIC,
         coff_header: CoffHeader {
-            machine: COFF_MACHINE_X86_64,
             number_of_sections: 4,
-            size_of_optional_header: 240,
-            characteristics: 0x22,
-            ..CoffHeader::default()
+            ..coff_header
         },
-        optional_header: Some(program_optional()),
+        optional_header: Some(optional_header),
         ..Header::default()
     }
 }
 
-fn program_optional() -> OptionalHeader {
-    let mut data_directories = DataDirectories::default();
-    data_directories.data_directories[0] = Some((120, directory(0x2004, 0x4D)));
-    data_directories.data_directories[5] = Some((160, directory(0x4000, 0x10)));
+fn program_optional(
+    magic: u16,
+    image_base: u64,
+    dll_characteristics: u16,
+    data_directories: DataDirectories,
+) -> OptionalHeader {
     OptionalHeader {
         standard_fields: StandardFields {
-            magic: MAGIC_64,
+            magic,
             major_linker_version: 14,
             size_of_code: 512,
             size_of_initialized_data: 1536,
@@ -243,7 +263,7 @@ fn program_optional() -> OptionalHeader {
             ..StandardFields::default()
         },
         windows_fields: WindowsFields {
-            image_base: 0x1_4000_0000,
+            image_base,
             section_alignment: 4096,
             file_alignment: 512,
             major_operating_system_version: 6,
@@ -251,7 +271,7 @@ fn program_optional() -> OptionalHeader {
             size_of_image: 20480,
             size_of_headers: 1024,
             subsystem: 3,
-            dll_characteristics: 0x8160,
+            dll_characteristics,
             size_of_stack_reserve: 1_048_576,
             size_of_stack_commit: 4096,
             size_of_heap_reserve: 1_048_576,
@@ -263,9 +283,44 @@ fn program_optional() -> OptionalHeader {
     }
 }
 
+/// Directories of exports and of base relocations, by where their records end.
+fn program_directories(exports: usize, relocations: usize, size: u32) -> DataDirectories {
+    let mut data_directories = DataDirectories::default();
+    data_directories.data_directories[0] = Some((exports, directory(0x2004, 0x4D)));
+    data_directories.data_directories[5] = Some((relocations, directory(0x4000, size)));
+    data_directories
+}
+
+#[test]
+fn the_header_of_a_program_for_32_bits_is_the_one_that_another_tool_shows(rt: HostRuntime) {
+    let mut file = [0; 0x170];
+    put_all(&mut file, PROGRAM_FRONT);
+    put_all(&mut file, PROGRAM_X86);
+    let coff_header = CoffHeader {
+        machine: COFF_MACHINE_X86,
+        size_of_optional_header: 224,
+        characteristics: 0x102,
+        ..CoffHeader::default()
+    };
+    let directories = program_directories(104, 144, 0x20);
+    let optional_header = program_optional(MAGIC_32, 0x40_0000, 0x8540, directories);
+    let want = program_header(coff_header, optional_header);
+    assert!(rt; is_header(&file, ParseMode::Strict, &want));
+}
+
 #[test]
 fn the_header_of_a_program_for_64_bits_is_the_one_that_another_tool_shows(rt: HostRuntime) {
     let mut file = [0; 0x180];
-    put_all(&mut file, PROGRAM);
-    assert!(rt; is_header(&file, ParseMode::Strict, &program_header()));
+    put_all(&mut file, PROGRAM_FRONT);
+    put_all(&mut file, PROGRAM_X64);
+    let coff_header = CoffHeader {
+        machine: COFF_MACHINE_X86_64,
+        size_of_optional_header: 240,
+        characteristics: 0x22,
+        ..CoffHeader::default()
+    };
+    let directories = program_directories(120, 160, 0x10);
+    let optional_header = program_optional(MAGIC_64, 0x1_4000_0000, 0x8160, directories);
+    let want = program_header(coff_header, optional_header);
+    assert!(rt; is_header(&file, ParseMode::Strict, &want));
 }

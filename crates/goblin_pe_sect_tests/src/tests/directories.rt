@@ -1,7 +1,7 @@
 //! The data directories of an optional header.
 
 use fixture::sample::directory;
-use goblin_base::{Cause, Endian, Error, gread_with, pwrite_u32};
+use goblin_base::{Cause, Endian, Error, gread_with, pread_with, pwrite_u32};
 use goblin_pe_sect::{DataDirectories, DataDirectory, DataDirectoryType};
 use std::test::Fail;
 
@@ -101,4 +101,6 @@ fn directories_are_read_one_after_the_other_in_either_order(rt: HostRuntime) {
     );
     assert!(rt; matches!((first, second), (Ok(first), Ok(second)) if (first, second) == want));
     assert!(rt; offset == 17);
+    let placed = pread_with::<DataDirectory>(bytes, 9, Endian::Little);
+    assert!(rt; matches!(placed, Ok(placed) if placed == want.1));
 }

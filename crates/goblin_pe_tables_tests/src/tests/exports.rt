@@ -94,6 +94,24 @@ fn counts_above_the_length_of_the_file_are_refused(rt: HostRuntime) -> Result<()
     Ok(())
 }
 
+#[test]
+fn an_export_directory_that_is_not_mapped_or_not_whole_is_refused(
+    rt: HostRuntime,
+) -> Result<(), Fail> {
+    let file = sample(rt.alloc())?;
+    let sections = [sample_section()];
+    let rows = [
+        (0x9000, Cause::Unmapped(0x9000)),
+        (0x10F0, Cause::ExportTable(0x2F0)),
+    ];
+    for (virtual_address, cause) in rows {
+        let place = directory(virtual_address, 0x28);
+        let read = ExportData::parse(rt.alloc(), &file, place, &sections, ALIGNMENT);
+        assert!(rt; is_told(read, cause), "{virtual_address:#x}");
+    }
+    Ok(())
+}
+
 /// Whether the tables of a file lead to no exports in one without bytes.
 fn are_none_without_bytes(alloc: Global, file: &[u8]) -> goblin_base::Result<bool> {
     let tables = data_of(alloc, file)?;

@@ -2,12 +2,12 @@
 
 use super::is_told;
 use crate::rows::{
-    GO, ImportRow, RECORD, SEVEN, Short, are_imports, is_go, is_sample_table, is_seven,
+    GO, ImportRow, RECORD, SEVEN, Short, are_imports, is_go, is_sample_library, is_seven,
 };
 use fixture::sample::{
-    ALIGNMENT, IMPORTS, LOOKUP, MODES, in_mode, put, sample, sample_section, sample_with,
+    ALIGNMENT, IMPORTS, LOOKUP, MODES, directory, in_mode, put, sample, sample_section, sample_with,
 };
-use goblin_base::{Cause, Endian, ParseMode, ResultOf};
+use goblin_base::{Cause, Endian, Error, ParseMode, ResultOf};
 use goblin_pe_tables::import::{
     Bitfield, HintNameTableEntry, Import, ImportData, ImportDirectoryEntry, ImportLookupTable,
     SIZEOF_IMPORT_DIRECTORY_ENTRY, SyntheticImportDirectoryEntry, SyntheticImportLookupTableEntry,
@@ -41,11 +41,11 @@ fn imports_of<'a, 'e, T: Bitfield<'a>>(
     Import::parse::<T>(alloc, file, &data, &[sample_section()])
 }
 
-/// Whether these imports were listed; `None` are those that are refused.
+/// Whether these imports were listed; `None` are those that are refused, and not for want of memory.
 fn are_listed(read: goblin_base::Result<Vec<Import>>, want: Option<&[ImportRow]>) -> bool {
     match (&read, want) {
         (Ok(imports), Some(rows)) => are_imports(imports, rows),
-        (Err(_), None) => true,
+        (Err(error), None) => !matches!(error, Error::Memory(_)),
         _ => false,
     }
 }
@@ -125,14 +125,6 @@ fn a_name_may_reach_the_end(rt: HostRuntime) -> Result<(), Fail> {
     Ok(())
 }
 
-/// Whether a library is the sample file's, but for the record that it comes from.
-fn is_sample_library(library: &SyntheticImportDirectoryEntry, from: &ImportDirectoryEntry) -> bool {
-    matches!(&library.import_lookup_table, Some(table) if is_sample_table(table))
-        && library.import_address_table.as_slice() == [0x1090, 0x8000_0007].as_slice()
-        && library.import_directory_entry == *from
-        && library.name == "a.dll"
-}
-
 #[test]
 fn a_record_without_an_address_table_has_it_at_its_lookup_table(
     rt: HostRuntime,
@@ -191,6 +183,28 @@ fn a_record_whose_address_table_is_not_mapped_is_left_out_or_refused(
     assert!(rt; is_told(strict_data_of(rt.alloc(), &file), Cause::Unmapped(0x9000)));
     let read = data_of::<u32>(rt.alloc(), &file, ParseMode::Permissive)?;
     assert!(rt; is_one_library(&read));
+    Ok(())
+}
+
+#[test]
+fn imports_at_an_address_that_no_section_maps_are_refused(rt: HostRuntime) -> Result<(), Fail> {
+    let file = sample(rt.alloc())?;
+    let sections = [sample_section()];
+    let record = ImportDirectoryEntry {
+        import_address_table_rva: 0x9000,
+        ..RECORD
+    };
+    let library = SyntheticImportDirectoryEntry::parse::<u32>(
+        rt.alloc(),
+        &file,
+        record,
+        &sections,
+        ALIGNMENT,
+    );
+    assert!(rt; is_told(library, Cause::Unmapped(0x9000)));
+    let place = directory(0x9000, 0x28);
+    let data = ImportData::parse::<u32>(rt.alloc(), &file, place, &sections, ALIGNMENT);
+    assert!(rt; is_told(data, Cause::Unmapped(0x9000)));
     Ok(())
 }
 
@@ -281,7 +295,7 @@ fn a_lookup_table_that_meets_the_end_is_cut_in_permissive_mode_alone(
     for (len, count) in [(0x248, 1), (0x247, 0)] {
         file.truncate(len);
         let refused = lookup(rt.alloc(), &file);
-        assert!(rt; refused.is_err(), "{len:#x}");
+        assert!(rt; is_told(refused, Cause::HintEntry(0x290)), "{len:#x}");
         let kept = lookup_in(rt.alloc(), &file, ParseMode::Permissive);
         assert!(rt; are_sevens(&kept, count), "{len:#x}");
     }

@@ -173,7 +173,7 @@ fn have_imports<'a>(alloc: Global, a: &'a [u8], b: &'a [u8]) -> bool {
     are_imports_read(&imports.0) && are_imports_read(&imports.1)
 }
 
-fn are_imports_read(data: &goblin_base::Result<ImportData>) -> bool {
+pub fn are_imports_read(data: &goblin_base::Result<ImportData>) -> bool {
     matches!(data, Ok(data) if is_import_data(data))
 }
 

@@ -1,5 +1,6 @@
 //! Readers in both modes, under two tables of sections, and of two files at once.
 
+use super::refusals::is_refused;
 use super::sample::{COFF_HEADER, is_export_read, is_import_data, is_lookup, is_section, is_whole};
 use fixture::sample::{
     ALIGNMENT, EXPORTS, IMPORTS, LOOKUP, TABLE, directory, put_all, sample, sample_section, section,
@@ -18,7 +19,7 @@ use std::alloc::{AllocError, Global};
 use std::test::Fail;
 
 /// The bytes of the sample file's library name.
-const NAME: DataDirectory = DataDirectory {
+pub const NAME: DataDirectory = DataDirectory {
     virtual_address: 0x1080,
     size: 5,
 };
@@ -90,8 +91,12 @@ fn are_tables<'a>(
     file: &'a [u8],
     tables: &Tables<'a, ImportDirectoryEntry>,
 ) -> bool {
+    are_sample_imports(alloc, file, &tables.imports) && are_other_tables(tables)
+}
+
+/// Whether all but the imports are.
+fn are_other_tables(tables: &Tables<ImportDirectoryEntry>) -> bool {
     is_lookup(&tables.lookup)
-        && are_sample_imports(alloc, file, &tables.imports)
         && is_export_read(&tables.exports)
         && has_no_whole_block(&tables.relocations)
         && matches!(&tables.name, Ok(Some("a.dll")))
@@ -129,6 +134,54 @@ fn sections_may_stand_in_any_order(rt: HostRuntime) -> Result<(), Fail> {
         alloc, &file, &first, &second, &REQUEST, ALIGNMENT, &opts,
     );
     assert!(rt; are_both_tables(alloc, &file, &tables));
+    Ok(())
+}
+
+/// Whether these are the tables of the sample file where no section maps an address: an entry by
+/// ordinal leads nowhere.
+fn are_unmapped(tables: &Tables<ImportDirectoryEntry>) -> bool {
+    matches!(&tables.lookup, Ok(table) if table.len() == 1)
+        && is_refused(&tables.imports)
+        && is_refused(&tables.exports)
+        && is_refused(&tables.relocations)
+        && is_refused(&tables.name)
+        && is_refused(&tables.value)
+}
+
+#[test]
+fn each_table_of_sections_has_its_own_answers(rt: HostRuntime) -> Result<(), Fail> {
+    let alloc = rt.alloc();
+    let file = sample(alloc)?;
+    let sections = [sample_section()];
+    let opts = ParseOptions::default();
+    let tables: Two<Tables<ImportDirectoryEntry>> = reorder_whole_tables::<u32, _>(
+        alloc,
+        &file,
+        &[],
+        &sections,
+        &REQUEST,
+        ALIGNMENT,
+        &opts,
+    );
+    assert!(rt; are_unmapped(&tables.0) && are_tables(alloc, &file, &tables.1));
+    Ok(())
+}
+
+#[test]
+fn imports_that_strict_mode_refuses_leave_the_other_tables(rt: HostRuntime) -> Result<(), Fail> {
+    let alloc = rt.alloc();
+    let file = sample(alloc)?;
+    let sections = [sample_section()];
+    let request = Request {
+        imports: directory(0x9000, 0x28),
+        ..REQUEST
+    };
+    let opts = ParseOptions::default();
+    let tables: Two<Tables<ImportDirectoryEntry>> = mode_tables::<u32, _>(
+        alloc, &file, &sections, &request, ALIGNMENT, &opts,
+    );
+    assert!(rt; is_refused(&tables.0.imports) && are_other_tables(&tables.0));
+    assert!(rt; are_no_imports(&tables.1.imports) && are_other_tables(&tables.1));
     Ok(())
 }
 
@@ -200,7 +253,7 @@ fn are_headers(parts: &Parts<ImportDirectoryEntry>) -> bool {
 }
 
 /// Whether these are the sample file's parts.
-fn are_parts(parts: &Parts<ImportDirectoryEntry>) -> bool {
+pub fn are_parts(parts: &Parts<ImportDirectoryEntry>) -> bool {
     are_headers(parts)
         && matches!((&parts.symbols, &parts.strings), (Ok(None), Ok(None)))
         && has_no_whole_block(&parts.relocations)

@@ -4,13 +4,14 @@ use fixture::sample::{IMPORTS, sample_section};
 use goblin_base::Result;
 use goblin_pe::export::{ExportAddressTableEntry, ExportData, ExportDirectoryTable};
 use goblin_pe::header::{CoffHeader, Header};
-use goblin_pe::import::{ImportData, ImportLookupTable, SyntheticImportDirectoryEntry};
+use goblin_pe::import::{ImportData, ImportLookupTable};
 use goblin_pe::laws::ExportRead;
 use goblin_pe::optional_header::OptionalHeader;
 use goblin_pe::{Part, Whole};
 use goblin_pe_sect::SectionTable;
 use goblin_pe_tables_tests::rows::{
-    FORWARDED, GO, PLAIN, RECORD, SEVEN, are_exports, are_imports, is_sample_table,
+    FORWARDED, GO, PLAIN, RECORD, SEVEN, are_exports, are_imports, is_sample_library,
+    is_sample_table,
 };
 
 /// The sample file's COFF header.
@@ -48,15 +49,9 @@ pub fn is_lookup(table: &Result<ImportLookupTable>) -> bool {
 
 pub fn is_import_data(data: &ImportData) -> bool {
     match &data.import_data[..] {
-        [library] => is_library(library),
+        [library] => is_sample_library(library, &RECORD),
         _ => false,
     }
-}
-
-fn is_library(library: &SyntheticImportDirectoryEntry) -> bool {
-    (library.import_directory_entry, library.name) == (RECORD, "a.dll")
-        && matches!(&library.import_lookup_table, Some(table) if is_sample_table(table))
-        && library.import_address_table.as_slice() == [0x1090, 0x8000_0007].as_slice()
 }
 
 fn is_record(record: &ExportDirectoryTable) -> bool {

@@ -134,7 +134,8 @@ fn a_raw_pointer_that_is_no_multiple_of_512_is_rounded_where_that_is_asked_for(
             "{mode:?}"
         );
     }
-    assert!(rt; refusal(rt.alloc(), &file, ParseMode::Strict).is_some());
+    let refused = refusal(rt.alloc(), &file, ParseMode::Strict);
+    assert!(rt; matches!(refused, Some(Error::BufferTooShort(_, _))));
     let opts = in_mode(ParseMode::Permissive);
     assert!(rt; is_damaged(Whole::read(rt.alloc(), &file, &opts)?));
     Ok(())
