@@ -98,7 +98,16 @@ amounts! {
     data: ImportData<'_> => data.import_data.len();
     import: Import<'_> => import.name.len();
     data: ExportData<'_> => data.export_address_table.len();
-    export: Export<'_> => export.name.unwrap_or("").len();
+}
+
+/// The length of its name.
+impl Amount for Export<'_> {
+    fn amount(&self) -> Result<usize, Refusal> {
+        match self.name {
+            Some(name) => Ok(name.len()),
+            None => Ok(0),
+        }
+    }
 }
 
 /// The length of its name.

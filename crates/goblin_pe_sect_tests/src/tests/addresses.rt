@@ -126,7 +126,8 @@ fn a_raw_pointer_is_rounded_by_the_rule(rt: HostRuntime) {
     }
 }
 
-/// Whether both orders of two sections find these offsets, by so many pieces and probes at most.
+/// Whether an index and a walk find this offset, the index by so many pieces and at most so many
+/// probes.
 fn are_found(
     alloc: Global,
     sections: &[SectionTable],

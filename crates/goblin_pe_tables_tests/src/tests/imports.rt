@@ -41,13 +41,14 @@ fn imports_of<'a, 'e, T: Bitfield<'a>>(
     Import::parse::<T>(alloc, file, &data, &[sample_section()])
 }
 
-/// Whether these imports were listed; `None` are those that are refused, and not for want of memory.
-fn are_listed(read: goblin_base::Result<Vec<Import>>, want: Option<&[ImportRow]>) -> bool {
-    match (&read, want) {
-        (Ok(imports), Some(rows)) => are_imports(imports, rows),
-        (Err(error), None) => !matches!(error, Error::Memory(_)),
-        _ => false,
-    }
+/// Whether these imports were listed.
+fn are_listed(read: goblin_base::Result<Vec<Import>>, rows: &[ImportRow]) -> bool {
+    matches!(&read, Ok(imports) if are_imports(imports, rows))
+}
+
+/// Whether the imports were refused, and not for want of memory.
+fn are_refused(read: goblin_base::Result<Vec<Import>>) -> bool {
+    matches!(&read, Err(error) if !matches!(error, Error::Memory(_)))
 }
 
 #[test]
@@ -57,55 +58,53 @@ fn imports_are_listed_by_entries_of_each_width(rt: HostRuntime) -> Result<(), Fa
     let of_two = [("Go", 5, 0x1060, 0x1090, 2, 0)];
     for mode in MODES {
         let read = imports_of::<u32>(rt.alloc(), &file, mode);
-        assert!(rt; are_listed(read, Some(&[GO, SEVEN])), "{mode:?}");
+        assert!(rt; are_listed(read, &[GO, SEVEN]), "{mode:?}");
         let read = imports_of::<u64>(rt.alloc(), &file, mode);
-        assert!(rt; are_listed(read, Some(&of_eight)), "{mode:?}");
+        assert!(rt; are_listed(read, &of_eight), "{mode:?}");
         let read = imports_of::<Short>(rt.alloc(), &file, mode);
-        assert!(rt; are_listed(read, Some(&of_two)), "{mode:?}");
+        assert!(rt; are_listed(read, &of_two), "{mode:?}");
     }
     Ok(())
 }
 
-/// Bytes of the sample file that are changed, and its imports in strict and in permissive mode.
-type Change = (
-    usize,
-    &'static [u8],
-    Option<&'static [ImportRow]>,
-    &'static [ImportRow],
-);
-
-/// Changes of names, of hints, and of where a table is read.
-const CHANGES: [Change; 6] = [
-    // No text, after the NUL of the library's name.
-    (0x28A, b"\xFF", Some(&[GO, SEVEN]), &[GO, SEVEN]),
-    // No lookup table: the address table is read in its place.
-    (0x200, b"\0\0", Some(&[GO, SEVEN]), &[GO, SEVEN]),
-    // A lookup table at the directory's own place, whose one entry leads to its own bytes.
-    (
-        0x200,
-        b"\x00\x10",
-        Some(&[("", 4096, 0x1060, 0x1000, 4, 0)]),
-        &[("", 4096, 0x1060, 0x1000, 4, 0)],
-    ),
-    // A hint that no section maps, one without a name, and one that is not whole.
-    (0x240, b"\x00\x90", Some(&[SEVEN]), &[SEVEN]),
-    (
-        0x240,
-        b"\xFE\x10",
-        None,
-        &[("", 0, 0x1060, 0x10FE, 4, 0), SEVEN],
-    ),
-    (0x240, b"\xFF\x10", None, &[SEVEN]),
-];
+#[test]
+fn imports_that_both_modes_list_are_the_same(rt: HostRuntime) -> Result<(), Fail> {
+    // Bytes that are changed, and the imports that are left.
+    let rows: [(usize, &[u8], &[ImportRow]); 4] = [
+        // No text, after the NUL of the library's name.
+        (0x28A, b"\xFF", &[GO, SEVEN]),
+        // No lookup table: the address table is read in its place.
+        (0x200, b"\0\0", &[GO, SEVEN]),
+        // A lookup table at the directory's own place, whose one entry leads to its own bytes.
+        (0x200, b"\x00\x10", &[("", 4096, 0x1060, 0x1000, 4, 0)]),
+        // A hint that no section maps.
+        (0x240, b"\x00\x90", &[SEVEN]),
+    ];
+    for (offset, bytes, want) in rows {
+        let file = sample_with(rt.alloc(), offset, bytes)?;
+        for mode in MODES {
+            let read = imports_of::<u32>(rt.alloc(), &file, mode);
+            assert!(rt; are_listed(read, want), "{offset:#x} {bytes:?} {mode:?}");
+        }
+    }
+    Ok(())
+}
 
 #[test]
-fn changed_imports_are_listed_left_out_or_refused(rt: HostRuntime) -> Result<(), Fail> {
-    for (offset, bytes, strict, permissive) in CHANGES {
-        let file = sample_with(rt.alloc(), offset, bytes)?;
-        let read = imports_of::<u32>(rt.alloc(), &file, ParseMode::Strict);
-        assert!(rt; are_listed(read, strict), "{offset:#x} {bytes:?}");
-        let read = imports_of::<u32>(rt.alloc(), &file, ParseMode::Permissive);
-        assert!(rt; are_listed(read, Some(permissive)), "{offset:#x} {bytes:?}");
+fn imports_that_strict_mode_refuses_are_listed_in_permissive_mode(
+    rt: HostRuntime,
+) -> Result<(), Fail> {
+    // A hint without a name, and one that is not whole.
+    let rows: [(&[u8], &[ImportRow]); 2] = [
+        (b"\xFE\x10", &[("", 0, 0x1060, 0x10FE, 4, 0), SEVEN]),
+        (b"\xFF\x10", &[SEVEN]),
+    ];
+    for (entry, want) in rows {
+        let file = sample_with(rt.alloc(), LOOKUP, entry)?;
+        let strict = imports_of::<u32>(rt.alloc(), &file, ParseMode::Strict);
+        assert!(rt; are_refused(strict), "{entry:?}");
+        let permissive = imports_of::<u32>(rt.alloc(), &file, ParseMode::Permissive);
+        assert!(rt; are_listed(permissive, want), "{entry:?}");
     }
     Ok(())
 }

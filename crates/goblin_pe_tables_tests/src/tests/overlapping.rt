@@ -72,12 +72,16 @@ fn are_mapped(sections: &[SectionTable], held: &Held) -> bool {
     })
 }
 
-fn is_table(table: &ImportLookupTable, held: &Held) -> bool {
-    match table.as_slice() {
-        [SyntheticImportLookupTableEntry::HintNameTableRVA((_, named))] => named.hint == held.hint
+fn is_entry(entry: &SyntheticImportLookupTableEntry, held: &Held) -> bool {
+    match entry {
+        SyntheticImportLookupTableEntry::HintNameTableRVA((_, named)) => named.hint == held.hint
             && named.name == held.import,
-        _ => false,
+        SyntheticImportLookupTableEntry::OrdinalNumber(_) => false,
     }
+}
+
+fn is_table(table: &ImportLookupTable, held: &Held) -> bool {
+    matches!(table.as_slice(), [only] if is_entry(only, held))
 }
 
 fn is_library(library: &SyntheticImportDirectoryEntry, held: &Held) -> bool {
