@@ -5,7 +5,7 @@ use Rattle.std.specs.List.{All, filter, range_with_len}
 use Rattle.std.specs.Option.{is_some}
 use Rattle.std.proofs.lemmas.Bool.{lt-ltb, eq-eqb}
 use Rattle.std.proofs.lemmas.List.{length-append}
-use Rattle.std.proofs.iter.Rest.{range_with_len_last}
+use Rattle.readings.proofs.WalkValues.{range-next}
 use Rattle.std.proofs.lemmas.List.Elements.{filter-append}
 use Rattle.std.proofs.lemmas.Option.{slice_get-get_or}
 use Rattle.goblin_base.specs.declared.endian.Endian.TheVariants.{Little}
@@ -75,13 +75,6 @@ one-counted : (i : ℕ) (xs : List LookupEntry) → length xs ≤ 1 → length (
 one-counted i [] few = refl
 one-counted i (x ∷ []) few = refl
 one-counted i (x ∷ y ∷ xs) few = absurd (omega (arith, few))
-
-range-next : (n : ℕ) → range_with_len 0 (suc n) ≡ range_with_len 0 n ++ n ∷ []
-range-next n =
-    let whole : suc n - 0 ≡ suc n = omega arith in
-    let front : suc n - 1 - 0 ≡ n = omega arith in
-    let last : suc n - 1 ≡ n = omega arith in
-    sym (ap (range_with_len 0) whole) ∙ range_with_len_last 0 (suc n) (omega arith) ∙ ap (λ m. range_with_len 0 m ++ (suc n - 1) ∷ []) front ∙ ap (λ m. range_with_len 0 n ++ m ∷ []) last
 
 pieces-counted : (piece : ℕ → Option (List LookupEntry)) (n : ℕ) → ((j : ℕ) (xs : List LookupEntry) → piece j ≡ Some xs → length xs ≤ 1) → (ys : List LookupEntry) → each_below piece n ≡ Some ys
     → length (filter (λ i. is_kept (piece i)) (range_with_len 0 n)) ≡ length ys
@@ -166,7 +159,7 @@ module _ (strict : Bool) (format : Format EntryValue) (offset_of : ℕ → Optio
   kept-listed false None xs listed e = subst (Each IsListed) (same_value [] xs e) tt
 
   module _ (bytes : IsBytes file) where
-    address-low : (p : ℕ) → (import_record Little (slice_range file p (p + 20))).import_address_table_rva < 2 ^ 32
+    pub address-low : (p : ℕ) → (import_record Little (slice_range file p (p + 20))).import_address_table_rva < 2 ^ 32
     unfolding import_record
     address-low p = number-lt Little 4 (slice_range file p (p + 20)) 16 (IsBytes-slice file p 20 bytes)
 
