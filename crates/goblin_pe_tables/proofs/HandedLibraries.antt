@@ -28,7 +28,7 @@ pub unmapped : {A B : Type 0} (f : A → B) (o : Option A) → option_map f o �
 unmapped f None e = refl
 unmapped f (Some x) e = absurd cc
 
-name_strict : (strict : Bool) (name : Option (List ℕ)) → in_its_place strict [] name ≡ None
+pub name_strict : (strict : Bool) (name : Option (List ℕ)) → in_its_place strict [] name ≡ None
     → strict ≡ true
 name_strict strict (Some x) e = absurd cc
 name_strict true None e = refl

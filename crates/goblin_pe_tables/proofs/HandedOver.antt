@@ -43,7 +43,7 @@ last_read xs x n long =
     ∙ ap (λ y. Some y) (get_or-append_seam xs x [] x)
 
 -- the imports of one more entry, which has a slot
-imports_by-more : (size : ℕ) (dll : List ℕ) (rva : ℕ) (entries : List LookupEntry) (slots : List ℕ)
+pub imports_by-more : (size : ℕ) (dll : List ℕ) (rva : ℕ) (entries : List LookupEntry) (slots : List ℕ)
     (made : List ImportValue) (entry : LookupEntry) (slot offset : ℕ)
     → length entries ≡ length slots → offset ≡ rva + size * slot → offset < 2 ^ 64
     → imports_by size dll rva entries slots ≡ Some made

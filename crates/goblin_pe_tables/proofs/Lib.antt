@@ -15,4 +15,9 @@ pub mod LookupSlots
 pub mod Modes
 pub mod PermissiveReads
 mod SomeRanges
+mod ImportPositions
+mod ImportSteps
+mod ImportsValue
+mod ImportsWalk
+pub mod LookupWalk
 mod WholeEntries

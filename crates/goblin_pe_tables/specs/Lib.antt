@@ -10,5 +10,6 @@ pub mod ImportEntries
 pub mod ImportLookup
 pub mod ImportReadings
 pub mod ImportRecords
+pub mod ImportWalks
 pub mod Imports
 pub mod LookupReadings

@@ -29,6 +29,8 @@ mod bitfield;
 mod collector;
 mod directory_entry;
 mod handed_over;
+mod imports;
+mod kept;
 mod library;
 mod listed;
 mod lookup_table;
@@ -42,7 +44,9 @@ pub use collector::ImportCollector;
 use collector::RecordCollector;
 pub use directory_entry::{ImportDirectoryEntry, SIZEOF_IMPORT_DIRECTORY_ENTRY};
 use handed_over::EachImport;
+pub use imports::{ImportPosition, Imports, WalkedImport};
 pub use library::SyntheticImportDirectoryEntry;
+use library::directory_offset;
 pub(crate) use library::{address_table_rva, lookup_offset};
 pub use listed::Import;
 pub use lookup_table::{HintNameTableEntry, ImportLookupTable, SyntheticImportLookupTableEntry};
@@ -132,13 +136,10 @@ fn read_directory<'a, 'e, T: Bitfield<'a>, C: RecordCollector<'a, T>>(
     ensures grown { let m = address_map.now in
         IfErr result (λ e. IsMemory e → IsSomeAnd (offset_of m rva) (HasRecords bytes.now)) }
 {
-    let is_permissive = address_map.is_permissive();
-    let offset = match address_map.offset_of(rva) {
-        Some(offset) => offset,
-        None if is_permissive => 0,
-        None => return Err(Error::Malformed(Cause::Unmapped(rva as usize))),
+    let Some(offset) = directory_offset(rva, address_map) else {
+        return Err(Error::Malformed(Cause::Unmapped(rva as usize)));
     };
-    if is_permissive && offset == 0 {
+    if address_map.is_permissive() && offset == 0 {
         return Ok(imports);
     }
     libraries::<T, C>(bytes, offset, address_map, imports)

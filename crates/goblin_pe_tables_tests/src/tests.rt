@@ -4,6 +4,7 @@ mod collections;
 mod exports;
 mod imports;
 mod overlapping;
+mod walks;
 
 use goblin_base::{Cause, Error};
 

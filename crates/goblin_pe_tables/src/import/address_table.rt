@@ -48,7 +48,10 @@ pub(super) fn address_table<'a, 'e, T: Bitfield<'a>>(
 
 // Tests whether there is an address table at an offset, as `address_table` reads it; its numbers
 // are not kept.
-fn test_numbers<'a, 'e, T: Bitfield<'a>>(bytes: &'a [u8], offset: usize) -> ResultOf<'e, ()>
+pub(super) fn test_numbers<'a, 'e, T: Bitfield<'a>>(
+    bytes: &'a [u8],
+    offset: usize,
+) -> ResultOf<'e, ()>
     ensures { Reads (λ _. tt {0}) result
         (mapped (λ _. tt {0}) (address_table T.format offset)) bytes.now }
 {

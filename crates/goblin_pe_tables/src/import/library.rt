@@ -4,7 +4,7 @@ ghost use Rattle.std.specs.Prelude.{◌≡◌, ◌⊎◌, ◌<◌, ◌^◌, [], 
 ghost use Rattle.std.specs.Prelude.{option_map, true};
 ghost use Rattle.goblin_base.specs.Answers.{IsMemory};
 ghost use Rattle.goblin_base.specs.Reading.{Reads, ReadsOrMemory};
-ghost use Rattle.readings.specs.Reads.{or_else};
+ghost use Rattle.readings.specs.Reads.{in_its_place, or_else};
 ghost use Rattle.goblin_pe_sect.specs.Options.{default_options};
 ghost use Rattle.goblin_pe_sect.specs.WindowIndex.{HasPieces};
 ghost use Rattle.goblin_pe_tables.specs.Addresses.{map_by, offset_of, reads_strictly};
@@ -107,6 +107,18 @@ pub(super) fn library_name<'a>(
 {
     let name = address_map.name_at(bytes, rva)?;
     Ok(name.unwrap_or(no_text(bytes)))
+}
+
+// The offset of the directory at an address: permissive mode treats an address without an offset as
+// one that leads to the front of the file.
+pub(super) fn directory_offset(rva: u32, address_map: &AddressMap) -> Option<usize>
+    ensures { let m = address_map.now in
+        result ≡ in_its_place (reads_strictly m) 0 (offset_of m rva) }
+{
+    match address_map.offset_of(rva) {
+        None if address_map.is_permissive() => Some(0),
+        offset => offset,
+    }
 }
 
 // The offset of a record's lookup table: at its own address, or at that of the address table.
