@@ -1,5 +1,5 @@
 -- What a walk over a table of slots collects is what the table keeps.
-use Rattle.std.proofs.Common.{◌≡◌, ◌<◌, ◌≤◌, ℕ, zero, suc, Bool, true, false, cond, List, [], ◌∷◌, ◌++◌, map}
+use Rattle.std.proofs.Common.{◌≡◌, ◌≤◌, ℕ, zero, suc, Bool, true, false, cond, List, [], ◌∷◌, ◌++◌, map}
 use Rattle.std.proofs.Common.{length, Option, Some, None, refl, sym, ap, subst, ◌∙◌, ◌-◌, append-nil, arith}
 use Rattle.std.proofs.Common.{◌⊎◌, inl, inr, ◌&&◌, not}
 use Rattle.std.specs.Prelude.{option_and_then, option_map}
@@ -191,61 +191,10 @@ module _ {A B : Type 0} (item : ℕ → A → B) (entry : B → A) (slot : B →
 
 -- ---- where an item comes
 
-has-append : {A : Type 0} (xs ys : List (Option A)) → HasItem (xs ++ ys)
-    → HasItem xs ⊎ HasItem ys
-has-append [] ys h = inr h
-has-append (None ∷ xs) ys h = absurd h
-has-append (Some x ∷ xs) ys h = inl tt
-
 pub has-yielded : {A : Type 0} (xs : List A) (x : A) (items : List (Option A))
     → HasItem (map (λ x. Some x) xs ++ Some x ∷ items)
 has-yielded [] x items = tt
 has-yielded (y ∷ xs) x items = tt
-
-has-until : {A : Type 0} (items : List (Option A)) → HasItem (until_refused items) → HasItem items
-unfolding until_refused
-has-until [] h = h
-has-until (None ∷ items) h = h
-has-until (Some x ∷ items) h = tt
-
-has-made : {A B : Type 0} (item : A → B) (made : Option (List A)) → HasItem (items_of item made)
-    → is_kept made ≡ true
-has-made item None h = absurd h
-has-made item (Some []) h = absurd h
-has-made item (Some (x ∷ xs)) h = refl
-
-end-never : {V : Type 0} (A : Type 0) (needed : Bool) (end : Option V)
-    → HasItem {A = A} (end_items needed end) → ⊥
-end-never A true None h = h
-end-never A true (Some v) h = h
-end-never A false end h = h
-
-module _ {A B : Type 0} (item : ℕ → A → B) (made : ℕ → Option (List A)) where
-  -- something is kept of one of the first n slots
-  abbrev Keeps : ℕ → Type 0
-  Keeps n = (i : ℕ) × (i < n) × (is_kept (made i) ≡ true)
-
-  abbrev each : ℕ → List (Option B)
-  each n = concat_below (λ i. items_of (item i) (made i)) n
-
-  has-below : (n : ℕ) → HasItem (each n) → Keeps n
-  unfolding concat_below
-  has-below zero h = absurd h
-  has-below (suc n) h =
-      elim (has-append (each n) (items_of (item n) (made n)) h) [
-        | inl earlier ↦
-            let k = has-below n earlier in
-            (k.0, omega (arith, k.1), k.2)
-        | inr here ↦ (n, omega arith, has-made (item n) (made n) here)
-      ]
-
-  pub walk-keeps : {V : Type 0} (needed : Bool) (end : Option V) (n : ℕ)
-      → HasItem (until_refused (each n ++ end_items needed end)) → Keeps n
-  walk-keeps needed end n h =
-      elim (has-append (each n) (end_items needed end) (has-until _ h)) [
-        | inl earlier ↦ has-below n earlier
-        | inr last ↦ absurd (end-never B needed end last)
-      ]
 
 -- ---- what holds of the items that are collected
 
