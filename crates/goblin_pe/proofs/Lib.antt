@@ -1,3 +1,4 @@
+pub mod Alone
 pub mod Collected
 pub mod HeaderThere
 pub mod KeptImports

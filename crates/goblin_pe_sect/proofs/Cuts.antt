@@ -34,6 +34,24 @@ all_more P xs n x here below this k y lt is =
           subst P one this
     ]
 
+only_zero : (sections : List Section) (alignment x : ℕ) → Contains (0 ∷ []) x → IsBorder sections alignment x
+only_zero sections alignment x has =
+    elim (Contains-push_cases [] 0 x has) [
+      | inl none ↦ absurd (omega (arith, none.1))
+      | inr at ↦ inl (sym at)
+    ]
+
+-- before the first section the line is cut at 0
+pub cuts_none : (sections : List Section) (alignment : ℕ) → HasCuts sections alignment (0 ∷ []) 0
+cuts_none sections alignment = record {
+  start = (0, omega arith, refl);
+  begins = λ k s lt. absurd (omega arith);
+  ends = λ k s lt. absurd (omega arith);
+  only = only_zero sections alignment;
+  near = λ k s lt. absurd (omega arith);
+  few = omega arith;
+}
+
 pub cuts_empty : (sections : List Section) (alignment : ℕ) (points : List ℕ) (n : ℕ) (s : Section) → HasCuts sections alignment points n → slice_get sections n ≡ Some s → read_size s alignment ≡ 0 → HasCuts sections alignment points (n + 1)
 cuts_empty sections alignment points n s h here empty = record {
   start = h.start;
@@ -68,7 +86,28 @@ cuts_more sections alignment points n s h here some small =
       few = omega (arith, h.few, length-append {A = ℕ});
     }
 
-all_borders : (sections : List Section) (alignment : ℕ) (points : List ℕ) → HasCuts sections alignment points (length sections) → (x : ℕ) → IsBorder sections alignment x → Contains points x
+only_touching : (sections : List Section) (alignment : ℕ) (points : List ℕ) (n : ℕ) (s : Section) → ((x : ℕ) → Contains points x → IsBorder sections alignment x) → slice_get sections n ≡ Some s → 0 < read_size s alignment → (x : ℕ) → Contains (points ++ window_end s alignment ∷ []) x → IsBorder sections alignment x
+only_touching sections alignment points n s only here some x has =
+    elim (Contains-push_cases points (window_end s alignment) x has) [
+      | inl old ↦ only x old
+      | inr end ↦ inr (n, s, here, some, inr (sym end))
+    ]
+
+-- where a window begins at one of the points, only its end is new
+pub cuts_touching : (sections : List Section) (alignment : ℕ) (points : List ℕ) (n : ℕ) (s : Section) → HasCuts sections alignment points n → slice_get sections n ≡ Some s → 0 < read_size s alignment → read_size s alignment ≤ 2 ^ 33 → Contains points s.virtual_address → HasCuts sections alignment (points ++ window_end s alignment ∷ []) (n + 1)
+cuts_touching sections alignment points n s h here some small begun =
+    let all : List ℕ = points ++ window_end s alignment ∷ [] in
+    let kept : (x : ℕ) → Contains points x → Contains all x = λ x has. Contains-append_left points _ x has in
+    record {
+      start = kept 0 h.start;
+      begins = all_more (λ s. 0 < read_size s alignment → Contains all s.virtual_address) sections n s here (λ k t lt is some. kept _ (h.begins k t lt is some)) (λ some. kept _ begun);
+      ends = all_more (λ s. 0 < read_size s alignment → Contains all (window_end s alignment)) sections n s here (λ k t lt is some. kept _ (h.ends k t lt is some)) (λ some. Contains-push points (window_end s alignment));
+      only = only_touching sections alignment points n s h.only here some;
+      near = all_more (λ s. read_size s alignment ≤ 2 ^ 33) sections n s here h.near small;
+      few = omega (arith, h.few, length-append {A = ℕ});
+    }
+
+pub all_borders : (sections : List Section) (alignment : ℕ) (points : List ℕ) → HasCuts sections alignment points (length sections) → (x : ℕ) → IsBorder sections alignment x → Contains points x
 all_borders sections alignment points h x (inl is) = subst (λ (y : ℕ). Contains points y) (sym is) h.start
 all_borders sections alignment points h x (inr (k, s, at, some, inl begin)) = subst (λ (y : ℕ). Contains points y) (sym begin) (h.begins k s (slice_get_within sections k s at) at some)
 all_borders sections alignment points h x (inr (k, s, at, some, inr end)) = subst (λ (y : ℕ). Contains points y) (sym end) (h.ends k s (slice_get_within sections k s at) at some)

@@ -11,6 +11,7 @@ pub mod EntriesFront
 pub mod EntriesWithin
 pub mod First
 pub mod Halving
+pub mod InOrder
 pub mod Mapped
 pub mod Multiples
 pub mod PermissiveReads
@@ -22,6 +23,5 @@ pub mod SectionTableRoundTrip
 pub mod Stretches
 pub mod SymbolHeads
 pub mod SymbolsRoundTrip
-pub mod Walked
 pub mod WindowPieces
 pub mod WordItems

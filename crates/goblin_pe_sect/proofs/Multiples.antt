@@ -1,11 +1,10 @@
 -- The nearest multiples by division.
 use Rattle.std.proofs.Common.{◌≡◌, ℕ, zero, suc, ◌+◌, ◌-◌, ◌*◌, ◌/◌, ◌%◌, ◌<◌, ◌≤◌, Bool, true, false, ◌&&◌, nat_le, refl, ap, sym, ◌∙◌, inl, inr, arith, rules, tests}
-use Rattle.std.specs.Int.{next_multiple_of}
 use Rattle.std.proofs.lemmas.Bool.{cases_lt, cases_Bool}
 use Rattle.std.proofs.lemmas.Bool.Decides.{nat_tests}
 use Rattle.std.proofs.lemmas.Nat.{mod_below}
 use Prim.Native.Nat.{◌∣◌}
-use Rattle.std.proofs.Math.Nat.{dvd-sub, dvd-add, dvd_refl, dvd-mul_left, le_of_dvd, dvd_of_mod-eq-zero, mod-eq-zero_of_dvd, div-add-mod', mod-eq_of_lt, mod_self}
+use Rattle.std.proofs.Math.Nat.{dvd-sub, dvd-mul_left, le_of_dvd, dvd_of_mod-eq-zero, mod-eq-zero_of_dvd, div-add-mod'}
 use Rattle.goblin_base.proofs.Below.{least-is}
 use Rattle.goblin_pe_sect.specs.Multiples.{is_multiple, greatest, greatest_multiple, least_multiple}
 
@@ -53,33 +52,18 @@ down step x some =
       | inr fails ↦ fails
     ]))
 
-next_is_multiple : (step x : ℕ) → 0 < step → next_multiple_of x step % step ≡ 0
-next_is_multiple step x some =
-    let split = div-add-mod' x step in
-    let rest : x % step < step = mod_below x step some in
-    elim (cases_lt 0 (x % step)) [
-      | inl part ↦
-          let gap : (step - x % step) % step ≡ step - x % step = mod-eq_of_lt (omega arith) in
-          let at : next_multiple_of x step ≡ x / step * step + step = omega (arith, gap, split, rest) in
-          ap (λ (m : ℕ). m % step) at ∙ mod-eq-zero_of_dvd step (dvd-add step (dvd-mul_left step (x / step)) (dvd_refl step))
-      | inr whole ↦
-          let none : step - x % step ≡ step = omega (arith, whole) in
-          let gap : (step - x % step) % step ≡ 0 = ap (λ (m : ℕ). m % step) none ∙ mod_self step in
-          let at : next_multiple_of x step ≡ x / step * step = omega (arith, gap, split, whole) in
-          ap (λ (m : ℕ). m % step) at ∙ quotient_is_multiple step x
-    ]
-
 -- a multiple at or above a number is less than one step from it
-rounding : (step x : ℕ) → 0 < step → (x ≤ next_multiple_of x step) × (next_multiple_of x step < x + step)
-rounding step x some = omega (arith, mod_below (step - x % step) step some)
+rounding : (step x : ℕ) → 0 < step → (x ≤ (x + (step - 1)) / step * step) × ((x + (step - 1)) / step * step < x + step)
+rounding step x some =
+    omega (arith, div-add-mod' (x + (step - 1)) step, mod_below (x + (step - 1)) step some)
 
 -- the multiple at or above a number, by division
-pub up : (step x : ℕ) → 0 < step → next_multiple_of x step ≡ least_multiple step x
+pub up : (step x : ℕ) → 0 < step → (x + (step - 1)) / step * step ≡ least_multiple step x
 unfolding least_multiple
 up step x some =
-    let next : ℕ = next_multiple_of x step in
+    let next : ℕ = (x + (step - 1)) / step * step in
     let near = rounding step x some in
-    let multiple : next % step ≡ 0 = next_is_multiple step x some in
+    let multiple : next % step ≡ 0 = quotient_is_multiple step (x + (step - 1)) in
     sym (least-is (λ m. nat_le x m && is_multiple step m) (x + step) next (omega (arith, near))
     (λ j less. elim (cases_Bool (nat_le x j && is_multiple step j)) [
       | inl passes ↦

@@ -60,7 +60,7 @@ find-met first last rva low high windows = find-filter (window_holds rva) (windo
 pub rising_all : (xs : List ℕ) → IsStrictlyIncreasing xs → IsRising xs
 rising_all xs up = rising_to xs up
 
-map_same : {X Y : Type 0} (f g : X → Y) (d : X) (xs : List X) → ((i : ℕ) → i < length xs → f (get_or xs i d) ≡ g (get_or xs i d)) → map f xs ≡ map g xs
+pub map_same : {X Y : Type 0} (f g : X → Y) (d : X) (xs : List X) → ((i : ℕ) → i < length xs → f (get_or xs i d) ≡ g (get_or xs i d)) → map f xs ≡ map g xs
 map_same f g d [] same = refl
 map_same f g d (x ∷ xs) same =
     let head : f x ≡ g x = same 0 (omega arith) in

@@ -12,6 +12,8 @@ pub mod SectionName
 pub mod SectionReadings
 pub mod SectionTable
 pub mod Symbols
+pub mod WindowDivision
 pub mod WindowIndex
+pub mod WindowIndexFields
 pub mod WindowOrder
 pub mod WindowStretches

@@ -1,6 +1,5 @@
--- The windows of sections: walked over for an address, and passed down from a range of the address
--- space to its halves.
-use Rattle.std.specs.Prelude.{ℕ, ◌+◌, ◌-◌, ◌≡◌, ◌≤◌, ◌<◌, Bool, ◌&&◌, nat_le, nat_lt, List, Option}
+-- The windows of sections, as they are passed down from a range of the address space to its halves.
+use Rattle.std.specs.Prelude.{ℕ, ◌≡◌, ◌≤◌, ◌<◌, Bool, ◌&&◌, nat_le, nat_lt, List, Option}
 use Rattle.std.specs.Prelude.{find, length, map, slice_index}
 use Rattle.std.specs.List.{enumerate_from}
 use Rattle.std.specs.Option.{option_map}
@@ -25,14 +24,6 @@ window_meets first last w = nat_le w.begin last && nat_lt first w.end
 -- the owner of the first of these windows that holds an address
 abbrev pub owner_among : List Window → ℕ → Option Owner
 owner_among windows rva = option_map (λ (w : Window). w.owner) (find (window_holds rva) windows)
-
--- the file offset of an address in a window
-abbrev pub offset_in_window : ℕ → Window → ℕ
-offset_in_window rva w = w.owner.pointer + (rva - w.begin)
-
--- the file offset of an address by the first of these windows that holds it
-abbrev pub walked : List Window → ℕ → Option ℕ
-walked windows rva = option_map (offset_in_window rva) (find (window_holds rva) windows)
 
 -- for each address from first to last, the first window that holds it is the same among the fewer
 -- windows

@@ -14,4 +14,4 @@ pub mod windows;
 pub use data_directories::{DataDirectories, DataDirectory, DataDirectoryType, Dirs};
 pub use options::{ParseMode, ParseOptions, RawPointerRule};
 pub use section_table::SectionTable;
-pub use windows::{WindowIndex, WindowList};
+pub use windows::WindowIndex;

@@ -46,7 +46,7 @@ fn round_up(size: usize, step: usize) -> usize
     ensures value { result ≡ least_multiple step size }
     ensures bound { (size ≤ result) × (result < size + step) }
 {
-    size.next_multiple_of(step)
+    (size + (step - 1)) / step * step
 }
 
 // How many bytes of the section are read from the file, in whole file blocks and pages.

@@ -14,19 +14,19 @@ ghost use Rattle.goblin_base.specs.Answers.{IsMemory};
 ghost use Rattle.goblin_pe_sect.specs.Mapping.{file_offset};
 ghost use Rattle.goblin_pe_sect.specs.WindowIndex.{IsCut, first_owner, last_owner, located};
 ghost use Rattle.goblin_pe_sect.specs.WindowIndex.{owner_offset, reached, halvings, HasPieces};
+ghost use Rattle.goblin_pe_sect.specs.WindowIndexFields.{KeepsPiecesAlone};
 
 mod bounds;
 mod cuts;
-mod list;
+mod division;
 mod owners;
 
 use crate::options::ParseOptions;
 use crate::section_table::SectionTable;
 pub use bounds::Bounds;
-use cuts::cut_points;
+use division::division_of;
 use goblin_base::Result;
-pub use list::WindowList;
-use owners::{Owner, owners_of};
+use owners::Owner;
 use std::alloc::Global;
 use std::marker::Model;
 
@@ -70,9 +70,9 @@ fn count_reached(bounds: &Bounds, rva: usize) -> (usize, usize)
 /// to 512, by the options that the index was prepared with.
 #[derive(Drop)]
 pub struct WindowIndex {
-    resolves: bool,
     bounds: Bounds,
     owners: Vec<Option<Owner>>,
+    resolves: bool,
 }
 
 impl Model for WindowIndex {
@@ -132,18 +132,18 @@ impl WindowIndex {
         if !file_alignment.is_power_of_two() {
             return Ok(WindowIndex::without_pieces(alloc, true));
         }
-        let begins = cut_points(alloc, sections, file_alignment)?;
-        let owners = owners_of(alloc, &begins, sections, file_alignment, opts)?;
+        let division = division_of(alloc, sections, file_alignment, opts)?;
         Ok(WindowIndex {
             resolves: true,
-            bounds: Bounds::new(begins),
-            owners,
+            bounds: Bounds::new(division.begins),
+            owners: division.owners,
         })
     }
 
     /// The number of pieces.
     pub fn pieces(&self) -> usize
-        ensures { result ≡ length self.now.begins }
+        ensures count { result ≡ length self.now.begins }
+        ensures whole { KeepsPiecesAlone }
     {
         self.bounds.len()
     }

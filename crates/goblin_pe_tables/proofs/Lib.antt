@@ -13,6 +13,7 @@ mod Listed
 pub mod ListedImports
 pub mod LookupSlots
 pub mod Modes
+mod NoSections
 pub mod PermissiveReads
 mod SomeRanges
 mod ImportPositions

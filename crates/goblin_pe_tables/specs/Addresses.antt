@@ -4,10 +4,6 @@ use Rattle.goblin_pe_sect.specs.declared.options.ParseOptions.{ParseOptions}
 use Rattle.goblin_pe_sect.specs.Mapping.{file_offset}
 use Rattle.goblin_pe_sect.specs.Options.{is_strict}
 use Rattle.goblin_pe_sect.specs.SectionTable.{Section}
-use Rattle.goblin_pe_sect.specs.WindowIndex.{located}
-use Rattle.goblin_pe_sect.specs.WindowStretches.{walked}
-use Rattle.goblin_pe_tables.specs.declared.address_map.Lookup.{Lookup}
-use Rattle.goblin_pe_tables.specs.declared.address_map.Lookup.TheVariants.{Sections, Windows, Index}
 
 -- the sections, the file alignment and the options that map a file's addresses
 pub record MapOfAddresses : Type 0 where
@@ -27,10 +23,3 @@ offset_of m = file_offset m.opts m.sections m.file_alignment
 -- the mode is strict: what can't be read is refused, and not passed over
 abbrev pub reads_strictly : MapOfAddresses → Bool
 reads_strictly m = is_strict m.opts.parse_mode
-
--- the file offset of an address by what is prepared: nothing, so by this walk over the sections;
--- windows; or an index
-unfoldable pub looked_up : Lookup → (ℕ → Option ℕ) → ℕ → Option ℕ
-looked_up Sections offset_of rva = offset_of rva
-looked_up (Windows windows) offset_of rva = walked windows rva
-looked_up (Index index) offset_of rva = located index rva

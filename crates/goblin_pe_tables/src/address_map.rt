@@ -1,70 +1,21 @@
-//! Where addresses lie in the file, by windows or an index, prepared once.
+//! Where addresses lie in the file, by an index that is prepared once.
 
-ghost use Rattle.std.specs.Prelude.{◌≡◌, ◌↔◌, ℕ, IfErr, IfOk, IsTrue, Option, option_map};
-ghost use Rattle.std.specs.Int.{is_power_of_two};
+ghost use Rattle.std.specs.Prelude.{◌≡◌, ◌↔◌, ◌<◌, ℕ, IfErr, IfOk, IsTrue, length, option_map};
 ghost use Rattle.goblin_base.specs.Answers.{GivesOrMemory, IsMemory};
 ghost use Rattle.goblin_base.specs.Reading.{Reads};
 ghost use Rattle.goblin_pe_sect.specs.AddressReadings.{name_or_none};
 ghost use Rattle.goblin_pe_sect.specs.Mapping.{file_offset};
 ghost use Rattle.goblin_base.specs.declared.permissive.ParseMode.TheVariants.{Permissive};
-ghost use Rattle.goblin_pe_tables.specs.Addresses.{looked_up, map_by, offset_of, reads_strictly};
+ghost use Rattle.goblin_pe_tables.specs.Addresses.{map_by, offset_of, reads_strictly};
 ghost use Rattle.goblin_pe_sect.specs.WindowIndex.{HasPieces, located};
 
 use goblin_base::Result;
 use goblin_pe_sect::options::ParseOptions;
 use goblin_pe_sect::section_table::SectionTable;
-use goblin_pe_sect::utils::{find_offset, safe_name_at};
-use goblin_pe_sect::windows::{WindowIndex, WindowList};
+use goblin_pe_sect::utils::safe_name_at;
+use goblin_pe_sect::windows::WindowIndex;
 use std::alloc::Global;
 use std::marker::Model;
-
-// At most this many windows are walked over for each address; for more, an index is made.
-const FEW: usize = 16;
-
-// How addresses are looked up.
-#[derive(Drop)]
-enum Lookup {
-    // By a walk over the sections themselves, for which nothing is prepared.
-    Sections,
-    // By a walk over the windows of few sections.
-    Windows(WindowList),
-    // By binary search in an index.
-    Index(WindowIndex),
-}
-
-impl Lookup {
-    // By whatever suits this number of sections.
-    #[tactic(auto, unfolding(crate::specs::Addresses::looked_up))]
-    fn prepare(
-        alloc: Global,
-        sections: &[SectionTable],
-        file_alignment: u32,
-        opts: &ParseOptions,
-    ) -> Result<Lookup>
-        ensures mapped { let offset_of = file_offset opts.now sections.now file_alignment in
-            IfOk result (λ l. (rva : ℕ) → looked_up l offset_of rva ≡ offset_of rva) }
-        ensures refused { IfErr result IsMemory }
-        ensures grown { IfErr result (λ e. HasPieces opts.now file_alignment) }
-    {
-        if !opts.resolve_rva {
-            return Ok(Lookup::Sections);
-        }
-        if sections.len() <= FEW {
-            let windows = WindowList::prepare(alloc, sections, file_alignment, opts)?;
-            return Ok(Lookup::Windows(windows));
-        }
-        let index = WindowIndex::prepare(alloc, sections, file_alignment, opts)?;
-        Ok(Lookup::Index(index))
-    }
-}
-
-// The file offset of an address, by binary search.
-#[inline(never)]
-fn offset_in_index(index: &WindowIndex, rva: u32) -> Option<usize>
-    ensures { result ≡ located index.now rva }
-{
-    index.find(rva as usize)
-}
 
 /// How addresses are mapped to file offsets, and how the bytes there are read: the sections, the
 /// file alignment, the options, and what is prepared for the mapping.
@@ -73,13 +24,14 @@ pub struct AddressMap<'s> {
     sections: &'s [SectionTable],
     file_alignment: u32,
     opts: ParseOptions,
-    lookup: Lookup,
+    index: WindowIndex,
 }
 
 impl<'s> Model for AddressMap<'s> {
     ghost use Rattle.std.specs.Prelude.{◌≡◌, ℕ};
     ghost use Rattle.goblin_pe_sect.specs.Mapping.{file_offset};
-    ghost use Rattle.goblin_pe_tables.specs.Addresses.{MapOfAddresses, looked_up, map_by};
+    ghost use Rattle.goblin_pe_sect.specs.WindowIndex.{located};
+    ghost use Rattle.goblin_pe_tables.specs.Addresses.{MapOfAddresses, map_by};
 
     ghost Value = { MapOfAddresses };
 
@@ -87,13 +39,33 @@ impl<'s> Model for AddressMap<'s> {
 
     ghost invariant = { λ x.
         let offset_of = file_offset x.opts x.sections.now x.file_alignment in
-        (rva : ℕ) → looked_up x.lookup offset_of rva ≡ offset_of rva };
+        (rva : ℕ) → located x.index rva ≡ offset_of rva };
+}
+
+// The index of the sections' windows; where there are no sections, one without pieces, which takes
+// no memory.
+#[tactic(auto, using(crate::proofs::NoSections::located_nowhere))]
+fn index_of(
+    alloc: Global,
+    sections: &[SectionTable],
+    file_alignment: u32,
+    opts: &ParseOptions,
+) -> Result<WindowIndex>
+    ensures mapped { let offset_of = file_offset opts.now sections.now file_alignment in
+        IfOk result (λ w. (rva : ℕ) → located w rva ≡ offset_of rva) }
+    ensures refused { IfErr result IsMemory }
+    ensures grown { IfErr result
+        (λ e. HasPieces opts.now file_alignment × (0 < length sections.now)) }
+{
+    if sections.is_empty() {
+        return Ok(WindowIndex::without_pieces(alloc, opts.resolve_rva));
+    }
+    WindowIndex::prepare(alloc, sections, file_alignment, opts)
 }
 
 impl<'s> AddressMap<'s> {
-    /// Prepares the windows of the sections, or an index of them where they are many. No memory is
-    /// taken where `opts` says that addresses are offsets or `file_alignment` is not a power of
-    /// two.
+    /// Prepares the index of the sections' windows. No memory is taken where there are no sections,
+    /// `opts` says that addresses are offsets or `file_alignment` is not a power of two.
     ///
     /// # Errors
     /// Only [`Error::Memory`](goblin_base::Error::Memory).
@@ -105,33 +77,16 @@ impl<'s> AddressMap<'s> {
     ) -> Result<AddressMap<'s>>
         ensures made { GivesOrMemory (λ x. x) result
             (map_by opts.now sections.now file_alignment) }
-        ensures grown { IfErr result (λ e. HasPieces opts.now file_alignment) }
+        ensures grown { IfErr result
+            (λ e. HasPieces opts.now file_alignment × (0 < length sections.now)) }
     {
-        let lookup = Lookup::prepare(alloc, sections, file_alignment, opts)?;
+        let index = index_of(alloc, sections, file_alignment, opts)?;
         Ok(AddressMap {
             sections,
             file_alignment,
             opts: *opts,
-            lookup,
+            index,
         })
-    }
-
-    /// A map with nothing prepared: each address is looked up by a walk over the sections. It takes
-    /// no memory; use it for a file in which few addresses are looked up.
-    #[tactic(auto, unfolding(crate::specs::Addresses::looked_up))]
-    pub fn unprepared(
-        sections: &'s [SectionTable],
-        file_alignment: u32,
-        opts: &ParseOptions,
-    ) -> AddressMap<'s>
-        ensures { result ≡ map_by opts.now sections.now file_alignment }
-    {
-        AddressMap {
-            sections,
-            file_alignment,
-            opts: *opts,
-            lookup: Lookup::Sections,
-        }
     }
 
     /// The options for mapping addresses and for reading there.
@@ -148,25 +103,12 @@ impl<'s> AddressMap<'s> {
         self.opts.parse_mode.is_permissive()
     }
 
-    // The file offset of an address, by a walk over the sections.
-    #[inline(never)]
-    fn offset_by_sections(&self, rva: u32) -> Option<usize>
-        ensures { result ≡ offset_of self.now rva }
-    {
-        find_offset(rva as usize, self.sections, self.file_alignment, &self.opts)
-    }
-
     /// The file offset of an address.
     #[inline]
-    #[tactic(auto, unfolding(crate::specs::Addresses::looked_up))]
     pub fn offset_of(&self, rva: u32) -> Option<usize>
         ensures { result ≡ offset_of self.now rva }
     {
-        match &self.lookup {
-            Lookup::Sections => self.offset_by_sections(rva),
-            Lookup::Windows(windows) => windows.find(rva),
-            Lookup::Index(index) => offset_in_index(index, rva),
-        }
+        self.index.find(rva as usize)
     }
 
     /// The text at an address: in permissive mode `None` if there is none.

@@ -1,9 +1,9 @@
 //! The tables that a file's data directories lead to, as lists or as two collectors keep them.
 
-ghost use Rattle.std.specs.Prelude.{◌≡◌, IfErr};
+ghost use Rattle.std.specs.Prelude.{◌≡◌, false, IsTrue, None, IfErr, IfOk, IfSome};
 ghost use Rattle.std.specs.Prelude.{◌==◌, []};
 ghost use Rattle.std.specs.List.{flat_map};
-ghost use Rattle.goblin_base.specs.Answers.{AnswersOrMemory, GivesOrMemory};
+ghost use Rattle.goblin_base.specs.Answers.{AnswersOrMemory, IsMemory};
 ghost use Rattle.goblin_base.specs.Reading.{Reads, ReadsOrMemory};
 ghost use Rattle.readings.specs.Reads.{mapped};
 ghost use Rattle.goblin_pe_sect.specs.BaseRelocations.{relocation_bytes};
@@ -326,30 +326,104 @@ impl Tables {
         )
     }
 
-    // The map of addresses for the readers of imports and exports. Nothing is prepared if neither
-    // table is read.
+    // Whether addresses are mapped for imports that are asked for, or for exports.
+    fn maps_addresses(&self, opts: &ParseOptions) -> bool
+        ensures yes { IsTrue result → MapsAddresses opts.now (table_places self.now) }
+        ensures no { result ≡ false → ¬ MapsAddresses opts.now (table_places self.now) }
+    {
+        (opts.parse_imports && self.imports.is_some()) || self.exports.is_some()
+    }
+
+    // The map of addresses for all tables; none if neither imports nor exports are read, so that no
+    // memory is taken.
     fn address_map<'s>(
         &self,
         alloc: Global,
         sections: &'s [SectionTable],
         opts: &ParseOptions,
-    ) -> Result<AddressMap<'s>>
-        ensures made { GivesOrMemory (λ x. x) result
-            (map_by opts.now sections.now self.now.file_alignment) }
+    ) -> Result<Option<AddressMap<'s>>>
+        ensures made { IfOk result
+            (λ o. IfSome o (λ m. m ≡ map_by opts.now sections.now self.now.file_alignment)) }
+        ensures none { IfOk result
+            (λ o. o ≡ None → ¬ MapsAddresses opts.now (table_places self.now)) }
+        ensures refused { IfErr result IsMemory }
         ensures grown { IfErr result
             (λ e. MapsAddresses opts.now (table_places self.now)
             × HasPieces opts.now self.now.file_alignment) }
     {
-        let has_imports = opts.parse_imports && self.imports.is_some();
-        if has_imports || self.exports.is_some() {
-            AddressMap::prepare(alloc, sections, self.file_alignment, opts)
-        } else {
-            Ok(AddressMap::unprepared(sections, self.file_alignment, opts))
+        if !self.maps_addresses(opts) {
+            return Ok(None);
         }
+        let address_map = AddressMap::prepare(alloc, sections, self.file_alignment, opts)?;
+        Ok(Some(address_map))
+    }
+
+    // The base relocations of a file whose addresses are mapped for nothing else, by a walk over the
+    // sections.
+    #[tactic(auto, unfolding(crate::specs::Whole::relocation_part, crate::specs::Whole::part_map))]
+    fn relocations_alone<'a>(
+        &self,
+        bytes: &'a [u8],
+        sections: &[SectionTable],
+        opts: &ParseOptions,
+    ) -> Result<Part<RelocationData<'a>>>
+        ensures { let m = map_by opts.now sections.now self.now.file_alignment in
+            let places = table_places self.now in
+            Reads (part_map relocation_bytes) result
+            (relocation_part m.opts (offset_of m) places) bytes.now }
+    {
+        let Some(directory) = self.relocations else {
+            return Ok(Part::Absent);
+        };
+        let alignment = self.file_alignment;
+        let read = RelocationData::parse_with_opts(bytes, directory, sections, alignment, opts);
+        part_of(read, opts)
+    }
+
+    // All tables of a file that has no exports, and no imports that are asked for.
+    fn listed_alone<'a>(
+        &self,
+        bytes: &'a [u8],
+        sections: &[SectionTable],
+        opts: &ParseOptions,
+    ) -> Result<ListedTables<'a>>
+        requires { ¬ MapsAddresses opts.now (table_places self.now) }
+        ensures { let m = map_by opts.now sections.now self.now.file_alignment in
+            let places = table_places self.now in
+            ReadsOrMemory listed_view result (table_parts m.opts (offset_of m) places) bytes.now }
+    {
+        let relocations = self.relocations_alone(bytes, sections, opts)?;
+        Ok(ListedTables {
+            imports: (Part::Absent, Part::Absent),
+            exports: Part::Absent,
+            relocations,
+        })
+    }
+
+    // All tables, by this map of addresses.
+    #[tactic(auto, unfolding(crate::specs::Whole::table_parts))]
+    fn listed_by<'a>(
+        &self,
+        alloc: Global,
+        bytes: &'a [u8],
+        address_map: &AddressMap,
+        sections: &[SectionTable],
+    ) -> Result<ListedTables<'a>>
+        ensures { let m = address_map.now in
+            let places = table_places self.now in
+            ReadsOrMemory listed_view result (table_parts m.opts (offset_of m) places) bytes.now }
+    {
+        let imports = self.import_parts(alloc, bytes, address_map, sections)?;
+        let exports = self.exports(alloc, bytes, address_map)?;
+        let relocations = self.relocations(bytes, address_map)?;
+        Ok(ListedTables {
+            imports,
+            exports,
+            relocations,
+        })
     }
 
     // All tables; refused for the first of them that refuses all.
-    #[tactic(auto, unfolding(crate::specs::Whole::table_parts))]
     pub(super) fn listed<'a>(
         &self,
         alloc: Global,
@@ -361,12 +435,57 @@ impl Tables {
             let places = table_places self.now in
             ReadsOrMemory listed_view result (table_parts m.opts (offset_of m) places) bytes.now }
     {
-        let address_map = self.address_map(alloc, sections, opts)?;
-        let imports = self.import_parts(alloc, bytes, &address_map, sections)?;
-        let exports = self.exports(alloc, bytes, &address_map)?;
-        let relocations = self.relocations(bytes, &address_map)?;
-        drop(address_map);
-        Ok(ListedTables {
+        match self.address_map(alloc, sections, opts)? {
+            Some(address_map) => self.listed_by(alloc, bytes, &address_map, sections),
+            None => self.listed_alone(bytes, sections, opts),
+        }
+    }
+
+    // All tables, as they are collected, of a file that has no exports, and no imports that are asked
+    // for.
+    fn collected_alone<'a, 'e, I: ImportCollector<'a>, E: ExportCollector<'a>>(
+        &self,
+        bytes: &'a [u8],
+        sections: &[SectionTable],
+        opts: &ParseOptions,
+    ) -> ResultOf<'e, CollectedTables<'a, I, E>>
+        requires { ¬ MapsAddresses opts.now (table_places self.now) }
+        ensures { let m = map_by opts.now sections.now self.now.file_alignment in
+            let places = table_places self.now in
+            ReadsOrMemory (tables_view I.items E.items) result
+            (mapped (collected_tables I.item_of E.item_of)
+            (table_parts m.opts (offset_of m) places))
+            bytes.now }
+    {
+        let relocations = self.relocations_alone(bytes, sections, opts)?;
+        Ok(CollectedTables {
+            imports: Part::Absent,
+            exports: Part::Absent,
+            relocations,
+        })
+    }
+
+    // All tables, as they are collected, by this map of addresses.
+    fn collected_by<'a, 'e, I: ImportCollector<'a>, E: ExportCollector<'a>>(
+        &self,
+        bytes: &'a [u8],
+        address_map: &AddressMap,
+        imports: I,
+        exports: E,
+    ) -> ResultOf<'e, CollectedTables<'a, I, E>>
+        requires imports { I.items imports ≡ [] }
+        requires exports { E.items exports ≡ [] }
+        ensures { let m = address_map.now in
+            let places = table_places self.now in
+            ReadsOrMemory (tables_view I.items E.items) result
+            (mapped (collected_tables I.item_of E.item_of)
+            (table_parts m.opts (offset_of m) places))
+            bytes.now }
+    {
+        let imports = self.collected_imports(bytes, address_map, imports)?;
+        let exports = self.collected_exports(bytes, address_map, exports)?;
+        let relocations = self.relocations(bytes, address_map)?;
+        Ok(CollectedTables {
             imports,
             exports,
             relocations,
@@ -392,15 +511,10 @@ impl Tables {
             (table_parts m.opts (offset_of m) places))
             bytes.now }
     {
-        let address_map = self.address_map(alloc, sections, opts)?;
-        let imports = self.collected_imports(bytes, &address_map, imports)?;
-        let exports = self.collected_exports(bytes, &address_map, exports)?;
-        let relocations = self.relocations(bytes, &address_map)?;
-        Ok(CollectedTables {
-            imports,
-            exports,
-            relocations,
-        })
+        match self.address_map(alloc, sections, opts)? {
+            Some(address_map) => self.collected_by(bytes, &address_map, imports, exports),
+            None => self.collected_alone(bytes, sections, opts),
+        }
     }
 }
 

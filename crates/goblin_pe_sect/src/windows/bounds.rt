@@ -1,6 +1,7 @@
 //! Where the pieces of the address space begin, seen by a call that counts.
 
 ghost use Rattle.std.specs.Prelude.{◌≡◌, ◌+◌, ◌<◌, ◌≤◌, ◌↔◌, IsTrue, length, slice_index};
+ghost use Rattle.goblin_pe_sect.specs.WindowIndexFields.{KeepsBeginsAlone};
 
 use std::marker::Model;
 
@@ -29,7 +30,8 @@ impl Bounds {
 
     /// The number of pieces.
     pub fn len(&self) -> usize
-        ensures { result ≡ length self.now }
+        ensures count { result ≡ length self.now }
+        ensures whole { KeepsBeginsAlone }
     {
         self.begins.len()
     }

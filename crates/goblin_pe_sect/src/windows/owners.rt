@@ -3,7 +3,7 @@
 //! The pieces are halved again and again: each range of pieces gets the few windows that may own
 //! some of them, and passes them on to its halves, so the steps grow like n log n.
 
-ghost use Rattle.std.specs.Prelude.{◌≡◌, ◌<◌, ◌++◌, IsTrue, IfOk, OnOk, map, find, filter};
+ghost use Rattle.std.specs.Prelude.{◌≡◌, ◌+◌, ◌^◌, ◌<◌, ◌≤◌, ◌++◌, IsTrue, IfOk, OnOk, map, find, filter};
 ghost use Rattle.std.specs.Prelude.{position};
 ghost use Rattle.std.specs.List.Sorted.{IsStrictlyIncreasing};
 ghost use Rattle.goblin_pe_sect.specs.WindowIndex.{first_owner};
@@ -42,15 +42,16 @@ pub struct Window {
     pub owner: Owner,
 }
 
-// The window of the section at this index of the table.
-fn window_at(
+/// The window of the section at this index of the table.
+pub(super) fn window_at(
     index: usize,
     section: &SectionTable,
     file_alignment: u32,
     opts: &ParseOptions,
 ) -> Window
     requires { 0 < file_alignment }
-    ensures { result ≡ section_window_at opts.now file_alignment index section.now }
+    ensures value { result ≡ section_window_at opts.now file_alignment index section.now }
+    ensures near { result.end ≤ result.begin + 2 ^ 33 }
 {
     let (begin, end) = section_window(section, file_alignment);
     Window {
@@ -64,9 +65,9 @@ fn window_at(
     }
 }
 
-/// The windows of all sections, in the table's order.
+// The windows of all sections, in the table's order.
 #[tactic(auto, using(crate::proofs::Stretches::next_window))]
-pub(super) fn windows_of(
+fn windows_of(
     alloc: Global,
     sections: &[SectionTable],
     file_alignment: u32,
@@ -189,22 +190,23 @@ fn push_owners(
     Ok(())
 }
 
-/// What is kept of the section of each piece: the first whose window holds the piece's start, if
-/// one does.
-pub(super) fn owners_of(
+/// Puts into `owners`, in place of what it holds, what is kept of the section of each piece: the
+/// first whose window holds the piece's start, if one does.
+pub(super) fn put_owners(
     alloc: Global,
     begins: &[usize],
     sections: &[SectionTable],
     file_alignment: u32,
     opts: &ParseOptions,
-) -> Result<Vec<Option<Owner>>, AllocError>
+    owners: &mut Vec<Option<Owner>>,
+) -> Result<(), AllocError>
     requires aligned { 0 < file_alignment }
     requires rising { IsStrictlyIncreasing begins.now }
-    ensures { IfOk result
-        (λ v. v.items ≡ map (first_owner opts.now sections.now file_alignment) begins.now) }
+    ensures { OnOk result
+        (owners.new.items ≡ map (first_owner opts.now sections.now file_alignment) begins.now) }
 {
     let windows = windows_of(alloc, sections, file_alignment, opts)?;
-    let mut owners = Vec::with_capacity(alloc, begins.len())?;
-    push_owners(alloc, begins, &windows, &mut owners)?;
-    Ok(owners)
+    owners.clear();
+    push_owners(alloc, begins, &windows, owners)?;
+    Ok(())
 }

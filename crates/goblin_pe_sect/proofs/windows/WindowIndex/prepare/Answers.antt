@@ -1,5 +1,4 @@
-use Rattle.std.proofs.Common.{◌≡◌, ◌∙◌, ap, map, rules}
-use Rattle.goblin_pe_sect.specs.WindowIndex.{first_owner}
+use Rattle.std.proofs.Common.{rules}
 use Rattle.goblin_pe_sect.proofs.WindowPieces.{located-direct, located-unaligned, located-prepared, index_is}
 use Rattle.goblin_pe_sect.proofs.windows.WindowIndex.prepare.Goals as goal
 
@@ -13,12 +12,8 @@ returns-then-not-is_power_of_two-clause-mapped c =
 
 pub invariant_of-result : goal.invariant_of-result
 invariant_of-result c =
-    let first = first_owner c.args.opts.now c.args.sections.now c.args.file_alignment in
-    let owners : c.in_ok-owners.owners.items ≡ map first c.in_ok-begins.begins.items = c.in_ok-owners.ensures ∙ ap (map first) c.deref.ensures.value in
-    rw (c.new.ensures, owners) (index_is c.args.opts.now c.args.sections.now c.args.file_alignment c.in_ok-begins.begins.items c.in_ok-begins.ensures.cut c.in_ok-begins.ensures.near)
+    rw (c.new.ensures, c.in_ok-division.ensures.owned) (index_is c.args.opts.now c.args.sections.now c.args.file_alignment c.in_ok-division.division.begins.items c.in_ok-division.ensures.cut c.in_ok-division.ensures.near)
 
 pub returns-clause-mapped : goal.returns-clause-mapped
 returns-clause-mapped c =
-    let first = first_owner c.args.opts.now c.args.sections.now c.args.file_alignment in
-    let owners : c.in_ok-owners.owners.items ≡ map first c.in_ok-begins.begins.items = c.in_ok-owners.ensures ∙ ap (map first) c.deref.ensures.value in
-    λ rva. rw c.new.ensures (located-prepared c.args.opts.now c.args.sections.now c.args.file_alignment c.in_ok-begins.begins.items c.in_ok-owners.owners.items (search rules) (cc) c.in_ok-begins.ensures.cut owners rva)
+    λ rva. rw c.new.ensures (located-prepared c.args.opts.now c.args.sections.now c.args.file_alignment c.in_ok-division.division.begins.items c.in_ok-division.division.owners.items (search rules) (cc) c.in_ok-division.ensures.cut c.in_ok-division.ensures.owned rva)
