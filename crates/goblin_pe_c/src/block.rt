@@ -1,6 +1,6 @@
 //! The records of base relocation blocks.
 
-ghost use Rattle.std.specs.Prelude.{◌≡◌, IfErr, IfOk, map};
+ghost use Rattle.std.specs.Prelude.{◌≡◌, IfErr, IfOk, length, map, vec_capacity};
 ghost use Rattle.goblin_base.specs.Answers.{IsMemory};
 ghost use Rattle.goblin_pe_sect.specs.BaseRelocations.{block_items, block_value, relocation_bytes};
 ghost use Rattle.goblin_pe.specs.Whole.{part_map};
@@ -59,6 +59,7 @@ fn item_records<'a>(
         ≡ values_of (block_items (relocation_bytes relocations.now) 0)) }
     ensures rest { IfOk result
         (λ made. made.1 ≡ rest_of (block_items (relocation_bytes relocations.now) 0)) }
+    ensures none { IfOk result (λ made. length made.0.items ≡ 0 → vec_capacity made.0 ≡ 0) }
 {
     let mut records = Vec::new(alloc);
     'blocks: for block in relocations.blocks() {

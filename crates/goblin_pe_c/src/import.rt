@@ -1,6 +1,6 @@
 //! The records of imports.
 
-ghost use Rattle.std.specs.Prelude.{◌≡◌, [], IfErr, List, map, ℕ};
+ghost use Rattle.std.specs.Prelude.{◌≡◌, ◌≤◌, ◌<◌, ◌+◌, ◌/◌, [], IfErr, List, OnErr, OnOk, map, max, vec_capacity, vec_len, ℕ};
 ghost use Rattle.goblin_base.specs.Answers.{IsMemory};
 ghost use Rattle.goblin_pe.specs.ImportLookup.{entry_view};
 ghost use Rattle.goblin_pe.specs.Imports.{ImportValue, import_of};
@@ -82,6 +82,11 @@ const FIRST_ROOM: usize = 4;
 fn make_room(records: &mut Vec<PeImport>) -> Result<()>
     ensures kept { records.new.items ≡ records.old.items }
     ensures refused { IfErr result IsMemory }
+    ensures room { OnOk result (vec_capacity records.old ≡ vec_len records.old
+        → vec_capacity records.new ≡ vec_len records.old + max 4 (vec_len records.old / 2)) }
+    ensures same { OnOk result (vec_len records.old < vec_capacity records.old
+        → vec_capacity records.new ≡ vec_capacity records.old) }
+    ensures grown { OnErr result (vec_capacity records.old ≤ vec_len records.old) }
 {
     let count = records.len();
     if count == records.capacity() {
@@ -101,7 +106,8 @@ pub struct ImportRecords<'a> {
 impl<'a> ImportRecords<'a> {
     /// No records yet, of imports that are read from `bytes`.
     pub fn new(alloc: Global, bytes: &'a [u8]) -> ImportRecords<'a>
-        ensures { result.records.items ≡ [] }
+        ensures items { result.records.items ≡ [] }
+        ensures none { vec_capacity result.records ≡ 0 }
     {
         ImportRecords {
             records: Vec::new(alloc),

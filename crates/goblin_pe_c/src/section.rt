@@ -1,6 +1,6 @@
 //! The records of sections.
 
-ghost use Rattle.std.specs.Prelude.{◌≡◌, Bool, map, ℕ, option_map};
+ghost use Rattle.std.specs.Prelude.{◌≡◌, ◌<◌, Bool, IfOk, OnErr, length, map, ℕ, option_map, vec_capacity};
 ghost use Rattle.goblin_pe_sect.specs.Options.{is_strict};
 ghost use Rattle.goblin_base.specs.Answers.{GivesOrMemory};
 ghost use Rattle.goblin_pe_c.specs.Filled.{Filled, alone};
@@ -138,9 +138,11 @@ pub fn section_records<'a>(
     table: usize,
     opts: &ParseOptions,
 ) -> Result<Vec<PeSection<'a>>>
-    ensures { GivesOrMemory (λ v. map section_said v.items) result
+    ensures made { GivesOrMemory (λ v. map section_said v.items) result
         (map (λ s. alone (named_in (is_strict opts.now.parse_mode) bytes.now table s))
         sections.now) }
+    ensures grown { OnErr result (0 < length sections.now) }
+    ensures none { IfOk result (λ v. length sections.now ≡ 0 → vec_capacity v ≡ 0) }
 {
     let count = sections.len();
     let mut records = Vec::with_capacity(alloc, count)?;

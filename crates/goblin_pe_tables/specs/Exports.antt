@@ -1,6 +1,8 @@
 -- Export directories, the tables that they lead to, and the exports that these list, over a map of
 -- addresses to file offsets. The words here are parts of the readings of `ExportReadings`.
-use Rattle.std.specs.Prelude.{◌<◌, ◌⊎◌, ℕ, List, [], length, IsSome, Option, unwrap_or}
+use Rattle.std.specs.Prelude.{◌<◌, ◌⊎◌, ◌+◌, ℕ, zero, suc, Bool, true, false, if◌then◌else◌, List, [], length, IsSome, Option, Some, None, option_and_then, slice_get, unwrap_or}
+use Rattle.goblin_pe_tables.specs.declared.export.tables.ExportAddressTableEntry.{ExportAddressTableEntry}
+use Rattle.goblin_pe_tables.specs.declared.export.tables.ExportAddressTableEntry.TheVariants.{ExportRVA, ForwarderRVA}
 use Rattle.goblin_pe_sect.specs.declared.data_directories.DataDirectory.{DataDirectory}
 pub use Rattle.goblin_pe_tables.specs.ExportRecords.{ExportRow, ExportTables, address_entry}
 pub use Rattle.goblin_pe_tables.specs.ExportRecords.{addresses, export_directory_fields}
@@ -40,3 +42,18 @@ HasExports offset_of bytes tables =
 -- the exports that export data lists; there always is a list
 abbrev pub exports : (ℕ → Option ℕ) → List ℕ → ExportTables → List ExportRow
 exports offset_of bytes tables = unwrap_or ((reading.exports offset_of tables).value bytes) []
+
+-- whether the name pointer at index x leads to an address that is not a forwarder's
+abbrev pub is_own : Option ExportAddressTableEntry → Bool
+is_own None = false
+is_own (Some (ExportRVA rva)) = true
+is_own (Some (ForwarderRVA rva)) = false
+
+abbrev pub leads_to_own : ExportTables → ℕ → Bool
+leads_to_own tables x =
+    is_own (option_and_then (slice_get tables.export_address_table) (slice_get tables.export_ordinal_table x))
+
+-- how many of the first n name pointers do
+unfoldable pub own_exports : ExportTables → ℕ → ℕ
+own_exports tables zero = 0
+own_exports tables (suc n) = own_exports tables n + (if leads_to_own tables n then 1 else 0)

@@ -4,7 +4,7 @@
 //! three tables. A name pointer and the ordinal with its index are a named export; the ordinal is
 //! the index of its address. An address inside the directory is that of a forwarder's text.
 
-ghost use Rattle.std.specs.Prelude.{◌≤◌, ◌≡◌, ◌++◌, ◌⊎◌, ℕ, [], IfErr, IsOk, IsSome, IsSomeAnd};
+ghost use Rattle.std.specs.Prelude.{◌<◌, ◌≤◌, ◌≡◌, ◌++◌, ◌⊎◌, ℕ, [], IfErr, IsOk, IsSome, IsSomeAnd};
 ghost use Rattle.std.specs.Prelude.{OnErr, OnOk, Option, length, map, option_and_then, option_map};
 ghost use Rattle.std.specs.Prelude.{option_to_list};
 ghost use Rattle.goblin_base.specs.Answers.{GivesOrMemory, IsMemory};
@@ -15,7 +15,7 @@ ghost use Rattle.goblin_pe_sect.specs.Options.{default_options};
 ghost use Rattle.goblin_pe_tables.specs.Addresses.{map_by, offset_of};
 ghost use Rattle.goblin_pe_tables.specs.ExportReadings as reading;
 ghost use Rattle.goblin_pe_tables.specs.Exports.{HasEntries, HasExports, export_data, export_row};
-ghost use Rattle.goblin_pe_tables.specs.Exports.{exports, rva_of};
+ghost use Rattle.goblin_pe_tables.specs.Exports.{exports, own_exports, rva_of};
 ghost use Rattle.goblin_pe_tables.specs.Forwarders.{forwarder_at, forwarder_value};
 ghost use Rattle.goblin_pe_sect.specs.WindowIndex.{HasPieces};
 
@@ -242,8 +242,12 @@ const FEW: usize = 32;
 
 // For how many exports to make room: for as many as there are name pointers, if these are few, else
 // for those that are not forwarders, of which each is there.
+#[tactic(auto, unfolding(crate::specs::Exports::own_exports))]
 fn expected_count<T: Entries>(tables: &T) -> usize
-    ensures { result ≤ length (T.entries tables.now).export_name_pointer_table }
+    ensures most { result ≤ length (T.entries tables.now).export_name_pointer_table }
+    ensures own { let t = T.entries tables.now in
+        32 < length t.export_name_pointer_table
+        → result ≡ own_exports t (length t.export_name_pointer_table) }
 {
     let pointers = tables.pointers();
     if pointers <= FEW {
@@ -262,11 +266,13 @@ fn expected_count<T: Entries>(tables: &T) -> usize
 }
 
 // Adds a row, if there is one.
-fn add_row<'a, 'e, E: ExportCollector<'a>>(
+fn add_row<'a, 'e, T: Entries, E: ExportCollector<'a>>(
     exports: &mut E,
     row: Option<Export<'a>>,
+    _tables: &T,
     expected: usize,
 ) -> ResultOf<'e, ()>
+    requires { expected ≤ length (T.entries _tables.now).export_name_pointer_table }
     ensures added { let more = map E.item_of (option_to_list row.entry) in
         OnOk result (E.items exports.new ≡ E.items exports.old ++ more) }
     ensures refused { IfErr result IsMemory }
@@ -342,7 +348,7 @@ impl<'a> Export<'a> {
         let expected = expected_count(tables);
         'rows: for index in 0..tables.pointers() {
             let row = Export::of_pointer(bytes, tables, index, address_map);
-            add_row(&mut rows, row, expected)?;
+            add_row(&mut rows, row, tables, expected)?;
         }
         Ok(rows)
     }

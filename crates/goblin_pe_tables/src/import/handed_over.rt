@@ -1,12 +1,16 @@
 //! The imports of a library, each handed over as soon as its entry is read.
 
-ghost use Rattle.std.specs.Prelude.{◌≡◌, ◌++◌, ◌<◌, ◌^◌, [], IfErr, false, map, unwrap_or};
+ghost use Rattle.std.specs.Prelude.{◌≡◌, ◌++◌, ◌<◌, ◌^◌, [], IfErr, IsSome, IsSomeAnd, OnErr, Some, false, map, true, unwrap_or};
 ghost use Rattle.std.specs.List.{flat_map};
 ghost use Rattle.goblin_base.specs.Answers.{GivesOrMemory, IsMemory};
 ghost use Rattle.goblin_base.specs.Reading.{ReadsOrMemory};
+ghost use Rattle.goblin_base.specs.Tables.{is_kept};
 ghost use Rattle.readings.specs.Reads.{mapped};
 ghost use Rattle.goblin_pe_tables.specs.Addresses.{offset_of, reads_strictly};
-ghost use Rattle.goblin_pe_tables.specs.ImportLookup.{kept_view};
+ghost use Rattle.goblin_pe_sect.specs.AddressReadings.{at_address};
+ghost use Rattle.goblin_pe_tables.specs.ImportDirectory.{address_table_rva, lookup_offset};
+ghost use Rattle.goblin_pe_tables.specs.LookupReadings.{address_table};
+ghost use Rattle.goblin_pe_tables.specs.ImportLookup.{KeepsEntries, kept_view};
 ghost use Rattle.goblin_pe_tables.specs.ImportReadings as directory;
 ghost use Rattle.goblin_pe_tables.specs.Imports.{import_of, kept_imports, table_imports};
 ghost use Rattle.goblin_pe_tables.specs.LookupReadings as reading;
@@ -36,9 +40,10 @@ fn hand_over_entry<'a, 'e, I: ImportCollector<'a>>(
     offset: usize,
     size: usize,
 ) -> ResultOf<'e, ()>
-    ensures { let made = map (import_of dll.now slot offset size) (kept_view kept.entry) in
+    ensures made { let made = map (import_of dll.now slot offset size) (kept_view kept.entry) in
         GivesOrMemory (λ _. I.items imports.new) result
         (I.items imports.old ++ map I.item_of made) }
+    ensures grown { OnErr result (is_kept (Some (kept_view kept.entry)) ≡ true) }
 {
     if let Some(entry) = kept {
         imports.add(entry, dll, slot, offset, size)?;
@@ -63,6 +68,11 @@ fn hand_over_table<'a, 'e, T: Bitfield<'a>, I: ImportCollector<'a>>(
         (reading.lookup_with_slots (reads_strictly m) T.format (offset_of m) offset))
         bytes.now }
     ensures permissive { reads_strictly address_map.now ≡ false → IfErr result IsMemory }
+    ensures grown { let m = address_map.now in
+        IfErr result
+        (λ e.
+        IsMemory e
+        → KeepsEntries (reads_strictly m) T.format (offset_of m) bytes.now offset) }
 {
     let size = T::size_of();
     let mut place = offset;
@@ -104,6 +114,11 @@ fn hand_over_table_if<'a, 'e, T: Bitfield<'a>, I: ImportCollector<'a>>(
         bytes.now }
     ensures permissive { reads_strictly address_map.now ≡ false → IfErr result IsMemory }
     ensures low { rva < 2 ^ 32 }
+    ensures grown { let m = address_map.now in
+        IfErr result
+        (λ e.
+        IsMemory e
+        → IsSomeAnd offset (KeepsEntries (reads_strictly m) T.format (offset_of m) bytes.now)) }
 {
     match offset {
         Some(offset) => hand_over_table::<T, I>(imports, bytes, offset, dll, rva, address_map),
@@ -120,12 +135,24 @@ fn hand_over_library<'a, 'e, T: Bitfield<'a>, I: ImportCollector<'a>>(
     entry: ImportDirectoryEntry,
     address_map: &AddressMap,
 ) -> ResultOf<'e, ()>
-    ensures { let m = address_map.now in
+    ensures value { let m = address_map.now in
         ReadsOrMemory (λ _. I.items imports.new) result
         (mapped (λ libraries. I.items imports.old
         ++ flat_map (kept_imports I.item_of T.format.width) libraries)
         (directory.kept_library (reads_strictly m) T.format (offset_of m) entry))
         bytes.now }
+    ensures grown { let m = address_map.now in
+        IfErr result
+        (λ e.
+        IsMemory e
+        → IsSomeAnd (lookup_offset (offset_of m) entry)
+        (KeepsEntries (reads_strictly m) T.format (offset_of m) bytes.now)) }
+    ensures tested { let m = address_map.now in
+        IfErr result
+        (λ e.
+        IsMemory e → reads_strictly m ≡ false
+        → IsSome ((at_address (offset_of m) (address_table_rva entry) (address_table T.format)).value
+        bytes.now)) }
 {
     let addresses = test_address_table::<T>(bytes, &entry, address_map);
     if addresses.is_err() && address_map.is_permissive() {

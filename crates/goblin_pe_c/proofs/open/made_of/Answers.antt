@@ -26,4 +26,4 @@ returns-clause-sections c =
     of.sections by_header in
     let named = ap (λ (table : ℕ). map (named_in strict bytes table) v.sections) c.symbols_end-table.ensures ∙ read in
     let said = alone-same _ _ ∙ ap (map alone) named in
-    sym (rw (← c.deref.ensures.value) c.in_ok-sections.ensures) ∙ said
+    sym (rw (← c.deref.ensures.value) c.in_ok-sections.ensures.made) ∙ said

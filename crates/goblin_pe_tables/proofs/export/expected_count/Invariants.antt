@@ -1,6 +1,7 @@
--- So many are counted at most as have been looked at.
-use Rattle.std.proofs.Common.{◌≤◌}
+-- So many are counted as lead to an export of the library's own among those that have been looked at.
+use Rattle.std.proofs.Common.{◌≡◌, ◌≤◌}
+use Rattle.goblin_pe_tables.specs.Exports.{own_exports}
 use Rattle.goblin_pe_tables.proofs.export.expected_count.Given as goal
 
 abbrev pub invariant-pointers : goal.invariant-pointers
-invariant-pointers g l = l.count ≤ l.index
+invariant-pointers g l = (l.count ≤ l.index) × (l.count ≡ own_exports (g.T.Entries.entries l.fn.tables) l.index)
