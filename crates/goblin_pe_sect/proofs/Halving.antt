@@ -197,13 +197,3 @@ searched_counted begins rva low high probes h done =
     let none : high - low ≡ 0 = omega arith in
     let all : probes + halvings 0 (reached begins rva - low) ≡ halvings (length begins) (reached begins rva) = rw (← none) h.counted in
     omega (arith, all, halvings-none (reached begins rva - low))
-
--- no pieces need no probe
-pub none_needed : (begins : List ℕ) → begins ≡ [] → (d : ℕ) → 2 ^ d ≤ length begins + 1 → d ≤ 0
-none_needed begins none d size =
-    let empty : length begins ≡ 0 = ap (λ (xs : List ℕ). length xs) none in
-    let exponent : d - 0 ≡ d = omega arith in
-    no_power d 0 (omega (arith, size, empty, ap (λ (k : ℕ). 2 ^ k) exponent))
-
-pub none_counted : (begins : List ℕ) (rva : ℕ) → begins ≡ [] → 0 ≡ halvings (length begins) (reached begins rva)
-none_counted begins rva none = rw none (sym (halvings-none 0))

@@ -1,5 +1,5 @@
 -- An index whose pieces are cut at the windows of a section table answers as the table does.
-use Rattle.std.proofs.Common.{◌≡◌, ℕ, zero, suc, ◌+◌, ◌-◌, ◌^◌, ◌<◌, ◌≤◌, Bool, true, false, cond, ◌&&◌, List, [], length, slice_index, slice_get, get_or, nat_le, nat_lt, Option, Some, None, find, map, refl, ap, sym, ◌∙◌, inl, inr, arith, tests, rules}
+use Rattle.std.proofs.Common.{◌≡◌, ℕ, zero, suc, ◌+◌, ◌-◌, ◌^◌, ◌<◌, ◌≤◌, Bool, true, false, cond, ◌&&◌, List, [], length, slice_index, slice_get, get_or, nat_le, nat_lt, Option, Some, None, find, map, refl, ap, sym, subst, ◌∙◌, inl, inr, arith, tests, rules}
 use Rattle.std.specs.List.{slice_index_or, position, position_or_len, Contains}
 use Rattle.std.specs.List.Sorted.{IsStrictlyIncreasing}
 use Rattle.std.specs.Option.{option_map, option_and_then, option_map_or}
@@ -7,7 +7,7 @@ use Rattle.std.proofs.lemmas.List.{get_or-map, get_or_past, get_or_default, leng
 use Rattle.std.proofs.lemmas.List.Sums.{prefix_len_passes, prefix_len_stops, prefix_len-le-length}
 use Rattle.std.proofs.lemmas.List.Folds.{find_at}
 use Rattle.std.proofs.lemmas.List.Quantifiers.{position-Some}
-use Rattle.std.proofs.lemmas.Bool.{cases_lt}
+use Rattle.std.proofs.lemmas.Bool.{cases_lt, cases_Bool}
 use Rattle.std.proofs.lemmas.Option.{slice_get_past, get_or_from_slice_get}
 use Rattle.std.proofs.lemmas.Bool.Decides.{nat_tests}
 use Rattle.std.specs.Int.{is_power_of_two}
@@ -221,3 +221,33 @@ piece_answers resolves begins owners w seen h rva n is some o owned =
     let near = held resolves begins owners h rva n o at some here in
     let answer : Some (owner_offset rva o) ≡ option_map (owner_offset rva) (last_owner owners n) = sym (ap (option_map (owner_offset rva)) (last_owner_is owners n o some here)) in
     (near.0, near.1, answer ∙ ap (λ (v : Pieces). option_map (owner_offset rva) (last_owner v.owners n)) seen)
+
+-- ---- what is found
+
+module _ (resolves : Bool) (begins : List ℕ) (owners : List (Option Owner)) (w : Pieces) (seen : record { resolves = resolves; begins = begins; owners = owners } ≡ w) (rva n : ℕ) (is : n ≡ reached w.begins rva) where
+  counted : n ≡ reached begins rva
+  counted = is ∙ ap (λ (v : Pieces). reached v.begins rva) (sym seen)
+
+  -- no piece begins at or before an address that is mapped
+  pub located-none : resolves ≡ true → n ≡ 0 → None ≡ located w rva
+  unfolding located
+  located-none on none =
+      let count : reached begins rva ≡ 0 = sym counted ∙ none in
+      subst (λ (v : Pieces). None ≡ located v rva) seen (rw (on, count) refl)
+
+  -- no address is mapped
+  pub located-itself : resolves ≡ false → Some rva ≡ located w rva
+  unfolding located
+  located-itself off = subst (λ (v : Pieces). Some rva ≡ located v rva) seen (rw off refl)
+
+  -- the last piece that begins at or before an address
+  pub located-piece : IsIndex resolves begins owners → (n ≡ 0 → ⊥) → option_map (owner_offset rva) (last_owner w.owners n) ≡ located w rva
+  unfolding located
+  located-piece h some =
+      subst (λ (v : Pieces). option_map (owner_offset rva) (last_owner v.owners n) ≡ located v rva) seen
+      (elim (cases_Bool resolves) [
+        | inl on ↦ rw (on, counted) refl
+        | inr off ↦
+            let empty : n ≡ 0 = rw (h.unmapped off) at counted in
+            absurd (some empty)
+      ])

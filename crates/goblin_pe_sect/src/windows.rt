@@ -30,18 +30,6 @@ use owners::Owner;
 use std::alloc::Global;
 use std::marker::Model;
 
-// The index in the middle of those from `low` up to, and without, `high`: at most half of the
-// others are on either side, and below it as many as above it or one more.
-fn middle(low: usize, high: usize) -> usize
-    requires { low < high }
-    ensures within { (low ≤ result) × (result < high) }
-    ensures halves { (2 * (result - low) ≤ high - low) × (2 * (high - (result + 1)) ≤ high - low) }
-    ensures even { (high - low ≤ 2 * (result - low) + 1)
-        × (high - low ≤ 2 * (high - (result + 1)) + 2) }
-{
-    low + (high - low) / 2
-}
-
 // How many pieces begin at or before the address, and how many bounds were looked at.
 fn count_reached(bounds: &Bounds, rva: usize) -> (usize, usize)
     requires { IsStrictlyIncreasing bounds.now }
@@ -52,13 +40,14 @@ fn count_reached(bounds: &Bounds, rva: usize) -> (usize, usize)
 {
     let mut probes = 0;
     let mut low = 0;
-    let mut high = bounds.len();
-    'halving: while low < high {
-        let half = middle(low, high);
-        if bounds.reaches(half, rva, &mut probes) {
-            low = half + 1;
+    let mut left = bounds.len();
+    'halving: while left > 0 {
+        let half = left / 2;
+        if bounds.reaches(low + half, rva, &mut probes) {
+            low += half + 1;
+            left -= half + 1;
         } else {
-            high = half;
+            left = half;
         }
     }
     (low, probes)
@@ -148,22 +137,30 @@ impl WindowIndex {
         self.bounds.len()
     }
 
-    // The file offset of an address, by how many pieces begin at or before it.
+    // The file offset of an address, by how many pieces begin at or before it: one or more.
     fn offset_in_piece(&self, count: usize, rva: usize) -> Option<usize>
-        requires { count ≡ reached self.now.begins rva }
+        requires counted { count ≡ reached self.now.begins rva }
+        requires some { 0 < count }
         ensures { result ≡ option_map (owner_offset rva) (last_owner self.now.owners count) }
     {
-        if count == 0 {
-            return None;
-        }
         let owner = self.owners[count - 1]?;
         Some(owner.pointer as usize + (rva - owner.address as usize))
+    }
+
+    // The file offset of an address, by how many pieces begin at or before it.
+    fn offset_by_count(&self, count: usize, rva: usize) -> Option<usize>
+        requires { count ≡ reached self.now.begins rva }
+        ensures { result ≡ located self.now rva }
+    {
+        if count == 0 {
+            return if self.resolves { None } else { Some(rva) };
+        }
+        self.offset_in_piece(count, rva)
     }
 
     /// The answer of [`WindowIndex::find`], and how many probes were made: calls of
     /// [`Bounds::reaches`], the only call that says where a piece begins. Fewer than 2 to the power
     /// d pieces take at most d probes. The number is that of a binary search for this address.
-    #[tactic(auto, using(crate::proofs::Halving::none_needed, crate::proofs::Halving::none_counted), unfolding(crate::specs::WindowIndex::located))]
     pub fn find_counted(&self, rva: usize) -> (Option<usize>, usize)
         ensures value { result.0 ≡ located self.now rva }
         ensures most { (d : ℕ) → length self.now.begins < 2 ^ d → result.1 ≤ d }
@@ -171,11 +168,8 @@ impl WindowIndex {
         ensures counted { result.1
             ≡ halvings (length self.now.begins) (reached self.now.begins rva) }
     {
-        if !self.resolves {
-            return (Some(rva), 0);
-        }
         let (count, probes) = count_reached(&self.bounds, rva);
-        (self.offset_in_piece(count, rva), probes)
+        (self.offset_by_count(count, rva), probes)
     }
 
     /// The file offset of the address `rva`, as [`find_offset`](crate::utils::find_offset) returns

@@ -3,5 +3,6 @@
 mod addresses;
 mod base;
 mod directories;
+mod index;
 mod relocations;
 mod sections;

@@ -1,18 +1,17 @@
-//! Two sections that overlap, in both orders: each reader takes what stands where `find_offset`
+//! Sections in many orders, overlapping and apart: each reader takes what stands where `find_offset`
 //! says.
 
 use crate::rows::are_exports;
 use fixture::sample::{ALIGNMENT, directory, put_all, section};
 use goblin_base::{Endian, Record};
 use goblin_pe_sect::utils::find_offset;
-use goblin_pe_sect::{ParseOptions, SectionTable};
+use goblin_pe_sect::{ParseOptions, RawPointerRule, SectionTable};
 use goblin_pe_tables::export::{Export, ExportData};
 use goblin_pe_tables::import::{
     ImportData, ImportDirectoryEntry, ImportLookupTable, SyntheticImportDirectoryEntry,
     SyntheticImportLookupTableEntry,
 };
 use std::alloc::{AllocError, Global};
-use std::test::Fail;
 
 /// What stands in the file: an import record at the address 0x1000 and an export record at 0x1100,
 /// which lead to addresses that lie in both sections; what the narrow section has there, and what
@@ -65,10 +64,9 @@ const WIDE: Held = Held {
 };
 
 /// Whether addresses in both sections lie where this one has them.
-fn are_mapped(sections: &[SectionTable], held: &Held) -> bool {
-    let opts = ParseOptions::default();
+fn are_mapped(sections: &[SectionTable], opts: &ParseOptions, held: &Held) -> bool {
     [0x1210, 0x1220, 0x1240, 0x1250, 0x1280].iter().all(|rva| {
-        find_offset(*rva, sections, ALIGNMENT, &opts) == Some(*rva - 0x1200 + held.begin)
+        find_offset(*rva, sections, ALIGNMENT, opts) == Some(*rva - 0x1200 + held.begin)
     })
 }
 
@@ -95,11 +93,12 @@ fn are_imports_read(
     alloc: Global,
     file: &[u8],
     sections: &[SectionTable],
+    opts: &ParseOptions,
     held: &Held,
 ) -> goblin_base::Result<bool> {
     let place = held.begin + 0x10;
-    let table = SyntheticImportLookupTableEntry::parse::<u32>(
-        alloc, file, place, sections, ALIGNMENT,
+    let table = SyntheticImportLookupTableEntry::parse_with_opts::<u32>(
+        alloc, file, place, sections, ALIGNMENT, opts,
     )?;
     Ok(is_table(&table, held))
 }
@@ -108,11 +107,12 @@ fn is_library_read(
     alloc: Global,
     file: &[u8],
     sections: &[SectionTable],
+    opts: &ParseOptions,
     held: &Held,
 ) -> goblin_base::Result<bool> {
     let record = ImportDirectoryEntry::read_at(file, 0x800, Endian::Little)?;
-    let library = SyntheticImportDirectoryEntry::parse::<u32>(
-        alloc, file, record, sections, ALIGNMENT,
+    let library = SyntheticImportDirectoryEntry::parse_with_opts::<u32>(
+        alloc, file, record, sections, ALIGNMENT, opts,
     )?;
     Ok(is_library(&library, held))
 }
@@ -121,10 +121,11 @@ fn is_import_data_read(
     alloc: Global,
     file: &[u8],
     sections: &[SectionTable],
+    opts: &ParseOptions,
     held: &Held,
 ) -> goblin_base::Result<bool> {
     let place = directory(0x1000, 40);
-    let data = ImportData::parse::<u32>(alloc, file, place, sections, ALIGNMENT)?;
+    let data = ImportData::parse_with_opts::<u32>(alloc, file, place, sections, ALIGNMENT, opts)?;
     Ok(matches!(data.import_data.as_slice(), [library] if is_library(library, held)))
 }
 
@@ -133,10 +134,12 @@ fn are_exports_read(
     alloc: Global,
     file: &[u8],
     sections: &[SectionTable],
+    opts: &ParseOptions,
     held: &Held,
 ) -> goblin_base::Result<bool> {
-    let tables = ExportData::parse(alloc, file, directory(0x1100, 40), sections, ALIGNMENT)?;
-    let exports = Export::parse(alloc, file, &tables, sections, ALIGNMENT)?;
+    let place = directory(0x1100, 40);
+    let tables = ExportData::parse_with_opts(alloc, file, place, sections, ALIGNMENT, opts)?;
+    let exports = Export::parse_with_opts(alloc, file, &tables, sections, ALIGNMENT, opts)?;
     let offset = Some(held.export - 0x1200 + held.begin);
     let is_right = are_exports(&exports, &[(Some(held.name), offset, held.export, None)]);
     Ok(is_right && tables.name == Some(held.name))
@@ -147,14 +150,15 @@ fn are_read(
     alloc: Global,
     file: &[u8],
     sections: &[SectionTable],
+    opts: &ParseOptions,
     held: &Held,
 ) -> goblin_base::Result<bool> {
     Ok(
-        are_mapped(sections, held)
-            && are_imports_read(alloc, file, sections, held)?
-            && is_library_read(alloc, file, sections, held)?
-            && is_import_data_read(alloc, file, sections, held)?
-            && are_exports_read(alloc, file, sections, held)?,
+        are_mapped(sections, opts, held)
+            && are_imports_read(alloc, file, sections, opts, held)?
+            && is_library_read(alloc, file, sections, opts, held)?
+            && is_import_data_read(alloc, file, sections, opts, held)?
+            && are_exports_read(alloc, file, sections, opts, held)?,
     )
 }
 
@@ -165,14 +169,97 @@ fn overlapping_file(alloc: Global) -> Result<Vec<u8>, AllocError> {
     Ok(file)
 }
 
+/// How many other sections there are, above these, and whether they stand before them, from the
+/// highest down, or after them.
+const OTHERS: [(u8, bool); 3] = [(0, false), (18, false), (18, true)];
+
+const RULES: [RawPointerRule; 2] = [RawPointerRule::AsStored, RawPointerRule::RoundedTo512];
+
+/// A section, whose raw pointer lies past the data where the rule rounds it down to them.
+fn section_by(rule: RawPointerRule, address: u32, size: u16, pointer: u16) -> SectionTable {
+    let past = match rule {
+        RawPointerRule::AsStored => 0,
+        RawPointerRule::RoundedTo512 => 0x10,
+    };
+    let size = u32::from(size);
+    section(address, size, size, u32::from(pointer) + past)
+}
+
+/// The section that lies within the other, and the one around it.
+fn narrow(rule: RawPointerRule) -> SectionTable {
+    section_by(rule, 0x1200, 0x200, 0x400)
+}
+
+fn wide(rule: RawPointerRule) -> SectionTable {
+    section_by(rule, 0x1000, 0x800, 0x800)
+}
+
+/// One of the others.
+fn other(index: u8) -> SectionTable {
+    section(0x2000 + 0x1000 * u32::from(index), 0x200, 0x200, 0x200)
+}
+
+/// These two sections among others.
+fn among(
+    alloc: Global,
+    (count, is_falling): (u8, bool),
+    first: SectionTable,
+    second: SectionTable,
+) -> Result<Vec<SectionTable>, AllocError> {
+    let mut sections = Vec::with_capacity(alloc, 20)?;
+    if is_falling {
+        for index in 0..count {
+            sections.push(other(count - 1 - index))?;
+        }
+    }
+    sections.push(first)?;
+    sections.push(second)?;
+    if !is_falling {
+        for index in 0..count {
+            sections.push(other(index))?;
+        }
+    }
+    Ok(sections)
+}
+
+/// Whether all readers find what this section has, of these two among others.
+fn are_read_among(
+    alloc: Global,
+    others: (u8, bool),
+    rule: RawPointerRule,
+    (first, second): (SectionTable, SectionTable),
+    held: &Held,
+) -> goblin_base::Result<bool> {
+    let file = overlapping_file(alloc)?;
+    let sections = among(alloc, others, first, second)?;
+    let opts = ParseOptions::default().with_raw_pointer_rule(rule);
+    are_read(alloc, &file, &sections, &opts, held)
+}
+
 #[test]
-fn each_reader_takes_the_first_of_two_overlapping_sections(rt: HostRuntime) -> Result<(), Fail> {
-    let file = overlapping_file(rt.alloc())?;
-    let narrow = section(0x1200, 0x200, 0x200, 0x400);
-    let wide = section(0x1000, 0x800, 0x800, 0x800);
-    let mut sections = [narrow, wide];
-    assert!(rt; are_read(rt.alloc(), &file, &sections, &NARROW)?);
-    sections.reverse();
-    assert!(rt; are_read(rt.alloc(), &file, &sections, &WIDE)?);
-    Ok(())
+fn each_reader_takes_the_first_of_two_overlapping_sections(rt: HostRuntime) {
+    for others in OTHERS {
+        for rule in RULES {
+            let pair = (narrow(rule), wide(rule));
+            let read = are_read_among(rt.alloc(), others, rule, pair, &NARROW);
+            assert!(rt; matches!(read, Ok(true)), "{others:?} {rule:?}");
+            let pair = (wide(rule), narrow(rule));
+            let read = are_read_among(rt.alloc(), others, rule, pair, &WIDE);
+            assert!(rt; matches!(read, Ok(true)), "{others:?} {rule:?}");
+        }
+    }
+}
+
+#[test]
+fn each_reader_finds_its_section_where_none_overlap(rt: HostRuntime) {
+    for others in OTHERS {
+        for rule in RULES {
+            let pair = (wide(rule), section(0x1C00, 0x200, 0x200, 0x200));
+            let read = are_read_among(rt.alloc(), others, rule, pair, &WIDE);
+            assert!(rt; matches!(read, Ok(true)), "{others:?} {rule:?}");
+            let pair = (section(0x1C00, 0x200, 0x200, 0x200), wide(rule));
+            let read = are_read_among(rt.alloc(), others, rule, pair, &WIDE);
+            assert!(rt; matches!(read, Ok(true)), "{others:?} {rule:?}");
+        }
+    }
 }

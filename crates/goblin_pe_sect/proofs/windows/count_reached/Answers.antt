@@ -1,4 +1,4 @@
-use Rattle.std.proofs.Common.{length, ◌<◌, ◌^◌, arith, rules}
+use Rattle.std.proofs.Common.{ℕ, ◌≡◌, ◌+◌, ◌-◌, ◌/◌, length, ◌<◌, ◌^◌, arith, rules}
 use Rattle.std.proofs.lemmas.Grind.{common_steps}
 use Rattle.goblin_pe_sect.proofs.Halving.{searched_up, searched_down, searched_all, searched_fewest, searched_counted}
 use Rattle.goblin_pe_sect.proofs.windows.count_reached.Goals as goal
@@ -10,17 +10,21 @@ reaches-requires-clause-room c =
 
 pub halving-preserved-then-reaches : goal.halving-preserved-then-reaches
 halving-preserved-then-reaches c =
-    rw c.reaches.ensures.counted (searched_up _ _ _ _ _ _ c.requires c.halving.invariant c.middle-half.ensures.within.0 c.middle-half.ensures.within.1 c.middle-half.ensures.halves.0 c.middle-half.ensures.even.0 (search rules))
+    let middle : ℕ = c.halving.low + c.halving.left / 2 in
+    let low : c.halving.low + (c.halving.left / 2 + 1) ≡ middle + 1 = omega arith in
+    let high : middle + 1 + (c.halving.left - (c.halving.left / 2 + 1)) ≡ c.halving.low + c.halving.left = omega arith in
+    rw (c.reaches.ensures.counted, low, high) (searched_up _ _ _ _ _ middle c.requires c.halving.invariant (omega arith) (omega arith) (omega arith) (omega arith) (search rules))
 
 pub halving-preserved : goal.halving-preserved
 halving-preserved c =
-    rw c.reaches.ensures.counted (searched_down _ _ _ _ _ _ c.requires c.halving.invariant c.middle-half.ensures.within.0 c.middle-half.ensures.within.1 c.middle-half.ensures.halves.0 c.middle-half.ensures.even.0 (grind (arith, common_steps)))
+    let middle : ℕ = c.halving.low + c.halving.left / 2 in
+    rw c.reaches.ensures.counted (searched_down _ _ _ _ _ middle c.requires c.halving.invariant (omega arith) (omega arith) (omega arith) (omega arith) (grind (arith, common_steps)))
 
 pub returns-clause-value : goal.returns-clause-value
-returns-clause-value c = searched_all _ _ _ _ _ c.halving.invariant c.halving-test.false
+returns-clause-value c = searched_all _ _ _ _ _ c.halving.invariant (omega arith)
 
 pub returns-clause-fewest : goal.returns-clause-fewest
-returns-clause-fewest c = searched_fewest _ _ _ _ _ c.halving.invariant c.halving-test.false
+returns-clause-fewest c = searched_fewest _ _ _ _ _ c.halving.invariant (omega arith)
 
 pub returns-clause-counted : goal.returns-clause-counted
-returns-clause-counted c = searched_counted _ _ _ _ _ c.halving.invariant c.halving-test.false
+returns-clause-counted c = searched_counted _ _ _ _ _ c.halving.invariant (omega arith)
