@@ -16,6 +16,7 @@ pub mod Modes
 mod NoSections
 pub mod PermissiveReads
 mod SomeRanges
+mod ImportFaults
 mod ImportPositions
 mod ImportSteps
 mod ImportsValue

@@ -1,9 +1,9 @@
 -- The walk over all imports: what is still to come.
 use Rattle.std.specs.Prelude.{◌≡◌, ℕ, ◌+◌, ◌-◌, ◌*◌, ◌/◌, ◌≤◌, Bool, ◌&&◌, not, true, false}
 use Rattle.std.specs.Prelude.{if◌then◌else◌, List, [], ◌∷◌, ◌++◌, map, length, Option, Some, None}
-use Rattle.std.specs.Prelude.{option_map, unwrap_or, is_none, Result, Ok, Err}
+use Rattle.std.specs.Prelude.{option_map, unwrap_or, is_none, Result, Ok, Err, IfErr, IfSome}
 use Rattle.goblin_base.specs.declared.error.ErrorOf.{ErrorOf}
-use Rattle.goblin_base.specs.Answers.{FirstFault, all_of}
+use Rattle.goblin_base.specs.Answers.{FirstFault, IsMemory, all_of}
 use Rattle.goblin_base.specs.Reading.{Reading}
 use Rattle.goblin_base.specs.Tables.{Format}
 use Rattle.readings.specs.Reads.{given, or_else, pick}
@@ -337,9 +337,14 @@ HasPosition format it = IsPlaced format it.walk
 abbrev pub imports_bound : {T : Type 0} → Imports T → ℕ
 imports_bound it = walk_bound it.walk
 
--- A call of `next` gives the next import; it keeps the position.
+-- an error that ends a walk: it comes only in strict mode, and is never Memory
+abbrev pub IsWalkFault : Walk → ErrorOf → Type 0
+IsWalkFault w e = (reads_strictly w.address_map.now ≡ true) × ¬ IsMemory e
+
+-- A call of `next` gives the next import, or such an error; it keeps the position.
 abbrev pub GivesImport : {T : Type 0} → Format EntryValue → Imports T
     → Option (Result WalkedImport ErrorOf) → Imports T → Type 0
 GivesImport format s result t =
     GivesNext walked_value (imports_left format) (IsImportsCause format) s result t
     × (HasPosition format s → HasPosition format t)
+    × IfSome result (λ r. IfErr r (IsWalkFault s.walk))
