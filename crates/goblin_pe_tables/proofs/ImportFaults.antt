@@ -16,7 +16,7 @@ use Rattle.goblin_pe_tables.specs.ImportEntries.{EntryValue}
 use Rattle.goblin_pe_tables.specs.ImportReadings.{libraries_at, record_here}
 use Rattle.goblin_pe_tables.specs.ImportRecords.{lookup_offset}
 use Rattle.goblin_pe_tables.specs.LookupReadings.{lookup_table}
-use Rattle.goblin_pe_tables.specs.ImportWalks.{GivesImport, IsCauseAt, IsCauseBy, IsEntriesCause, IsLaterCause}
+use Rattle.goblin_pe_tables.specs.ImportWalks.{GivesImport, IsCauseAt, IsCauseBy, IsEntriesCause, IsLaterCause, IsOver}
 use Rattle.goblin_pe_tables.specs.ImportWalks.{IsNamedCause, IsPlaced, IsRecordCause, IsRecordsCause, IsWalkCause}
 use Rattle.goblin_pe_tables.specs.ImportWalks.{IsWalkFault, addresses_of, begin_at, entries_from, library_name}
 use Rattle.goblin_pe_tables.specs.ImportWalks.{untested_table, walk_left, walked_value}
@@ -93,8 +93,9 @@ walk-fault format s e fault = (fault.0, walk-not_memory format s e fault)
 pub import-given : {T : Type 0} (format : Format EntryValue) (s t : Imports T)
     (result : Option (Result WalkedImport ErrorOf))
     → GivesNext walked_value (walk_left format) (IsWalkCause format) s.walk result t.walk
-    → (IsPlaced format s.walk → IsPlaced format t.walk) → GivesImport format s result t
-import-given format s t None given placed = (given, placed, tt)
-import-given format s t (Some (Ok import)) given placed = (given, placed, tt)
-import-given format s t (Some (Err e)) given placed =
-    (given, placed, walk-fault format s.walk e given.2)
+    → (IsPlaced format s.walk → IsPlaced format t.walk)
+    → IsOver s.walk.bytes.now s.walk.address_map.now t → GivesImport format s result t
+import-given format s t None given placed over = (given, placed, tt, over)
+import-given format s t (Some (Ok import)) given placed over = (given, placed, tt, over)
+import-given format s t (Some (Err e)) given placed over =
+    (given, placed, walk-fault format s.walk e given.2, over)

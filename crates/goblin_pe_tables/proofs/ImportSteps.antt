@@ -29,6 +29,7 @@ pub record AtImports (format : Format EntryValue) (start now : Walk) : Type 0 wh
   pub bound : walk_bound now ≤ walk_bound start
   pub placed : IsPlaced format start → IsInLibrary format now
   pub bytes : now.bytes.now ≡ start.bytes.now
+  pub address_map : now.address_map.now ≡ start.address_map.now
 
 -- the walk at another place
 abbrev pub moved : Walk → ℕ → Walk
@@ -50,6 +51,7 @@ imports-start format start = record {
   bound = omega arith;
   placed = λ placed. placed.0;
   bytes = refl;
+  address_map = refl;
 }
 
 -- a walk that has ended
@@ -155,9 +157,10 @@ module _ (format : Format EntryValue) (start s : Walk) (h : AtImports format sta
 
     pub next-library : (r : Result Walk ErrorOf) (walk : Walk) → Gives (Some r) → r ≡ Ok walk
         → IfOk r (λ t. t.bytes.now ≡ s.bytes.now)
+        → IfOk r (λ t. t.address_map.now ≡ s.address_map.now)
         → IfOk r (λ t. walk_bound t ≤ bound_at s.bytes.now s.next)
         → IfOk r (λ t. IsInLibrary format t) → AtImports format start walk
-    next-library r walk given is same_if bound_if placed_if =
+    next-library r walk given is same_if map_if bound_if placed_if =
         let gives = subst (λ (q : Result Walk ErrorOf). Gives (Some q)) is given in
         let same =
         subst (λ (q : Result Walk ErrorOf). IfOk q (λ t. t.bytes.now ≡ s.bytes.now)) is same_if in
@@ -172,4 +175,8 @@ module _ (format : Format EntryValue) (start s : Walk) (h : AtImports format sta
           placed = λ _. subst (λ (q : Result Walk ErrorOf). IfOk q (λ t. IsInLibrary format t)) is
               placed_if;
           bytes = same ∙ h.bytes;
+          address_map = subst
+              (λ (q : Result Walk ErrorOf). IfOk q (λ t. t.address_map.now ≡ s.address_map.now)) is
+              map_if
+              ∙ h.address_map;
         }

@@ -10,7 +10,7 @@ use Rattle.readings.specs.Reads.{given, or_else, pick}
 use Rattle.readings.specs.Walks.{GivesNext, from_slot, items_of, refusal_of, table_walk}
 use Rattle.readings.specs.Walks.{until_refused}
 use Rattle.goblin_pe_sect.specs.AddressReadings.{at_address, name_at}
-use Rattle.goblin_pe_tables.specs.Addresses.{offset_of, reads_strictly}
+use Rattle.goblin_pe_tables.specs.Addresses.{MapOfAddresses, offset_of, reads_strictly}
 use Rattle.goblin_pe_tables.specs.ImportEntries.{EntryValue, LookupEntry, entry_slots}
 use Rattle.goblin_pe_tables.specs.ImportLookup.{entry_view}
 use Rattle.goblin_pe_tables.specs.ImportReadings.{libraries_at, record_here}
@@ -333,6 +333,10 @@ IsImportsCause format it e = IsWalkCause format it.walk e
 abbrev pub HasPosition : {T : Type 0} → Format EntryValue → Imports T → Type 0
 HasPosition format it = IsPlaced format it.walk
 
+-- the imports of these bytes, whose addresses are mapped so
+abbrev pub IsOver : {T : Type 0} → List ℕ → MapOfAddresses → Imports T → Type 0
+IsOver bytes m it = (it.walk.bytes.now ≡ bytes) × (it.walk.address_map.now ≡ m)
+
 -- no more than this comes
 abbrev pub imports_bound : {T : Type 0} → Imports T → ℕ
 imports_bound it = walk_bound it.walk
@@ -341,10 +345,12 @@ imports_bound it = walk_bound it.walk
 abbrev pub IsWalkFault : Walk → ErrorOf → Type 0
 IsWalkFault w e = (reads_strictly w.address_map.now ≡ true) × ¬ IsMemory e
 
--- A call of `next` gives the next import, or such an error; it keeps the position.
+-- A call of `next` gives the next import, or such an error; it keeps the position and what is walked
+-- over.
 abbrev pub GivesImport : {T : Type 0} → Format EntryValue → Imports T
     → Option (Result WalkedImport ErrorOf) → Imports T → Type 0
 GivesImport format s result t =
     GivesNext walked_value (imports_left format) (IsImportsCause format) s result t
     × (HasPosition format s → HasPosition format t)
     × IfSome result (λ r. IfErr r (IsWalkFault s.walk))
+    × IsOver s.walk.bytes.now s.walk.address_map.now t

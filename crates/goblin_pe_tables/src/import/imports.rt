@@ -16,7 +16,7 @@ ghost use Rattle.goblin_pe_tables.specs.ImportReadings.{import_data, libraries_a
 ghost use Rattle.goblin_pe_tables.specs.ImportRecords.{is_last_record};
 ghost use Rattle.goblin_pe_tables.specs.Imports.{kept_imports};
 ghost use Rattle.goblin_pe_tables.specs.ImportWalks.{GivesImport, GivesLibrary, HasPosition, IsCauseAt};
-ghost use Rattle.goblin_pe_tables.specs.ImportWalks.{IsImportsCause, IsInLibrary, imports_at, position_by};
+ghost use Rattle.goblin_pe_tables.specs.ImportWalks.{IsImportsCause, IsInLibrary, IsOver, imports_at, position_by};
 ghost use Rattle.goblin_pe_tables.specs.ImportWalks.{slots_bound};
 ghost use Rattle.goblin_pe_tables.specs.ImportWalks.{IsLaterCause, IsNamedCause, IsPlaced};
 ghost use Rattle.goblin_pe_tables.specs.ImportWalks.{IsRecordsCause, IsWalkCause, addresses_of};
@@ -215,6 +215,7 @@ impl<'a, 'm> Walk<'a, 'm> {
     // Ends the walk.
     fn end(&mut self)
         ensures bytes { self.new.bytes.now ≡ self.old.bytes.now }
+        ensures address_map { self.new.address_map.now ≡ self.old.address_map.now }
         ensures place { self.new.place ≡ None }
         ensures untested { self.new.untested ≡ None }
         ensures next { self.new.next ≡ None }
@@ -352,6 +353,7 @@ impl<'a, 'm> Walk<'a, 'm> {
             self.old result self.new }
         ensures placed { IsPlaced T.format self.old → IsPlaced T.format self.new }
         ensures bytes { self.new.bytes.now ≡ self.old.bytes.now }
+        ensures address_map { self.new.address_map.now ≡ self.old.address_map.now }
         ensures fewer { IfSome result (λ r. walk_bound self.new < walk_bound self.old) }
     {
         'libraries: loop {
@@ -412,6 +414,7 @@ impl<'a, 'm, 'e, T: Bitfield<'a>> Imports<'a, 'm, 'e, T> {
             (import_data (reads_strictly m) T.format (offset_of m) rva))
             bytes.now }
         ensures permissive { reads_strictly address_map.now ≡ false → IsOk result }
+        ensures over { IfOk result (IsOver bytes.now address_map.now) }
         ensures position { IfOk result (HasPosition T.format) }
     {
         let rva = directory.virtual_address;
@@ -435,6 +438,7 @@ impl<'a, 'm, 'e, T: Bitfield<'a>> Imports<'a, 'm, 'e, T> {
             IsWalkOf (λ xs. xs)
             (mapped (flat_map (kept_imports (λ x. x) T.format.width)) libraries) bytes.now
             (imports_left T.format result) (IsImportsCause T.format result) }
+        ensures over { IsOver bytes.now address_map.now result }
         ensures position { HasPosition T.format result }
     {
         let begin = ImportPosition {
@@ -458,6 +462,7 @@ impl<'a, 'm, 'e, T: Bitfield<'a>> Imports<'a, 'm, 'e, T> {
             (e : ErrorOf) → IsImportsCause T.format result e
             → (reads_strictly m ≡ true)
             × IsCauseAt (reads_strictly m) T.format (offset_of m) bytes.now position e }
+        ensures over { IsOver bytes.now address_map.now result }
         ensures position { HasPosition T.format result }
         ensures wide { 1 ≤ T.format.width }
     {

@@ -19,7 +19,7 @@ returns-in-Some-Err-clause-steps g c =
 
 pub libraries-preserved : goal.libraries-preserved
 libraries-preserved g c =
-    next-library g.T.Bitfield.format c.args.self.now c.libraries.self c.libraries.invariant c.in-None.ensures.steps c.in-Some-Ok-next_library.field-0 c.in-Some-Ok-next_library.walk c.in-Some-Ok-next_library.ensures.gives c.in-Some-Ok-next_library.field-0-is c.in-Some-Ok-next_library.ensures.bytes c.in-Some-Ok-next_library.ensures.bound c.in-Some-Ok-next_library.ensures.placed
+    next-library g.T.Bitfield.format c.args.self.now c.libraries.self c.libraries.invariant c.in-None.ensures.steps c.in-Some-Ok-next_library.field-0 c.in-Some-Ok-next_library.walk c.in-Some-Ok-next_library.ensures.gives c.in-Some-Ok-next_library.field-0-is c.in-Some-Ok-next_library.ensures.bytes c.in-Some-Ok-next_library.ensures.address_map c.in-Some-Ok-next_library.ensures.bound c.in-Some-Ok-next_library.ensures.placed
 
 pub returns-in-Some-Err-next_library-clause-steps : goal.returns-in-Some-Err-next_library-clause-steps
 returns-in-Some-Err-next_library-clause-steps g c =
