@@ -16,6 +16,7 @@ pub use Rattle.goblin_base.specs.Strtab
 pub use Rattle.goblin_base.specs.Tables
 pub use Rattle.goblin_base.specs.Values
 pub use Rattle.readings.specs.Reads
+pub use Rattle.readings.specs.Walks
 pub use Rattle.goblin_pe_sect.specs.AddressReadings
 pub use Rattle.goblin_pe_sect.specs.AuxiliarySymbols
 pub use Rattle.goblin_pe_sect.specs.BaseRelocations
@@ -59,5 +60,6 @@ pub use Rattle.goblin_pe_tables.specs.ImportEntries
 pub use Rattle.goblin_pe_tables.specs.ImportLookup
 pub use Rattle.goblin_pe_tables.specs.ImportReadings
 pub use Rattle.goblin_pe_tables.specs.ImportRecords
+pub use Rattle.goblin_pe_tables.specs.ImportWalks
 pub use Rattle.goblin_pe_tables.specs.Imports
 pub use Rattle.goblin_pe_tables.specs.LookupReadings
