@@ -76,6 +76,24 @@ def shared_image(libraries, functions):
     return headers + data + bytes(-len(data) % 0x200)
 
 
+def without_directory(image, index):
+    """The image for 64 bits without one of its data directories."""
+    image = bytearray(image)
+    signature, = struct.unpack_from("<I", image, 0x3C)
+    struct.pack_into("<II", image, signature + 0x88 + 8 * index, 0, 0)
+    return image
+
+
+def pointers_to_nowhere(count):
+    """An image whose export directory has so many name pointers, and no address that any of them could lead to."""
+    base = 0x1000
+    data = struct.pack("<IIHHIIIIIII", 0, 0, 0, 0, base + 40, 1, 0, count, base, base, base) + b"nowhere.dll\0"
+    data = data.ljust(4 * count, b"\0")
+    headers = image_headers(0x200, 1, 0x7FFFF000, ((0, base, 40),))
+    put_section(headers, 0x148, b".edata", data, base, 0x200)
+    return headers + data + bytes(-len(data) % 0x200)
+
+
 def image_headers(length, sections, image_size, directories):
     """The headers of an image for 64 bits, with room for the records of its sections up to this length."""
     headers = bytearray(length)

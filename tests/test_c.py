@@ -2,8 +2,8 @@
 import functools
 import os
 
-from tests import programs
-from tests.programs import BY_NAME, CALLERS, CC, FLAGS, IMAGES, OBJECTS, SAMPLES, TERSE, Case, library, need, succeed
+from tests import images, programs
+from tests.programs import BY_NAME, CALLERS, CC, FLAGS, IMAGES, OBJECTS, SAMPLES, TERSE, Case, library, milliseconds, need, run, succeed, with_memory
 
 
 def setUpModule():
@@ -38,11 +38,38 @@ class Programs(Case):
                 with self.subTest(kind=kind, sample=sample.name):
                     succeed([built("growths"), kind, sample])
 
+    def test_a_file_without_a_table_leaves_no_block_behind(self):
+        for index, table in ((0, "exports"), (1, "imports"), (5, "base relocations")):
+            with self.subTest(table):
+                succeed([built("growths"), "image", self.written("without.dll", images.without_directory(BY_NAME.read_bytes(), index))])
+
     def test_a_program_in_cxx_finds_the_interface_that_it_declares(self):
         need("c++")
         program = self.folder / "interface"
         succeed(["c++", "-std=c++11", *FLAGS, "-o", program, CALLERS / "c/interface.cc", library() / "libgoblin_pe.a"])
         succeed([program])
+
+
+class LargeImages(Case):
+    def listed(self, image):
+        """The lines of its listing, with 100 MB of memory."""
+        status, out, said = run(with_memory(100000, [built("list"), self.written("large.dll", image)]))
+        self.assertEqual((status, said), (0, b""))
+        return out.splitlines()
+
+    def test_room_is_made_for_many_imports(self):
+        listed = self.listed(images.large_image(35, 2000, exports=0, blocks=0, size=1 << 20))
+        self.assertEqual(sum(line.startswith(b"import ") for line in listed), 70000)
+
+    def test_no_room_is_made_for_pointers_that_lead_nowhere(self):
+        self.assertIn(b"exports 0", self.listed(images.pointers_to_nowhere(4000000)))
+
+    def test_twice_the_imports_take_at_most_three_times_as_long(self):
+        least = []
+        for libraries in (100, 200):
+            image = self.written("shared.dll", images.shared_image(libraries, functions=1000))
+            least.append(min(milliseconds([built("list"), image], os.devnull) for _ in range(5)))
+        self.assertLessEqual(least[1], 3 * least[0])
 
 
 class Reuse(Case):

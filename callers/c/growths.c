@@ -1,7 +1,8 @@
 /* Reads a file with its first growth of memory refused, then its second, and so on, until a read meets no
    refusal: growths image|object|te|footprint FILE. The status is 0 where each refused growth is answered as
-   such, changes no record and leaves no block behind; the footprint of a file without an import directory
-   wants no memory. It stands before malloc, realloc and free of glibc. */
+   such, changes no record and leaves no block behind, and where all blocks of the last read are freed with its
+   tables; the footprint of a file without an import directory wants no memory. It stands before malloc, realloc
+   and free of glibc. */
 #include "goblin_pe.h"
 
 #include <stdio.h>
@@ -104,9 +105,11 @@ int main(int argc, char **argv)
         struct goblin_pe_fault fault = read_by(argv[1], length, &new);
         is_reading = false;
         if (!was_refused) {
+            is_reading = true;
             goblin_pe_free(&new.tables);
             goblin_pe_free_ranges(&new.ranges);
-            return fault.status == GOBLIN_PE_OK && (growth > 1) == wants_memory ? 0 : 1;
+            is_reading = false;
+            return fault.status == GOBLIN_PE_OK && (growth > 1) == wants_memory && !blocks ? 0 : 1;
         }
         if (fault.status != GOBLIN_PE_NO_MEMORY || memcmp(&new, &old, sizeof new) || blocks)
             return 1;
