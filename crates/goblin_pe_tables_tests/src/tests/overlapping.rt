@@ -66,7 +66,8 @@ const WIDE: Held = Held {
 /// Whether addresses in both sections lie where this one has them.
 fn are_mapped(sections: &[SectionTable], opts: &ParseOptions, held: &Held) -> bool {
     [0x1210, 0x1220, 0x1240, 0x1250, 0x1280].iter().all(|rva| {
-        find_offset(*rva, sections, ALIGNMENT, opts) == Some(*rva - 0x1200 + held.begin)
+        find_offset(*rva, sections, ALIGNMENT, opts)
+            == Some(rva.saturating_sub(0x1200).saturating_add(held.begin))
     })
 }
 
@@ -96,7 +97,7 @@ fn are_imports_read(
     opts: &ParseOptions,
     held: &Held,
 ) -> goblin_base::Result<bool> {
-    let place = held.begin + 0x10;
+    let place = held.begin.saturating_add(0x10);
     let table = SyntheticImportLookupTableEntry::parse_with_opts::<u32>(
         alloc, file, place, sections, ALIGNMENT, opts,
     )?;
@@ -140,7 +141,11 @@ fn are_exports_read(
     let place = directory(0x1100, 40);
     let tables = ExportData::parse_with_opts(alloc, file, place, sections, ALIGNMENT, opts)?;
     let exports = Export::parse_with_opts(alloc, file, &tables, sections, ALIGNMENT, opts)?;
-    let offset = Some(held.export - 0x1200 + held.begin);
+    let offset = Some(
+        held.export
+            .saturating_sub(0x1200)
+            .saturating_add(held.begin),
+    );
     let is_right = are_exports(&exports, &[(Some(held.name), offset, held.export, None)]);
     Ok(is_right && tables.name == Some(held.name))
 }
