@@ -1,6 +1,6 @@
 //! Imports walked over one by one, also from each position on.
 
-use crate::rows::{GO, ImportRow, SEVEN};
+use crate::rows::{GO, SEVEN};
 use fixture::sample::{
     ALIGNMENT, IMPORT_RECORD, IMPORTS, MODES, in_mode, sample, sample_section, sample_with,
 };
@@ -10,9 +10,13 @@ use goblin_pe_tables::import::{Bitfield, Imports, SyntheticImportLookupTableEntr
 use std::alloc::{AllocError, Global};
 use std::test::Fail;
 
+/// The name, the ordinal or hint, the address of its slot, its own address, the size and the slot of an
+/// import.
+type Row<'r> = (&'r str, u16, usize, usize, usize, usize);
+
 /// Whether this is the import of a row, from `a.dll`. The name of an import by ordinal is not in the
 /// file.
-fn is_row(import: &WalkedImport, row: ImportRow) -> bool {
+fn is_row(import: &WalkedImport, row: Row) -> bool {
     let named = match &import.entry {
         SyntheticImportLookupTableEntry::HintNameTableRVA((rva, named)) => {
             named.name == row.0 && named.hint == row.1 && *rva as usize == row.3
@@ -25,20 +29,29 @@ fn is_row(import: &WalkedImport, row: ImportRow) -> bool {
 }
 
 /// Whether the next import is that of a row.
-fn gives<'a, T: Bitfield<'a>>(walk: &mut Imports<'a, '_, '_, T>, row: ImportRow) -> bool {
+fn gives<'a, T: Bitfield<'a>>(walk: &mut Imports<'a, '_, '_, T>, row: Row) -> bool {
     matches!(walk.next(), Some(Ok(import)) if is_row(&import, row))
+}
+
+/// Whether the next imports are those of these rows.
+fn gives_all<'a, T: Bitfield<'a>>(walk: &mut Imports<'a, '_, '_, T>, rows: &[Row]) -> bool {
+    for row in rows {
+        if !gives(walk, *row) {
+            return false;
+        }
+    }
+    true
 }
 
 /// Whether a walk gives these rows and then ends, and so does one that begins at each of its
 /// positions.
-fn walks<'a, T: Bitfield<'a>>(bytes: &'a [u8], map: &AddressMap, rows: &[ImportRow]) -> bool {
+fn walks<'a, T: Bitfield<'a>>(bytes: &'a [u8], map: &AddressMap, rows: &[Row]) -> bool {
     let Ok(mut walk) = Imports::<T>::of(bytes, IMPORTS, map) else {
         return false;
     };
     'rows: for begin in 0..rows.len() {
         let mut again = Imports::<T>::from_position(bytes, walk.position(), map);
-        let rest = &rows[begin..];
-        if !rest.iter().all(|row| gives(&mut again, *row)) || again.next().is_some() {
+        if !gives_all(&mut again, &rows[begin..]) || again.next().is_some() {
             return false;
         }
         if !gives(&mut walk, rows[begin]) {
@@ -53,7 +66,7 @@ fn are_walked<'a, 'e, T: Bitfield<'a>>(
     alloc: Global,
     file: &'a [u8],
     mode: ParseMode,
-    rows: &[ImportRow],
+    rows: &[Row],
 ) -> ResultOf<'e, bool> {
     let sections = [sample_section()];
     let map = AddressMap::prepare(alloc, &sections, ALIGNMENT, &in_mode(mode))?;
@@ -87,7 +100,7 @@ fn ends_at_the_third(bytes: &[u8], map: &AddressMap) -> bool {
         return false;
     };
     let four = [GO, SEVEN, GO, SEVEN];
-    four.iter().all(|row| gives(&mut walk, *row))
+    gives_all(&mut walk, &four)
         && matches!(
             walk.next(),
             Some(Err(Error::Malformed(Cause::Unmapped(0x5000))))
