@@ -75,29 +75,53 @@ impl<V> Amount for Table<V> {
     }
 }
 
-// Values whose amount is always known.
-macro_rules! amounts {
-    ($($it:ident: $type:ty => $amount:expr;)*) => {
-        $(
-            impl Amount for $type {
-                fn amount(&self) -> Result<usize, Refusal> {
-                    let $it = self;
-                    Ok($amount)
-                }
-            }
-        )*
-    };
+/// A slot, or an end of a range, is one.
+impl Amount for usize {
+    fn amount(&self) -> Result<usize, Refusal> {
+        Ok(1)
+    }
 }
 
-amounts! {
-    _slot_or_range: usize => 1;
-    data: CowSlice<'_, u8, Global> => data.len();
-    strings: Strtab<'_> => strings.len();
-    index: WindowIndex => index.pieces();
-    library: SyntheticImportDirectoryEntry<'_> => library.import_address_table.len();
-    data: ImportData<'_> => data.import_data.len();
-    import: Import<'_> => import.name.len();
-    data: ExportData<'_> => data.export_address_table.len();
+impl Amount for CowSlice<'_, u8, Global> {
+    fn amount(&self) -> Result<usize, Refusal> {
+        Ok(self.len())
+    }
+}
+
+impl Amount for Strtab<'_> {
+    fn amount(&self) -> Result<usize, Refusal> {
+        Ok(self.len())
+    }
+}
+
+impl Amount for WindowIndex {
+    fn amount(&self) -> Result<usize, Refusal> {
+        Ok(self.pieces())
+    }
+}
+
+impl Amount for SyntheticImportDirectoryEntry<'_> {
+    fn amount(&self) -> Result<usize, Refusal> {
+        Ok(self.import_address_table.len())
+    }
+}
+
+impl Amount for ImportData<'_> {
+    fn amount(&self) -> Result<usize, Refusal> {
+        Ok(self.import_data.len())
+    }
+}
+
+impl Amount for Import<'_> {
+    fn amount(&self) -> Result<usize, Refusal> {
+        Ok(self.name.len())
+    }
+}
+
+impl Amount for ExportData<'_> {
+    fn amount(&self) -> Result<usize, Refusal> {
+        Ok(self.export_address_table.len())
+    }
 }
 
 /// The length of its name.
