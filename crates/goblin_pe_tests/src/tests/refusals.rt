@@ -7,7 +7,7 @@ use super::sample::{COFF_HEADER, has_exports, is_export_read, is_lookup, is_whol
 use fixture::sample::{
     ALIGNMENT, EXPORTS, IMPORTS, LOOKUP, TABLE, sample, sample_section, sample_with,
 };
-use goblin_base::Error;
+use goblin_base::{ErrorOf, ResultOf};
 use goblin_pe::import::ImportDirectoryEntry;
 use goblin_pe::laws::{
     Parts, mode_whole, twin_exports, twin_imports, twin_lookup, twin_parts, twin_whole,
@@ -18,12 +18,12 @@ use std::alloc::Global;
 use std::test::Fail;
 
 /// Whether an answer was refused, and not for want of memory.
-pub fn is_refused<T>(answer: &goblin_base::Result<T>) -> bool {
-    matches!(answer, Err(error) if !matches!(error, Error::Memory(_)))
+pub fn is_refused<'e, T>(answer: &ResultOf<'e, T>) -> bool {
+    matches!(answer, Err(error) if !matches!(error, ErrorOf::Memory(_)))
 }
 
 /// What an answer is: `.` if it is the sample file's, `x` if it was refused so.
-fn mark<T>(answer: &goblin_base::Result<T>, is_sample: bool) -> u8 {
+fn mark<'e, T>(answer: &ResultOf<'e, T>, is_sample: bool) -> u8 {
     if is_sample {
         b'.'
     } else if is_refused(answer) {
