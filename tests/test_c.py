@@ -65,11 +65,13 @@ class LargeImages(Case):
         self.assertIn(b"exports 0", self.listed(images.pointers_to_nowhere(4000000)))
 
     def test_twice_the_imports_take_at_most_three_times_as_long(self):
-        least = []
-        for libraries in (100, 200):
-            image = self.written("shared.dll", images.shared_image(libraries, functions=1000))
-            least.append(min(milliseconds([built("list"), image], os.devnull) for _ in range(5)))
-        self.assertLessEqual(least[1], 3 * least[0])
+        """A machine that is busy is asked up to three times. Room made for one import after the other takes four times."""
+        one, two = (self.written(f"{libraries}.dll", images.shared_image(libraries, functions=1000)) for libraries in (100, 200))
+        for _ in range(3):
+            least = [min(milliseconds([built("list"), image], os.devnull) for _ in range(9)) for image in (one, two)]
+            if least[1] <= 3 * least[0]:
+                return
+        self.fail(f"{least} ms")
 
 
 class Reuse(Case):

@@ -13,9 +13,10 @@ void *__libc_realloc(void *block, size_t size);
 void __libc_free(void *block);
 
 static uint8_t bytes[1 << 20];
-static bool is_reading, was_refused;
+/* (volatile, since a compiler takes free to read none of these) */
+static volatile bool is_reading, was_refused;
 static size_t left;
-static long blocks;
+static volatile long blocks;
 
 static bool is_refused(void)
 {
