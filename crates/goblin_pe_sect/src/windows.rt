@@ -40,14 +40,13 @@ fn count_reached(bounds: &Bounds, rva: usize) -> (usize, usize)
 {
     let mut probes = 0;
     let mut low = 0;
-    let mut left = bounds.len();
-    'halving: while left > 0 {
-        let half = left / 2;
-        if bounds.reaches(low + half, rva, &mut probes) {
-            low += half + 1;
-            left -= half + 1;
+    let mut high = bounds.len();
+    'halving: while low < high {
+        let middle = (low + high) / 2;
+        if bounds.reaches(middle, rva, &mut probes) {
+            low = middle + 1;
         } else {
-            left = half;
+            high = middle;
         }
     }
     (low, probes)

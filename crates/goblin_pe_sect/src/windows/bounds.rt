@@ -1,6 +1,6 @@
 //! Where the pieces of the address space begin, seen by a call that counts.
 
-ghost use Rattle.std.specs.Prelude.{◌≡◌, ◌+◌, ◌<◌, ◌≤◌, ◌↔◌, IsTrue, length, slice_index};
+ghost use Rattle.std.specs.Prelude.{◌≡◌, ◌+◌, ◌*◌, ◌^◌, ◌<◌, ◌≤◌, ◌↔◌, IsTrue, length, slice_index};
 ghost use Rattle.goblin_pe_sect.specs.WindowIndexFields.{KeepsBeginsAlone};
 
 use std::marker::Model;
@@ -31,6 +31,7 @@ impl Bounds {
     /// The number of pieces.
     pub fn len(&self) -> usize
         ensures count { result ≡ length self.now }
+        ensures room { 2 * result < 2 ^ 64 }
         ensures whole { KeepsBeginsAlone }
     {
         self.begins.len()
