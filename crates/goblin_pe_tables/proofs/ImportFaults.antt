@@ -11,7 +11,7 @@ use Rattle.goblin_pe_tables.specs.declared.import.imports.ImportPosition.{Import
 use Rattle.goblin_pe_tables.specs.declared.import.imports.Imports.{Imports}
 use Rattle.goblin_pe_tables.specs.declared.import.imports.Walk.{Walk}
 use Rattle.goblin_pe_tables.specs.declared.import.imports.WalkedImport.{WalkedImport}
-use Rattle.goblin_pe_tables.specs.Addresses.{offset_of, reads_strictly}
+use Rattle.goblin_pe_tables.specs.Addresses.{map_of, offset_of, reads_strictly}
 use Rattle.goblin_pe_tables.specs.ImportEntries.{EntryValue}
 use Rattle.goblin_pe_tables.specs.ImportReadings.{libraries_at, record_here}
 use Rattle.goblin_pe_tables.specs.ImportRecords.{lookup_offset}
@@ -72,7 +72,7 @@ module _ (strict : Bool) (format : Format EntryValue) (offset_of : ℕ → Optio
 walk-not_memory : (format : Format EntryValue) (w : Walk) (e : ErrorOf) → IsWalkCause format w e
     → ¬ IsMemory e
 walk-not_memory format w e fault =
-    let m = w.address_map.now in
+    let m = map_of w.address_map.now in
     let strict = reads_strictly m in
     let bytes = w.bytes.now in
     let table = untested_table strict format (offset_of m) w.untested in
@@ -94,7 +94,7 @@ pub import-given : {T : Type 0} (format : Format EntryValue) (s t : Imports T)
     (result : Option (Result WalkedImport ErrorOf))
     → GivesNext walked_value (walk_left format) (IsWalkCause format) s.walk result t.walk
     → (IsPlaced format s.walk → IsPlaced format t.walk)
-    → IsOver s.walk.bytes.now s.walk.address_map.now t → GivesImport format s result t
+    → IsOver s.walk.bytes.now (map_of s.walk.address_map.now) t → GivesImport format s result t
 import-given format s t None given placed over = (given, placed, tt, over)
 import-given format s t (Some (Ok import)) given placed over = (given, placed, tt, over)
 import-given format s t (Some (Err e)) given placed over =

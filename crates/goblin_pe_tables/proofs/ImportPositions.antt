@@ -11,7 +11,7 @@ use Rattle.readings.proofs.Walks.{slot-going}
 use Rattle.goblin_pe_tables.specs.declared.import.directory_entry.ImportDirectoryEntry.{ImportDirectoryEntry}
 use Rattle.goblin_pe_tables.specs.declared.import.imports.ImportPosition.{ImportPosition}
 use Rattle.goblin_pe_tables.specs.declared.import.imports.Walk.{Walk}
-use Rattle.goblin_pe_tables.specs.Addresses.{offset_of, reads_strictly}
+use Rattle.goblin_pe_tables.specs.Addresses.{map_of, offset_of, reads_strictly}
 use Rattle.goblin_pe_tables.specs.ImportEntries.{EntryValue}
 use Rattle.goblin_pe_tables.specs.ImportRecords.{address_table_rva, is_last_record}
 use Rattle.goblin_pe_tables.specs.Imports.{ImportValue}
@@ -25,10 +25,10 @@ use Rattle.goblin_pe_tables.proofs.ImportsWalk.{from_record, imports-once, parts
 
 module _ (format : Format EntryValue) (w : Walk) where
   abbrev strict : Bool
-  strict = reads_strictly w.address_map.now
+  strict = reads_strictly (map_of w.address_map.now)
 
   abbrev places : ℕ → Option ℕ
-  places = offset_of w.address_map.now
+  places = offset_of (map_of w.address_map.now)
 
   abbrev file : List ℕ
   file = w.bytes.now

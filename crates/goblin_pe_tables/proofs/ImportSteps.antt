@@ -8,7 +8,7 @@ use Rattle.goblin_base.specs.Tables.{Format}
 use Rattle.readings.specs.Walks.{GivesNext, until_refused}
 use Rattle.goblin_pe_tables.specs.declared.import.imports.Walk.{Walk}
 use Rattle.goblin_pe_tables.specs.declared.import.kept.KeptEntry.{KeptEntry}
-use Rattle.goblin_pe_tables.specs.Addresses.{offset_of, reads_strictly}
+use Rattle.goblin_pe_tables.specs.Addresses.{map_of, offset_of, reads_strictly}
 use Rattle.goblin_pe_tables.specs.ImportEntries.{EntryValue}
 use Rattle.goblin_pe_tables.specs.Imports.{ImportValue}
 use Rattle.goblin_pe_tables.specs.ImportWalks.{GivesLibrary, IsEntriesCause, IsInLibrary, IsLaterCause}
@@ -67,10 +67,10 @@ module _ (format : Format EntryValue) (t : Walk) (h : HasEnded t) where
 
 module _ (format : Format EntryValue) (start s : Walk) (h : AtImports format start s) where
   abbrev strict : Bool
-  strict = reads_strictly s.address_map.now
+  strict = reads_strictly (map_of s.address_map.now)
 
   abbrev places : ℕ → Option ℕ
-  places = offset_of s.address_map.now
+  places = offset_of (map_of s.address_map.now)
 
   abbrev left : Option ℕ → List (Option KeptValue)
   left = entries_from strict format places s.bytes.now s.offset

@@ -4,21 +4,26 @@ use Rattle.goblin_pe_sect.specs.declared.options.ParseOptions.{ParseOptions}
 use Rattle.goblin_pe_sect.specs.Mapping.{file_offset}
 use Rattle.goblin_pe_sect.specs.Options.{is_strict}
 use Rattle.goblin_pe_sect.specs.SectionTable.{Section}
+use Rattle.goblin_pe_sect.specs.WindowIndex.{located}
+use Rattle.goblin_pe_tables.specs.declared.address_map.AddressMap.{AddressMap}
 
--- the sections, the file alignment and the options that map a file's addresses
+-- how a file's addresses are mapped to its offsets, and how the bytes there are read
 pub record MapOfAddresses : Type 0 where
-  pub sections : List Section
-  pub file_alignment : ℕ
   pub opts : ParseOptions
+  pub offset : ℕ → Option ℕ
 
 -- the map of addresses by these options, sections and file alignment
 abbrev pub map_by : ParseOptions → List Section → ℕ → MapOfAddresses
 map_by opts sections file_alignment =
-    record { sections = sections; file_alignment = file_alignment; opts = opts }
+    record { opts = opts; offset = file_offset opts sections file_alignment }
+
+-- the map that a reader was given
+abbrev pub map_of : AddressMap → MapOfAddresses
+map_of map = record { opts = map.opts; offset = located map.index }
 
 -- the file offset of an address
 abbrev pub offset_of : MapOfAddresses → ℕ → Option ℕ
-offset_of m = file_offset m.opts m.sections m.file_alignment
+offset_of m = m.offset
 
 -- the mode is strict: what can't be read is refused, and not passed over
 abbrev pub reads_strictly : MapOfAddresses → Bool

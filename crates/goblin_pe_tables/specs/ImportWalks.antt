@@ -10,7 +10,7 @@ use Rattle.readings.specs.Reads.{given, or_else, pick}
 use Rattle.readings.specs.Walks.{GivesNext, from_slot, items_of, refusal_of, table_walk}
 use Rattle.readings.specs.Walks.{until_refused}
 use Rattle.goblin_pe_sect.specs.AddressReadings.{at_address, name_at}
-use Rattle.goblin_pe_tables.specs.Addresses.{MapOfAddresses, offset_of, reads_strictly}
+use Rattle.goblin_pe_tables.specs.Addresses.{MapOfAddresses, map_of, offset_of, reads_strictly}
 use Rattle.goblin_pe_tables.specs.ImportEntries.{EntryValue, LookupEntry, entry_slots}
 use Rattle.goblin_pe_tables.specs.ImportLookup.{entry_view}
 use Rattle.goblin_pe_tables.specs.ImportReadings.{libraries_at, record_here}
@@ -242,7 +242,7 @@ IsLaterCause strict format offset_of bytes untested next e =
 -- what is still to come
 abbrev pub walk_left : Format EntryValue → Walk → List (Option ImportValue)
 walk_left format w =
-    let m = w.address_map.now in
+    let m = map_of w.address_map.now in
     let strict = reads_strictly m in
     until_refused
     (imports_in strict format (offset_of m) w.bytes.now w.dll.now w.rva w.offset w.place
@@ -250,7 +250,7 @@ walk_left format w =
 
 abbrev pub IsWalkCause : Format EntryValue → Walk → ErrorOf → Type 0
 IsWalkCause format w e =
-    let m = w.address_map.now in
+    let m = map_of w.address_map.now in
     let strict = reads_strictly m in
     (strict ≡ true)
     × FirstFault (all_of (entries_from strict format (offset_of m) w.bytes.now w.offset w.place))
@@ -297,7 +297,7 @@ abbrev pub IsLibraryBy : Format EntryValue → Walk → Option ℕ → Option Im
 IsLibraryBy format w None next = Unit {0}
 IsLibraryBy format w (Some place) None = ⊥
 IsLibraryBy format w (Some place) (Some at) =
-    let m = w.address_map.now in
+    let m = map_of w.address_map.now in
     IsLibrary (reads_strictly m) format (offset_of m) w.bytes.now w.dll.now w.rva w.offset
     w.untested at
 
@@ -335,7 +335,7 @@ HasPosition format it = IsPlaced format it.walk
 
 -- the imports of these bytes, whose addresses are mapped so
 abbrev pub IsOver : {T : Type 0} → List ℕ → MapOfAddresses → Imports T → Type 0
-IsOver bytes m it = (it.walk.bytes.now ≡ bytes) × (it.walk.address_map.now ≡ m)
+IsOver bytes m it = (it.walk.bytes.now ≡ bytes) × (map_of it.walk.address_map.now ≡ m)
 
 -- no more than this comes
 abbrev pub imports_bound : {T : Type 0} → Imports T → ℕ
@@ -343,7 +343,7 @@ imports_bound it = walk_bound it.walk
 
 -- an error that ends a walk: it comes only in strict mode, and is never Memory
 abbrev pub IsWalkFault : Walk → ErrorOf → Type 0
-IsWalkFault w e = (reads_strictly w.address_map.now ≡ true) × ¬ IsMemory e
+IsWalkFault w e = (reads_strictly (map_of w.address_map.now) ≡ true) × ¬ IsMemory e
 
 -- A call of `next` gives the next import, or such an error; it keeps the position and what is walked
 -- over.
@@ -353,4 +353,4 @@ GivesImport format s result t =
     GivesNext walked_value (imports_left format) (IsImportsCause format) s result t
     × (HasPosition format s → HasPosition format t)
     × IfSome result (λ r. IfErr r (IsWalkFault s.walk))
-    × IsOver s.walk.bytes.now s.walk.address_map.now t
+    × IsOver s.walk.bytes.now (map_of s.walk.address_map.now) t

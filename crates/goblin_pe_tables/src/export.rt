@@ -12,7 +12,7 @@ ghost use Rattle.goblin_base.specs.Bytes.{text_at};
 ghost use Rattle.goblin_base.specs.Reading.{ReadsOrMemory};
 ghost use Rattle.readings.specs.Reads.{mapped};
 ghost use Rattle.goblin_pe_sect.specs.Options.{default_options};
-ghost use Rattle.goblin_pe_tables.specs.Addresses.{map_by, offset_of};
+ghost use Rattle.goblin_pe_tables.specs.Addresses.{map_by, map_of, offset_of};
 ghost use Rattle.goblin_pe_tables.specs.ExportReadings as reading;
 ghost use Rattle.goblin_pe_tables.specs.Exports.{HasEntries, HasExports, export_data, export_row};
 ghost use Rattle.goblin_pe_tables.specs.Exports.{exports, own_exports, rva_of};
@@ -183,9 +183,9 @@ impl<'a> ExportData<'a> {
         directory: DataDirectory,
         address_map: &AddressMap,
     ) -> Result<ExportData<'a>>
-        ensures value { let m = address_map.now in
+        ensures value { let m = map_of address_map.now in
             ReadsOrMemory (λ x. x) result (reading.export_data (offset_of m) directory) bytes.now }
-        ensures grown { let m = address_map.now in
+        ensures grown { let m = map_of address_map.now in
             IfErr result (λ e. IsMemory e →
             IsSomeAnd (export_data (offset_of m) directory bytes.now) HasEntries) }
     {
@@ -293,7 +293,7 @@ impl<'a> Export<'a> {
         address: ExportAddressTableEntry,
         address_map: &AddressMap,
     ) -> Option<Export<'a>>
-        ensures { let m = address_map.now in
+        ensures { let m = map_of address_map.now in
             result ≡ (reading.row_of (offset_of m) pointer address).value bytes.now }
     {
         let rva = rva_of(address);
@@ -317,7 +317,7 @@ impl<'a> Export<'a> {
         index: usize,
         address_map: &AddressMap,
     ) -> Option<Export<'a>>
-        ensures { let m = address_map.now in
+        ensures { let m = map_of address_map.now in
             result ≡ export_row (offset_of m) bytes.now (T.entries tables.now) index }
     {
         let pointer = tables.pointer(index)?;
@@ -335,10 +335,10 @@ impl<'a> Export<'a> {
         rows: E,
     ) -> ResultOf<'e, E>
         requires { E.items rows ≡ [] }
-        ensures value { let m = address_map.now in
+        ensures value { let m = map_of address_map.now in
             GivesOrMemory E.items result
             (map E.item_of (exports (offset_of m) bytes.now (T.entries tables.now))) }
-        ensures grown { let m = address_map.now in
+        ensures grown { let m = map_of address_map.now in
             OnErr result (HasExports (offset_of m) bytes.now (T.entries tables.now)) }
     {
         let mut rows = rows;
@@ -418,9 +418,9 @@ impl<'a> Export<'a> {
         export_data: &ExportData,
         address_map: &AddressMap,
     ) -> Result<Vec<Export<'a>>>
-        ensures value { let m = address_map.now in
+        ensures value { let m = map_of address_map.now in
             GivesOrMemory (λ v. v.items) result (exports (offset_of m) bytes.now export_data.now) }
-        ensures grown { let m = address_map.now in
+        ensures grown { let m = map_of address_map.now in
             OnErr result (HasExports (offset_of m) bytes.now export_data.now) }
     {
         Export::parse_into(bytes, export_data, address_map, Vec::new(alloc))
@@ -437,10 +437,10 @@ impl<'a> Export<'a> {
         rows: E,
     ) -> ResultOf<'e, E>
         requires { E.items rows ≡ [] }
-        ensures value { let m = address_map.now in
+        ensures value { let m = map_of address_map.now in
             GivesOrMemory E.items result
             (map E.item_of (exports (offset_of m) bytes.now export_data.now)) }
-        ensures grown { let m = address_map.now in
+        ensures grown { let m = map_of address_map.now in
             OnErr result (HasExports (offset_of m) bytes.now export_data.now) }
     {
         Export::list(bytes, export_data, address_map, rows)
@@ -460,11 +460,11 @@ impl<'a> Export<'a> {
         rows: E,
     ) -> ResultOf<'e, E>
         requires { E.items rows ≡ [] }
-        ensures value { let m = address_map.now in
+        ensures value { let m = map_of address_map.now in
             ReadsOrMemory E.items result
             (mapped (λ read. map E.item_of read.1) (reading.export_read (offset_of m) directory))
             bytes.now }
-        ensures grown { let m = address_map.now in
+        ensures grown { let m = map_of address_map.now in
             IfErr result (λ e. IsMemory e →
             IsSomeAnd (export_data (offset_of m) directory bytes.now)
             (HasExports (offset_of m) bytes.now)) }

@@ -11,7 +11,7 @@ ghost use Rattle.goblin_base.specs.Reading.{ReadsOrMemory};
 ghost use Rattle.readings.specs.Reads.{mapped};
 ghost use Rattle.goblin_pe_sect.specs.Options.{default_options, is_strict};
 ghost use Rattle.goblin_pe_sect.specs.WindowIndex.{HasPieces};
-ghost use Rattle.goblin_pe_tables.specs.Addresses.{map_by, offset_of, reads_strictly};
+ghost use Rattle.goblin_pe_tables.specs.Addresses.{map_by, map_of, offset_of, reads_strictly};
 ghost use Rattle.goblin_pe_tables.specs.ImportDirectory.{HasRecords};
 ghost use Rattle.goblin_pe_tables.specs.ImportReadings as reading;
 ghost use Rattle.goblin_pe_tables.specs.Imports.{kept_imports};
@@ -76,7 +76,7 @@ fn kept_library<'a, 'e, T: Bitfield<'a>>(
     entry: ImportDirectoryEntry,
     address_map: &AddressMap,
 ) -> ResultOf<'e, Option<SyntheticImportDirectoryEntry<'a>>>
-    ensures { let m = address_map.now in
+    ensures { let m = map_of address_map.now in
         ReadsOrMemory option_to_list result
         (reading.kept_library (reads_strictly m) T.format (offset_of m) entry) bytes.now }
 {
@@ -95,7 +95,7 @@ fn libraries<'a, 'e, T: Bitfield<'a>, C: RecordCollector<'a, T>>(
     mut imports: C,
 ) -> ResultOf<'e, C>
     requires { C.items imports ≡ [] }
-    ensures value { let m = address_map.now in
+    ensures value { let m = map_of address_map.now in
         ReadsOrMemory C.items result
         (mapped (flat_map C.items_of)
         (reading.libraries_at (reads_strictly m) T.format (offset_of m) offset)) bytes.now }
@@ -127,13 +127,13 @@ fn read_directory<'a, 'e, T: Bitfield<'a>, C: RecordCollector<'a, T>>(
     imports: C,
 ) -> ResultOf<'e, C>
     requires { C.items imports ≡ [] }
-    ensures value { let m = address_map.now in
+    ensures value { let m = map_of address_map.now in
         ReadsOrMemory C.items result
         (mapped (flat_map C.items_of)
         (reading.import_data (reads_strictly m) T.format (offset_of m) rva))
         bytes.now }
-    ensures permissive { reads_strictly address_map.now ≡ false → IfErr result IsMemory }
-    ensures grown { let m = address_map.now in
+    ensures permissive { reads_strictly (map_of address_map.now) ≡ false → IfErr result IsMemory }
+    ensures grown { let m = map_of address_map.now in
         IfErr result (λ e. IsMemory e → IsSomeAnd (offset_of m rva) (HasRecords bytes.now)) }
 {
     let Some(offset) = directory_offset(rva, address_map) else {
@@ -223,12 +223,12 @@ impl<'a> ImportData<'a> {
         directory: DataDirectory,
         address_map: &AddressMap,
     ) -> ResultOf<'e, ImportData<'a>>
-        ensures value { let m = address_map.now in
+        ensures value { let m = map_of address_map.now in
             let rva = directory.virtual_address in
             ReadsOrMemory (λ x. x) result
             (reading.import_data (reads_strictly m) T.format (offset_of m) rva) bytes.now }
-        ensures permissive { reads_strictly address_map.now ≡ false → IfErr result IsMemory }
-        ensures grown { let m = address_map.now in
+        ensures permissive { reads_strictly (map_of address_map.now) ≡ false → IfErr result IsMemory }
+        ensures grown { let m = map_of address_map.now in
             IfErr result
             (λ e.
             IsMemory e
@@ -258,14 +258,14 @@ impl<'a> ImportData<'a> {
         imports: I,
     ) -> ResultOf<'e, I>
         requires { I.items imports ≡ [] }
-        ensures value { let m = address_map.now in
+        ensures value { let m = map_of address_map.now in
             let rva = directory.virtual_address in
             ReadsOrMemory I.items result
             (mapped (flat_map (kept_imports I.item_of T.format.width))
             (reading.import_data (reads_strictly m) T.format (offset_of m) rva))
             bytes.now }
-        ensures permissive { reads_strictly address_map.now ≡ false → IfErr result IsMemory }
-        ensures grown { let m = address_map.now in
+        ensures permissive { reads_strictly (map_of address_map.now) ≡ false → IfErr result IsMemory }
+        ensures grown { let m = map_of address_map.now in
             IfErr result
             (λ e.
             IsMemory e

@@ -9,7 +9,7 @@ ghost use Rattle.readings.specs.Reads.{mapped};
 ghost use Rattle.goblin_pe_sect.specs.BaseRelocations.{relocation_bytes};
 ghost use Rattle.goblin_pe_sect.specs.Options.{is_strict};
 ghost use Rattle.goblin_pe_sect.specs.WindowIndex.{HasPieces};
-ghost use Rattle.goblin_pe_tables.specs.Addresses.{map_by, offset_of, reads_strictly};
+ghost use Rattle.goblin_pe_tables.specs.Addresses.{map_by, map_of, offset_of, reads_strictly};
 ghost use Rattle.goblin_pe_tables.specs.ExportReadings.{export_read};
 ghost use Rattle.goblin_pe_tables.specs.ExportRecords.{export_read_view};
 ghost use Rattle.goblin_pe_tables.specs.ImportReadings.{import_data};
@@ -94,7 +94,7 @@ impl Tables {
         directory: DataDirectory,
         address_map: &AddressMap,
     ) -> Result<ImportData<'a>>
-        ensures { let m = address_map.now in
+        ensures { let m = map_of address_map.now in
             let format = entry_format self.now.magic in
             let rva = directory.virtual_address in
             ReadsOrMemory (λ x. x) result
@@ -115,7 +115,7 @@ impl Tables {
         bytes: &'a [u8],
         address_map: &AddressMap,
     ) -> Result<Part<ImportData<'a>>>
-        ensures { let m = address_map.now in
+        ensures { let m = map_of address_map.now in
             let places = table_places self.now in
             ReadsOrMemory (λ x. x) result (import_part m.opts (offset_of m) places) bytes.now }
     {
@@ -139,7 +139,7 @@ impl Tables {
         imports: I,
     ) -> ResultOf<'e, I>
         requires { I.items imports ≡ [] }
-        ensures { let m = address_map.now in
+        ensures { let m = map_of address_map.now in
             let format = entry_format self.now.magic in
             let rva = directory.virtual_address in
             ReadsOrMemory I.items result
@@ -162,7 +162,7 @@ impl Tables {
         imports: I,
     ) -> ResultOf<'e, Part<I>>
         requires { I.items imports ≡ [] }
-        ensures { let m = address_map.now in
+        ensures { let m = map_of address_map.now in
             let places = table_places self.now in
             let width = (entry_format self.now.magic).width in
             ReadsOrMemory (part_map I.items) result
@@ -188,7 +188,7 @@ impl Tables {
         imports: I,
     ) -> ResultOf<'e, Part<I>>
         requires { I.items imports ≡ [] }
-        ensures { let m = address_map.now in
+        ensures { let m = map_of address_map.now in
             let places = table_places self.now in
             ReadsOrMemory (part_map I.items) result
             (mapped (collected_imports I.item_of) (import_parts m.opts (offset_of m) places))
@@ -247,7 +247,7 @@ impl Tables {
         address_map: &AddressMap,
         sections: &[SectionTable],
     ) -> Result<ImportRead<'a>>
-        ensures { let m = address_map.now in
+        ensures { let m = map_of address_map.now in
             let places = table_places self.now in
             ReadsOrMemory import_read_view result (import_parts m.opts (offset_of m) places)
             bytes.now }
@@ -265,7 +265,7 @@ impl Tables {
         bytes: &'a [u8],
         address_map: &AddressMap,
     ) -> Result<Part<ExportRead<'a>>>
-        ensures { let m = address_map.now in
+        ensures { let m = map_of address_map.now in
             let places = table_places self.now in
             ReadsOrMemory (part_map export_read_view) result
             (export_part m.opts (offset_of m) places) bytes.now }
@@ -288,7 +288,7 @@ impl Tables {
         exports: E,
     ) -> ResultOf<'e, Part<E>>
         requires { E.items exports ≡ [] }
-        ensures { let m = address_map.now in
+        ensures { let m = map_of address_map.now in
             let places = table_places self.now in
             ReadsOrMemory (part_map E.items) result
             (mapped (part_map (collected_exports E.item_of))
@@ -311,7 +311,7 @@ impl Tables {
         bytes: &'a [u8],
         address_map: &AddressMap,
     ) -> Result<Part<RelocationData<'a>>>
-        ensures { let m = address_map.now in
+        ensures { let m = map_of address_map.now in
             let places = table_places self.now in
             Reads (part_map relocation_bytes) result
             (relocation_part m.opts (offset_of m) places) bytes.now }
@@ -409,7 +409,7 @@ impl Tables {
         address_map: &AddressMap,
         sections: &[SectionTable],
     ) -> Result<ListedTables<'a>>
-        ensures { let m = address_map.now in
+        ensures { let m = map_of address_map.now in
             let places = table_places self.now in
             ReadsOrMemory listed_view result (table_parts m.opts (offset_of m) places) bytes.now }
     {
@@ -475,7 +475,7 @@ impl Tables {
     ) -> ResultOf<'e, CollectedTables<'a, I, E>>
         requires imports { I.items imports ≡ [] }
         requires exports { E.items exports ≡ [] }
-        ensures { let m = address_map.now in
+        ensures { let m = map_of address_map.now in
             let places = table_places self.now in
             ReadsOrMemory (tables_view I.items E.items) result
             (mapped (collected_tables I.item_of E.item_of)
@@ -547,7 +547,7 @@ fn exports_of<'a>(
     directory: DataDirectory,
     address_map: &AddressMap,
 ) -> Result<ExportRead<'a>>
-    ensures { let m = address_map.now in
+    ensures { let m = map_of address_map.now in
         ReadsOrMemory export_read_view result (export_read (offset_of m) directory) bytes.now }
 {
     let data = ExportData::parse_by(alloc, bytes, directory, address_map)?;

@@ -5,7 +5,7 @@ ghost use Rattle.std.specs.Prelude.{slice_get};
 ghost use Rattle.goblin_base.specs.Answers.{GivesOrMemory};
 ghost use Rattle.goblin_base.specs.Bytes.{slice_at};
 ghost use Rattle.goblin_base.specs.Reading.{Reads};
-ghost use Rattle.goblin_pe_tables.specs.Addresses.{offset_of};
+ghost use Rattle.goblin_pe_tables.specs.Addresses.{map_of, offset_of};
 ghost use Rattle.goblin_pe_tables.specs.ExportReadings as reading;
 ghost use Rattle.goblin_pe_tables.specs.ExportRecords.{ExportTables, tables_in};
 ghost use Rattle.goblin_pe_tables.specs.Exports.{AreCounted};
@@ -86,7 +86,7 @@ impl<'a> TablesInFile<'a> {
         directory: DataDirectory,
         address_map: &AddressMap,
     ) -> TablesInFile<'a>
-        ensures value { let m = address_map.now in
+        ensures value { let m = map_of address_map.now in
             let tables = reading.export_tables (offset_of m) directory table in
             tables.value bytes.now ≡ Some (tables_in result) }
         ensures counted { AreCounted (tables_in result) }
@@ -117,7 +117,7 @@ impl<'a> TablesInFile<'a> {
         directory: DataDirectory,
         address_map: &AddressMap,
     ) -> Result<TablesInFile<'a>>
-        ensures value { let m = address_map.now in
+        ensures value { let m = map_of address_map.now in
             Reads tables_in result (reading.export_data (offset_of m) directory) bytes.now }
         ensures counted { IfOk result (λ t. AreCounted (tables_in t)) }
     {

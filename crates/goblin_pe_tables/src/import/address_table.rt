@@ -5,7 +5,7 @@ ghost use Rattle.goblin_base.specs.Answers.{IsMemory};
 ghost use Rattle.goblin_base.specs.Reading.{Reads, ReadsOrMemory};
 ghost use Rattle.readings.specs.Reads.{mapped};
 ghost use Rattle.goblin_pe_sect.specs.AddressReadings.{at_address};
-ghost use Rattle.goblin_pe_tables.specs.Addresses.{offset_of};
+ghost use Rattle.goblin_pe_tables.specs.Addresses.{map_of, offset_of};
 ghost use Rattle.goblin_pe_tables.specs.ImportDirectory.{address_table_rva};
 ghost use Rattle.goblin_pe_tables.specs.ImportLookup.{HasAddresses};
 ghost use Rattle.goblin_pe_tables.specs.LookupReadings.{address_table};
@@ -74,7 +74,7 @@ pub(super) fn test_address_table<'a, 'e, T: Bitfield<'a>>(
 ) -> ResultOf<'e, ()>
     ensures { let rva = address_table_rva entry.now in
         Reads (λ _. tt {0}) result
-        (mapped (λ _. tt {0}) (at_address (offset_of address_map.now) rva (address_table T.format)))
+        (mapped (λ _. tt {0}) (at_address (offset_of (map_of address_map.now)) rva (address_table T.format)))
         bytes.now }
 {
     let rva = address_table_rva(entry);

@@ -5,7 +5,7 @@ ghost use Rattle.std.specs.List.{flat_map};
 ghost use Rattle.goblin_base.specs.Answers.{GivesOrMemory};
 ghost use Rattle.goblin_base.specs.Reading.{ReadsOrMemory};
 ghost use Rattle.readings.specs.Reads.{mapped};
-ghost use Rattle.goblin_pe_tables.specs.Addresses.{offset_of, reads_strictly};
+ghost use Rattle.goblin_pe_tables.specs.Addresses.{map_of, offset_of, reads_strictly};
 ghost use Rattle.goblin_pe_tables.specs.ImportDirectory.{ImportedLibrary};
 ghost use Rattle.goblin_pe_tables.specs.ImportLookup.{entry_view};
 ghost use Rattle.goblin_pe_tables.specs.ImportReadings as reading;
@@ -71,7 +71,7 @@ pub(super) trait RecordCollector<'a, T: Bitfield<'a>>: Drop {
         entry: ImportDirectoryEntry,
         address_map: &AddressMap,
     ) -> ResultOf<'e, ()>
-        ensures { let m = address_map.now in
+        ensures { let m = map_of address_map.now in
             ReadsOrMemory (λ _. items self.new) result
             (mapped (λ libraries. items self.old ++ flat_map items_of libraries)
             (reading.kept_library (reads_strictly m) T.format (offset_of m) entry))

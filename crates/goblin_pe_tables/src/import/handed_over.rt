@@ -6,7 +6,7 @@ ghost use Rattle.goblin_base.specs.Answers.{GivesOrMemory, IsMemory};
 ghost use Rattle.goblin_base.specs.Reading.{ReadsOrMemory};
 ghost use Rattle.goblin_base.specs.Tables.{is_kept};
 ghost use Rattle.readings.specs.Reads.{mapped};
-ghost use Rattle.goblin_pe_tables.specs.Addresses.{offset_of, reads_strictly};
+ghost use Rattle.goblin_pe_tables.specs.Addresses.{map_of, offset_of, reads_strictly};
 ghost use Rattle.goblin_pe_sect.specs.AddressReadings.{at_address};
 ghost use Rattle.goblin_pe_tables.specs.ImportDirectory.{address_table_rva, lookup_offset};
 ghost use Rattle.goblin_pe_tables.specs.LookupReadings.{address_table};
@@ -61,14 +61,14 @@ fn hand_over_table<'a, 'e, T: Bitfield<'a>, I: ImportCollector<'a>>(
     rva: u32,
     address_map: &AddressMap,
 ) -> ResultOf<'e, ()>
-    ensures value { let m = address_map.now in
+    ensures value { let m = map_of address_map.now in
         ReadsOrMemory (λ _. I.items imports.new) result
         (mapped (λ both. I.items imports.old
         ++ map I.item_of (table_imports T.format.width dll.now rva both.0 both.1))
         (reading.lookup_with_slots (reads_strictly m) T.format (offset_of m) offset))
         bytes.now }
-    ensures permissive { reads_strictly address_map.now ≡ false → IfErr result IsMemory }
-    ensures grown { let m = address_map.now in
+    ensures permissive { reads_strictly (map_of address_map.now) ≡ false → IfErr result IsMemory }
+    ensures grown { let m = map_of address_map.now in
         IfErr result
         (λ e.
         IsMemory e
@@ -106,15 +106,15 @@ fn hand_over_table_if<'a, 'e, T: Bitfield<'a>, I: ImportCollector<'a>>(
     rva: u32,
     address_map: &AddressMap,
 ) -> ResultOf<'e, ()>
-    ensures value { let m = address_map.now in
+    ensures value { let m = map_of address_map.now in
         ReadsOrMemory (λ _. I.items imports.new) result
         (mapped (λ both. I.items imports.old
         ++ map I.item_of (table_imports T.format.width dll.now rva (unwrap_or both.0 []) both.1))
         (directory.lookup_if (reads_strictly m) T.format (offset_of m) offset))
         bytes.now }
-    ensures permissive { reads_strictly address_map.now ≡ false → IfErr result IsMemory }
+    ensures permissive { reads_strictly (map_of address_map.now) ≡ false → IfErr result IsMemory }
     ensures low { rva < 2 ^ 32 }
-    ensures grown { let m = address_map.now in
+    ensures grown { let m = map_of address_map.now in
         IfErr result
         (λ e.
         IsMemory e
@@ -135,19 +135,19 @@ fn hand_over_library<'a, 'e, T: Bitfield<'a>, I: ImportCollector<'a>>(
     entry: ImportDirectoryEntry,
     address_map: &AddressMap,
 ) -> ResultOf<'e, ()>
-    ensures value { let m = address_map.now in
+    ensures value { let m = map_of address_map.now in
         ReadsOrMemory (λ _. I.items imports.new) result
         (mapped (λ libraries. I.items imports.old
         ++ flat_map (kept_imports I.item_of T.format.width) libraries)
         (directory.kept_library (reads_strictly m) T.format (offset_of m) entry))
         bytes.now }
-    ensures grown { let m = address_map.now in
+    ensures grown { let m = map_of address_map.now in
         IfErr result
         (λ e.
         IsMemory e
         → IsSomeAnd (lookup_offset (offset_of m) entry)
         (KeepsEntries (reads_strictly m) T.format (offset_of m) bytes.now)) }
-    ensures tested { let m = address_map.now in
+    ensures tested { let m = map_of address_map.now in
         IfErr result
         (λ e.
         IsMemory e → reads_strictly m ≡ false

@@ -11,7 +11,7 @@ ghost use Rattle.goblin_base.specs.Answers.{FirstFault, IsMemory};
 ghost use Rattle.goblin_base.specs.Reading.{Reads};
 ghost use Rattle.readings.specs.Reads.{mapped};
 ghost use Rattle.readings.specs.Walks.{GivesNext, IsWalkOf, Walks, until_refused};
-ghost use Rattle.goblin_pe_tables.specs.Addresses.{offset_of, reads_strictly};
+ghost use Rattle.goblin_pe_tables.specs.Addresses.{map_of, offset_of, reads_strictly};
 ghost use Rattle.goblin_pe_tables.specs.ImportReadings.{import_data, libraries_at, record_here};
 ghost use Rattle.goblin_pe_tables.specs.ImportRecords.{is_last_record};
 ghost use Rattle.goblin_pe_tables.specs.Imports.{kept_imports};
@@ -68,7 +68,7 @@ pub struct ImportPosition {
 #[derive(Drop)]
 struct Walk<'a, 'm> {
     bytes: &'a [u8],
-    address_map: &'m AddressMap<'m>,
+    address_map: &'m AddressMap,
     // The library's name, and the address of its address table.
     dll: &'a str,
     rva: u32,
@@ -88,11 +88,11 @@ fn test_untested<'a, 'e, T: Bitfield<'a>>(
     untested: Option<u32>,
     address_map: &AddressMap,
 ) -> ResultOf<'e, ()>
-    ensures value { let m = address_map.now in
+    ensures value { let m = map_of address_map.now in
         Reads (λ _. tt {0}) result
         (mapped (λ _. tt {0}) (untested_table (reads_strictly m) T.format (offset_of m) untested))
         bytes.now }
-    ensures strictly { IfErr result (λ e. reads_strictly address_map.now ≡ true) }
+    ensures strictly { IfErr result (λ e. reads_strictly (map_of address_map.now) ≡ true) }
     ensures there { IfErr result (λ e. 1 ≤ one_if untested) }
     ensures wide { 1 ≤ T.format.width }
 {
@@ -114,7 +114,7 @@ fn is_left_out<'a, T: Bitfield<'a>>(
     entry: &ImportDirectoryEntry,
     address_map: &AddressMap,
 ) -> bool
-    ensures { let m = address_map.now in
+    ensures { let m = map_of address_map.now in
         let table = addresses_of T.format (offset_of m) entry.now in
         result ≡ (not (reads_strictly m) && is_none (table.value bytes.now)) }
 {
@@ -192,7 +192,7 @@ impl<'a, 'm> Walk<'a, 'm> {
     fn from(
         bytes: &'a [u8],
         next: Option<ImportPosition>,
-        address_map: &'m AddressMap<'m>,
+        address_map: &'m AddressMap,
     ) -> Walk<'a, 'm>
         ensures bytes { result.bytes.now ≡ bytes.now }
         ensures address_map { result.address_map.now ≡ address_map.now }
@@ -232,9 +232,9 @@ impl<'a, 'm> Walk<'a, 'm> {
         entry: &ImportDirectoryEntry,
         slot: Option<usize>,
         next: usize,
-        address_map: &'m AddressMap<'m>,
+        address_map: &'m AddressMap,
     ) -> ResultOf<'e, Walk<'a, 'm>>
-        ensures gives { let m = address_map.now in
+        ensures gives { let m = map_of address_map.now in
             let strict = reads_strictly m in
             let name = library_name strict (offset_of m) entry.now in
             MatchResult result
@@ -284,7 +284,7 @@ impl<'a, 'm> Walk<'a, 'm> {
 
     // The walk from the next library on, once the entries of this one have come.
     fn next_library<'e, T: Bitfield<'a>>(&self) -> Option<ResultOf<'e, Walk<'a, 'm>>>
-        ensures gives { let m = self.now.address_map.now in
+        ensures gives { let m = map_of self.now.address_map.now in
             GivesLibrary (walk_left T.format) (IsWalkCause T.format)
             (later_items (reads_strictly m) T.format (offset_of m) self.now.bytes.now
             self.now.untested self.now.next)
@@ -405,16 +405,16 @@ impl<'a, 'm, 'e, T: Bitfield<'a>> Imports<'a, 'm, 'e, T> {
     pub fn of(
         bytes: &'a [u8],
         directory: DataDirectory,
-        address_map: &'m AddressMap<'m>,
+        address_map: &'m AddressMap,
     ) -> ResultOf<'e, Imports<'a, 'm, 'e, T>>
-        ensures walks { let m = address_map.now in
+        ensures walks { let m = map_of address_map.now in
             let rva = directory.virtual_address in
             Walks (imports_left T.format) (IsImportsCause T.format) (λ xs. xs) result
             (mapped (flat_map (kept_imports (λ x. x) T.format.width))
             (import_data (reads_strictly m) T.format (offset_of m) rva))
             bytes.now }
-        ensures permissive { reads_strictly address_map.now ≡ false → IsOk result }
-        ensures over { IfOk result (IsOver bytes.now address_map.now) }
+        ensures permissive { reads_strictly (map_of address_map.now) ≡ false → IsOk result }
+        ensures over { IfOk result (IsOver bytes.now (map_of address_map.now)) }
         ensures position { IfOk result (HasPosition T.format) }
     {
         let rva = directory.virtual_address;
@@ -431,14 +431,14 @@ impl<'a, 'm, 'e, T: Bitfield<'a>> Imports<'a, 'm, 'e, T> {
     pub fn at(
         bytes: &'a [u8],
         offset: usize,
-        address_map: &'m AddressMap<'m>,
+        address_map: &'m AddressMap,
     ) -> Imports<'a, 'm, 'e, T>
-        ensures walks { let m = address_map.now in
+        ensures walks { let m = map_of address_map.now in
             let libraries = libraries_at (reads_strictly m) T.format (offset_of m) offset in
             IsWalkOf (λ xs. xs)
             (mapped (flat_map (kept_imports (λ x. x) T.format.width)) libraries) bytes.now
             (imports_left T.format result) (IsImportsCause T.format result) }
-        ensures over { IsOver bytes.now address_map.now result }
+        ensures over { IsOver bytes.now (map_of address_map.now) result }
         ensures position { HasPosition T.format result }
     {
         let begin = ImportPosition {
@@ -453,16 +453,16 @@ impl<'a, 'm, 'e, T: Bitfield<'a>> Imports<'a, 'm, 'e, T> {
     pub fn from_position(
         bytes: &'a [u8],
         position: Option<ImportPosition>,
-        address_map: &'m AddressMap<'m>,
+        address_map: &'m AddressMap,
     ) -> Imports<'a, 'm, 'e, T>
-        ensures left { let m = address_map.now in
+        ensures left { let m = map_of address_map.now in
             imports_left T.format result
             ≡ imports_at (reads_strictly m) T.format (offset_of m) bytes.now position }
-        ensures cause { let m = address_map.now in
+        ensures cause { let m = map_of address_map.now in
             (e : ErrorOf) → IsImportsCause T.format result e
             → (reads_strictly m ≡ true)
             × IsCauseAt (reads_strictly m) T.format (offset_of m) bytes.now position e }
-        ensures over { IsOver bytes.now address_map.now result }
+        ensures over { IsOver bytes.now (map_of address_map.now) result }
         ensures position { HasPosition T.format result }
         ensures wide { 1 ≤ T.format.width }
     {
@@ -476,11 +476,11 @@ impl<'a, 'm, 'e, T: Bitfield<'a>> Imports<'a, 'm, 'e, T> {
     /// the walk has ended.
     pub fn position(&self) -> Option<ImportPosition>
         ensures left { let w = self.now.walk in
-            let m = w.address_map.now in
+            let m = map_of w.address_map.now in
             HasPosition T.format self.now → imports_left T.format self.now
             ≡ imports_at (reads_strictly m) T.format (offset_of m) w.bytes.now result }
         ensures cause { let w = self.now.walk in
-            let m = w.address_map.now in
+            let m = map_of w.address_map.now in
             (e : ErrorOf) → HasPosition T.format self.now → reads_strictly m ≡ true
             → IsCauseAt (reads_strictly m) T.format (offset_of m) w.bytes.now result e
             → IsImportsCause T.format self.now e }

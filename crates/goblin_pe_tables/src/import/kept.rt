@@ -1,7 +1,7 @@
 //! The entries that a lookup table keeps, one by one.
 
 ghost use Rattle.std.specs.Prelude.{◌≡◌, ◌+◌, ◌<◌, ◌≤◌, ◌^◌, IfErr, IfOk, IfSome, IsSome, length, true};
-ghost use Rattle.goblin_pe_tables.specs.Addresses.{offset_of, reads_strictly};
+ghost use Rattle.goblin_pe_tables.specs.Addresses.{map_of, offset_of, reads_strictly};
 ghost use Rattle.goblin_pe_tables.specs.ImportWalks.{IsEntriesCause, entries_from, kept_value};
 ghost use Rattle.goblin_pe_tables.specs.ImportWalks.{place_after};
 ghost use Rattle.readings.specs.Walks.{GivesNext};
@@ -32,7 +32,7 @@ pub(super) fn next_kept<'a, 'e, T: Bitfield<'a>>(
     place: Option<usize>,
     address_map: &AddressMap,
 ) -> Option<ResultOf<'e, KeptEntry<'a>>>
-    ensures steps { let m = address_map.now in
+    ensures steps { let m = map_of address_map.now in
         GivesNext kept_value
         (entries_from (reads_strictly m) T.format (offset_of m) bytes.now offset)
         (IsEntriesCause (reads_strictly m) T.format (offset_of m) bytes.now)
@@ -41,7 +41,7 @@ pub(super) fn next_kept<'a, 'e, T: Bitfield<'a>>(
         (place ≤ kept.place) × (kept.place + T.format.width ≤ length bytes.now)))) }
     ensures short { IfSome result (λ r. IfOk r (λ kept. kept.place + T.format.width < 2 ^ 63)) }
     ensures there { IfSome result (λ r. IsSome place) }
-    ensures strictly { IfSome result (λ r. IfErr r (λ e. reads_strictly address_map.now ≡ true)) }
+    ensures strictly { IfSome result (λ r. IfErr r (λ e. reads_strictly (map_of address_map.now) ≡ true)) }
 {
     let size = T::size_of();
     let mut place = place?;

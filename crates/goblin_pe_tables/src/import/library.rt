@@ -7,7 +7,7 @@ ghost use Rattle.goblin_base.specs.Reading.{Reads, ReadsOrMemory};
 ghost use Rattle.readings.specs.Reads.{in_its_place, or_else};
 ghost use Rattle.goblin_pe_sect.specs.Options.{default_options};
 ghost use Rattle.goblin_pe_sect.specs.WindowIndex.{HasPieces};
-ghost use Rattle.goblin_pe_tables.specs.Addresses.{map_by, offset_of, reads_strictly};
+ghost use Rattle.goblin_pe_tables.specs.Addresses.{map_by, map_of, offset_of, reads_strictly};
 ghost use Rattle.goblin_pe_tables.specs.ImportDirectory.{KeepsImports, address_table_rva};
 ghost use Rattle.goblin_pe_tables.specs.ImportDirectory.{lookup_offset};
 ghost use Rattle.goblin_pe_tables.specs.ImportLookup.{KeepsEntries, entry_view};
@@ -72,10 +72,10 @@ fn lookup_table_if<'a, 'e, T: Bitfield<'a>>(
     offset: Option<usize>,
     address_map: &AddressMap,
 ) -> ResultOf<'e, (Option<ImportLookupTable<'a>>, Vec<usize>)>
-    ensures value { let m = address_map.now in
+    ensures value { let m = map_of address_map.now in
         ReadsOrMemory (λ both. (option_map (map entry_view) both.0, both.1.items)) result
         (lookup_if (reads_strictly m) T.format (offset_of m) offset) bytes.now }
-    ensures grown { let m = address_map.now in
+    ensures grown { let m = map_of address_map.now in
         IfErr result
         (λ e.
         IsMemory e
@@ -101,7 +101,7 @@ pub(super) fn library_name<'a>(
     rva: u32,
     address_map: &AddressMap,
 ) -> Result<&'a str>
-    ensures { let m = address_map.now in
+    ensures { let m = map_of address_map.now in
         Reads (λ s. s.now) result
         (or_else (reads_strictly m) [] (name_at (offset_of m) rva)) bytes.now }
 {
@@ -112,7 +112,7 @@ pub(super) fn library_name<'a>(
 // The offset of the directory at an address: permissive mode treats an address without an offset as
 // one that leads to the front of the file.
 pub(super) fn directory_offset(rva: u32, address_map: &AddressMap) -> Option<usize>
-    ensures { let m = address_map.now in
+    ensures { let m = map_of address_map.now in
         result ≡ in_its_place (reads_strictly m) 0 (offset_of m rva) }
 {
     match address_map.offset_of(rva) {
@@ -123,7 +123,7 @@ pub(super) fn directory_offset(rva: u32, address_map: &AddressMap) -> Option<usi
 
 // The offset of a record's lookup table: at its own address, or at that of the address table.
 pub(crate) fn lookup_offset(entry: &ImportDirectoryEntry, address_map: &AddressMap) -> Option<usize>
-    ensures { result ≡ lookup_offset (offset_of address_map.now) entry.now }
+    ensures { result ≡ lookup_offset (offset_of (map_of address_map.now)) entry.now }
 {
     let lookup_rva = entry.import_lookup_table_rva;
     let address_rva = entry.import_address_table_rva;
@@ -231,12 +231,12 @@ impl<'a> SyntheticImportDirectoryEntry<'a> {
         import_directory_entry: ImportDirectoryEntry,
         address_map: &AddressMap,
     ) -> ResultOf<'e, SyntheticImportDirectoryEntry<'a>>
-        ensures value { let m = address_map.now in
+        ensures value { let m = map_of address_map.now in
             ReadsOrMemory (λ x. x) result
             (reading.library_of (reads_strictly m) T.format (offset_of m) import_directory_entry)
             bytes.now }
         ensures low { import_directory_entry.import_address_table_rva < 2 ^ 32 }
-        ensures grown { let m = address_map.now in
+        ensures grown { let m = map_of address_map.now in
             IfErr result
             (λ e.
             IsMemory e

@@ -9,7 +9,7 @@ ghost use Rattle.goblin_base.specs.Reading.{Reads, ReadsOrMemory};
 ghost use Rattle.goblin_base.specs.Tables.{is_kept, stop};
 ghost use Rattle.goblin_pe_sect.specs.Options.{default_options, is_strict};
 ghost use Rattle.goblin_pe_sect.specs.WindowIndex.{HasPieces};
-ghost use Rattle.goblin_pe_tables.specs.Addresses.{map_by, offset_of, reads_strictly};
+ghost use Rattle.goblin_pe_tables.specs.Addresses.{map_by, map_of, offset_of, reads_strictly};
 ghost use Rattle.goblin_pe_tables.specs.ImportLookup.{KeepsEntries};
 ghost use Rattle.goblin_pe_tables.specs.ImportLookup.{entry_slots, lookup_slots};
 ghost use Rattle.goblin_pe_tables.specs.ImportLookup.{entry_view, hint_name_view, kept_view};
@@ -104,7 +104,7 @@ impl<'a> SyntheticImportLookupTableEntry<'a> {
         bytes: &'a [u8],
         address_map: &AddressMap,
     ) -> ResultOf<'e, Option<SyntheticImportLookupTableEntry<'a>>>
-        ensures { let m = address_map.now in
+        ensures { let m = map_of address_map.now in
             Reads kept_view result
             (reading.kept_entry (reads_strictly m) (offset_of m) (T.value entry.now)) bytes.now }
     {
@@ -252,10 +252,10 @@ impl<'a> SyntheticImportLookupTableEntry<'a> {
         offset: usize,
         address_map: &AddressMap,
     ) -> ResultOf<'e, (ImportLookupTable<'a>, Vec<usize>)>
-        ensures value { let m = address_map.now in
+        ensures value { let m = map_of address_map.now in
             ReadsOrMemory (λ both. (map entry_view both.0, both.1.items)) result
             (reading.lookup_with_slots (reads_strictly m) T.format (offset_of m) offset) bytes.now }
-        ensures grown { let m = address_map.now in
+        ensures grown { let m = map_of address_map.now in
             IfErr result
             (λ e.
             IsMemory e

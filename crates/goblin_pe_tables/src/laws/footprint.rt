@@ -7,7 +7,7 @@ ghost use Rattle.goblin_base.specs.Answers.{IsMemory};
 ghost use Rattle.goblin_base.specs.Footprints.{Covers, positions, slice_footprint};
 ghost use Rattle.goblin_base.specs.Footprints.{stretch_footprint};
 ghost use Rattle.goblin_pe_sect.specs.WindowIndex.{HasPieces};
-ghost use Rattle.goblin_pe_tables.specs.Addresses.{map_by, offset_of, reads_strictly};
+ghost use Rattle.goblin_pe_tables.specs.Addresses.{map_by, map_of, offset_of, reads_strictly};
 ghost use Rattle.goblin_pe_tables.specs.ImportReadings.{import_data, libraries_at, library_of};
 ghost use Rattle.goblin_pe_tables.specs.LookupReadings.{address_table, kept_entry, lookup_table};
 
@@ -78,12 +78,12 @@ fn add_entry<'a, 'e, T: Bitfield<'a>>(
     bytes: &'a [u8],
     address_map: &AddressMap,
 ) -> ResultOf<'e, ()>
-    ensures added { let m = address_map.now in
+    ensures added { let m = map_of address_map.now in
         let reached =
         (kept_entry (reads_strictly m) (offset_of m) (T.value entry.now)).reaches bytes.now in
         OnOk result (ranges.new.items ≡ ranges.old.items ++ reached) }
     ensures refused { IfErr result IsMemory }
-    ensures grown { let m = address_map.now in
+    ensures grown { let m = map_of address_map.now in
         let reached =
         (kept_entry (reads_strictly m) (offset_of m) (T.value entry.now)).reaches bytes.now in
         OnErr result (0 < length reached) }
@@ -104,12 +104,12 @@ fn add_lookup_table<'a, 'e, T: Bitfield<'a>>(
     offset: usize,
     address_map: &AddressMap,
 ) -> ResultOf<'e, ()>
-    ensures added { let m = address_map.now in
+    ensures added { let m = map_of address_map.now in
         let reached =
         (lookup_table (reads_strictly m) T.format (offset_of m) offset).reaches bytes.now in
         OnOk result (ranges.new.items ≡ ranges.old.items ++ reached) }
     ensures refused { IfErr result IsMemory }
-    ensures grown { let m = address_map.now in
+    ensures grown { let m = map_of address_map.now in
         let reached =
         (lookup_table (reads_strictly m) T.format (offset_of m) offset).reaches bytes.now in
         OnErr result (0 < length reached) }
@@ -161,12 +161,12 @@ fn add_library<'a, 'e, T: Bitfield<'a>>(
     entry: &ImportDirectoryEntry,
     address_map: &AddressMap,
 ) -> ResultOf<'e, ()>
-    ensures added { let m = address_map.now in
+    ensures added { let m = map_of address_map.now in
         let reached =
         (library_of (reads_strictly m) T.format (offset_of m) entry.now).reaches bytes.now in
         OnOk result (ranges.new.items ≡ ranges.old.items ++ reached) }
     ensures refused { IfErr result IsMemory }
-    ensures grown { let m = address_map.now in
+    ensures grown { let m = map_of address_map.now in
         let reached =
         (library_of (reads_strictly m) T.format (offset_of m) entry.now).reaches bytes.now in
         OnErr result (0 < length reached) }
@@ -190,12 +190,12 @@ fn add_libraries<'a, 'e, T: Bitfield<'a>>(
     offset: usize,
     address_map: &AddressMap,
 ) -> ResultOf<'e, ()>
-    ensures added { let m = address_map.now in
+    ensures added { let m = map_of address_map.now in
         let reached =
         (libraries_at (reads_strictly m) T.format (offset_of m) offset).reaches bytes.now in
         OnOk result (ranges.new.items ≡ ranges.old.items ++ reached) }
     ensures refused { IfErr result IsMemory }
-    ensures grown { let m = address_map.now in
+    ensures grown { let m = map_of address_map.now in
         let reached =
         (libraries_at (reads_strictly m) T.format (offset_of m) offset).reaches bytes.now in
         OnErr result (0 < length reached) }
@@ -221,12 +221,12 @@ fn import_ranges<'a, 'e, T: Bitfield<'a>>(
     rva: u32,
     address_map: &AddressMap,
 ) -> ResultOf<'e, Vec<(usize, usize)>>
-    ensures ranges { let m = address_map.now in
+    ensures ranges { let m = map_of address_map.now in
         IfOk result
         (λ v.
         v.items ≡ (import_data (reads_strictly m) T.format (offset_of m) rva).reaches bytes.now) }
     ensures refused { IfErr result IsMemory }
-    ensures grown { let m = address_map.now in
+    ensures grown { let m = map_of address_map.now in
         let reached =
         (import_data (reads_strictly m) T.format (offset_of m) rva).reaches bytes.now in
         OnErr result (0 < length reached) }

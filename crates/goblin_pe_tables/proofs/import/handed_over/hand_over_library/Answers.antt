@@ -9,7 +9,7 @@ use Rattle.goblin_pe_tables.specs.ImportRecords.{address_table_rva}
 use Rattle.goblin_pe_tables.specs.LookupReadings.{address_table}
 use Rattle.std.specs.Result.{is_err}
 use Rattle.std.proofs.lemmas.Result.{err_from_is_err_and}
-use Rattle.goblin_pe_tables.specs.Addresses.{offset_of, reads_strictly}
+use Rattle.goblin_pe_tables.specs.Addresses.{map_of, offset_of, reads_strictly}
 use Rattle.goblin_pe_tables.proofs.HandedLibraries.{library-answered, library-left_out, library-unlisted, library-unnamed, strict-else}
 use Rattle.goblin_pe_tables.proofs.Modes.{strict, permissive}
 use Rattle.goblin_pe_tables.proofs.import.handed_over.hand_over_library.Goals as goal
@@ -33,7 +33,7 @@ returns-in_err-hand_over_table_if-clause-value g c =
 pub returns-clause-value : goal.returns-clause-value
 returns-clause-value g c =
     let addresses = c.test_address_table-addresses.result in
-    let strictly : is_err addresses ≡ true → reads_strictly c.args.address_map.now ≡ true = λ failed.
+    let strictly : is_err addresses ≡ true → reads_strictly (map_of c.args.address_map.now) ≡ true = λ failed.
     elim c.else-is_err.branch [
       | else-is_err-via-then-is_err+else-is_permissive w ↦ strict _ _ w.is_permissive.ensures w.if-is_permissive.false
       | else-is_err-via-else-is_err w ↦ let not = sym failed ∙ sym c.is_err.ensures.value ∙ w.if-is_err.false in cc
@@ -48,13 +48,13 @@ never_memory (Err e) reading bytes P h = λ m. absurd (reading.not_memory bytes 
 pub returns-in_err-dll-clause-grown : goal.returns-in_err-dll-clause-grown
 returns-in_err-dll-clause-grown g c =
     let e = err_from_is_err_and c.from_residual.result c.from_residual.ensures.1 in
-    let m = c.args.address_map.now in
+    let m = map_of c.args.address_map.now in
     let reading = or_else (reads_strictly m) [] (name_at (offset_of m) c.args.entry.name_rva) in
     rw (e.1, e.2) (λ memory. absurd (reading.not_memory _ _ c.in_err-dll.ensures.1 memory))
 
 pub returns-clause-grown : goal.returns-clause-grown
 returns-clause-grown g c =
-    let m = c.args.address_map.now in
+    let m = map_of c.args.address_map.now in
     let reading = mapped (λ _. tt {0}) (at_address (offset_of m) (address_table_rva c.args.entry) (address_table g.T.Bitfield.format)) in
     never_memory _ reading _ _ c.test_address_table-addresses.ensures
 
@@ -74,7 +74,7 @@ table_there result reading bytes h e = some_inside (reading.value bytes) (is_the
 pub returns-in_err-dll-clause-tested : goal.returns-in_err-dll-clause-tested
 returns-in_err-dll-clause-tested g c =
     let e = err_from_is_err_and c.from_residual.result c.from_residual.ensures.1 in
-    let m = c.args.address_map.now in
+    let m = map_of c.args.address_map.now in
     let reading = or_else (reads_strictly m) [] (name_at (offset_of m) c.args.entry.name_rva) in
     rw (e.1, e.2) (λ memory. absurd (reading.not_memory _ _ c.in_err-dll.ensures.1 memory))
 
@@ -84,11 +84,11 @@ returns-in_err-hand_over_table_if-clause-tested g c =
     rw (e.1, e.2) (λ memory permissively.
     elim c.else-is_err.branch [
       | else-is_err-via-then-is_err+else-is_permissive w ↦ let is = sym permissively ∙ strict _ _ w.is_permissive.ensures w.if-is_permissive.false in absurd cc
-      | else-is_err-via-else-is_err w ↦ table_there _ (at_address (offset_of c.args.address_map.now) (address_table_rva c.args.entry) (address_table g.T.Bitfield.format)) _ c.test_address_table-addresses.ensures (sym c.is_err.ensures.value ∙ w.if-is_err.false)
+      | else-is_err-via-else-is_err w ↦ table_there _ (at_address (offset_of (map_of c.args.address_map.now)) (address_table_rva c.args.entry) (address_table g.T.Bitfield.format)) _ c.test_address_table-addresses.ensures (sym c.is_err.ensures.value ∙ w.if-is_err.false)
     ])
 
 pub returns-clause-tested : goal.returns-clause-tested
 returns-clause-tested g c =
-    let m = c.args.address_map.now in
+    let m = map_of c.args.address_map.now in
     let reading = mapped (λ _. tt {0}) (at_address (offset_of m) (address_table_rva c.args.entry) (address_table g.T.Bitfield.format)) in
     never_memory _ reading _ _ c.test_address_table-addresses.ensures

@@ -7,7 +7,7 @@ use Rattle.goblin_pe_tables.specs.Imports.{import_of}
 use Rattle.goblin_pe_tables.proofs.HandedOver.{entry-never, handed-below, handed-end, handed-last, handed-missing, handed-next, handed-refused, handed-start}
 use Rattle.goblin_pe_tables.proofs.Modes.{strict, permissive}
 use Rattle.readings.proofs.Loops.{slot-kept}
-use Rattle.goblin_pe_tables.specs.Addresses.{offset_of, reads_strictly}
+use Rattle.goblin_pe_tables.specs.Addresses.{map_of, offset_of, reads_strictly}
 use Rattle.goblin_pe_tables.specs.LookupReadings.{kept_entry}
 use Rattle.goblin_pe_tables.proofs.import.handed_over.hand_over_table.Goals as goal
 use Rattle.goblin_pe_tables.proofs.import.handed_over.hand_over_table.Goals.{in_default+then-is_permissive, in-Ok+then-is_zero}
@@ -58,7 +58,7 @@ returns-clause-value g c =
 pub returns-in_err-kept-clause-grown : goal.returns-in_err-kept-clause-grown
 returns-in_err-kept-clause-grown g c =
     let e = err_from_is_err_and c.from_residual.result c.from_residual.ensures.1 in
-    let piece = kept_entry (reads_strictly c.args.address_map.now) (offset_of c.args.address_map.now) (g.T.Bitfield.value c.in-Ok.entry) in
+    let piece = kept_entry (reads_strictly (map_of c.args.address_map.now)) (offset_of (map_of c.args.address_map.now)) (g.T.Bitfield.value c.in-Ok.entry) in
     rw (e.1, e.2) (λ memory. absurd (piece.not_memory _ _ c.in_err-kept.ensures.1 memory))
 
 pub returns-in_err-hand_over_entry-clause-grown : goal.returns-in_err-hand_over_entry-clause-grown

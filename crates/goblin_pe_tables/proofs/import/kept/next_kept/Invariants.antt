@@ -1,11 +1,11 @@
 use Rattle.std.proofs.Common.{length, ◌-◌}
-use Rattle.goblin_pe_tables.specs.Addresses.{offset_of, reads_strictly}
+use Rattle.goblin_pe_tables.specs.Addresses.{map_of, offset_of, reads_strictly}
 use Rattle.goblin_pe_tables.proofs.LookupWalk.{AtRest}
 use Rattle.goblin_pe_tables.proofs.import.kept.next_kept.Given as goal
 
 abbrev pub invariant-slots : goal.invariant-slots
 invariant-slots g l =
-    AtRest (reads_strictly l.fn.address_map) g.T.Bitfield.format (offset_of l.fn.address_map)
+    AtRest (reads_strictly (map_of l.fn.address_map)) g.T.Bitfield.format (offset_of (map_of l.fn.address_map))
     l.fn.bytes l.fn.offset l.fn.place l.place
 
 abbrev pub decreases-slots : goal.decreases-slots

@@ -2,7 +2,7 @@ use Rattle.std.proofs.Common.{◌≡◌, List, sym, subst}
 use Rattle.std.proofs.lemmas.List.Elements.{All-same}
 use Rattle.goblin_base.specs.Footprints.{Covers, Range}
 use Rattle.goblin_base.specs.Reading.{IsInFile}
-use Rattle.goblin_pe_tables.specs.Addresses.{MapOfAddresses, offset_of, reads_strictly}
+use Rattle.goblin_pe_tables.specs.Addresses.{MapOfAddresses, map_of, offset_of, reads_strictly}
 use Rattle.goblin_pe_tables.specs.ImportReadings.{import_data}
 use Rattle.goblin_pe_tables.proofs.laws.footprint.footprint_imports.Goals as goal
 
@@ -21,7 +21,7 @@ returns-clause-covers g c = λ p.
 
 pub returns-clause-within : goal.returns-clause-within
 returns-clause-within g c =
-    let m = c.in_ok-address_map.address_map in
+    let m = map_of c.in_ok-address_map.address_map in
     let rva = c.args.directory.virtual_address in
     let reading = import_data (reads_strictly m) g.T.Bitfield.format (offset_of m) rva in
     All-same (IsInFile c.args.bytes.now) _ _ c.in_ok-ranges.ensures.ranges

@@ -1,5 +1,5 @@
 use Rattle.std.proofs.lemmas.Result.{err_from_is_err_and}
-use Rattle.goblin_pe_tables.specs.Addresses.{offset_of}
+use Rattle.goblin_pe_tables.specs.Addresses.{map_of, offset_of}
 use Rattle.goblin_pe.specs.Whole.{collected_exports, collected_imports, export_part}
 use Rattle.goblin_pe.specs.Whole.{import_parts, part_map, relocation_part, table_parts}
 use Rattle.goblin_pe.specs.Whole.{table_places}
@@ -12,7 +12,7 @@ returns-in_err-imports g c =
     let error = err_from_is_err_and c.from_residual.result c.from_residual.ensures.1 in
     let bytes = c.args.bytes.now in
     let places = table_places c.args.self.now in
-    let k = c.args.address_map.now in
+    let k = map_of c.args.address_map.now in
     let libraries = collected_imports g.I.ImportCollector.item_of in
     let exports = part_map (collected_exports g.E.ExportCollector.item_of) in
     rw (error.1, error.2)
@@ -24,7 +24,7 @@ returns-in_err-exports g c =
     let error = err_from_is_err_and c.from_residual-in_err-exports.result c.from_residual-in_err-exports.ensures.1 in
     let bytes = c.args.bytes.now in
     let places = table_places c.args.self.now in
-    let k = c.args.address_map.now in
+    let k = map_of c.args.address_map.now in
     let libraries = collected_imports g.I.ImportCollector.item_of in
     let exports = part_map (collected_exports g.E.ExportCollector.item_of) in
     rw (error.1, error.2)
@@ -36,7 +36,7 @@ returns-in_err-relocations g c =
     let error = err_from_is_err_and c.from_residual-in_err-relocations.result c.from_residual-in_err-relocations.ensures.1 in
     let bytes = c.args.bytes.now in
     let places = table_places c.args.self.now in
-    let k = c.args.address_map.now in
+    let k = map_of c.args.address_map.now in
     let libraries = collected_imports g.I.ImportCollector.item_of in
     let exports = part_map (collected_exports g.E.ExportCollector.item_of) in
     rw (error.1, error.2)
@@ -47,7 +47,7 @@ unfolding table_parts
 returns g c =
     let bytes = c.args.bytes.now in
     let places = table_places c.args.self.now in
-    let k = c.args.address_map.now in
+    let k = map_of c.args.address_map.now in
     let libraries = collected_imports g.I.ImportCollector.item_of in
     let exports = part_map (collected_exports g.E.ExportCollector.item_of) in
     all-read (import_parts k.opts (offset_of k) places) (export_part k.opts (offset_of k) places) (relocation_part k.opts (offset_of k) places) libraries exports bytes _ _ _ c.in_ok-imports.ensures c.in_ok-exports.ensures c.in_ok-relocations.ensures

@@ -4,7 +4,7 @@ use Rattle.std.specs.List.{flat_map}
 use Rattle.readings.specs.Reads.{given}
 use Rattle.goblin_pe_sect.specs.declared.options.ParseOptions.{ParseOptions}
 use Rattle.goblin_pe_sect.specs.Options.{is_strict}
-use Rattle.goblin_pe_tables.specs.Addresses.{offset_of, reads_strictly}
+use Rattle.goblin_pe_tables.specs.Addresses.{map_of, offset_of, reads_strictly}
 use Rattle.goblin_pe_tables.specs.ImportReadings.{import_data}
 use Rattle.goblin_pe_tables.specs.Imports.{kept_imports}
 use Rattle.goblin_pe.specs.Whole.{BecomesPart, entry_format, import_part, part_at, part_map}
@@ -15,7 +15,7 @@ use Rattle.goblin_pe.proofs.whole.tables.Tables.kept_imports.Goals.{in_default-v
 pub returns-in-Some : goal.returns-in-Some
 unfolding import_part
 returns-in-Some g c =
-    let map = c.args.address_map.now in
+    let map = map_of c.args.address_map.now in
     let strict = reads_strictly map in
     let format = entry_format c.args.self.now.magic in
     let kept = flat_map (kept_imports g.I.ImportCollector.item_of format.width) in
@@ -40,7 +40,7 @@ returns-in-Some g c =
 pub returns-in_default : goal.returns-in_default
 unfolding import_part
 returns-in_default g c =
-    let map = c.args.address_map.now in
+    let map = map_of c.args.address_map.now in
     let format = entry_format c.args.self.now.magic in
     let kept = flat_map (kept_imports g.I.ImportCollector.item_of format.width) in
     let none : (map.opts.parse_imports ≡ false) ⊎ (c.args.self.now.imports ≡ None) =

@@ -4,7 +4,7 @@ use Rattle.goblin_pe_sect.specs.declared.options.ParseOptions.{ParseOptions}
 use Rattle.goblin_pe_sect.specs.AddressReadings.{relocation_data}
 use Rattle.goblin_pe_sect.specs.BaseRelocations.{relocation_bytes}
 use Rattle.goblin_pe_sect.specs.Options.{is_strict}
-use Rattle.goblin_pe_tables.specs.Addresses.{offset_of, reads_strictly}
+use Rattle.goblin_pe_tables.specs.Addresses.{map_of, offset_of, reads_strictly}
 use Rattle.goblin_pe.specs.Whole.{BecomesPart, relocation_part}
 use Rattle.goblin_pe.proofs.Parts.{becomes_read}
 use Rattle.goblin_pe.proofs.whole.tables.Tables.relocations.Goals as goal
@@ -12,7 +12,7 @@ use Rattle.goblin_pe.proofs.whole.tables.Tables.relocations.Goals as goal
 pub returns : goal.returns
 unfolding relocation_part relocation_data
 returns c =
-    let map = c.args.address_map.now in
+    let map = map_of c.args.address_map.now in
     let directory = c.in-Some.directory in
     let read = subst
     (λ (o : Option ℕ).

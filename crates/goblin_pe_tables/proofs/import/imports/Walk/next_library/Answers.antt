@@ -2,7 +2,7 @@ use Rattle.std.proofs.Common.{◌≡◌, Option, Some, false, true, sym, subst, 
 use Rattle.goblin_base.specs.declared.error.ErrorOf.TheVariants.{Malformed}
 use Rattle.goblin_base.specs.declared.error.CauseOf.TheVariants.{ImportRecordEnd}
 use Rattle.goblin_pe_tables.specs.declared.import.imports.ImportPosition.{ImportPosition}
-use Rattle.goblin_pe_tables.specs.Addresses.{offset_of, reads_strictly}
+use Rattle.goblin_pe_tables.specs.Addresses.{map_of, offset_of, reads_strictly}
 use Rattle.goblin_pe_tables.specs.ImportWalks.{GivesLibrary, IsLaterCause, IsWalkCause, later_items, walk_left}
 use Rattle.goblin_pe_tables.proofs.Imports.{opposite}
 use Rattle.goblin_base.proofs.Records.{record_at-some}
@@ -19,7 +19,7 @@ returns-in-Err-clause-gives g c =
 pub returns-in_default-next-clause-gives : goal.returns-in_default-next-clause-gives
 returns-in_default-next-clause-gives g c =
     let w = c.args.self.now in
-    let m = w.address_map.now in
+    let m = map_of w.address_map.now in
     rw c.in_default-next.is (later-none (reads_strictly m) g.T.Bitfield.format (offset_of m) w.bytes.now w.untested c.in_default.ensures.value)
 
 pub returns-then-is_permissive-clause-gives : goal.returns-then-is_permissive-clause-gives
@@ -34,13 +34,13 @@ returns-in_default-read_at-clause-gives g c =
 pub returns-then-not-is_possibly_valid-clause-gives : goal.returns-then-not-is_possibly_valid-clause-gives
 returns-then-not-is_possibly_valid-clause-gives g c =
     let w = c.args.self.now in
-    let m = w.address_map.now in
+    let m = map_of w.address_map.now in
     rw c.in-Some.is (later-last (reads_strictly m) g.T.Bitfield.format (offset_of m) w.bytes.now w.untested c.in_default.ensures.value c.test_untested.ensures.wide c.in-Some.at _ c.in-Ok.ensures (opposite _ _ true c.is_possibly_valid.ensures c.if-not-is_possibly_valid.true))
 
 pub returns-clause-gives : goal.returns-clause-gives
 returns-clause-gives g c =
     let w = c.args.self.now in
-    let m = w.address_map.now in
+    let m = map_of w.address_map.now in
     let s = reads_strictly m in
     let f = g.T.Bitfield.format in
     let o = offset_of m in

@@ -5,7 +5,7 @@ use Rattle.goblin_base.specs.declared.error.ErrorOf.TheVariants.{Malformed}
 use Rattle.goblin_base.specs.declared.error.CauseOf.TheVariants.{LookupEnd}
 use Rattle.readings.proofs.Loops.{slot-end, slot-kept, slot-last, slot-missing, slot-next}
 use Rattle.readings.proofs.Loops.{slot-refused, slot-start}
-use Rattle.goblin_pe_tables.specs.Addresses.{offset_of, reads_strictly}
+use Rattle.goblin_pe_tables.specs.Addresses.{map_of, offset_of, reads_strictly}
 use Rattle.goblin_pe_tables.specs.ImportLookup.{entry_view}
 use Rattle.goblin_pe_tables.specs.LookupReadings.{kept_entry, lookup_entry_at}
 use Rattle.goblin_pe_tables.proofs.Modes.{strict, permissive}
@@ -31,7 +31,7 @@ returns-in_err-kept-clause-value g c =
 pub returns-in_err-kept-clause-grown : goal.returns-in_err-kept-clause-grown
 returns-in_err-kept-clause-grown g c =
     let e = err_from_is_err_and c.from_residual.result c.from_residual.ensures.1 in
-    let piece = kept_entry (reads_strictly c.args.address_map.now) (offset_of c.args.address_map.now) (g.T.Bitfield.value c.in-Ok.entry) in
+    let piece = kept_entry (reads_strictly (map_of c.args.address_map.now)) (offset_of (map_of c.args.address_map.now)) (g.T.Bitfield.value c.in-Ok.entry) in
     rw (e.1, e.2) (λ memory. absurd (piece.not_memory _ _ c.in_err-kept.ensures.1 memory))
 
 pub slots-preserved : goal.slots-preserved

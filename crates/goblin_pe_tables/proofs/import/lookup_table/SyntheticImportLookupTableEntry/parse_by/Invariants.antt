@@ -1,6 +1,6 @@
 use Rattle.std.proofs.Common.{◌≡◌, ◌≤◌, length, map, ◌-◌}
 use Rattle.readings.proofs.Loops.{AtReadSlot}
-use Rattle.goblin_pe_tables.specs.Addresses.{offset_of, reads_strictly}
+use Rattle.goblin_pe_tables.specs.Addresses.{map_of, offset_of, reads_strictly}
 use Rattle.goblin_pe_tables.specs.ImportEntries.{entry_slots}
 use Rattle.goblin_pe_tables.specs.ImportLookup.{entry_view}
 use Rattle.goblin_pe_tables.specs.LookupReadings.{kept_entry}
@@ -9,7 +9,7 @@ use Rattle.goblin_pe_tables.proofs.import.lookup_table.SyntheticImportLookupTabl
 abbrev pub invariant-slots : goal.invariant-slots
 invariant-slots g l =
     AtReadSlot (entry_slots g.T.Bitfield.format)
-    (kept_entry (reads_strictly l.fn.address_map) (offset_of l.fn.address_map)) l.fn.bytes
+    (kept_entry (reads_strictly (map_of l.fn.address_map)) (offset_of (map_of l.fn.address_map))) l.fn.bytes
     l.fn.offset l.place l.slot (map entry_view l.entries.items) l.slots.items
     × (l.slot ≤ l.place) × (length l.entries.items ≡ length l.slots.items)
 
