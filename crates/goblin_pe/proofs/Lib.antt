@@ -1,6 +1,6 @@
-pub mod Alone
 pub mod Collected
 pub mod HeaderThere
+pub mod ImportParts
 pub mod KeptImports
 pub mod ListedImports
 pub mod Parts

@@ -1,3 +1,4 @@
+pub mod Layouts
 pub mod Modes
 pub mod SectionRoom
 pub mod TableRuns

@@ -2,6 +2,7 @@
 use Rattle.std.specs.Prelude.{◌≡◌, ℕ, ◌+◌, ◌==◌, Bool, true, false, if◌then◌else◌, List, [], Option}
 use Rattle.std.specs.Prelude.{◌⊎◌, Some, None, Result, Ok, Err, Vec, IsSome, IsSomeAnd, IsTrue}
 use Rattle.std.specs.Prelude.{map, unwrap_or}
+use Rattle.std.specs.List.{flat_map}
 use Rattle.std.specs.Global.{Global}
 use Rattle.std.specs.declared.alloc.AllocError.{AllocError}
 use Rattle.std.proofs.Common.{inl, inr}
@@ -28,10 +29,8 @@ use Rattle.goblin_pe_head.specs.CoffReadings.{sections_at}
 use Rattle.goblin_pe.specs.declared.whole.Part.{Part}
 use Rattle.goblin_pe.specs.declared.whole.Part.TheVariants.{Absent, Refused}
 use Rattle.goblin_pe.specs.declared.whole.Part.TheVariants as part
-use Rattle.goblin_pe.specs.declared.whole.CollectedFile.{CollectedFile}
-use Rattle.goblin_pe.specs.declared.whole.tables.CollectedTables.{CollectedTables}
-use Rattle.goblin_pe.specs.declared.whole.tables.ListedTables.{ListedTables}
-use Rattle.goblin_pe.specs.declared.whole.tables.Tables.{Tables}
+use Rattle.goblin_pe.specs.declared.whole.listed.ListedTables.{ListedTables}
+use Rattle.goblin_pe.specs.declared.whole.places.Places.{Places}
 use Rattle.goblin_pe_tables.specs.ExportReadings.{export_read}
 use Rattle.goblin_pe_tables.specs.ExportRecords.{ExportRow, ExportTables, export_read_view}
 use Rattle.goblin_pe_tables.specs.ImportEntries.{EntryValue}
@@ -39,7 +38,7 @@ use Rattle.goblin_pe_tables.specs.ImportLookup.{entries_32, entries_64}
 use Rattle.goblin_pe_tables.specs.ImportReadings.{import_data}
 use Rattle.goblin_pe_tables.specs.ImportRecords.{ImportedLibrary}
 use Rattle.goblin_pe_tables.specs.Imports.{ImportValue, IsImportsFault}
-use Rattle.goblin_pe_tables.specs.Imports.{first_without_slots, imports_of}
+use Rattle.goblin_pe_tables.specs.Imports.{first_without_slots, imports_of, kept_imports}
 
 -- ---- parts
 
@@ -86,7 +85,7 @@ pub record TablePlaces : Type 0 where
   pub relocations : Option DataDirectory
 
 -- what contracts see of the reader's own struct
-abbrev pub table_places : Tables → TablePlaces
+abbrev pub table_places : Places → TablePlaces
 table_places t =
     record {
       magic = t.magic;
@@ -115,11 +114,6 @@ entry_format magic = if magic == 0x10B then entries_32 else entries_64
 -- the file offset of an address
 abbrev pub offset_by : ParseOptions → List Section → TablePlaces → ℕ → Option ℕ
 offset_by opts sections places = file_offset opts sections places.file_alignment
-
--- addresses are mapped for these tables: for imports that are asked for, or for exports
-abbrev pub MapsAddresses : ParseOptions → TablePlaces → Type 0
-MapsAddresses opts places =
-    (IsTrue opts.parse_imports × IsSome places.imports) ⊎ IsSome places.exports
 
 -- ---- the tables
 
@@ -168,6 +162,13 @@ unfoldable pub import_parts : ParseOptions → (ℕ → Option ℕ) → TablePla
 import_parts opts offset_of places =
     checked (λ libraries. pair_of (Some libraries) (imports_part opts places libraries))
     IsImportsPartFault imports_part-not_memory (import_part opts offset_of places)
+
+-- the imports alone, those of each library one by one
+unfoldable pub import_list : ParseOptions → (ℕ → Option ℕ) → TablePlaces
+    → Reading (Part (List ImportValue))
+import_list opts offset_of places =
+    mapped (part_map (flat_map (kept_imports (λ x. x) (entry_format places.magic).width)))
+    (import_part opts offset_of places)
 
 -- the export data, with the exports that it lists
 unfoldable pub export_part : ParseOptions → (ℕ → Option ℕ) → TablePlaces
@@ -228,6 +229,12 @@ sections_after strict h =
     sections_at strict (symbols_end h.coff_header) h.coff_header.number_of_sections
     (section_table_offset h)
 
+-- what all tables are read by: the header and the sections, which both modes require
+unfoldable pub layout : ParseOptions → Reading (PeHeader × List Section)
+layout opts =
+    let strict = is_strict opts.parse_mode in
+    pe_header strict >>= λ h. mapped (λ sections. (h, sections)) (sections_after strict h)
+
 -- the file with this header and these sections
 unfoldable pub whole_with : ParseOptions → PeHeader → List Section → Reading WholeFile
 whole_with opts h sections =
@@ -243,19 +250,19 @@ whole_after opts h =
 unfoldable pub whole_file : ParseOptions → Reading WholeFile
 whole_file opts = pe_header (is_strict opts.parse_mode) >>= λ h. whole_after opts h
 
--- ---- what collectors keep of a file
+-- ---- what a caller makes of a file, import by import and export by export
 
--- what is kept of the imports that were read with their libraries
+-- what is made of the imports that were read with their libraries
 abbrev pub collected_imports : {X : Type 0} → (ImportValue → X)
     → Part (List ImportedLibrary) × Part (List ImportValue) → Part (List X)
 collected_imports import_of read = part_map (map import_of) read.1
 
--- what is kept of the exports that were read with their tables
+-- what is made of the exports that were read with their tables
 abbrev pub collected_exports : {Y : Type 0} → (ExportRow → Y) → ExportTables × List ExportRow
     → List Y
 collected_exports export_of read = map export_of read.1
 
--- what is kept of the tables of a file
+-- what is made of the tables of a file
 abbrev pub CollectedParts : Type 0 → Type 0 → Type 0
 CollectedParts X Y = (Part (List X) × Part (List Y)) × Part (List ℕ)
 
@@ -266,7 +273,7 @@ collected_tables import_of export_of parts = (
   parts.1,
 )
 
--- a whole file of which collectors have kept X of its imports and Y of its exports
+-- a whole file with X made of each of its imports, and Y of each of its exports
 pub record CollectedFileValue (X Y : Type 0) : Type 0 where
   pub header : PeHeader
   pub sections : List Section
@@ -306,23 +313,6 @@ listed_view t = (
   (import_read_view t.imports, part_map export_read_view t.exports),
   part_map relocation_bytes t.relocations,
 )
-
--- the tables that collectors hold
-abbrev pub tables_view : {I E X Y : Type 0} → (I → List X) → (E → List Y) → CollectedTables I E
-    → CollectedParts X Y
-tables_view items rows t =
-    ((part_map items t.imports, part_map rows t.exports), part_map relocation_bytes t.relocations)
-
--- the file that collectors hold, after this header
-abbrev pub collected_view : {I E X Y : Type 0} → (I → List X) → (E → List Y) → PeHeader
-    → CollectedFile I E → CollectedFileValue X Y
-collected_view items rows header x = record {
-  header = header;
-  sections = x.sections.items;
-  imports = part_map items x.imports;
-  exports = part_map rows x.exports;
-  relocations = part_map relocation_bytes x.relocations;
-}
 
 -- a list of imports can be made from import data
 abbrev pub HasList : ParseOptions → TablePlaces → Part (List ImportedLibrary) → Type 0

@@ -13,26 +13,29 @@ ghost use Rattle.goblin_pe_head.specs.PeHeader.{header_value};
 ghost use Rattle.goblin_pe_head.specs.CoffHeader.{IsTooManySections};
 ghost use Rattle.goblin_pe_tables.specs.Addresses.{map_by, offset_of};
 ghost use Rattle.goblin_pe_tables.specs.ImportReadings.{import_data};
-ghost use Rattle.goblin_pe.specs.Whole.{collected_file};
-ghost use Rattle.goblin_pe.specs.Whole.{collected_view};
-ghost use Rattle.goblin_pe.specs.Whole.{items_part};
 ghost use Rattle.goblin_pe.specs.Whole.{part_map, places_in, sections_after};
 ghost use Rattle.goblin_pe.specs.Whole.{whole_after};
 ghost use Rattle.goblin_pe.specs.Whole.{whole_file};
 
-use crate::export::{Export, ExportCollector, ExportData};
-use crate::import::{Import, ImportCollector, ImportData};
+use crate::export::{Export, ExportData};
+use crate::import::{Import, ImportData};
 use crate::utils::{find_offset, try_name};
-use goblin_base::{Result, ResultOf};
-use goblin_pe_head::header::{Header, SIZEOF_COFF_HEADER, SIZEOF_PE_MAGIC};
+use goblin_base::Result;
+use goblin_pe_head::header::Header;
 use goblin_pe_sect::relocation::RelocationData;
 use goblin_pe_sect::{ParseOptions, SectionTable};
 use std::alloc::Global;
 use std::marker::Model;
 
-mod tables;
+mod imports;
+mod layout;
+mod listed;
+mod places;
 
-use tables::{CollectedTables, ListedTables, Tables, export_parts};
+pub use imports::FileImports;
+pub use layout::Layout;
+use listed::{ListedTables, export_parts};
+use places::Places;
 
 /// A table of a file, as [`Whole::read`] found it.
 #[derive(Debug, Drop)]
@@ -88,93 +91,6 @@ impl<'a> Model for Whole<'a> {
     } };
 }
 
-/// What follows the header of a file: its sections, and what two collectors have kept of its imports
-/// and its exports.
-///
-/// For callers that want imports and exports in records of their own: no list of them is made
-/// between, and none of their tables.
-#[derive(Drop)]
-pub struct CollectedFile<'a, I: Drop, E: Drop> {
-    /// The sections, in the order of their records; they map the addresses.
-    pub sections: Vec<SectionTable>,
-    /// What was kept of the imports that the import directory leads to.
-    pub imports: Part<I>,
-    /// What was kept of the exports that the export directory lists.
-    pub exports: Part<E>,
-    /// The base relocations: the bytes of their directory, whose blocks are read one by one.
-    pub relocations: Part<RelocationData<'a>>,
-}
-
-// The file offset at which an optional header of this size ends.
-fn after_optional_header(pe_pointer: u32, size_of_optional_header: u16) -> usize
-    ensures { result ≡ pe_pointer + 24 + size_of_optional_header }
-{
-    pe_pointer as usize + SIZEOF_PE_MAGIC + SIZEOF_COFF_HEADER + size_of_optional_header as usize
-}
-
-// The sections of a file with this header, whose records follow the optional header.
-#[tactic(auto, unfolding(crate::specs::Whole::sections_after))]
-fn sections_of(
-    alloc: Global,
-    bytes: &[u8],
-    header: &Header,
-    opts: &ParseOptions,
-) -> Result<Vec<SectionTable>>
-    ensures value { let strict = is_strict opts.now.parse_mode in
-        ReadsOrMemory (λ v. v.items) result (sections_after strict (header_value header.now))
-        bytes.now }
-    ensures first { let count = header.now.coff_header.number_of_sections in
-        length bytes.now / 40 < count → IsErrAnd result (IsTooManySections count bytes.now) }
-{
-    let coff_header = &header.coff_header;
-    let mut offset = after_optional_header(
-        header.dos_header.pe_pointer,
-        coff_header.size_of_optional_header,
-    );
-    coff_header.sections_with_opts(alloc, bytes, &mut offset, opts)
-}
-
-impl<'a, I: ImportCollector<'a>, E: ExportCollector<'a>> CollectedFile<'a, I, E> {
-    /// Reads what follows the header of a file as [`Whole::read`] does, and hands its imports to
-    /// `imports` and its exports to `exports`, one by one. Both are empty before. The file is refused
-    /// where [`Whole::read`] would refuse it for another cause than memory.
-    ///
-    /// # Errors
-    /// As [`Whole::read`] of a file with this header.
-    #[tactic(auto, unfolding(crate::specs::Whole::whole_with), using(crate::proofs::Collected::file_read, crate::proofs::Collected::file_refused))]
-    pub fn read<'e>(
-        alloc: Global,
-        bytes: &'a [u8],
-        header: &Header<'a>,
-        opts: &ParseOptions,
-        imports: I,
-        exports: E,
-    ) -> ResultOf<'e, CollectedFile<'a, I, E>>
-        requires imports { I.items imports ≡ [] }
-        requires exports { E.items exports ≡ [] }
-        ensures value { let before = header_value header.now in
-            ReadsOrMemory (collected_view I.items E.items before) result
-            (mapped (collected_file I.item_of E.item_of) (whole_after opts.now before))
-            bytes.now }
-        ensures first { let count = header.now.coff_header.number_of_sections in
-            length bytes.now / 40 < count → IsErrAnd result (IsTooManySections count bytes.now) }
-    {
-        let sections = sections_of(alloc, bytes, header, opts)?;
-        let tables = Tables::of(&header.optional_header);
-        let CollectedTables {
-            imports,
-            exports,
-            relocations,
-        } = tables.collected(alloc, bytes, &sections, opts, imports, exports)?;
-        Ok(CollectedFile {
-            sections,
-            imports,
-            exports,
-            relocations,
-        })
-    }
-}
-
 impl<'a> Whole<'a> {
     /// Reads a whole file: its header, its sections, its imports, exports and base relocations. The
     /// section table follows the optional header, whose size is the one in the COFF header. The
@@ -202,13 +118,17 @@ impl<'a> Whole<'a> {
             IsMemory e → IsSome ((pe_header (is_strict opts.now.parse_mode)).value bytes.now)) }
     {
         let header = Header::parse_with_opts(bytes, opts)?;
-        let sections = sections_of(alloc, bytes, &header, opts)?;
-        let tables = Tables::of(&header.optional_header);
+        let layout = Layout::after(alloc, bytes, header, opts)?;
         let ListedTables {
             imports,
             exports,
             relocations,
-        } = tables.listed(alloc, bytes, &sections, opts)?;
+        } = layout.listed(alloc)?;
+        let Layout {
+            header,
+            sections,
+            ..
+        } = layout;
         let (import_data, imports) = imports;
         let (export_data, exports) = export_parts(exports);
         Ok(Whole {
@@ -230,8 +150,8 @@ impl<'a> Whole<'a> {
             let m = map_by opts.now self.now.sections places.file_alignment in
             result ≡ offset_of m rva }
     {
-        let tables = Tables::of(&self.header.optional_header);
-        find_offset(rva, &self.sections, tables.file_alignment, opts)
+        let places = Places::of(&self.header.optional_header);
+        find_offset(rva, &self.sections, places.file_alignment, opts)
     }
 
     /// The text at the address `rva` of the file, whose bytes are `bytes`, up to its first NUL or
@@ -247,7 +167,7 @@ impl<'a> Whole<'a> {
             let m = map_by opts.now self.now.sections places.file_alignment in
             Reads (λ s. s.now) result (text_at_address (offset_of m) rva) bytes.now }
     {
-        let tables = Tables::of(&self.header.optional_header);
-        try_name(bytes, rva, &self.sections, tables.file_alignment, opts)
+        let places = Places::of(&self.header.optional_header);
+        try_name(bytes, rva, &self.sections, places.file_alignment, opts)
     }
 }

@@ -7,7 +7,7 @@ use Rattle.goblin_pe_sect.specs.Options.{is_strict}
 use Rattle.goblin_pe_tables.specs.Addresses.{map_of, offset_of, reads_strictly}
 use Rattle.goblin_pe.specs.Whole.{BecomesPart, relocation_part}
 use Rattle.goblin_pe.proofs.Parts.{becomes_read}
-use Rattle.goblin_pe.proofs.whole.tables.Tables.relocations.Goals as goal
+use Rattle.goblin_pe.proofs.whole.places.Places.relocations.Goals as goal
 
 pub returns : goal.returns
 unfolding relocation_part relocation_data

@@ -1,0 +1,41 @@
+use Rattle.std.proofs.Common.{◌≡◌, ◌∙◌, ap, sym, true, false, inl, inr, None}
+use Rattle.std.specs.Prelude.{◌⊎◌}
+use Rattle.std.specs.List.{flat_map}
+use Rattle.std.proofs.lemmas.Result.{err_from_is_err_and}
+use Rattle.goblin_pe_sect.specs.declared.options.ParseOptions.{ParseOptions}
+use Rattle.goblin_pe_tables.specs.Addresses.{map_of, offset_of, reads_strictly}
+use Rattle.goblin_pe_tables.specs.ImportReadings.{import_data}
+use Rattle.goblin_pe_tables.specs.Imports.{kept_imports}
+use Rattle.goblin_pe.specs.Whole.{entry_format, import_list, import_part, part_map, table_places}
+use Rattle.goblin_pe.proofs.Collected.{unasked_mapped}
+use Rattle.goblin_pe.proofs.ImportParts.{list-refused, list-walked}
+use Rattle.goblin_pe.proofs.whole.places.Places.import_walk.Goals as goal
+use Rattle.goblin_pe.proofs.whole.places.Places.import_walk.Goals.{in_default-via-in-Some+else-opts, in_default-via-in_default}
+
+pub returns-in_err-imports-in-Some : goal.returns-in_err-imports-in-Some
+returns-in_err-imports-in-Some c =
+    let m = map_of c.args.address_map.now in
+    let asked : m.opts.parse_imports ≡ true = sym (ap (λ (o : ParseOptions). o.parse_imports) c.opts-opts.ensures) ∙ c.if-opts.true in
+    let e = err_from_is_err_and c.from_residual.result c.from_residual.ensures.1 in
+    rw (e.1, e.2) (list-refused m.opts (offset_of m) (table_places c.args.self.now) c.in-Some.directory asked c.in-Some.is c.args.bytes.now _ _ c.imports_at.ensures c.in_err-imports-in-Some.was)
+
+pub returns-in_ok-imports-in-Some : goal.returns-in_ok-imports-in-Some
+returns-in_ok-imports-in-Some c =
+    let m = map_of c.args.address_map.now in
+    let asked : m.opts.parse_imports ≡ true = sym (ap (λ (o : ParseOptions). o.parse_imports) c.opts-opts.ensures) ∙ c.if-opts.true in
+    list-walked m.opts (offset_of m) (table_places c.args.self.now) c.in-Some.directory asked c.in-Some.is c.args.bytes.now _ _ c.imports_at.ensures c.in_ok-imports-in-Some.was
+
+pub returns-in_default : goal.returns-in_default
+unfolding import_list import_part part_map
+returns-in_default c =
+    let m = map_of c.args.address_map.now in
+    let format = entry_format c.args.self.now.magic in
+    let none : (m.opts.parse_imports ≡ false) ⊎ (c.args.self.now.imports ≡ None) =
+    elim c.in_default.branch [
+      | in_default-via-in-Some+else-opts w ↦
+          inl (sym (ap (λ (o : ParseOptions). o.parse_imports) c.opts-opts.ensures) ∙ w.if-opts.false)
+      | in_default-via-in_default w ↦ inr w.in_default.is
+    ] in
+    unasked_mapped (λ x. x) (flat_map (kept_imports (λ x. x) format.width)) (reads_strictly m) m.opts.parse_imports
+    (λ d. import_data (reads_strictly m) format (offset_of m) d.virtual_address)
+    c.args.self.now.imports c.args.bytes.now none

@@ -1,0 +1,77 @@
+-- What all tables of a file are read by, and the tables as walks.
+use Rattle.std.specs.Prelude.{◌≡◌, ℕ, List, Option, None, Some, Result, Ok, Err}
+use Rattle.goblin_base.specs.declared.error.ErrorOf.{ErrorOf}
+use Rattle.goblin_base.specs.Reading.{Reading}
+use Rattle.readings.specs.Walks.{IsWalkOf}
+use Rattle.goblin_pe_sect.specs.declared.options.ParseOptions.{ParseOptions}
+use Rattle.goblin_pe_sect.specs.SectionTable.{Section}
+use Rattle.goblin_pe_head.specs.PeHeader.{PeHeader, header_value}
+use Rattle.goblin_pe_tables.specs.Addresses.{MapOfAddresses, map_by, map_of}
+use Rattle.goblin_pe_tables.specs.ImportLookup.{entries_32, entries_64}
+use Rattle.goblin_pe_tables.specs.Imports.{ImportValue}
+use Rattle.goblin_pe_tables.specs.ImportWalks.{GivesImport, IsImportsCause, imports_bound, imports_left}
+use Rattle.goblin_pe.specs.declared.whole.Part.{Part}
+use Rattle.goblin_pe.specs.declared.whole.Part.TheVariants.{Absent, Refused}
+use Rattle.goblin_pe.specs.declared.whole.Part.TheVariants as part
+use Rattle.goblin_pe.specs.declared.whole.imports.FileImports.{FileImports}
+use Rattle.goblin_pe.specs.declared.whole.imports.FileImports.TheVariants.{Narrow, Wide}
+use Rattle.goblin_pe.specs.declared.whole.layout.Layout.{Layout}
+use Rattle.goblin_pe_tables.specs.declared.import.imports.WalkedImport.{WalkedImport}
+use Rattle.goblin_pe.specs.Whole.{TablePlaces, places_in}
+
+-- ---- what all tables are read by
+
+-- the header and the sections
+abbrev pub layout_view : Layout → PeHeader × List Section
+layout_view l = (header_value l.header, l.sections.items)
+
+-- where the tables lie
+abbrev pub layout_places : Layout → TablePlaces
+layout_places l = places_in l.header.optional_header
+
+-- how addresses are mapped, and how the bytes there are read
+abbrev pub layout_map : Layout → MapOfAddresses
+layout_map l = map_of l.address_map
+
+-- It is that of these bytes: its addresses are mapped by its own sections and file alignment, and by
+-- these options.
+pub record IsLayoutOf (opts : ParseOptions) (bytes : List ℕ) (l : Layout) : Type 0 where
+  pub over : l.bytes.now ≡ bytes
+  pub mapped : layout_map l ≡ map_by opts l.sections.items (layout_places l).file_alignment
+
+-- ---- tables as walks
+
+-- A call returns a table as a walk, or says that it is absent or refused; or it is refused itself:
+-- as the reading says.
+abbrev pub PartWalks : {S A B : Type 0} → (S → List (Option A)) → (S → ErrorOf → Type 0)
+    → (List A → B) → Result (Part S) ErrorOf → Reading (Part B) → List ℕ → Type 0
+PartWalks left IsCause gather (Ok Absent) reading bytes = reading.value bytes ≡ Some Absent
+PartWalks left IsCause gather (Ok (part.Read walk)) reading bytes =
+    IsWalkOf (λ xs. part.Read (gather xs)) reading bytes (left walk) (IsCause walk)
+PartWalks left IsCause gather (Ok Refused) reading bytes = reading.value bytes ≡ Some Refused
+PartWalks left IsCause gather (Err e) reading bytes =
+    (reading.value bytes ≡ None) × reading.IsCause bytes e
+
+-- ---- the walk over the imports, whose entries have four bytes or eight
+
+-- what is still to come
+abbrev pub file_imports_left : FileImports → List (Option ImportValue)
+file_imports_left (Narrow imports) = imports_left entries_32 imports
+file_imports_left (Wide imports) = imports_left entries_64 imports
+
+-- which cause is true if there is a refusal among it
+abbrev pub IsFileImportsCause : FileImports → ErrorOf → Type 0
+IsFileImportsCause (Narrow imports) e = IsImportsCause entries_32 imports e
+IsFileImportsCause (Wide imports) e = IsImportsCause entries_64 imports e
+
+-- no more than this comes
+abbrev pub file_imports_bound : FileImports → ℕ
+file_imports_bound (Narrow imports) = imports_bound imports
+file_imports_bound (Wide imports) = imports_bound imports
+
+-- a call of `next` gives the next import
+abbrev pub GivesFileImport : FileImports → Option (Result WalkedImport ErrorOf) → FileImports
+    → Type 0
+GivesFileImport (Narrow s) result (Narrow t) = GivesImport entries_32 s result t
+GivesFileImport (Wide s) result (Wide t) = GivesImport entries_64 s result t
+GivesFileImport s result t = ⊥

@@ -1,0 +1,51 @@
+//! The imports of a file, one by one.
+
+ghost use Rattle.std.specs.Prelude.{IfSome};
+ghost use Rattle.std.specs.Iterator.{UpTo, at_most};
+ghost use Rattle.std.specs.Iterator.SizeHint.{IsWithinCount};
+ghost use Rattle.goblin_pe.specs.Layouts.{GivesFileImport, file_imports_bound};
+
+use crate::import::{Imports, WalkedImport};
+use goblin_base::ResultOf;
+use std::iter::FusedIterator;
+
+/// The imports of a file, in the order of the libraries and of their entries, without memory: by the
+/// magic of 32 bits their tables have entries of four bytes, else of eight.
+///
+/// In strict mode it ends with one error where the import data is refused, after the imports before
+/// what is to blame. In permissive mode there is none.
+#[derive(Debug, Drop)]
+pub enum FileImports<'a, 'm, 'e> {
+    /// By entries of four bytes.
+    Narrow(Imports<'a, 'm, 'e, u32>),
+    /// By entries of eight bytes.
+    Wide(Imports<'a, 'm, 'e, u64>),
+}
+
+impl<'a, 'm, 'e> Iterator for FileImports<'a, 'm, 'e> {
+    type Item = ResultOf<'e, WalkedImport<'a>>;
+
+    ghost next_gives = { GivesFileImport };
+
+    ghost remaining = { λ it. at_most (file_imports_bound it) };
+
+    #[inline]
+    fn next(&mut self) -> Option<ResultOf<'e, WalkedImport<'a>>> {
+        match self {
+            FileImports::Narrow(imports) => imports.next(),
+            FileImports::Wide(imports) => imports.next(),
+        }
+    }
+
+    fn size_hint(&self) -> (usize, Option<usize>)
+        ensures lower { IsWithinCount result.0 (at_most (file_imports_bound self.now)) }
+        ensures upper { IfSome result.1 (UpTo (at_most (file_imports_bound self.now))) }
+    {
+        match self {
+            FileImports::Narrow(imports) => imports.size_hint(),
+            FileImports::Wide(imports) => imports.size_hint(),
+        }
+    }
+}
+
+impl<'a, 'm, 'e> FusedIterator for FileImports<'a, 'm, 'e> {}

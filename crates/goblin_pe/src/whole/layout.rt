@@ -1,0 +1,175 @@
+//! What all tables of a file are read by.
+
+ghost use Rattle.std.specs.Prelude.{◌+◌, ◌≡◌, ◌<◌, ◌/◌, IfErr, IfOk, IfSome, IsErrAnd, IsSome, length};
+ghost use Rattle.goblin_base.specs.Answers.{IsMemory};
+ghost use Rattle.goblin_base.specs.Reading.{Reads, ReadsOrMemory};
+ghost use Rattle.readings.specs.Reads.{mapped};
+ghost use Rattle.goblin_pe_sect.specs.BaseRelocations.{relocation_bytes};
+ghost use Rattle.goblin_pe_sect.specs.Options.{is_strict};
+ghost use Rattle.goblin_pe_head.specs.HeaderReadings.{pe_header};
+ghost use Rattle.goblin_pe_head.specs.PeHeader.{header_value};
+ghost use Rattle.goblin_pe_head.specs.CoffHeader.{IsTooManySections};
+ghost use Rattle.goblin_pe_tables.specs.Addresses.{offset_of};
+ghost use Rattle.goblin_pe.specs.Layouts.{IsFileImportsCause, IsLayoutOf, PartWalks};
+ghost use Rattle.goblin_pe.specs.Layouts.{file_imports_left, layout_map, layout_places, layout_view};
+ghost use Rattle.goblin_pe.specs.Whole.{import_list, layout, listed_view, part_map, places_in};
+ghost use Rattle.goblin_pe.specs.Whole.{relocation_part, sections_after, table_parts};
+
+use crate::whole::listed::ListedTables;
+use crate::whole::places::Places;
+use crate::whole::{FileImports, Part};
+use goblin_base::{Result, ResultOf};
+use goblin_pe_head::header::{Header, SIZEOF_COFF_HEADER, SIZEOF_PE_MAGIC};
+use goblin_pe_sect::relocation::RelocationData;
+use goblin_pe_sect::{ParseOptions, SectionTable};
+use goblin_pe_tables::address_map::AddressMap;
+use std::alloc::Global;
+
+/// What all tables of a file are read by: its header, its sections, and where its addresses lie in
+/// the file. Each table is read when it is asked for: imports and exports one by one, without
+/// memory.
+///
+/// Source: PE Format, "Overview".
+#[derive(Drop)]
+pub struct Layout<'a> {
+    bytes: &'a [u8],
+    pub(super) header: Header<'a>,
+    pub(super) sections: Vec<SectionTable>,
+    address_map: AddressMap,
+}
+
+// The file offset at which an optional header of this size ends.
+fn after_optional_header(pe_pointer: u32, size_of_optional_header: u16) -> usize
+    ensures { result ≡ pe_pointer + 24 + size_of_optional_header }
+{
+    pe_pointer as usize + SIZEOF_PE_MAGIC + SIZEOF_COFF_HEADER + size_of_optional_header as usize
+}
+
+// The sections of a file with this header, whose records follow the optional header.
+#[tactic(auto, unfolding(crate::specs::Whole::sections_after))]
+fn sections_of(
+    alloc: Global,
+    bytes: &[u8],
+    header: &Header,
+    opts: &ParseOptions,
+) -> Result<Vec<SectionTable>>
+    ensures value { let strict = is_strict opts.now.parse_mode in
+        ReadsOrMemory (λ v. v.items) result (sections_after strict (header_value header.now))
+        bytes.now }
+    ensures first { let count = header.now.coff_header.number_of_sections in
+        length bytes.now / 40 < count → IsErrAnd result (IsTooManySections count bytes.now) }
+{
+    let coff_header = &header.coff_header;
+    let mut offset = after_optional_header(
+        header.dos_header.pe_pointer,
+        coff_header.size_of_optional_header,
+    );
+    coff_header.sections_with_opts(alloc, bytes, &mut offset, opts)
+}
+
+impl<'a> Layout<'a> {
+    // The layout of a file with this header.
+    pub(super) fn after(
+        alloc: Global,
+        bytes: &'a [u8],
+        header: Header<'a>,
+        opts: &ParseOptions,
+    ) -> Result<Layout<'a>>
+        ensures value { let strict = is_strict opts.now.parse_mode in
+            ReadsOrMemory (λ l. l.sections.items) result
+            (sections_after strict (header_value header.entry)) bytes.now }
+        ensures header { IfOk result (λ l. l.header ≡ header.entry) }
+        ensures over { IfOk result (IsLayoutOf opts.now bytes.now) }
+        ensures first { let count = header.entry.coff_header.number_of_sections in
+            length bytes.now / 40 < count → IsErrAnd result (IsTooManySections count bytes.now) }
+    {
+        let sections = sections_of(alloc, bytes, &header, opts)?;
+        let places = Places::of(&header.optional_header);
+        let address_map = AddressMap::prepare(alloc, &sections, places.file_alignment, opts)?;
+        Ok(Layout {
+            bytes,
+            header,
+            sections,
+            address_map,
+        })
+    }
+
+    /// Reads the header and the sections of a file, as [`Whole::read`](crate::Whole::read) does,
+    /// and prepares what maps its addresses. Memory is taken for the sections and the map.
+    ///
+    /// # Errors
+    /// As [`Header::parse_with_opts`]; as
+    /// [`CoffHeader::sections_with_opts`](goblin_pe_head::CoffHeader::sections_with_opts);
+    /// [`Error::Memory`](goblin_base::Error::Memory) if memory is refused, in both modes, and never
+    /// of a file whose header is refused.
+    #[tactic(auto, unfolding(crate::specs::Whole::layout), using(goblin_pe_head::proofs::HeaderFaults::header_there))]
+    pub fn read(alloc: Global, bytes: &'a [u8], opts: &ParseOptions) -> Result<Layout<'a>>
+        ensures value { ReadsOrMemory layout_view result (layout opts.now) bytes.now }
+        ensures over { IfOk result (IsLayoutOf opts.now bytes.now) }
+        ensures first { let found = (pe_header (is_strict opts.now.parse_mode)).value bytes.now in
+            IfSome found (λ header.
+            let count = header.coff_header.number_of_sections in
+            length bytes.now / 40 < count → IsErrAnd result (IsTooManySections count bytes.now)) }
+        ensures grown { IfErr result
+            (λ e.
+            IsMemory e → IsSome ((pe_header (is_strict opts.now.parse_mode)).value bytes.now)) }
+    {
+        let header = Header::parse_with_opts(bytes, opts)?;
+        Layout::after(alloc, bytes, header, opts)
+    }
+
+    /// The bytes of the file.
+    pub fn bytes(&self) -> &'a [u8]
+        ensures { result.now ≡ self.now.bytes.now }
+    {
+        self.bytes
+    }
+
+    /// The header: everything before the section table.
+    pub fn header(&self) -> &Header<'a>
+        ensures { result.now ≡ self.now.header }
+    {
+        &self.header
+    }
+
+    /// The sections, in the order of their records; they map the addresses.
+    pub fn sections(&self) -> &[SectionTable]
+        ensures { result.now ≡ self.now.sections.items }
+    {
+        &self.sections
+    }
+
+    /// The imports that the import directory leads to, one by one, where they are asked for.
+    ///
+    /// # Errors
+    /// In strict mode as [`Imports::of`](crate::import::Imports::of).
+    pub fn imports<'m, 'e>(&'m self) -> ResultOf<'e, Part<FileImports<'a, 'm, 'e>>>
+        ensures { let m = layout_map self.now in
+            PartWalks file_imports_left IsFileImportsCause (λ xs. xs) result
+            (import_list m.opts (offset_of m) (layout_places self.now)) self.now.bytes.now }
+    {
+        Places::of(&self.header.optional_header).import_walk(self.bytes, &self.address_map)
+    }
+
+    /// The base relocations: the bytes of their directory, whose blocks are read one by one.
+    ///
+    /// # Errors
+    /// In strict mode as [`RelocationData::parse_at`].
+    pub fn relocations(&self) -> Result<Part<RelocationData<'a>>>
+        ensures { let m = layout_map self.now in
+            Reads (part_map relocation_bytes) result
+            (relocation_part m.opts (offset_of m) (layout_places self.now)) self.now.bytes.now }
+    {
+        Places::of(&self.header.optional_header).relocations(self.bytes, &self.address_map)
+    }
+
+    // The lists of all tables.
+    pub(super) fn listed(&self, alloc: Global) -> Result<ListedTables<'a>>
+        ensures { let m = layout_map self.now in
+            ReadsOrMemory listed_view result
+            (table_parts m.opts (offset_of m) (layout_places self.now)) self.now.bytes.now }
+    {
+        let places = Places::of(&self.header.optional_header);
+        places.listed(alloc, self.bytes, &self.address_map, &self.sections)
+    }
+}

@@ -1,0 +1,220 @@
+//! The tables that a file's data directories lead to, as lists.
+
+ghost use Rattle.std.specs.Prelude.{◌≡◌};
+ghost use Rattle.goblin_base.specs.Answers.{AnswersOrMemory};
+ghost use Rattle.goblin_base.specs.Reading.{ReadsOrMemory};
+ghost use Rattle.goblin_pe_tables.specs.Addresses.{map_of, offset_of, reads_strictly};
+ghost use Rattle.goblin_pe_tables.specs.ExportReadings.{export_read};
+ghost use Rattle.goblin_pe_tables.specs.ExportRecords.{export_read_view};
+ghost use Rattle.goblin_pe_tables.specs.ImportReadings.{import_data};
+ghost use Rattle.goblin_pe_tables.specs.Imports.{IsImportsFault, imports_of};
+ghost use Rattle.goblin_pe.specs.Whole.{IsImportsPartFault, entry_format, export_part, import_part};
+ghost use Rattle.goblin_pe.specs.Whole.{import_parts, import_read_view, imports_part, items_part};
+ghost use Rattle.goblin_pe.specs.Whole.{listed_view, part_map, table_parts, table_places};
+
+use crate::export::{Export, ExportData};
+use crate::import::{Import, ImportData};
+use crate::whole::Part;
+use crate::whole::places::{Places, part_of};
+use goblin_base::{Result, is_passed_over};
+use goblin_pe_sect::relocation::RelocationData;
+use goblin_pe_sect::{DataDirectory, ParseOptions, SectionTable};
+use goblin_pe_tables::address_map::AddressMap;
+use std::alloc::Global;
+
+impl Places {
+    // The import data of a directory.
+    #[tactic(auto, unfolding(crate::specs::Whole::entry_format))]
+    fn import_data_of<'a>(
+        &self,
+        alloc: Global,
+        bytes: &'a [u8],
+        directory: DataDirectory,
+        address_map: &AddressMap,
+    ) -> Result<ImportData<'a>>
+        ensures { let m = map_of address_map.now in
+            let format = entry_format self.now.magic in
+            let rva = directory.virtual_address in
+            ReadsOrMemory (λ x. x) result
+            (import_data (reads_strictly m) format (offset_of m) rva) bytes.now }
+    {
+        if self.has_narrow_entries() {
+            ImportData::parse_by::<u32>(alloc, bytes, directory, address_map)
+        } else {
+            ImportData::parse_by::<u64>(alloc, bytes, directory, address_map)
+        }
+    }
+
+    // The import data, if it was asked for.
+    #[tactic(auto, unfolding(crate::specs::Whole::import_part), using(crate::proofs::Parts::becomes_same))]
+    fn import_data<'a>(
+        &self,
+        alloc: Global,
+        bytes: &'a [u8],
+        address_map: &AddressMap,
+    ) -> Result<Part<ImportData<'a>>>
+        ensures { let m = map_of address_map.now in
+            let places = table_places self.now in
+            ReadsOrMemory (λ x. x) result (import_part m.opts (offset_of m) places) bytes.now }
+    {
+        let opts = address_map.opts();
+        match self.imports {
+            Some(directory) if opts.parse_imports => part_of(
+                self.import_data_of(alloc, bytes, directory, address_map),
+                opts,
+            ),
+            _ => Ok(Part::Absent),
+        }
+    }
+
+    // The imports of import data.
+    #[tactic(auto, unfolding(crate::specs::Whole::entry_format))]
+    fn imports_of<'a>(
+        &self,
+        alloc: Global,
+        bytes: &'a [u8],
+        libraries: &ImportData<'a>,
+        sections: &[SectionTable],
+    ) -> Result<Vec<Import<'a>>>
+        ensures { AnswersOrMemory (λ v. v.items) result
+            (imports_of (entry_format self.now.magic).width libraries.now)
+            (IsImportsFault libraries.now) }
+    {
+        if self.has_narrow_entries() {
+            Import::parse::<u32>(alloc, bytes, libraries, sections)
+        } else {
+            Import::parse::<u64>(alloc, bytes, libraries, sections)
+        }
+    }
+
+    // The list of imports.
+    #[tactic(auto, unfolding(crate::specs::Whole::imports_part, crate::specs::Whole::part_then, crate::specs::Whole::part_map), using(crate::proofs::Parts::becomes_answered))]
+    fn imports<'a>(
+        &self,
+        alloc: Global,
+        bytes: &'a [u8],
+        import_data: &Part<ImportData<'a>>,
+        sections: &[SectionTable],
+        opts: &ParseOptions,
+    ) -> Result<Part<Vec<Import<'a>>>>
+        ensures { AnswersOrMemory items_part result
+            (imports_part opts.now (table_places self.now) import_data.now)
+            (IsImportsPartFault import_data.now) }
+    {
+        match import_data {
+            Part::Absent => Ok(Part::Absent),
+            Part::Read(data) => part_of(self.imports_of(alloc, bytes, data, sections), opts),
+            Part::Refused => Ok(Part::Refused),
+        }
+    }
+
+    // The import data, and the list of imports made from it.
+    #[tactic(auto, unfolding(crate::specs::Whole::import_parts))]
+    fn import_parts<'a>(
+        &self,
+        alloc: Global,
+        bytes: &'a [u8],
+        address_map: &AddressMap,
+        sections: &[SectionTable],
+    ) -> Result<ImportRead<'a>>
+        ensures { let m = map_of address_map.now in
+            let places = table_places self.now in
+            ReadsOrMemory import_read_view result (import_parts m.opts (offset_of m) places)
+            bytes.now }
+    {
+        let import_data = self.import_data(alloc, bytes, address_map)?;
+        let imports = self.imports(alloc, bytes, &import_data, sections, address_map.opts())?;
+        Ok((import_data, imports))
+    }
+
+    // The export data, and the exports that it lists.
+    #[tactic(auto, unfolding(crate::specs::Whole::export_part, crate::specs::Whole::part_of, crate::specs::Whole::part_map))]
+    fn exports<'a>(
+        &self,
+        alloc: Global,
+        bytes: &'a [u8],
+        address_map: &AddressMap,
+    ) -> Result<Part<ExportRead<'a>>>
+        ensures { let m = map_of address_map.now in
+            let places = table_places self.now in
+            ReadsOrMemory (part_map export_read_view) result
+            (export_part m.opts (offset_of m) places) bytes.now }
+    {
+        let Some(directory) = self.exports else {
+            return Ok(Part::Absent);
+        };
+        match exports_of(alloc, bytes, directory, address_map) {
+            Ok(read) => Ok(Part::Read(read)),
+            Err(error) if is_passed_over(&error, address_map.is_permissive()) => Ok(Part::Refused),
+            Err(error) => Err(error),
+        }
+    }
+
+    // All tables, by this map of addresses.
+    #[tactic(auto, unfolding(crate::specs::Whole::table_parts))]
+    pub(super) fn listed<'a>(
+        &self,
+        alloc: Global,
+        bytes: &'a [u8],
+        address_map: &AddressMap,
+        sections: &[SectionTable],
+    ) -> Result<ListedTables<'a>>
+        ensures { let m = map_of address_map.now in
+            let places = table_places self.now in
+            ReadsOrMemory listed_view result (table_parts m.opts (offset_of m) places) bytes.now }
+    {
+        let imports = self.import_parts(alloc, bytes, address_map, sections)?;
+        let exports = self.exports(alloc, bytes, address_map)?;
+        let relocations = self.relocations(bytes, address_map)?;
+        Ok(ListedTables {
+            imports,
+            exports,
+            relocations,
+        })
+    }
+}
+
+// Import data, and the imports made from it.
+pub(super) type ImportRead<'a> = (Part<ImportData<'a>>, Part<Vec<Import<'a>>>);
+
+// Export data, and the exports that it lists.
+pub(super) type ExportRead<'a> = (ExportData<'a>, Vec<Export<'a>>);
+
+// The tables of a file.
+pub(super) struct ListedTables<'a> {
+    pub(super) imports: ImportRead<'a>,
+    pub(super) exports: Part<ExportRead<'a>>,
+    pub(super) relocations: Part<RelocationData<'a>>,
+}
+
+// The export data of a directory, and the exports that it lists.
+#[tactic(auto, unfolding(goblin_pe_tables::specs::ExportReadings::export_read, goblin_pe_tables::specs::ExportReadings::exports))]
+fn exports_of<'a>(
+    alloc: Global,
+    bytes: &'a [u8],
+    directory: DataDirectory,
+    address_map: &AddressMap,
+) -> Result<ExportRead<'a>>
+    ensures { let m = map_of address_map.now in
+        ReadsOrMemory export_read_view result (export_read (offset_of m) directory) bytes.now }
+{
+    let data = ExportData::parse_by(alloc, bytes, directory, address_map)?;
+    let exports = Export::parse_by(alloc, bytes, &data, address_map)?;
+    Ok((data, exports))
+}
+
+// Export data and the exports that it lists, each as a part of its own.
+#[tactic(auto, unfolding(crate::specs::Whole::part_map))]
+pub(super) fn export_parts<'a>(
+    read: Part<ExportRead<'a>>,
+) -> (Part<ExportData<'a>>, Part<Vec<Export<'a>>>)
+    ensures data { result.0 ≡ part_map (λ x. x.0) (part_map export_read_view read.entry) }
+    ensures rows { items_part result.1
+        ≡ part_map (λ x. x.1) (part_map export_read_view read.entry) }
+{
+    match read {
+        Part::Absent => (Part::Absent, Part::Absent),
+        Part::Read((data, exports)) => (Part::Read(data), Part::Read(exports)),
+        Part::Refused => (Part::Refused, Part::Refused),
+    }
+}

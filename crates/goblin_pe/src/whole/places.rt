@@ -1,0 +1,149 @@
+//! Where the tables of a file lie, and each as a walk or as its bytes.
+
+ghost use Rattle.std.specs.Prelude.{◌≡◌, ◌==◌};
+ghost use Rattle.std.specs.List.{flat_map};
+ghost use Rattle.goblin_base.specs.Reading.{Reads};
+ghost use Rattle.readings.specs.Reads.{mapped};
+ghost use Rattle.readings.specs.Walks.{Walks};
+ghost use Rattle.goblin_pe_sect.specs.BaseRelocations.{relocation_bytes};
+ghost use Rattle.goblin_pe_sect.specs.Options.{is_strict};
+ghost use Rattle.goblin_pe_tables.specs.Addresses.{map_of, offset_of, reads_strictly};
+ghost use Rattle.goblin_pe_tables.specs.ImportReadings.{import_data};
+ghost use Rattle.goblin_pe_tables.specs.Imports.{kept_imports};
+ghost use Rattle.goblin_pe.specs.Layouts.{IsFileImportsCause, PartWalks, file_imports_left};
+ghost use Rattle.goblin_pe.specs.Whole.{BecomesPart, entry_format, import_list, part_map};
+ghost use Rattle.goblin_pe.specs.Whole.{places_in, relocation_part, table_places};
+
+use crate::import::Imports;
+use crate::whole::{FileImports, Part};
+use goblin_base::{Result, ResultOf, is_passed_over};
+use goblin_pe_head::optional_header::{MAGIC_32, OptionalHeader};
+use goblin_pe_sect::relocation::RelocationData;
+use goblin_pe_sect::{DataDirectory, ParseOptions};
+use goblin_pe_tables::address_map::AddressMap;
+
+// What becomes of a table that was asked for. Permissive mode passes over each refusal but
+// `Error::Memory`.
+pub(super) fn part_of<'e, T: Drop>(
+    table: ResultOf<'e, T>,
+    opts: &ParseOptions,
+) -> ResultOf<'e, Part<T>>
+    ensures { BecomesPart (is_strict opts.now.parse_mode) table.entry result }
+{
+    match table {
+        Ok(table) => Ok(Part::Read(table)),
+        Err(error) if is_passed_over(&error, opts.parse_mode.is_permissive()) => Ok(Part::Refused),
+        Err(error) => Err(error),
+    }
+}
+
+// Where the tables of a file lie, and how they are read.
+#[derive(Copy, Clone)]
+pub(super) struct Places {
+    pub(super) magic: u16,
+    pub(super) file_alignment: u32,
+    pub(super) exports: Option<DataDirectory>,
+    pub(super) imports: Option<DataDirectory>,
+    pub(super) relocations: Option<DataDirectory>,
+}
+
+impl Places {
+    // By an optional header; without one there are none.
+    #[tactic(auto, unfolding(crate::specs::Whole::places_in))]
+    pub(super) fn of(header: &Option<OptionalHeader>) -> Places
+        ensures { table_places result ≡ places_in header.now }
+    {
+        let Some(header) = header else {
+            return Places {
+                magic: 0,
+                file_alignment: 0,
+                exports: None,
+                imports: None,
+                relocations: None,
+            };
+        };
+        Places {
+            magic: header.standard_fields.magic,
+            file_alignment: header.windows_fields.file_alignment,
+            exports: header.data_directories.get_export_table().copied(),
+            imports: header.data_directories.get_import_table().copied(),
+            relocations: header.data_directories.get_base_relocation_table().copied(),
+        }
+    }
+
+    // Whether the magic says that entries of the import tables have four bytes, not eight.
+    pub(super) fn has_narrow_entries(&self) -> bool
+        ensures { result ≡ (self.now.magic == 0x10B) }
+    {
+        self.magic == MAGIC_32
+    }
+
+    // The imports of a directory, as a walk.
+    #[tactic(auto, unfolding(crate::specs::Whole::entry_format))]
+    fn imports_at<'a, 'm, 'e>(
+        &self,
+        bytes: &'a [u8],
+        directory: DataDirectory,
+        address_map: &'m AddressMap,
+    ) -> ResultOf<'e, FileImports<'a, 'm, 'e>>
+        ensures { let m = map_of address_map.now in
+            let format = entry_format self.now.magic in
+            let rva = directory.virtual_address in
+            Walks file_imports_left IsFileImportsCause (λ xs. xs) result
+            (mapped (flat_map (kept_imports (λ x. x) format.width))
+            (import_data (reads_strictly m) format (offset_of m) rva))
+            bytes.now }
+    {
+        if self.has_narrow_entries() {
+            let imports = Imports::<u32>::of(bytes, directory, address_map)?;
+            Ok(FileImports::Narrow(imports))
+        } else {
+            let imports = Imports::<u64>::of(bytes, directory, address_map)?;
+            Ok(FileImports::Wide(imports))
+        }
+    }
+
+    // The imports as a walk, if they were asked for.
+    #[tactic(auto, unfolding(crate::specs::Whole::import_list, crate::specs::Whole::import_part))]
+    pub(super) fn import_walk<'a, 'm, 'e>(
+        &self,
+        bytes: &'a [u8],
+        address_map: &'m AddressMap,
+    ) -> ResultOf<'e, Part<FileImports<'a, 'm, 'e>>>
+        ensures { let m = map_of address_map.now in
+            let places = table_places self.now in
+            PartWalks file_imports_left IsFileImportsCause (λ xs. xs) result
+            (import_list m.opts (offset_of m) places) bytes.now }
+    {
+        let opts = address_map.opts();
+        match self.imports {
+            Some(directory) if opts.parse_imports => {
+                let imports = self.imports_at(bytes, directory, address_map)?;
+                Ok(Part::Read(imports))
+            }
+            _ => Ok(Part::Absent),
+        }
+    }
+
+    // The base relocations.
+    #[tactic(auto, unfolding(crate::specs::Whole::relocation_part, crate::specs::Whole::part_map))]
+    pub(super) fn relocations<'a>(
+        &self,
+        bytes: &'a [u8],
+        address_map: &AddressMap,
+    ) -> Result<Part<RelocationData<'a>>>
+        ensures { let m = map_of address_map.now in
+            let places = table_places self.now in
+            Reads (part_map relocation_bytes) result
+            (relocation_part m.opts (offset_of m) places) bytes.now }
+    {
+        let Some(directory) = self.relocations else {
+            return Ok(Part::Absent);
+        };
+        let offset = address_map.offset_of(directory.virtual_address);
+        part_of(
+            RelocationData::parse_at(bytes, directory, offset),
+            address_map.opts(),
+        )
+    }
+}
