@@ -169,26 +169,3 @@ module _ {X Y : Type 0} (import_of : ImportValue → X) (export_of : ExportRow �
         → option_map (collected_file import_of export_of) (option_map (whole_of h sections) tables_of)
         ≡ None
     file_refused e = rw (unmapped _ tables_of e) refl
-
--- ---- the imports
-
-module _ (opts : ParseOptions) (bytes : List ℕ) (short : length bytes < 2 ^ 63)
-    (fit : IsBytes bytes) where
-  -- what is kept of each library's imports is kept of the list of imports that can be made
-  pub collected-listed : {R X : Type 0} (places : TablePlaces) (offset_of : ℕ → Option ℕ)
-      (view : R → Part (List X)) (import_of : ImportValue → X) (read : Result R ErrorOf)
-      → let kept = kept_imports import_of (entry_format places.magic).width in
-      ReadsOrMemory view read (mapped (part_map (flat_map kept)) (import_part opts offset_of places))
-      bytes
-      → ReadsOrMemory view read
-      (mapped (collected_imports import_of) (import_parts opts offset_of places)) bytes
-  unfolding import_parts
-  collected-listed {R} {X} places offset_of view import_of (Ok r) h =
-      let kept = kept_imports import_of (entry_format places.magic).width in
-      let m = steps.mapped ((import_part opts offset_of places).value bytes) (part_map (flat_map kept)) (view r) h in
-      let listed = data-listed opts bytes places short fit offset_of m.value m.is in
-      rw (m.is, listed)
-      (ap (λ (p : Part (List X)). Some p) (sym (part-kept import_of opts places m.value listed) ∙ m.made))
-  collected-listed places offset_of view import_of (Err e) h =
-      λ other. rw (unmapped _ ((import_part opts offset_of places).value bytes) (h other).0)
-      (refl, (h other).1)

@@ -1,10 +1,12 @@
 -- The imports of a file as a part of it: permissive mode refuses no import data, and the part has what a walk over them collects.
-use Rattle.std.proofs.Common.{◌≡◌, ℕ, Bool, true, false, cond, List, Option, Some, None, IsSome, refl, subst, sym, ap, ◌∙◌, [], length, not, ◌&&◌, ◌==◌}
+use Rattle.std.proofs.Common.{◌≡◌, ℕ, Bool, true, false, cond, List, Option, Some, None, IsSome, refl, subst, sym, ap, ◌∙◌, [], length, map, not, ◌&&◌, ◌==◌, ◌<◌, ◌^◌}
 use Rattle.std.specs.Prelude.{option_map, Result, Ok, Err}
 use Rattle.std.specs.List.{flat_map}
 use Rattle.goblin_base.specs.declared.error.ErrorOf.{ErrorOf}
 use Rattle.goblin_base.specs.Answers.{◌>>=◌, all_of}
-use Rattle.goblin_base.specs.Reading.{Reading}
+use Rattle.std.proofs.lemmas.List.{map-id}
+use Rattle.goblin_base.specs.Bytes.{IsBytes}
+use Rattle.goblin_base.specs.Reading.{Reading, ReadsOrMemory}
 use Rattle.goblin_base.specs.Tables as tables
 use Rattle.goblin_base.specs.Tables.{Format, ends_table, made_of, slot_at, slot_table, stop}
 use Rattle.goblin_base.proofs.Below.{each_below-there, least-before}
@@ -21,11 +23,14 @@ use Rattle.goblin_pe_tables.specs.ImportReadings.{libraries_past_front, library_
 use Rattle.goblin_pe_tables.specs.ImportRecords.{ImportedLibrary, import_slots}
 use Rattle.goblin_pe_tables.specs.Imports.{ImportValue, kept_imports}
 use Rattle.goblin_pe.specs.declared.whole.Part.{Part}
+use Rattle.goblin_pe.specs.declared.whole.Part.TheVariants.{Absent, Refused}
 use Rattle.goblin_pe.specs.declared.whole.Part.TheVariants as part
 use Rattle.goblin_pe.specs.declared.whole.imports.FileImports.{FileImports}
 use Rattle.goblin_pe.specs.Layouts.{IsFileImportsCause, file_imports_left}
 use Rattle.goblin_pe.specs.Whole.{TablePlaces, entry_format, import_list, import_part, part_map}
-use Rattle.goblin_pe.specs.Whole.{part_of}
+use Rattle.goblin_pe.specs.Whole.{collected_imports, import_parts, listed_imports, part_of}
+use Rattle.goblin_pe.proofs.KeptImports.{part-kept}
+use Rattle.goblin_pe.proofs.ListedImports.{data-listed}
 
 -- ---- permissive mode refuses no import data
 
@@ -111,3 +116,45 @@ module _ (opts : ParseOptions) (offset_of : ℕ → Option ℕ) (places : TableP
         value = rw (asked, here) (part-value kept strict (libraries.value bytes) (all_of (file_imports_left imports)) there walk.value);
         cause = λ e fault. rw (asked, here) (walk.cause e fault);
       }
+
+-- ---- the list of imports beside the libraries
+
+unmade : {A B : Type 0} (f : A → B) (o : Option A) → option_map f o ≡ None → o ≡ None
+unmade f None e = refl
+unmade f (Some x) e = absurd cc
+
+same-part : {A : Type 0} (p : Part (List A)) → part_map (map (λ x. x)) p ≡ p
+unfolding part_map
+same-part Absent = refl
+same-part {A} (part.Read xs) = ap (λ (ys : List A). part.Read ys) (map-id xs)
+same-part Refused = refl
+
+module _ (opts : ParseOptions) (offset_of : ℕ → Option ℕ) (places : TablePlaces) (bytes : List ℕ) (short : length bytes < 2 ^ 63) (fit : IsBytes bytes) where
+  list-by : (o : Option (Part (List ImportedLibrary))) → (import_part opts offset_of places).value bytes ≡ o → (import_list opts offset_of places).value bytes ≡ option_map (λ read. read.1) ((import_parts opts offset_of places).value bytes)
+  unfolding import_list import_parts
+  list-by None is = rw is refl
+  list-by (Some p) is =
+      let listed = data-listed opts bytes places short fit offset_of p is in
+      rw (is, listed) (ap (λ (q : Part (List ImportValue)). Some q) (part-kept (λ x. x) opts places p listed ∙ same-part (listed_imports places.magic p)))
+
+  -- it is the list that is made of the libraries
+  pub list-value : (import_list opts offset_of places).value bytes ≡ option_map (λ read. read.1) ((import_parts opts offset_of places).value bytes)
+  list-value = list-by ((import_part opts offset_of places).value bytes) refl
+
+  pub list-cause : (e : ErrorOf) → (import_list opts offset_of places).value bytes ≡ None → (import_list opts offset_of places).IsCause bytes e → (import_parts opts offset_of places).IsCause bytes e
+  unfolding import_list import_parts
+  list-cause e none fault = rw (unmade _ ((import_part opts offset_of places).value bytes) none) fault
+
+  items-by : {X : Type 0} (item : ImportValue → X) (o : Option (Part (List ImportedLibrary) × Part (List ImportValue))) → option_map (part_map (map item)) (option_map (λ read. read.1) o) ≡ option_map (collected_imports item) o
+  items-by item None = refl
+  items-by item (Some read) = refl
+
+  -- what is made of each import of the list
+  pub list-collected : {R X : Type 0} (view : R → Part (List X)) (item : ImportValue → X) (read : Result R ErrorOf) → ReadsOrMemory view read (mapped (part_map (map item)) (import_list opts offset_of places)) bytes → ReadsOrMemory view read (mapped (collected_imports item) (import_parts opts offset_of places)) bytes
+  list-collected {R} {X} view item (Ok r) h =
+      let parts = (import_parts opts offset_of places).value bytes in
+      sym (ap (option_map (part_map (map item))) list-value ∙ items-by item parts) ∙ h
+  list-collected view item (Err e) h = λ other.
+      let none = unmade _ ((import_list opts offset_of places).value bytes) (h other).0 in
+      let parts = (import_parts opts offset_of places).value bytes in
+      (sym (ap (option_map (part_map (map item))) list-value ∙ items-by item parts) ∙ (h other).0, list-cause e none (h other).1)

@@ -2,6 +2,7 @@ pub mod Collected
 pub mod HeaderThere
 pub mod ImportParts
 pub mod KeptImports
+pub mod Layouts
 pub mod ListedImports
 pub mod Parts
 pub mod PermissiveReads
