@@ -1,6 +1,7 @@
 mod AddressMaps
 mod ExportGrowths
 mod ExportRows
+mod ExportWalk
 mod Grammar
 mod HandedLibraries
 mod HandedOver
