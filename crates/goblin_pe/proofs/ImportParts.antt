@@ -28,7 +28,7 @@ use Rattle.goblin_pe.specs.declared.whole.Part.TheVariants as part
 use Rattle.goblin_pe.specs.declared.whole.imports.FileImports.{FileImports}
 use Rattle.goblin_pe.specs.Layouts.{IsFileImportsCause, file_imports_left}
 use Rattle.goblin_pe.specs.Whole.{TablePlaces, entry_format, import_list, import_part, part_map}
-use Rattle.goblin_pe.specs.Whole.{collected_imports, import_parts, listed_imports, part_of}
+use Rattle.goblin_pe.specs.Whole.{AreListed, collected_imports, import_parts, listed_imports, part_of}
 use Rattle.goblin_pe.proofs.KeptImports.{part-kept}
 use Rattle.goblin_pe.proofs.ListedImports.{data-listed}
 
@@ -138,23 +138,26 @@ module _ (opts : ParseOptions) (offset_of : ℕ → Option ℕ) (places : TableP
       rw (is, listed) (ap (λ (q : Part (List ImportValue)). Some q) (part-kept (λ x. x) opts places p listed ∙ same-part (listed_imports places.magic p)))
 
   -- it is the list that is made of the libraries
-  pub list-value : (import_list opts offset_of places).value bytes ≡ option_map (λ read. read.1) ((import_parts opts offset_of places).value bytes)
-  list-value = list-by ((import_part opts offset_of places).value bytes) refl
+  pub list_value : (import_list opts offset_of places).value bytes ≡ option_map (λ read. read.1) ((import_parts opts offset_of places).value bytes)
+  list_value = list-by ((import_part opts offset_of places).value bytes) refl
 
-  pub list-cause : (e : ErrorOf) → (import_list opts offset_of places).value bytes ≡ None → (import_list opts offset_of places).IsCause bytes e → (import_parts opts offset_of places).IsCause bytes e
+  pub list_cause : (e : ErrorOf) → (import_list opts offset_of places).value bytes ≡ None → (import_list opts offset_of places).IsCause bytes e → (import_parts opts offset_of places).IsCause bytes e
   unfolding import_list import_parts
-  list-cause e none fault = rw (unmade _ ((import_part opts offset_of places).value bytes) none) fault
+  list_cause e none fault = rw (unmade _ ((import_part opts offset_of places).value bytes) none) fault
 
-  items-by : {X : Type 0} (item : ImportValue → X) (o : Option (Part (List ImportedLibrary) × Part (List ImportValue))) → option_map (part_map (map item)) (option_map (λ read. read.1) o) ≡ option_map (collected_imports item) o
-  items-by item None = refl
-  items-by item (Some read) = refl
+  pub are_listed : AreListed opts offset_of places bytes
+  are_listed = record { value = list_value; cause = list_cause }
 
-  -- what is made of each import of the list
-  pub list-collected : {R X : Type 0} (view : R → Part (List X)) (item : ImportValue → X) (read : Result R ErrorOf) → ReadsOrMemory view read (mapped (part_map (map item)) (import_list opts offset_of places)) bytes → ReadsOrMemory view read (mapped (collected_imports item) (import_parts opts offset_of places)) bytes
-  list-collected {R} {X} view item (Ok r) h =
-      let parts = (import_parts opts offset_of places).value bytes in
-      sym (ap (option_map (part_map (map item))) list-value ∙ items-by item parts) ∙ h
-  list-collected view item (Err e) h = λ other.
-      let none = unmade _ ((import_list opts offset_of places).value bytes) (h other).0 in
-      let parts = (import_parts opts offset_of places).value bytes in
-      (sym (ap (option_map (part_map (map item))) list-value ∙ items-by item parts) ∙ (h other).0, list-cause e none (h other).1)
+-- what is made of each import of the list
+items-by : {A X : Type 0} (item : ImportValue → X) (o : Option (A × Part (List ImportValue))) → option_map (part_map (map item)) (option_map (λ read. read.1) o) ≡ option_map (λ read. part_map (map item) read.1) o
+items-by item None = refl
+items-by item (Some read) = refl
+
+pub list_collected : {R X : Type 0} (opts : ParseOptions) (offset_of : ℕ → Option ℕ) (places : TablePlaces) (bytes : List ℕ) → AreListed opts offset_of places bytes → (view : R → Part (List X)) (item : ImportValue → X) (read : Result R ErrorOf) → ReadsOrMemory view read (mapped (part_map (map item)) (import_list opts offset_of places)) bytes → ReadsOrMemory view read (mapped (collected_imports item) (import_parts opts offset_of places)) bytes
+list_collected {R} {X} opts offset_of places bytes listed view item (Ok r) h =
+    let parts = (import_parts opts offset_of places).value bytes in
+    sym (ap (option_map (part_map (map item))) listed.value ∙ items-by item parts) ∙ h
+list_collected opts offset_of places bytes listed view item (Err e) h = λ other.
+    let none = unmade _ ((import_list opts offset_of places).value bytes) (h other).0 in
+    let parts = (import_parts opts offset_of places).value bytes in
+    (sym (ap (option_map (part_map (map item))) listed.value ∙ items-by item parts) ∙ (h other).0, listed.cause e none (h other).1)

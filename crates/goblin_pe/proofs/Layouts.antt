@@ -33,9 +33,10 @@ module _ (opts : ParseOptions) (bytes : List ℕ) where
   -- without a layout there is no file
   pub layout-refused : (e : ErrorOf) → ((layout opts).value bytes ≡ None) × (layout opts).IsCause bytes e → ((whole_file opts).value bytes ≡ None) × (whole_file opts).IsCause bytes e
   unfolding layout whole_file
-  layout-refused e h =
-      (none-then header sections (λ h s. (whole_with opts h s).value bytes) h.0,
-      cause-then header sections _ _ _ e h.0 h.1)
+  layout-refused e h = (
+    none-then header sections (λ h s. (whole_with opts h s).value bytes) h.0,
+    cause-then header sections _ _ _ e h.0 h.1,
+  )
 
   module _ (h : PeHeader) (s : List Section) (found : (layout opts).value bytes ≡ Some (h, s)) where
     record IsFound : Type 0 where

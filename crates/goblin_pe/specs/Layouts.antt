@@ -1,5 +1,5 @@
 -- What all tables of a file are read by, and the tables as walks.
-use Rattle.std.specs.Prelude.{◌≡◌, ℕ, List, Option, None, Some, Result, Ok, Err}
+use Rattle.std.specs.Prelude.{◌≡◌, ℕ, List, Option, None, Some, Result, Ok, Err, map}
 use Rattle.goblin_base.specs.declared.error.ErrorOf.{ErrorOf}
 use Rattle.goblin_base.specs.Reading.{Reading}
 use Rattle.readings.specs.Walks.{IsWalkOf}
@@ -7,6 +7,9 @@ use Rattle.goblin_pe_sect.specs.declared.options.ParseOptions.{ParseOptions}
 use Rattle.goblin_pe_sect.specs.SectionTable.{Section}
 use Rattle.goblin_pe_head.specs.PeHeader.{PeHeader, header_value}
 use Rattle.goblin_pe_tables.specs.Addresses.{MapOfAddresses, map_by, map_of}
+use Rattle.goblin_pe_tables.specs.declared.export.exports.Exports.{Exports}
+use Rattle.goblin_pe_tables.specs.ExportRecords.{ExportRow, ExportTables}
+use Rattle.goblin_pe_tables.specs.ExportWalks.{exports_left, walked_tables}
 use Rattle.goblin_pe_tables.specs.ImportLookup.{entries_32, entries_64}
 use Rattle.goblin_pe_tables.specs.Imports.{ImportValue}
 use Rattle.goblin_pe_tables.specs.ImportWalks.{GivesImport, IsImportsCause, imports_bound, imports_left}
@@ -75,3 +78,9 @@ abbrev pub GivesFileImport : FileImports → Option (Result WalkedImport ErrorOf
 GivesFileImport (Narrow s) result (Narrow t) = GivesImport entries_32 s result t
 GivesFileImport (Wide s) result (Wide t) = GivesImport entries_64 s result t
 GivesFileImport s result t = ⊥
+
+-- ---- the walk over the exports
+
+-- what an export directory leads to, and the exports that are still to come
+abbrev pub walked_exports : Exports → ExportTables × List ExportRow
+walked_exports walk = (walked_tables walk, map (λ x. x.row) (exports_left walk))

@@ -53,6 +53,7 @@ pub use Rattle.goblin_pe_tables.specs.Addresses
 pub use Rattle.goblin_pe_tables.specs.ExportReadings
 pub use Rattle.goblin_pe_tables.specs.ExportRecords
 pub use Rattle.goblin_pe_tables.specs.Exports
+pub use Rattle.goblin_pe_tables.specs.ExportWalks
 pub use Rattle.goblin_pe_tables.specs.ForwarderLaws
 pub use Rattle.goblin_pe_tables.specs.Forwarders
 pub use Rattle.goblin_pe_tables.specs.ImportBound

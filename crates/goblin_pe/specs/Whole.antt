@@ -1,7 +1,7 @@
 -- A whole file: its header, its sections, and the tables that its directories lead to.
 use Rattle.std.specs.Prelude.{◌≡◌, ℕ, ◌+◌, ◌==◌, Bool, true, false, if◌then◌else◌, List, [], Option}
 use Rattle.std.specs.Prelude.{◌⊎◌, Some, None, Result, Ok, Err, Vec, IsSome, IsSomeAnd, IsTrue}
-use Rattle.std.specs.Prelude.{map, unwrap_or}
+use Rattle.std.specs.Prelude.{map, option_map, unwrap_or}
 use Rattle.std.specs.List.{flat_map}
 use Rattle.std.specs.Global.{Global}
 use Rattle.std.specs.declared.alloc.AllocError.{AllocError}
@@ -169,6 +169,15 @@ unfoldable pub import_list : ParseOptions → (ℕ → Option ℕ) → TablePlac
 import_list opts offset_of places =
     mapped (part_map (flat_map (kept_imports (λ x. x) (entry_format places.magic).width)))
     (import_part opts offset_of places)
+
+-- The imports alone are the list that is made of the libraries, and are refused as that is.
+pub record AreListed (opts : ParseOptions) (offset_of : ℕ → Option ℕ) (places : TablePlaces)
+    (bytes : List ℕ) : Type 0 where
+  pub value : (import_list opts offset_of places).value bytes
+      ≡ option_map (λ read. read.1) ((import_parts opts offset_of places).value bytes)
+  pub cause : (e : ErrorOf) → (import_list opts offset_of places).value bytes ≡ None
+      → (import_list opts offset_of places).IsCause bytes e
+      → (import_parts opts offset_of places).IsCause bytes e
 
 -- the export data, with the exports that it lists
 unfoldable pub export_part : ParseOptions → (ℕ → Option ℕ) → TablePlaces

@@ -1,5 +1,6 @@
 -- The records of exports, as definitions.
-use Rattle.std.specs.Prelude.{ℕ, Bool, List, [], Option, Some, None, unwrap_or}
+use Rattle.std.specs.Prelude.{ℕ, Bool, List, [], Option, Some, None, Vec, map, unwrap_or}
+use Rattle.std.specs.Global.{Global}
 use Rattle.std.specs.Option.{is_some}
 use Rattle.goblin_pe.specs.Exports.{ExportRow}
 use Rattle.goblin_pe.specs.Forwarders.{Forwarder}
@@ -62,3 +63,7 @@ export_view x = record {
   has_offset = x.has_offset;
   forwards = x.forwards;
 }
+
+-- what a list of records holds
+abbrev pub export_views : Vec PeExport Global → List ExportSaid
+export_views records = map export_view records.items

@@ -1,5 +1,6 @@
 -- The records of imports, as definitions.
-use Rattle.std.specs.Prelude.{ℕ, List, [], if◌then◌else◌}
+use Rattle.std.specs.Prelude.{ℕ, List, [], Vec, if◌then◌else◌, map}
+use Rattle.std.specs.Global.{Global}
 use Rattle.goblin_pe.specs.Imports.{ImportValue, ordinal_name}
 use Rattle.goblin_pe_c.specs.declared.import.PeImport.{PeImport}
 
@@ -18,3 +19,7 @@ import_view x = (
   },
   if x.is_by_name then [] else x.name.now,
 )
+
+-- what a list of records holds
+abbrev pub import_views : Vec PeImport Global → List (ImportValue × List ℕ)
+import_views records = map import_view records.items

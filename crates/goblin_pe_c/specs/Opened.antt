@@ -1,20 +1,23 @@
 -- The tables of a whole file, which are in memory of their own.
-use Rattle.std.specs.Prelude.{◌≡◌, ℕ, List, map}
+use Rattle.std.specs.Prelude.{◌≡◌, ℕ, List, Vec, map}
+use Rattle.std.specs.Global.{Global}
 use Rattle.goblin_pe.specs.Imports.{ImportValue}
-use Rattle.goblin_pe.specs.PeHeader.{PeHeader}
-use Rattle.goblin_pe.specs.Whole.{CollectedFileValue, WholeFile, collected_file, collected_view}
-use Rattle.goblin_pe.specs.declared.whole.CollectedFile.{CollectedFile}
+use Rattle.goblin_pe.specs.Whole.{CollectedFileValue, CollectedParts, WholeFile, collected_file, part_map}
+use Rattle.goblin_pe.specs.declared.whole.layout.Layout.{Layout}
+use Rattle.goblin_pe.specs.BaseRelocations.{relocation_bytes}
+use Rattle.goblin_pe.specs.Layouts.{layout_view}
 use Rattle.goblin_pe_c.specs.declared.directory.PeDirectory.{PeDirectory}
 use Rattle.goblin_pe_c.specs.declared.file.PeFile.{PeFile}
 use Rattle.goblin_pe_c.specs.declared.open.PeTables.{PeTables}
 use Rattle.goblin_pe_c.specs.Blocks.{block_view, blocks_in}
 use Rattle.goblin_pe_c.specs.Directories.{directories_of, directory_record}
-use Rattle.goblin_pe_c.specs.declared.export.ExportRecords.{ExportRecords}
-use Rattle.goblin_pe_c.specs.declared.import.ImportRecords.{ImportRecords}
-use Rattle.goblin_pe_c.specs.Exports.{ExportSaid, export_said, export_view}
+use Rattle.goblin_pe_c.specs.declared.export.PeExport.{PeExport}
+use Rattle.goblin_pe_c.specs.declared.import.PeImport.{PeImport}
+use Rattle.goblin_pe_c.specs.declared.records.FileRecords.{FileRecords}
+use Rattle.goblin_pe_c.specs.Exports.{ExportSaid, export_said, export_view, export_views}
 use Rattle.goblin_pe_c.specs.Files.{entries_of, file_of}
 use Rattle.goblin_pe_c.specs.Filled.{Filled, alone}
-use Rattle.goblin_pe_c.specs.Imports.{import_view}
+use Rattle.goblin_pe_c.specs.Imports.{import_view, import_views}
 use Rattle.goblin_pe_c.specs.RichHeaders.{entries_in, entry_view}
 use Rattle.goblin_pe_c.specs.Sections.{section_said}
 
@@ -51,12 +54,19 @@ RecordsOfFile = CollectedFileValue (ImportValue × List ℕ) ExportSaid
 abbrev pub records_of_file : WholeFile → RecordsOfFile
 records_of_file w = collected_file alone export_said w
 
--- the records that are held of imports, and of exports
-abbrev pub import_list : ImportRecords → List (ImportValue × List ℕ)
-import_list x = map import_view x.records.items
+-- the tables as records
+abbrev pub tables_view : FileRecords → CollectedParts (ImportValue × List ℕ) ExportSaid
+tables_view x = (
+  (part_map import_views x.imports, part_map export_views x.exports),
+  part_map relocation_bytes x.relocations,
+)
 
-abbrev pub export_list : ExportRecords → List ExportSaid
-export_list x = map export_view x.records.items
-
-abbrev pub records_view : PeHeader → CollectedFile ImportRecords ExportRecords → RecordsOfFile
-records_view header x = collected_view import_list export_list header x
+-- the file, by what its tables are read by and their records
+abbrev pub records_view : Layout → FileRecords → RecordsOfFile
+records_view l x = record {
+  header = (layout_view l).0;
+  sections = (layout_view l).1;
+  imports = part_map import_views x.imports;
+  exports = part_map export_views x.exports;
+  relocations = part_map relocation_bytes x.relocations;
+}

@@ -1,10 +1,18 @@
 //! The records of exports.
 
-ghost use Rattle.std.specs.Prelude.{◌≡◌, [], map};
-ghost use Rattle.goblin_pe_c.specs.Exports.{ExportSaid, export_said, export_view};
+ghost use Rattle.std.specs.Prelude.{◌≡◌, ◌++◌, ◌∷◌, [], map};
+ghost use Rattle.goblin_base.specs.Answers.{GivesOrMemory};
+ghost use Rattle.goblin_base.specs.Reading.{ReadsOrMemory};
+ghost use Rattle.goblin_pe.specs.Reads.{mapped};
+ghost use Rattle.goblin_pe_tables.specs.Addresses.{offset_of};
+ghost use Rattle.goblin_pe_tables.specs.ExportWalks.{exports_left};
+ghost use Rattle.goblin_pe.specs.Layouts.{layout_map, layout_places};
+ghost use Rattle.goblin_pe.specs.Whole.{collected_exports, export_part, part_map};
+ghost use Rattle.goblin_pe_c.specs.Exports.{export_said, export_view, export_views};
 
-use goblin_pe::Result;
-use goblin_pe::export::{Export, ExportCollector, Reexport};
+use crate::room::make_room;
+use goblin_pe::export::{Export, Exports, Reexport};
+use goblin_pe::{Layout, Part, Result};
 use std::alloc::Global;
 
 /// An export.
@@ -62,38 +70,61 @@ fn export_record<'a>(bytes: &'a [u8], export: &Export<'a>) -> PeExport<'a>
     }
 }
 
-/// The records of exports.
-#[derive(Drop)]
-pub struct ExportRecords<'a> {
-    /// The records, in the order of the name pointers.
-    pub records: Vec<PeExport<'a>>,
+// For at most so many records room is made first.
+const MOST_FIRST: usize = 32;
+
+// Adds the record of an export; `expected` is above 0 where there are more.
+fn push_export<'a>(
+    records: &mut Vec<PeExport<'a>>,
     bytes: &'a [u8],
+    export: &Export<'a>,
+    expected: usize,
+) -> Result<()>
+    ensures { let made = export_said export.now ∷ [] in
+        GivesOrMemory (λ _. map export_view records.new.items) result
+        (map export_view records.old.items ++ made) }
+{
+    make_room(records, expected)?;
+    records.push(export_record(bytes, export))?;
+    Ok(())
 }
 
-impl<'a> ExportRecords<'a> {
-    /// No records yet, of exports that are read from `bytes`.
-    pub fn new(alloc: Global, bytes: &'a [u8]) -> ExportRecords<'a>
-        ensures { result.records.items ≡ [] }
-    {
-        ExportRecords {
-            records: Vec::new(alloc),
-            bytes,
-        }
+// The records of the exports that a walk gives.
+fn records_of<'a, 'm>(
+    alloc: Global,
+    bytes: &'a [u8],
+    exports: Exports<'a, 'm>,
+) -> Result<Vec<PeExport<'a>>>
+    ensures { GivesOrMemory (λ v. map export_view v.items) result
+        (map export_said (map (λ x. x.row) (exports_left exports.entry))) }
+{
+    let expected = exports
+        .size_hint()
+        .1
+        .unwrap_or(MOST_FIRST)
+        .clamp(1, MOST_FIRST);
+    let mut records = Vec::new(alloc);
+    'exports: for walked in exports {
+        push_export(&mut records, bytes, &walked.export, expected)?;
     }
+    Ok(records)
 }
 
-impl<'a> ExportCollector<'a> for ExportRecords<'a> {
-    ghost Item = { ExportSaid };
-
-    ghost items = { λ exports. map export_view exports.records.items };
-
-    ghost item_of = { export_said };
-
-    fn add(&mut self, export: Export<'a>, expected: usize) -> Result<()> {
-        if self.records.is_empty() {
-            self.records.reserve(expected)?;
+/// The records of a file's exports, in the order of the name pointers.
+#[tactic(auto, unfolding(goblin_pe::specs::Whole::part_map))]
+pub fn export_records<'a>(alloc: Global, layout: &Layout<'a>) -> Result<Part<Vec<PeExport<'a>>>>
+    ensures { let m = layout_map layout.now in
+        ReadsOrMemory (part_map export_views) result
+        (mapped (part_map (collected_exports export_said))
+        (export_part m.opts (offset_of m) (layout_places layout.now)))
+        layout.now.bytes.now }
+{
+    match layout.exports()? {
+        Part::Absent => Ok(Part::Absent),
+        Part::Read(exports) => {
+            let records = records_of(alloc, layout.bytes(), exports)?;
+            Ok(Part::Read(records))
         }
-        self.records.push(export_record(self.bytes, &export))?;
-        Ok(())
+        Part::Refused => Ok(Part::Refused),
     }
 }

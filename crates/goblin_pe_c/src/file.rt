@@ -4,20 +4,22 @@ ghost use Rattle.std.specs.Prelude.{◌≡◌, length};
 ghost use Rattle.goblin_pe_head.specs.PeHeader.{header_value};
 ghost use Rattle.goblin_pe.specs.Whole.{part_map};
 ghost use Rattle.goblin_pe_c.specs.Blocks.{relocations_of};
+ghost use Rattle.goblin_pe_c.specs.Exports.{export_views};
+ghost use Rattle.goblin_pe_c.specs.Imports.{import_views};
 ghost use Rattle.goblin_pe_c.specs.Files.{summary, table_of};
-ghost use Rattle.goblin_pe_c.specs.Opened.{export_list, import_list, records_view};
+ghost use Rattle.goblin_pe_c.specs.Opened.{records_view};
 ghost use Rattle.goblin_pe_c.specs.RichHeaders.{rich_of};
 
 use crate::block::PeRelocations;
 use crate::directory::directories_of;
-use crate::export::ExportRecords;
+use crate::export::PeExport;
 use crate::headers::{
     PeCoffHeader, PeDosHeader, PeOptionalHeader, coff_record, dos_record, optional_record,
 };
-use crate::import::ImportRecords;
+use crate::import::PeImport;
+use crate::records::FileRecords;
 use crate::rich::PeRichHeader;
-use goblin_pe::header::Header;
-use goblin_pe::{CollectedFile, Part};
+use goblin_pe::{Layout, Part};
 
 /// A table of the file.
 #[repr(C)]
@@ -56,13 +58,13 @@ pub struct PeFile {
 
 // How the imports stand.
 #[tactic(auto, unfolding(goblin_pe::specs::Whole::part_map))]
-fn imports_table(imports: &Part<ImportRecords>) -> PeTable
-    ensures { result ≡ table_of (part_map import_list imports.now) }
+fn imports_table(imports: &Part<Vec<PeImport>>) -> PeTable
+    ensures { result ≡ table_of (part_map import_views imports.now) }
 {
     match imports {
         Part::Absent => PeTable { count: 0, state: 0 },
         Part::Read(imports) => PeTable {
-            count: imports.records.len(),
+            count: imports.len(),
             state: 1,
         },
         Part::Refused => PeTable { count: 0, state: 2 },
@@ -71,13 +73,13 @@ fn imports_table(imports: &Part<ImportRecords>) -> PeTable
 
 // How the exports stand.
 #[tactic(auto, unfolding(goblin_pe::specs::Whole::part_map))]
-fn exports_table(exports: &Part<ExportRecords>) -> PeTable
-    ensures { result ≡ table_of (part_map export_list exports.now) }
+fn exports_table(exports: &Part<Vec<PeExport>>) -> PeTable
+    ensures { result ≡ table_of (part_map export_views exports.now) }
 {
     match exports {
         Part::Absent => PeTable { count: 0, state: 0 },
         Part::Read(exports) => PeTable {
-            count: exports.records.len(),
+            count: exports.len(),
             state: 1,
         },
         Part::Refused => PeTable { count: 0, state: 2 },
@@ -86,25 +88,26 @@ fn exports_table(exports: &Part<ExportRecords>) -> PeTable
 
 /// What is said of a file as a whole: with what is said of its base relocations and its Rich header.
 pub fn file_of<'a>(
-    header: &Header<'a>,
-    file: &CollectedFile<'a, ImportRecords<'a>, ExportRecords<'a>>,
+    layout: &Layout<'a>,
+    records: &FileRecords<'a>,
     relocations: PeRelocations,
     rich_header: PeRichHeader,
 ) -> PeFile
-    requires relocations { let v = records_view (header_value header.now) file.now in
+    requires relocations { let v = records_view layout.now records.now in
         relocations ≡ relocations_of v.relocations }
-    requires rich_header { rich_header ≡ rich_of (header_value header.now).rich_header }
-    ensures { let v = records_view (header_value header.now) file.now in
+    requires rich_header { rich_header ≡ rich_of (header_value layout.now.header).rich_header }
+    ensures { let v = records_view layout.now records.now in
         result
         ≡ summary v.header (length v.sections) (table_of v.imports) (table_of v.exports)
         v.relocations }
 {
+    let header = layout.header();
     PeFile {
         optional_header: optional_record(&header.optional_header),
         directories: directories_of(&header.optional_header).len(),
-        sections: file.sections.len(),
-        imports: imports_table(&file.imports),
-        exports: exports_table(&file.exports),
+        sections: layout.sections().len(),
+        imports: imports_table(&records.imports),
+        exports: exports_table(&records.exports),
         relocations,
         rich_header,
         dos_header: dos_record(&header.dos_header),

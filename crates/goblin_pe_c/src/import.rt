@@ -1,14 +1,21 @@
 //! The records of imports.
 
-ghost use Rattle.std.specs.Prelude.{◌≡◌, ◌≤◌, ◌<◌, ◌+◌, ◌/◌, [], IfErr, List, OnErr, OnOk, map, max, vec_capacity, vec_len, ℕ};
-ghost use Rattle.goblin_base.specs.Answers.{IsMemory};
-ghost use Rattle.goblin_pe.specs.ImportLookup.{entry_view};
-ghost use Rattle.goblin_pe.specs.Imports.{ImportValue, import_of};
+ghost use Rattle.std.specs.Prelude.{◌≡◌, ◌++◌, ◌∷◌, [], map, option_map};
+ghost use Rattle.goblin_base.specs.Answers.{AnswersOrMemory, GivesOrMemory, all_of};
+ghost use Rattle.goblin_base.specs.Reading.{ReadsOrMemory};
+ghost use Rattle.goblin_pe.specs.Reads.{mapped};
+ghost use Rattle.goblin_pe_tables.specs.Addresses.{offset_of};
+ghost use Rattle.goblin_pe_tables.specs.ImportWalks.{IsImportsCause, imports_left, walked_value};
+ghost use Rattle.goblin_pe.specs.Layouts.{IsFileImportsCause, file_imports_left, layout_map};
+ghost use Rattle.goblin_pe.specs.Layouts.{layout_places};
+ghost use Rattle.goblin_pe.specs.Whole.{AreListed, collected_imports, import_list, import_parts};
+ghost use Rattle.goblin_pe.specs.Whole.{part_map};
 ghost use Rattle.goblin_pe_c.specs.Filled.{alone};
-ghost use Rattle.goblin_pe_c.specs.Imports.{import_view};
+ghost use Rattle.goblin_pe_c.specs.Imports.{import_view, import_views};
 
-use goblin_pe::Result;
-use goblin_pe::import::{ImportCollector, SyntheticImportLookupTableEntry};
+use crate::room::make_room;
+use goblin_pe::import::{Bitfield, Imports, SyntheticImportLookupTableEntry, WalkedImport};
+use goblin_pe::{FileImports, Layout, Part, Result, ResultOf};
 use std::alloc::Global;
 
 /// An import.
@@ -36,108 +43,108 @@ pub struct PeImport<'a> {
     pub is_by_name: bool,
 }
 
-// The record of an entry that a lookup table keeps.
+// The record of an import.
 #[tactic(auto, unfolding(goblin_pe_tables::specs::Imports::import_of))]
-fn import_record<'a>(
-    bytes: &'a [u8],
-    entry: &SyntheticImportLookupTableEntry<'a>,
-    dll: &'a str,
-    slot: usize,
-    offset: usize,
-    size: usize,
-) -> PeImport<'a>
-    ensures { import_view result
-        ≡ alone (import_of dll.now slot offset size (entry_view entry.now)) }
+fn import_record<'a>(bytes: &'a [u8], import: WalkedImport<'a>) -> PeImport<'a>
+    ensures { import_view result ≡ alone (walked_value import.entry) }
 {
-    match entry {
-        SyntheticImportLookupTableEntry::OrdinalNumber(ordinal) => PeImport {
-            name: &bytes[..0],
-            dll: dll.as_bytes(),
-            offset,
-            rva: 0,
-            size,
-            slot,
-            ordinal: *ordinal,
-            is_by_name: false,
-        },
-        SyntheticImportLookupTableEntry::HintNameTableRVA((rva, named)) => PeImport {
-            name: named.name.as_bytes(),
-            dll: dll.as_bytes(),
-            offset,
-            rva: *rva as usize,
-            size,
-            slot,
-            ordinal: named.hint,
-            is_by_name: true,
-        },
+    let (name, rva, ordinal, is_by_name): (&'a [u8], usize, u16, bool) = match import.entry {
+        SyntheticImportLookupTableEntry::OrdinalNumber(ordinal) => (&bytes[..0], 0, ordinal, false),
+        SyntheticImportLookupTableEntry::HintNameTableRVA((rva, named)) => {
+            (named.name.as_bytes(), rva as usize, named.hint, true)
+        }
+    };
+    PeImport {
+        name,
+        dll: import.dll.as_bytes(),
+        offset: import.offset,
+        rva,
+        size: import.size,
+        slot: import.slot,
+        ordinal,
+        is_by_name,
     }
 }
 
-// How many records there is room for first.
+// For how many records room is made first.
 const FIRST_ROOM: usize = 4;
 
-// Makes room for another record, and for half as many more as there are, where it doesn't fit: many
-// records are seldom moved, and a file asks for at most half as much again as they take.
-#[inline]
-fn make_room(records: &mut Vec<PeImport>) -> Result<()>
-    ensures kept { records.new.items ≡ records.old.items }
-    ensures refused { IfErr result IsMemory }
-    ensures room { OnOk result (vec_capacity records.old ≡ vec_len records.old
-        → vec_capacity records.new ≡ vec_len records.old + max 4 (vec_len records.old / 2)) }
-    ensures same { OnOk result (vec_len records.old < vec_capacity records.old
-        → vec_capacity records.new ≡ vec_capacity records.old) }
-    ensures grown { OnErr result (vec_capacity records.old ≤ vec_len records.old) }
+// Adds the record of an import.
+fn push_import<'a>(
+    records: &mut Vec<PeImport<'a>>,
+    bytes: &'a [u8],
+    import: WalkedImport<'a>,
+) -> Result<()>
+    ensures { let made = alone (walked_value import.entry) ∷ [] in
+        GivesOrMemory (λ _. map import_view records.new.items) result
+        (map import_view records.old.items ++ made) }
 {
-    let count = records.len();
-    if count == records.capacity() {
-        records.reserve_exact(FIRST_ROOM.max(count / 2))?;
-    }
+    make_room(records, FIRST_ROOM)?;
+    records.push(import_record(bytes, import))?;
     Ok(())
 }
 
-/// The records of imports, library by library.
-#[derive(Drop)]
-pub struct ImportRecords<'a> {
-    /// The records, in the order of the libraries and of their entries.
-    pub records: Vec<PeImport<'a>>,
+// The records of the imports that a walk gives.
+fn records_of<'a, 'm, 'e, T: Bitfield<'a>>(
+    alloc: Global,
     bytes: &'a [u8],
+    imports: Imports<'a, 'm, 'e, T>,
+) -> ResultOf<'e, Vec<PeImport<'a>>>
+    ensures { let items = all_of (imports_left T.format imports.entry) in
+        AnswersOrMemory (λ v. map import_view v.items) result (option_map (map alone) items)
+        (IsImportsCause T.format imports.entry) }
+{
+    let mut records = Vec::new(alloc);
+    'imports: for import in imports {
+        push_import(&mut records, bytes, import?)?;
+    }
+    Ok(records)
 }
 
-impl<'a> ImportRecords<'a> {
-    /// No records yet, of imports that are read from `bytes`.
-    pub fn new(alloc: Global, bytes: &'a [u8]) -> ImportRecords<'a>
-        ensures items { result.records.items ≡ [] }
-        ensures none { vec_capacity result.records ≡ 0 }
-    {
-        ImportRecords {
-            records: Vec::new(alloc),
-            bytes,
+// The records of the imports of a file.
+fn file_records_of<'a, 'm, 'e>(
+    alloc: Global,
+    bytes: &'a [u8],
+    imports: FileImports<'a, 'm, 'e>,
+) -> ResultOf<'e, Vec<PeImport<'a>>>
+    ensures { let items = all_of (file_imports_left imports.entry) in
+        AnswersOrMemory (λ v. map import_view v.items) result (option_map (map alone) items)
+        (IsFileImportsCause imports.entry) }
+{
+    match imports {
+        FileImports::Narrow(imports) => records_of(alloc, bytes, imports),
+        FileImports::Wide(imports) => records_of(alloc, bytes, imports),
+    }
+}
+
+// The records of a file's imports.
+#[tactic(auto, unfolding(goblin_pe::specs::Whole::part_map))]
+fn listed_records<'a>(alloc: Global, layout: &Layout<'a>) -> Result<Part<Vec<PeImport<'a>>>>
+    ensures value { let m = layout_map layout.now in
+        ReadsOrMemory (part_map import_views) result
+        (mapped (part_map (map alone)) (import_list m.opts (offset_of m) (layout_places layout.now)))
+        layout.now.bytes.now }
+    ensures listed { let m = layout_map layout.now in
+        AreListed m.opts (offset_of m) (layout_places layout.now) layout.now.bytes.now }
+{
+    match layout.imports()? {
+        Part::Absent => Ok(Part::Absent),
+        Part::Read(imports) => {
+            let records = file_records_of(alloc, layout.bytes(), imports)?;
+            Ok(Part::Read(records))
         }
+        Part::Refused => Ok(Part::Refused),
     }
 }
 
-impl<'a> ImportCollector<'a> for ImportRecords<'a> {
-    ghost Item = { ImportValue × List ℕ };
-
-    ghost items = { λ imports. map import_view imports.records.items };
-
-    ghost item_of = { alone };
-
-    /// Appends the record of an import.
-    ///
-    /// # Errors
-    /// Where memory is refused.
-    fn add(
-        &mut self,
-        entry: SyntheticImportLookupTableEntry<'a>,
-        dll: &'a str,
-        slot: usize,
-        offset: usize,
-        size: usize,
-    ) -> Result<()> {
-        make_room(&mut self.records)?;
-        self.records
-            .push(import_record(self.bytes, &entry, dll, slot, offset, size))?;
-        Ok(())
-    }
+/// The records of a file's imports, in the order of the libraries and of their entries.
+#[tactic(auto, using(goblin_pe::proofs::ImportParts::list_collected))]
+pub fn import_records<'a>(alloc: Global, layout: &Layout<'a>) -> Result<Part<Vec<PeImport<'a>>>>
+    ensures { let m = layout_map layout.now in
+        ReadsOrMemory (part_map import_views) result
+        (mapped (collected_imports alone)
+        (import_parts m.opts (offset_of m) (layout_places layout.now)))
+        layout.now.bytes.now }
+{
+    listed_records(alloc, layout)
 }

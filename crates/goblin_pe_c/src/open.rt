@@ -4,16 +4,15 @@ ghost use Rattle.std.specs.Prelude.{◌≡◌, IfErr, IfOk, Some, map, option_ma
 ghost use Rattle.goblin_base.specs.Answers.{IsMemory};
 ghost use Rattle.goblin_pe_sect.specs.Options.{is_strict};
 ghost use Rattle.goblin_pe_head.specs.HeaderReadings.{pe_header};
-ghost use Rattle.goblin_pe_head.specs.PeHeader.{header_value};
 ghost use Rattle.goblin_pe.specs.SectionRoom.{HasRoom};
 ghost use Rattle.goblin_pe.specs.Whole.{part_map, whole_file};
 ghost use Rattle.goblin_pe_c.specs.Blocks.{block_view, blocks_in, relocations_of};
 ghost use Rattle.goblin_pe_c.specs.Calls.{ReadsInto, Reported};
-ghost use Rattle.goblin_pe_c.specs.Exports.{export_view};
+ghost use Rattle.goblin_pe_c.specs.Exports.{export_view, export_views};
 ghost use Rattle.goblin_pe_c.specs.Files.{entries_of};
 ghost use Rattle.goblin_pe_c.specs.Filled.{alone};
-ghost use Rattle.goblin_pe_c.specs.Imports.{import_view};
-ghost use Rattle.goblin_pe_c.specs.Opened.{Opened, Opens, export_list, import_list};
+ghost use Rattle.goblin_pe_c.specs.Imports.{import_view, import_views};
+ghost use Rattle.goblin_pe_c.specs.Opened.{Opened, Opens};
 ghost use Rattle.goblin_pe_c.specs.Opened.{records_of_file, records_view};
 ghost use Rattle.goblin_pe_c.specs.Options.{options_of};
 ghost use Rattle.goblin_pe_c.specs.RichHeaders.{entries_in, entry_view, rich_of};
@@ -21,16 +20,16 @@ ghost use Rattle.goblin_pe_c.specs.Sections.{section_said};
 
 use crate::block::{PeBlock, PeRelocations, block_records};
 use crate::directory::{PeDirectory, directories_of, fill_directories};
-use crate::export::{ExportRecords, PeExport};
+use crate::export::PeExport;
 use crate::fault::{PeFault, fault_of, no_fault};
 use crate::file::{PeFile, file_of};
-use crate::import::{ImportRecords, PeImport};
+use crate::import::PeImport;
 use crate::options::{PeOptions, options_of};
+use crate::records::{FileRecords, file_records};
 use crate::rich::{PeRichEntry, PeRichHeader, entry_records};
 use crate::section::{PeSection, section_records};
-use goblin_pe::header::Header;
 use goblin_pe::options::ParseOptions;
-use goblin_pe::{CollectedFile, Part, Result};
+use goblin_pe::{Layout, Part, Result};
 use std::alloc::Global;
 
 /// The tables of a file, each a block of memory of its own, or none where it is empty.
@@ -62,29 +61,30 @@ struct Made<'a> {
 // What is made of a file that was read.
 fn made_of<'a>(
     alloc: Global,
-    header: &Header<'a>,
-    file: &CollectedFile<'a, ImportRecords<'a>, ExportRecords<'a>>,
+    layout: &Layout<'a>,
+    records: &FileRecords<'a>,
     bytes: &'a [u8],
     opts: &ParseOptions,
 ) -> Result<Made<'a>>
     requires { option_map records_of_file ((whole_file opts.now).value bytes.now)
-        ≡ Some (records_view (header_value header.now) file.now) }
+        ≡ Some (records_view layout.now records.now) }
     ensures refused { IfErr result IsMemory }
-    ensures rich_header { let v = records_view (header_value header.now) file.now in
+    ensures rich_header { let v = records_view layout.now records.now in
         IfOk result (λ m. m.rich_header ≡ rich_of v.header.rich_header) }
-    ensures relocations { let v = records_view (header_value header.now) file.now in
+    ensures relocations { let v = records_view layout.now records.now in
         IfOk result (λ m. m.relocations ≡ relocations_of v.relocations) }
-    ensures rich_entries { let v = records_view (header_value header.now) file.now in
+    ensures rich_entries { let v = records_view layout.now records.now in
         IfOk result (λ m. map entry_view m.rich_entries.items ≡ entries_in v.header.rich_header) }
-    ensures sections { let v = records_view (header_value header.now) file.now in
+    ensures sections { let v = records_view layout.now records.now in
         IfOk result (λ m. map section_said m.sections.items ≡ map alone v.sections) }
-    ensures blocks { let v = records_view (header_value header.now) file.now in
+    ensures blocks { let v = records_view layout.now records.now in
         IfOk result (λ m. map block_view m.blocks.items ≡ blocks_in v.relocations) }
 {
+    let header = layout.header();
     let table = header.coff_header.symbols_end();
-    let sections = section_records(alloc, bytes, &file.sections, table, opts)?;
+    let sections = section_records(alloc, bytes, layout.sections(), table, opts)?;
     let (rich_entries, rich_header) = entry_records(alloc, &header.rich_header)?;
-    let (blocks, relocations) = block_records(alloc, &file.relocations)?;
+    let (blocks, relocations) = block_records(alloc, &records.relocations)?;
     Ok(Made {
         rich_entries,
         rich_header,
@@ -96,22 +96,22 @@ fn made_of<'a>(
 
 // Hands the records of imports over, none where there are none.
 #[tactic(auto, unfolding(goblin_pe::specs::Whole::part_map))]
-fn imports_of<'a>(imports: Part<ImportRecords<'a>>) -> &'a [PeImport<'a>]
-    ensures { map import_view result.now ≡ entries_of (part_map import_list imports.entry) }
+fn imports_of<'a>(imports: Part<Vec<PeImport<'a>>>) -> &'a [PeImport<'a>]
+    ensures { map import_view result.now ≡ entries_of (part_map import_views imports.entry) }
 {
     match imports {
-        Part::Read(imports) => imports.records.leak(),
+        Part::Read(imports) => imports.leak(),
         Part::Absent | Part::Refused => &[],
     }
 }
 
 // Hands the records of exports over, none where there are none.
 #[tactic(auto, unfolding(goblin_pe::specs::Whole::part_map))]
-fn exports_of<'a>(exports: Part<ExportRecords<'a>>) -> &'a [PeExport<'a>]
-    ensures { map export_view result.now ≡ entries_of (part_map export_list exports.entry) }
+fn exports_of<'a>(exports: Part<Vec<PeExport<'a>>>) -> &'a [PeExport<'a>]
+    ensures { map export_view result.now ≡ entries_of (part_map export_views exports.entry) }
 {
     match exports {
-        Part::Read(exports) => exports.records.leak(),
+        Part::Read(exports) => exports.leak(),
         Part::Absent | Part::Refused => &[],
     }
 }
@@ -119,15 +119,15 @@ fn exports_of<'a>(exports: Part<ExportRecords<'a>>) -> &'a [PeExport<'a>]
 // Hands the tables over.
 fn handed_over<'a>(
     made: Made<'a>,
-    imports: Part<ImportRecords<'a>>,
-    exports: Part<ExportRecords<'a>>,
+    imports: Part<Vec<PeImport<'a>>>,
+    exports: Part<Vec<PeExport<'a>>>,
 ) -> PeTables<'a>
     ensures rich_entries { result.rich_entries.now ≡ made.entry.rich_entries.items }
     ensures sections { result.sections.now ≡ made.entry.sections.items }
     ensures imports { map import_view result.imports.now
-        ≡ entries_of (part_map import_list imports.entry) }
+        ≡ entries_of (part_map import_views imports.entry) }
     ensures exports { map export_view result.exports.now
-        ≡ entries_of (part_map export_list exports.entry) }
+        ≡ entries_of (part_map export_views exports.entry) }
     ensures blocks { result.blocks.now ≡ made.entry.blocks.items }
 {
     PeTables {
@@ -140,7 +140,6 @@ fn handed_over<'a>(
 }
 
 // Reads a file and makes its tables.
-#[tactic(auto, unfolding(goblin_pe::specs::Whole::whole_file), using(goblin_pe::proofs::SectionRoom::whole_takes, goblin_pe_head::proofs::HeaderFaults::header_there))]
 fn open<'a>(
     alloc: Global,
     bytes: &'a [u8],
@@ -156,14 +155,15 @@ fn open<'a>(
         ReadsInto (pe_header (is_strict opts.now.parse_mode)) (HasRoom bytes.now)
         (whole_file opts.now) bytes.now (λ w. Opens w old new) (new ≡ old) result }
 {
-    let header = Header::parse_with_opts(bytes, opts)?;
-    let imports = ImportRecords::new(alloc, bytes);
-    let exports = ExportRecords::new(alloc, bytes);
-    let read = CollectedFile::read(alloc, bytes, &header, opts, imports, exports)?;
-    let made = made_of(alloc, &header, &read, bytes, opts)?;
-    fill_directories(directories, directories_of(&header.optional_header));
-    *file = file_of(&header, &read, made.relocations, made.rich_header);
-    *tables = handed_over(made, read.imports, read.exports);
+    let layout = Layout::read(alloc, bytes, opts)?;
+    let records = file_records(alloc, &layout)?;
+    let made = made_of(alloc, &layout, &records, bytes, opts)?;
+    fill_directories(
+        directories,
+        directories_of(&layout.header().optional_header),
+    );
+    *file = file_of(&layout, &records, made.relocations, made.rich_header);
+    *tables = handed_over(made, records.imports, records.exports);
     Ok(())
 }
 

@@ -6,7 +6,7 @@ use Rattle.goblin_pe_sect.specs.Mapping.{file_offset}
 use Rattle.goblin_pe_sect.specs.SectionTable.{Section}
 use Rattle.goblin_pe_sect.specs.WindowIndex.{Pieces, located}
 use Rattle.goblin_pe_sect.specs.declared.options.ParseOptions.{ParseOptions}
-use Rattle.goblin_pe_tables.specs.Addresses.{MapOfAddresses, map_by}
+use Rattle.goblin_pe_tables.specs.Addresses.{map_by}
 
 same_by : (resolves even : Bool) (rva : ℕ) → cond resolves None (Some rva) ≡ cond resolves (cond even None None) (Some rva)
 same_by false even rva = refl

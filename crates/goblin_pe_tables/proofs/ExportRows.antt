@@ -1,27 +1,40 @@
 -- The exports, row by row.
-use Rattle.std.proofs.Common.{◌≡◌, ◌++◌, ◌+◌, ℕ, List, [], Option, map, refl, sym, ap, ◌∙◌}
-use Rattle.std.specs.Prelude.{Result, Ok, Err, option_to_list}
-use Rattle.std.proofs.lemmas.List.{map-append, map-id}
-use Rattle.goblin_base.specs.declared.error.ErrorOf.{ErrorOf}
-use Rattle.goblin_base.specs.Answers.{GivesOrMemory}
+use Rattle.std.proofs.Common.{◌≡◌, ◌++◌, ◌+◌, ℕ, List, [], ◌∷◌, Option, Some, None, length, refl}
+use Rattle.std.proofs.Common.{sym, ap, ◌∙◌, append-nil}
+use Rattle.std.specs.Prelude.{◌==◌, false, option_to_list}
 use Rattle.goblin_base.specs.Tables.{concat_below}
 use Rattle.goblin_base.proofs.Below.{concat_below-next}
+use Rattle.goblin_pe_tables.specs.ExportReadings as reading
+use Rattle.goblin_pe_tables.specs.ExportRecords.{ExportTables}
+use Rattle.goblin_pe_tables.specs.Exports.{export_row}
 
 pub rows_none : {A : Type 0} → (row : ℕ → Option A) → concat_below (λ x. option_to_list (row x)) 0 ≡ []
 unfolding concat_below
 rows_none row = refl
 
--- one row further, of which something is kept
-pub rows_more : {A B : Type 0} → (of : A → B) (row : ℕ → Option A) (n : ℕ) (rows more : List B) (added : Option A)
-    → more ≡ rows ++ map of (option_to_list added) → rows ≡ map of (concat_below (λ x. option_to_list (row x)) n)
-    → added ≡ row n → more ≡ map of (concat_below (λ x. option_to_list (row x)) (n + 1))
-rows_more of row n rows more added grown so_far is =
-    let before = concat_below (λ x. option_to_list (row x)) n in
-    grown ∙ ap (λ xs. xs ++ map of (option_to_list added)) so_far ∙ ap (λ o. map of before ++ map of (option_to_list o)) is
-    ∙ sym (map-append of before (option_to_list (row n))) ∙ ap (map of) (sym (concat_below-next (λ x. option_to_list (row x)) n))
+module _ {A : Type 0} (row : ℕ → Option A) (n : ℕ) (rows : List A)
+    (so_far : rows ≡ concat_below (λ x. option_to_list (row x)) n) where
+  rows-more : (o : Option A) → o ≡ row n
+      → rows ++ option_to_list o ≡ concat_below (λ x. option_to_list (row x)) (n + 1)
+  rows-more o is =
+      ap (λ (xs : List A). xs ++ option_to_list o) so_far
+      ∙ ap (λ (x : Option A). concat_below (λ x. option_to_list (row x)) n ++ option_to_list x) is
+      ∙ sym (concat_below-next (λ x. option_to_list (row x)) n)
 
--- rows that are kept as they are
-pub all_rows : {X A : Type 0} → (view : X → List A) (result : Result X ErrorOf) (rows : List A)
-    → GivesOrMemory view result (map (λ row. row) rows) → GivesOrMemory view result rows
-all_rows view (Ok x) rows h = sym (map-id rows) ∙ h
-all_rows view (Err e) rows h = h
+  -- one name pointer further, which has a row
+  pub row_more : (x : A) → Some x ≡ row n
+      → rows ++ x ∷ [] ≡ concat_below (λ x. option_to_list (row x)) (n + 1)
+  row_more x is = rows-more (Some x) is
+
+  -- one that has none
+  pub row_none : None ≡ row n → rows ≡ concat_below (λ x. option_to_list (row x)) (n + 1)
+  row_none is = sym (append-nil rows) ∙ rows-more None is
+
+-- a file with bytes lists these rows
+pub rows_listed : (offset_of : ℕ → Option ℕ) (bytes : List ℕ) (tables : ExportTables)
+    → (length bytes == 0) ≡ false
+    → (reading.exports offset_of tables).value bytes
+    ≡ Some (concat_below (λ x. option_to_list (export_row offset_of bytes tables x))
+    (length tables.export_name_pointer_table))
+unfolding reading.exports
+rows_listed offset_of bytes tables some = rw some refl

@@ -23,6 +23,10 @@ opposite true valid false is test = let both = sym is ∙ test in cc
 opposite false valid true is test = let both = sym is ∙ test in cc
 opposite false valid false is test = refl
 
+pub unmapped : {A B : Type 0} (f : A → B) (o : Option A) → option_map f o ≡ None → o ≡ None
+unmapped f None e = refl
+unmapped f (Some x) e = absurd cc
+
 -- over a table's entries and slots
 module _ (size : ℕ) (dll : List ℕ) (rva : ℕ) (entries : List LookupEntry) (slots : List ℕ) where
   -- `now` is `old` with the imports of the entries before a position after it
@@ -87,15 +91,11 @@ library-next size libraries i library old now so_far is made =
     let this : imported_at size libraries i ≡ library_imports size library = rw is refl in
     rw (each_below-next (imported_at size libraries) i, so_far, this) (appended old now (library_imports size library) made)
 
-missing : {A : Type 0} (old : List A) (made : Option (List A)) → option_map (λ xs. old ++ xs) made ≡ None → made ≡ None
-missing old None h = refl
-missing old (Some xs) h = absurd cc
-
 -- a library that is refused
 pub library-refused : (size : ℕ) (libraries : List ImportedLibrary) (i : ℕ) (library : ImportedLibrary) (old : List ImportValue) → slice_get libraries i ≡ Some library → option_map (λ made. old ++ made) (library_imports size library) ≡ None → imports_of size libraries ≡ None
 unfolding imports_of
 library-refused size libraries i library old is none =
-    let this : imported_at size libraries i ≡ None = ap (λ l. l >>= library_imports size) is ∙ missing old (library_imports size library) none in
+    let this : imported_at size libraries i ≡ None = ap (λ l. l >>= library_imports size) is ∙ unmapped (λ made. old ++ made) (library_imports size library) none in
     each_below-missing (imported_at size libraries) (length libraries) i (slice_get_within libraries i library is) this
 
 -- ---- slots

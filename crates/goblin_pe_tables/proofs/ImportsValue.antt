@@ -2,26 +2,29 @@
 use Rattle.std.proofs.Common.{◌≡◌, ◌<◌, ◌≤◌, ◌+◌, ◌-◌, ◌*◌, ◌^◌, ℕ, Bool, true, false, cond, List, ◌⊎◌, ◌↔◌, ◌≢◌, IsTrue}
 use Rattle.std.proofs.Common.{[], ◌∷◌, ◌++◌, map, length, Option, Some, None, refl, sym, ap, subst, ◌∙◌}
 use Rattle.std.proofs.Common.{append-nil, arith, zero, suc, IsSome, not, ◌&&◌, ◌==◌, inl, inr}
-use Rattle.std.specs.Prelude.{is_none, option_map, unwrap_or}
+use Rattle.std.specs.Prelude.{is_none, option_map, slice_get, unwrap_or}
 use Rattle.std.specs.List.{flat_map}
 use Rattle.std.specs.Option.{is_some}
-use Rattle.std.proofs.lemmas.Bool.{and_left, cases_Bool, eq-eqb, ne_eqb}
-use Rattle.std.proofs.lemmas.List.{length-map, map-append, map-id}
+use Rattle.std.proofs.lemmas.Bool.{and_left, cases_Bool, eq-eqb, lt-ltb, ne_eqb}
+use Rattle.std.proofs.lemmas.List.{get_or_append_left, length-append, length-map, map-append, map-id}
 use Rattle.std.proofs.lemmas.List.Concat.{flat_map-append}
+use Rattle.std.proofs.lemmas.Option.{slice_get-get_or}
+use Rattle.std.proofs.Math.Seq.{get_or-append_seam}
 use Rattle.goblin_base.specs.declared.endian.Endian.TheVariants.{Little}
 use Rattle.goblin_base.specs.declared.error.CauseOf.TheVariants.{Unmapped}
 use Rattle.goblin_base.specs.declared.error.ErrorOf.{ErrorOf}
 use Rattle.goblin_base.specs.declared.error.ErrorOf.TheVariants.{Malformed}
 use Rattle.goblin_base.specs.declared.permissive.ParseMode.{ParseMode}
 use Rattle.goblin_base.specs.declared.permissive.ParseMode.TheVariants.{Permissive, Strict}
-use Rattle.goblin_base.specs.Answers.{◌>>=◌, all_of}
+use Rattle.goblin_base.specs.Answers.{◌>>=◌, all_at, all_of}
 use Rattle.goblin_base.specs.Bytes.{IsBytes}
 use Rattle.goblin_base.specs.Reading.{Reading}
 use Rattle.goblin_base.specs.Tables.{Format, concat_below, each_below, ends_table, join, made_of}
 use Rattle.goblin_base.specs.Tables.{or_left_out, slot_at, slot_place, slot_table, stop}
 use Rattle.goblin_base.proofs.Below.{each_below-there, least-before}
 use Rattle.goblin_base.proofs.Records.{record_at-some}
-use Rattle.goblin_base.proofs.Steps.{all_at-zero, same_value, step}
+use Rattle.goblin_base.proofs.Footprints.{same-all_at}
+use Rattle.goblin_base.proofs.Steps.{all_at-more, all_at-zero, same_value, step}
 use Rattle.readings.specs.Reads.{given, in_its_place, mapped, pair_of, with_slots}
 use Rattle.readings.specs.Walks.{IsWalkOf, end_items, items_at, refusal_of, table_walk}
 use Rattle.readings.proofs.WalkValues.{all_of-append, all_of-until, walk-holds}
@@ -32,18 +35,61 @@ use Rattle.goblin_pe_tables.specs.ImportEntries.{EntryValue, LookupEntry, entry_
 use Rattle.goblin_pe_tables.specs.ImportReadings.{import_data, kept_library, libraries_at}
 use Rattle.goblin_pe_tables.specs.ImportReadings.{libraries_past_front, library_of, lookup_if}
 use Rattle.goblin_pe_tables.specs.ImportRecords.{ImportedLibrary, import_record, import_slots, lookup_offset}
-use Rattle.goblin_pe_tables.specs.Imports.{ImportValue, import_at, imports_by, kept_imports}
+use Rattle.goblin_pe_tables.specs.Imports.{ImportValue, import_at, import_of, imports_by, kept_imports}
 use Rattle.goblin_pe_tables.specs.ImportWalks.{IsCauseAt, KeptValue, addresses_of}
 use Rattle.goblin_pe_tables.specs.ImportWalks.{begin_at, entries_from, imports_at, imports_from}
 use Rattle.goblin_pe_tables.specs.ImportWalks.{in_two, kept_at, kept_import, library_items}
 use Rattle.goblin_pe_tables.specs.ImportWalks.{library_name}
 use Rattle.goblin_pe_tables.specs.LookupReadings.{kept_entry}
-use Rattle.goblin_pe_tables.proofs.HandedLibraries.{name_strict}
-use Rattle.goblin_pe_tables.proofs.HandedOver.{entry-never, imports_by-more}
 use Rattle.goblin_pe_tables.proofs.ImportBound.{kept_entry-few}
 use Rattle.goblin_pe_tables.proofs.ImportsWalk.{in_two_if, listed}
 use Rattle.goblin_pe_tables.proofs.ListedImports.{address-low}
 use Rattle.goblin_pe_tables.proofs.LookupWalk.{by_index, in_slot}
+use Rattle.goblin_pe_tables.proofs.PermissiveReads.{entry-never, name_strict}
+
+-- ---- one more import
+
+one_read : {A : Type 0} (xs : List A) (x : A) (i : ℕ) → i < length xs
+    → slice_get (xs ++ x ∷ []) i ≡ slice_get xs i
+one_read xs x i below =
+    slice_get-get_or (xs ++ x ∷ []) i x (omega (arith, below, length-append xs (x ∷ [])))
+    ∙ ap (λ y. Some y) (get_or_append_left xs (x ∷ []) x i below)
+    ∙ sym (slice_get-get_or xs i x below)
+
+last_read : {A : Type 0} (xs : List A) (x : A) (n : ℕ) → length xs ≡ n
+    → slice_get (xs ++ x ∷ []) n ≡ Some x
+last_read xs x n long =
+    ap (slice_get (xs ++ x ∷ [])) (sym long)
+    ∙ slice_get-get_or (xs ++ x ∷ []) (length xs) x (omega (arith, length-append xs (x ∷ [])))
+    ∙ ap (λ y. Some y) (get_or-append_seam xs x [] x)
+
+-- the imports of one more entry, which has a slot
+imports_by-more : (size : ℕ) (dll : List ℕ) (rva : ℕ) (entries : List LookupEntry) (slots : List ℕ)
+    (made : List ImportValue) (entry : LookupEntry) (slot offset : ℕ)
+    → length entries ≡ length slots → offset ≡ rva + size * slot → offset < 2 ^ 64
+    → imports_by size dll rva entries slots ≡ Some made
+    → imports_by size dll rva (entries ++ entry ∷ []) (slots ++ slot ∷ [])
+    ≡ Some (made ++ import_of dll slot offset size entry ∷ [])
+unfolding imports_by
+imports_by-more size dll rva entries slots made entry slot offset counted at low so_far =
+    let n = length entries in
+    let before : ℕ → Option ImportValue = import_at size dll rva entries slots in
+    let now : ℕ → Option ImportValue =
+    import_at size dll rva (entries ++ entry ∷ []) (slots ++ slot ∷ []) in
+    let below : rva + size * slot < 2 ^ 64 = omega (arith, at, low) in
+    let same : all_at before n ≡ all_at now n =
+    same-all_at before now n (λ j within.
+    let in_slots : j < length slots = omega (arith, counted, within) in
+    rw (one_read entries entry j within, one_read slots slot j in_slots) refl) in
+    let in_slot = last_read slots slot n (sym counted) in
+    let fits = lt-ltb (rva + size * slot) (2 ^ 64) below in
+    let x : ImportValue = import_of dll slot offset size entry in
+    let here : now n ≡ Some x = rw (last_read entries entry n refl, in_slot, fits, at) refl in
+    let long : length (entries ++ entry ∷ []) ≡ n + 1 =
+    omega (arith, length-append entries (entry ∷ [])) in
+    ap (all_at now) long ∙ all_at-more now n made x (sym same ∙ so_far) here
+
+-- ---- the imports of a lookup table
 
 module _ (strict : Bool) (format : Format EntryValue) (offset_of : ℕ → Option ℕ)
     (bytes : List ℕ) (o : ℕ) (wide : 1 ≤ format.width) (dll : List ℕ) (rva : ℕ)

@@ -29,8 +29,9 @@ use Rattle.goblin_pe_tables.specs.ImportWalks.{entries_from, imports_at, one_if,
 use Rattle.goblin_pe_tables.specs.ImportWalks.{walk_bound}
 use Rattle.goblin_pe_tables.specs.ImportWalks.{imports_by_slot, imports_from, imports_in, in_two}
 use Rattle.goblin_pe_tables.specs.ImportWalks.{later_items, library_items, library_name, untested_table}
-use Rattle.goblin_pe_tables.proofs.HandedLibraries.{name_strict, unmapped}
+use Rattle.goblin_pe_tables.proofs.Imports.{unmapped}
 use Rattle.goblin_pe_tables.proofs.LookupWalk.{lookup_walked}
+use Rattle.goblin_pe_tables.proofs.PermissiveReads.{name_strict}
 
 -- ---- values that may be missing
 

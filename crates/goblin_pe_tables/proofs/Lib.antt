@@ -1,9 +1,8 @@
 mod AddressMaps
 mod ExportGrowths
 mod ExportRows
+mod ExportWalk
 mod Grammar
-mod HandedLibraries
-mod HandedOver
 mod ImportFaults
 mod ImportPositions
 mod ImportSteps
@@ -12,7 +11,6 @@ mod ImportsWalk
 mod Listed
 mod SomeRanges
 mod WholeEntries
-pub mod Collected
 pub mod ExportDirectoryRoundTrip
 pub mod ImportBound
 pub mod ImportDirectoryRoundTrip

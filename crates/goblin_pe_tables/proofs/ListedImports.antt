@@ -233,13 +233,6 @@ module _ (strict : Bool) (format : Format EntryValue) (offset_of : ℕ → Optio
     imports-there libraries listed =
         each_below-there (λ i. slice_get libraries i >>= library_imports format.width) (length libraries) (λ i below. step-there libraries i listed below)
 
-    -- the imports of the library that a record leads to
-    pub record-listed : (r : ImportDirectoryEntry) (library : ImportedLibrary)
-        → r.import_address_table_rva < 2 ^ 32
-        → (directory.library_of strict format offset_of r).value file ≡ Some library
-        → IsSome (library_imports format.width library)
-    record-listed r library low e = library-there library (library-listed r library low e)
-
     -- the imports of import data that was read
     pub imports_of-there : IsBytes file → (rva : ℕ) (libraries : List ImportedLibrary) → (directory.import_data strict format offset_of rva).value file ≡ Some libraries → IsSome (imports_of format.width libraries)
     imports_of-there bytes rva libraries e = imports-there libraries (imported bytes rva libraries e)

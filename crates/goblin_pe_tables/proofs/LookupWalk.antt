@@ -20,7 +20,7 @@ use Rattle.readings.specs.Walks.{until_refused}
 use Rattle.goblin_pe_tables.specs.LookupReadings.{kept_entry, lookup_entry_at}
 use Rattle.goblin_pe_tables.specs.LookupReadings.{lookup_with_slots}
 use Rattle.goblin_pe_tables.proofs.ImportBound.{kept_entry-few}
-use Rattle.goblin_pe_tables.proofs.HandedOver.{entry-never}
+use Rattle.goblin_pe_tables.proofs.PermissiveReads.{entry-never}
 use Rattle.readings.proofs.WalkValues.{walk-value}
 use Rattle.readings.proofs.Walks.{cause-slot, concat_below-same, slot-end, slot-going, slot-last}
 use Rattle.readings.proofs.Walks.{slot-missing, until_refused-later, until_refused-made, walk-slot}

@@ -1,8 +1,10 @@
--- What strict mode reads of imports, permissive mode reads, too.
-use Rattle.std.proofs.Common.{◌+◌, ℕ, true, false, [], ◌∷◌, Option, None, Some}
-use Rattle.goblin_base.specs.Reading.{Repeats}
+-- What strict mode reads of imports, permissive mode reads, too; and what it refuses not.
+use Rattle.std.proofs.Common.{◌+◌, ◌≡◌, ℕ, Bool, true, false, cond, List, [], ◌∷◌, Option, None}
+use Rattle.std.proofs.Common.{Some, refl}
+use Rattle.goblin_base.specs.Reading.{Reading, Repeats}
+use Rattle.goblin_base.specs.Tables as tables
 use Rattle.goblin_base.specs.Tables.{Format}
-use Rattle.readings.specs.Reads.{given, text_at}
+use Rattle.readings.specs.Reads.{given, in_its_place, text_at}
 use Rattle.readings.proofs.Modes.{repeats-beside, repeats-mapped, repeats-or_else}
 use Rattle.readings.proofs.Modes.{repeats-or_left_out, repeats-pick, repeats-same, repeats-table}
 use Rattle.readings.proofs.Modes.{repeats-table_with_slots}
@@ -75,3 +77,33 @@ module _ (offset_of : ℕ → Option ℕ) where
         repeats-table import_slots record_here record_here (kept_library true format offset_of)
         (kept_library false format offset_of) o
         (λ r. repeats-or_left_out _ _ (library_repeats r))
+
+-- ---- permissive mode refuses no entry and no name
+
+left_never : {A : Type 0} (item : Option A) → tables.or_left_out false item ≡ None → ⊥
+left_never None e = cc
+left_never (Some x) e = cc
+
+name_never : (rva : ℕ) (place : Option ℕ) (bytes : List ℕ)
+    → (kept_name false rva place).value bytes ≡ None → ⊥
+unfolding kept_name
+name_never rva None bytes e = cc
+name_never rva (Some p) bytes e = left_never _ e
+
+test_never : {A : Type 0} (test : Bool) (x : A) (other : Reading A) (bytes : List ℕ)
+    → (other.value bytes ≡ None → ⊥) → (cond test (given x) other).value bytes ≡ None → ⊥
+test_never true x other bytes never e = cc
+test_never false x other bytes never e = never e
+
+pub entry-never : (strict : Bool) (offset_of : ℕ → Option ℕ) (entry : EntryValue)
+    (bytes : List ℕ) → (kept_entry strict offset_of entry).value bytes ≡ None → strict ≡ false → ⊥
+unfolding kept_entry
+entry-never true offset_of entry bytes e permissive = cc
+entry-never false offset_of entry bytes e permissive =
+    test_never entry.is_ordinal _ _ bytes (name_never entry.rva (offset_of entry.rva) bytes) e
+
+pub name_strict : (strict : Bool) (name : Option (List ℕ)) → in_its_place strict [] name ≡ None
+    → strict ≡ true
+name_strict strict (Some x) e = absurd cc
+name_strict true None e = refl
+name_strict false None e = absurd cc

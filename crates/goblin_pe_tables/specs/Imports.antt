@@ -81,10 +81,6 @@ imports_by size dll rva entries slots =
 abbrev pub kept_entries : ImportedLibrary → List LookupEntry
 kept_entries library = unwrap_or library.import_lookup_table []
 
--- these imports as a list; of tables that were read it is there
-abbrev pub table_imports : ℕ → List ℕ → ℕ → List LookupEntry → List ℕ → List ImportValue
-table_imports size dll rva entries slots = unwrap_or (imports_by size dll rva entries slots) []
-
 -- how many entries the lookup tables of libraries keep
 abbrev pub kept_count : List ImportedLibrary → ℕ
 kept_count libraries = sum_by (λ library. length (kept_entries library)) libraries

@@ -1,6 +1,7 @@
 pub mod Addresses
 pub mod ExportReadings
 pub mod ExportRecords
+pub mod ExportWalks
 pub mod Exports
 pub mod ForwarderLaws
 pub mod Forwarders

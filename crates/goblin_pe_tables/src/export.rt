@@ -4,13 +4,12 @@
 //! three tables. A name pointer and the ordinal with its index are a named export; the ordinal is
 //! the index of its address. An address inside the directory is that of a forwarder's text.
 
-ghost use Rattle.std.specs.Prelude.{◌<◌, ◌≤◌, ◌≡◌, ◌++◌, ◌⊎◌, ℕ, [], IfErr, IsOk, IsSome, IsSomeAnd};
-ghost use Rattle.std.specs.Prelude.{OnErr, OnOk, Option, length, map, option_and_then, option_map};
-ghost use Rattle.std.specs.Prelude.{option_to_list};
+ghost use Rattle.std.specs.Prelude.{◌<◌, ◌≤◌, ◌≡◌, ◌++◌, ◌∷◌, ◌⊎◌, ℕ, [], IfErr, IsOk, IsSomeAnd};
+ghost use Rattle.std.specs.Prelude.{MatchOption, None, OnErr, OnOk, Option, Some, length};
+ghost use Rattle.std.specs.Prelude.{option_and_then, option_map, slice_get};
 ghost use Rattle.goblin_base.specs.Answers.{GivesOrMemory, IsMemory};
 ghost use Rattle.goblin_base.specs.Bytes.{text_at};
 ghost use Rattle.goblin_base.specs.Reading.{ReadsOrMemory};
-ghost use Rattle.readings.specs.Reads.{mapped};
 ghost use Rattle.goblin_pe_sect.specs.Options.{default_options};
 ghost use Rattle.goblin_pe_tables.specs.Addresses.{map_by, map_of, offset_of};
 ghost use Rattle.goblin_pe_tables.specs.ExportReadings as reading;
@@ -20,18 +19,18 @@ ghost use Rattle.goblin_pe_tables.specs.Forwarders.{forwarder_at, forwarder_valu
 ghost use Rattle.goblin_pe_sect.specs.WindowIndex.{HasPieces};
 
 use crate::address_map::AddressMap;
-use goblin_base::{Result, ResultOf, pread_str};
+use goblin_base::{Result, pread_str};
 use goblin_pe_sect::{DataDirectory, ParseOptions, SectionTable};
 use std::alloc::Global;
 use std::marker::Model;
 
-mod collector;
 mod entries;
+mod exports;
 mod forwarder;
 mod tables;
 
-pub use collector::ExportCollector;
 use entries::{Entries, TablesInFile};
+pub use exports::{Exports, WalkedExport};
 pub use forwarder::Reexport;
 pub use tables::{
     ExportAddressTable, ExportAddressTableEntry, ExportDirectoryTable, ExportNamePointerTable,
@@ -243,9 +242,9 @@ const FEW: usize = 32;
 // For how many exports to make room: for as many as there are name pointers, if these are few, else
 // for those that are not forwarders, of which each is there.
 #[tactic(auto, unfolding(crate::specs::Exports::own_exports))]
-fn expected_count<T: Entries>(tables: &T) -> usize
-    ensures most { result ≤ length (T.entries tables.now).export_name_pointer_table }
-    ensures own { let t = T.entries tables.now in
+fn expected_count(tables: &ExportData) -> usize
+    ensures most { result ≤ length tables.now.export_name_pointer_table }
+    ensures own { let t = tables.now in
         32 < length t.export_name_pointer_table
         → result ≡ own_exports t (length t.export_name_pointer_table) }
 {
@@ -265,22 +264,15 @@ fn expected_count<T: Entries>(tables: &T) -> usize
     count
 }
 
-// Adds a row, if there is one.
-fn add_row<'a, 'e, T: Entries, E: ExportCollector<'a>>(
-    exports: &mut E,
-    row: Option<Export<'a>>,
-    _tables: &T,
-    expected: usize,
-) -> ResultOf<'e, ()>
-    requires { expected ≤ length (T.entries _tables.now).export_name_pointer_table }
-    ensures added { let more = map E.item_of (option_to_list row.entry) in
-        OnOk result (E.items exports.new ≡ E.items exports.old ++ more) }
+// Adds an export; before the first, makes room for as many as are expected.
+fn add_row<'a>(rows: &mut Vec<Export<'a>>, export: Export<'a>, expected: usize) -> Result<()>
+    ensures added { OnOk result (rows.new.items ≡ rows.old.items ++ export.entry ∷ []) }
     ensures refused { IfErr result IsMemory }
-    ensures grown { OnErr result (IsSome row.entry) }
 {
-    if let Some(export) = row {
-        exports.add(export, expected)?;
+    if rows.is_empty() {
+        rows.reserve(expected)?;
     }
+    rows.push(export)?;
     Ok(())
 }
 
@@ -308,49 +300,26 @@ impl<'a> Export<'a> {
         })
     }
 
-    // The export of the name pointer at an index, where its ordinal, its address and, of a
-    // forwarder, the text are there.
+    // The export of the name pointer at an index, with its entry of the ordinal table, where its
+    // ordinal, its address and, of a forwarder, the text are there.
     #[tactic(auto, unfolding(crate::specs::ExportReadings::export_row))]
     fn of_pointer<T: Entries>(
         bytes: &'a [u8],
         tables: &T,
         index: usize,
         address_map: &AddressMap,
-    ) -> Option<Export<'a>>
+    ) -> Option<(u16, Export<'a>)>
         ensures { let m = map_of address_map.now in
-            result ≡ export_row (offset_of m) bytes.now (T.entries tables.now) index }
+            let t = T.entries tables.now in
+            let row = export_row (offset_of m) bytes.now t index in
+            MatchOption result (row ≡ None)
+            (λ x. (row ≡ Some x.1) × (slice_get t.export_ordinal_table index ≡ Some x.0)) }
     {
         let pointer = tables.pointer(index)?;
         let ordinal = tables.ordinal(index)?;
         let address = tables.address(usize::from(ordinal))?;
-        Export::of_address(bytes, pointer, address, address_map)
-    }
-
-    // Hands the exports that tables list to `rows`, which is empty before.
-    #[tactic(auto, unfolding(crate::specs::ExportReadings::exports))]
-    fn list<'e, T: Entries, E: ExportCollector<'a>>(
-        bytes: &'a [u8],
-        tables: &T,
-        address_map: &AddressMap,
-        rows: E,
-    ) -> ResultOf<'e, E>
-        requires { E.items rows ≡ [] }
-        ensures value { let m = map_of address_map.now in
-            GivesOrMemory E.items result
-            (map E.item_of (exports (offset_of m) bytes.now (T.entries tables.now))) }
-        ensures grown { let m = map_of address_map.now in
-            OnErr result (HasExports (offset_of m) bytes.now (T.entries tables.now)) }
-    {
-        let mut rows = rows;
-        if bytes.is_empty() {
-            return Ok(rows);
-        }
-        let expected = expected_count(tables);
-        'rows: for index in 0..tables.pointers() {
-            let row = Export::of_pointer(bytes, tables, index, address_map);
-            add_row(&mut rows, row, tables, expected)?;
-        }
-        Ok(rows)
+        let export = Export::of_address(bytes, pointer, address, address_map)?;
+        Some((ordinal, export))
     }
 
     /// The exports that export data lists, as [`Export::parse_with_opts`] reads them by the default
@@ -411,7 +380,7 @@ impl<'a> Export<'a> {
     ///
     /// # Errors
     /// As [`Export::parse_with_opts`].
-    #[tactic(auto, using(crate::proofs::ExportRows::all_rows))]
+    #[tactic(auto, unfolding(crate::specs::ExportReadings::exports))]
     pub fn parse_by(
         alloc: Global,
         bytes: &'a [u8],
@@ -420,56 +389,20 @@ impl<'a> Export<'a> {
     ) -> Result<Vec<Export<'a>>>
         ensures value { let m = map_of address_map.now in
             GivesOrMemory (λ v. v.items) result (exports (offset_of m) bytes.now export_data.now) }
+        ensures empty { length bytes.now ≡ 0 → IsOk result }
         ensures grown { let m = map_of address_map.now in
             OnErr result (HasExports (offset_of m) bytes.now export_data.now) }
     {
-        Export::parse_into(bytes, export_data, address_map, Vec::new(alloc))
-    }
-
-    /// Hands the exports as [`Export::parse_by`] reads them to `rows`, which is empty before.
-    ///
-    /// # Errors
-    /// As [`Export::parse_with_opts`].
-    pub fn parse_into<'e, E: ExportCollector<'a>>(
-        bytes: &'a [u8],
-        export_data: &ExportData,
-        address_map: &AddressMap,
-        rows: E,
-    ) -> ResultOf<'e, E>
-        requires { E.items rows ≡ [] }
-        ensures value { let m = map_of address_map.now in
-            GivesOrMemory E.items result
-            (map E.item_of (exports (offset_of m) bytes.now export_data.now)) }
-        ensures grown { let m = map_of address_map.now in
-            OnErr result (HasExports (offset_of m) bytes.now export_data.now) }
-    {
-        Export::list(bytes, export_data, address_map, rows)
-    }
-
-    /// Hands the exports of an export directory to `rows`, which is empty before: those that
-    /// [`Export::parse_into`] hands over for what [`ExportData::parse_by`] reads, in the same
-    /// order. They are read from the bytes where the three tables stand, and no table is kept.
-    ///
-    /// # Errors
-    /// As [`ExportData::parse_by`]; memory is asked for only by `rows`, for an export.
-    #[tactic(auto, unfolding(crate::specs::ExportReadings::export_read, crate::specs::ExportReadings::exports))]
-    pub fn read_into<'e, E: ExportCollector<'a>>(
-        bytes: &'a [u8],
-        directory: DataDirectory,
-        address_map: &AddressMap,
-        rows: E,
-    ) -> ResultOf<'e, E>
-        requires { E.items rows ≡ [] }
-        ensures value { let m = map_of address_map.now in
-            ReadsOrMemory E.items result
-            (mapped (λ read. map E.item_of read.1) (reading.export_read (offset_of m) directory))
-            bytes.now }
-        ensures grown { let m = map_of address_map.now in
-            IfErr result (λ e. IsMemory e →
-            IsSomeAnd (export_data (offset_of m) directory bytes.now)
-            (HasExports (offset_of m) bytes.now)) }
-    {
-        let tables = TablesInFile::find(bytes, directory, address_map)?;
-        Export::list(bytes, &tables, address_map, rows)
+        let mut rows = Vec::new(alloc);
+        if bytes.is_empty() {
+            return Ok(rows);
+        }
+        let expected = expected_count(export_data);
+        'rows: for index in 0..export_data.pointers() {
+            if let Some((_, export)) = Export::of_pointer(bytes, export_data, index, address_map) {
+                add_row(&mut rows, export, expected)?;
+            }
+        }
+        Ok(rows)
     }
 }

@@ -4,8 +4,7 @@
 //! library. Each leads to a lookup table and an address table, whose entries with one index are one
 //! import: the lookup table says which, and the loader puts its address into the other.
 
-ghost use Rattle.std.specs.Prelude.{◌≡◌, ◌⊎◌, [], IfErr, IsSomeAnd, false, option_to_list, true};
-ghost use Rattle.std.specs.List.{flat_map};
+ghost use Rattle.std.specs.Prelude.{◌≡◌, ◌++◌, ◌⊎◌, IfErr, IsSomeAnd, false, option_to_list, true};
 ghost use Rattle.goblin_base.specs.Answers.{IsMemory};
 ghost use Rattle.goblin_base.specs.Reading.{ReadsOrMemory};
 ghost use Rattle.readings.specs.Reads.{mapped};
@@ -14,7 +13,6 @@ ghost use Rattle.goblin_pe_sect.specs.WindowIndex.{HasPieces};
 ghost use Rattle.goblin_pe_tables.specs.Addresses.{map_by, map_of, offset_of, reads_strictly};
 ghost use Rattle.goblin_pe_tables.specs.ImportDirectory.{HasRecords};
 ghost use Rattle.goblin_pe_tables.specs.ImportReadings as reading;
-ghost use Rattle.goblin_pe_tables.specs.Imports.{kept_imports};
 
 use crate::address_map::AddressMap;
 use goblin_base::{Cause, Endian, Error, Record, ResultOf, is_passed_over};
@@ -26,9 +24,7 @@ use std::marker::Model;
 
 mod address_table;
 mod bitfield;
-mod collector;
 mod directory_entry;
-mod handed_over;
 mod imports;
 mod kept;
 mod library;
@@ -40,10 +36,7 @@ pub(crate) use bitfield::read_entry;
 pub use bitfield::{
     Bitfield, IMPORT_BY_ORDINAL_32, IMPORT_BY_ORDINAL_64, IMPORT_RVA_MASK_32, IMPORT_RVA_MASK_64,
 };
-pub use collector::ImportCollector;
-use collector::RecordCollector;
 pub use directory_entry::{ImportDirectoryEntry, SIZEOF_IMPORT_DIRECTORY_ENTRY};
-use handed_over::EachImport;
 pub use imports::{ImportPosition, Imports, WalkedImport};
 pub use library::SyntheticImportDirectoryEntry;
 use library::directory_offset;
@@ -87,20 +80,39 @@ fn kept_library<'a, 'e, T: Bitfield<'a>>(
     }
 }
 
-// The libraries of the directory at an offset, whose records are handed to `imports` one by one.
-fn libraries<'a, 'e, T: Bitfield<'a>, C: RecordCollector<'a, T>>(
+// Reads the library of a record, and appends it if it is kept.
+fn add_library<'a, 'e, T: Bitfield<'a>>(
+    libraries: &mut Vec<SyntheticImportDirectoryEntry<'a>>,
+    bytes: &'a [u8],
+    entry: ImportDirectoryEntry,
+    address_map: &AddressMap,
+) -> ResultOf<'e, ()>
+    ensures { let m = map_of address_map.now in
+        ReadsOrMemory (λ _. libraries.new.items) result
+        (mapped (λ more. libraries.old.items ++ more)
+        (reading.kept_library (reads_strictly m) T.format (offset_of m) entry)) bytes.now }
+{
+    let alloc = *libraries.allocator();
+    let library = kept_library::<T>(alloc, bytes, entry, address_map)?;
+    if let Some(library) = library {
+        libraries.push(library)?;
+    }
+    Ok(())
+}
+
+// The libraries of the directory at an offset.
+fn libraries<'a, 'e, T: Bitfield<'a>>(
+    alloc: Global,
     bytes: &'a [u8],
     offset: usize,
     address_map: &AddressMap,
-    mut imports: C,
-) -> ResultOf<'e, C>
-    requires { C.items imports ≡ [] }
+) -> ResultOf<'e, Vec<SyntheticImportDirectoryEntry<'a>>>
     ensures value { let m = map_of address_map.now in
-        ReadsOrMemory C.items result
-        (mapped (flat_map C.items_of)
-        (reading.libraries_at (reads_strictly m) T.format (offset_of m) offset)) bytes.now }
+        ReadsOrMemory (λ v. v.items) result
+        (reading.libraries_at (reads_strictly m) T.format (offset_of m) offset) bytes.now }
     ensures grown { IfErr result (λ e. IsMemory e → HasRecords bytes.now offset) }
 {
+    let mut libraries = Vec::new(alloc);
     let mut place = offset;
     'records: loop {
         let Ok(record) = ImportDirectoryEntry::read_at(bytes, place, Endian::Little) else {
@@ -112,37 +124,10 @@ fn libraries<'a, 'e, T: Bitfield<'a>, C: RecordCollector<'a, T>>(
         if !record.is_possibly_valid() {
             break 'records;
         }
-        imports.add_record(bytes, record, address_map)?;
+        add_library::<T>(&mut libraries, bytes, record, address_map)?;
         place += SIZEOF_IMPORT_DIRECTORY_ENTRY;
     }
-    Ok(imports)
-}
-
-// The libraries of the directory at an address, whose records are handed to `imports` one by one.
-#[tactic(auto, unfolding(crate::specs::ImportReadings::import_data, crate::specs::ImportReadings::libraries_past_front))]
-fn read_directory<'a, 'e, T: Bitfield<'a>, C: RecordCollector<'a, T>>(
-    bytes: &'a [u8],
-    rva: u32,
-    address_map: &AddressMap,
-    imports: C,
-) -> ResultOf<'e, C>
-    requires { C.items imports ≡ [] }
-    ensures value { let m = map_of address_map.now in
-        ReadsOrMemory C.items result
-        (mapped (flat_map C.items_of)
-        (reading.import_data (reads_strictly m) T.format (offset_of m) rva))
-        bytes.now }
-    ensures permissive { reads_strictly (map_of address_map.now) ≡ false → IfErr result IsMemory }
-    ensures grown { let m = map_of address_map.now in
-        IfErr result (λ e. IsMemory e → IsSomeAnd (offset_of m rva) (HasRecords bytes.now)) }
-{
-    let Some(offset) = directory_offset(rva, address_map) else {
-        return Err(Error::Malformed(Cause::Unmapped(rva as usize)));
-    };
-    if address_map.is_permissive() && offset == 0 {
-        return Ok(imports);
-    }
-    libraries::<T, C>(bytes, offset, address_map, imports)
+    Ok(libraries)
 }
 
 impl<'a> ImportData<'a> {
@@ -216,7 +201,7 @@ impl<'a> ImportData<'a> {
     ///
     /// # Errors
     /// As [`ImportData::parse_with_opts`].
-    #[tactic(auto, using(crate::proofs::Collected::all_kept))]
+    #[tactic(auto, unfolding(crate::specs::ImportReadings::import_data, crate::specs::ImportReadings::libraries_past_front))]
     pub fn parse_by<'e, T: Bitfield<'a>>(
         alloc: Global,
         bytes: &'a [u8],
@@ -234,46 +219,15 @@ impl<'a> ImportData<'a> {
             IsMemory e
             → IsSomeAnd (offset_of m directory.virtual_address) (HasRecords bytes.now)) }
     {
-        let imports = ImportData {
-            import_data: Vec::new(alloc),
-        };
-        read_directory::<T, ImportData>(bytes, directory.virtual_address, address_map, imports)
-    }
-
-    /// The imports as [`ImportData::parse_by`] reads them, handed to `imports` one by one: each as
-    /// soon as its entry is read, before the next one is. No list of the libraries is made, and no
-    /// table of theirs is kept: this takes no memory but what `imports` takes. `imports` must be
-    /// empty; it comes back with what it keeps of the imports of all libraries, in their order.
-    ///
-    /// A library that is refused for its address table is left out in permissive mode, before an
-    /// import of it is handed over. In strict mode `imports` is let go with the refusal.
-    ///
-    /// # Errors
-    /// As [`ImportData::parse_with_opts`], but [`Error::Memory`] only if memory is refused to
-    /// `imports`.
-    pub fn read_into<'e, T: Bitfield<'a>, I: ImportCollector<'a>>(
-        bytes: &'a [u8],
-        directory: DataDirectory,
-        address_map: &AddressMap,
-        imports: I,
-    ) -> ResultOf<'e, I>
-        requires { I.items imports ≡ [] }
-        ensures value { let m = map_of address_map.now in
-            let rva = directory.virtual_address in
-            ReadsOrMemory I.items result
-            (mapped (flat_map (kept_imports I.item_of T.format.width))
-            (reading.import_data (reads_strictly m) T.format (offset_of m) rva))
-            bytes.now }
-        ensures permissive { reads_strictly (map_of address_map.now) ≡ false → IfErr result IsMemory }
-        ensures grown { let m = map_of address_map.now in
-            IfErr result
-            (λ e.
-            IsMemory e
-            → IsSomeAnd (offset_of m directory.virtual_address) (HasRecords bytes.now)) }
-    {
-        let each = EachImport { imports };
         let rva = directory.virtual_address;
-        let read = read_directory::<T, EachImport<I>>(bytes, rva, address_map, each)?;
-        Ok(read.imports)
+        let Some(offset) = directory_offset(rva, address_map) else {
+            return Err(Error::Malformed(Cause::Unmapped(rva as usize)));
+        };
+        let import_data = if address_map.is_permissive() && offset == 0 {
+            Vec::new(alloc)
+        } else {
+            libraries::<T>(alloc, bytes, offset, address_map)?
+        };
+        Ok(ImportData { import_data })
     }
 }

@@ -1,6 +1,6 @@
 //! Worked values of imports and exports.
 
-mod collections;
+mod export_walks;
 mod exports;
 mod imports;
 mod overlapping;

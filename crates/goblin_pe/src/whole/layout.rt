@@ -12,9 +12,11 @@ ghost use Rattle.goblin_pe_head.specs.CoffHeader.{IsTooManySections};
 ghost use Rattle.goblin_pe_tables.specs.Addresses.{offset_of};
 ghost use Rattle.goblin_pe.specs.Layouts.{IsFileImportsCause, IsLayoutOf, PartWalks};
 ghost use Rattle.goblin_pe.specs.Layouts.{file_imports_left, layout_map, layout_places, layout_view};
-ghost use Rattle.goblin_pe.specs.Whole.{import_list, layout, listed_view, part_map, places_in};
+ghost use Rattle.goblin_pe.specs.Layouts.{walked_exports};
+ghost use Rattle.goblin_pe.specs.Whole.{AreListed, export_part, import_list, layout, listed_view, part_map, places_in};
 ghost use Rattle.goblin_pe.specs.Whole.{relocation_part, sections_after, table_parts};
 
+use crate::export::Exports;
 use crate::whole::listed::ListedTables;
 use crate::whole::places::Places;
 use crate::whole::{FileImports, Part};
@@ -144,11 +146,25 @@ impl<'a> Layout<'a> {
     /// # Errors
     /// In strict mode as [`Imports::of`](crate::import::Imports::of).
     pub fn imports<'m, 'e>(&'m self) -> ResultOf<'e, Part<FileImports<'a, 'm, 'e>>>
-        ensures { let m = layout_map self.now in
+        ensures walks { let m = layout_map self.now in
             PartWalks file_imports_left IsFileImportsCause (λ xs. xs) result
             (import_list m.opts (offset_of m) (layout_places self.now)) self.now.bytes.now }
+        ensures listed { let m = layout_map self.now in
+            AreListed m.opts (offset_of m) (layout_places self.now) self.now.bytes.now }
     {
         Places::of(&self.header.optional_header).import_walk(self.bytes, &self.address_map)
+    }
+
+    /// The exports that the export directory lists, one by one.
+    ///
+    /// # Errors
+    /// In strict mode as [`Exports::of`](crate::export::Exports::of).
+    pub fn exports<'m>(&'m self) -> Result<Part<Exports<'a, 'm>>>
+        ensures { let m = layout_map self.now in
+            Reads (part_map walked_exports) result
+            (export_part m.opts (offset_of m) (layout_places self.now)) self.now.bytes.now }
+    {
+        Places::of(&self.header.optional_header).export_walk(self.bytes, &self.address_map)
     }
 
     /// The base relocations: the bytes of their directory, whose blocks are read one by one.

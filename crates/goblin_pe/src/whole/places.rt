@@ -11,9 +11,11 @@ ghost use Rattle.goblin_pe_tables.specs.Addresses.{map_of, offset_of, reads_stri
 ghost use Rattle.goblin_pe_tables.specs.ImportReadings.{import_data};
 ghost use Rattle.goblin_pe_tables.specs.Imports.{kept_imports};
 ghost use Rattle.goblin_pe.specs.Layouts.{IsFileImportsCause, PartWalks, file_imports_left};
-ghost use Rattle.goblin_pe.specs.Whole.{BecomesPart, entry_format, import_list, part_map};
+ghost use Rattle.goblin_pe.specs.Layouts.{walked_exports};
+ghost use Rattle.goblin_pe.specs.Whole.{AreListed, BecomesPart, entry_format, export_part, import_list, part_map};
 ghost use Rattle.goblin_pe.specs.Whole.{places_in, relocation_part, table_places};
 
+use crate::export::Exports;
 use crate::import::Imports;
 use crate::whole::{FileImports, Part};
 use goblin_base::{Result, ResultOf, is_passed_over};
@@ -104,16 +106,18 @@ impl Places {
     }
 
     // The imports as a walk, if they were asked for.
-    #[tactic(auto, unfolding(crate::specs::Whole::import_list, crate::specs::Whole::import_part))]
+    #[tactic(auto, using(crate::proofs::ImportParts::are_listed))]
     pub(super) fn import_walk<'a, 'm, 'e>(
         &self,
         bytes: &'a [u8],
         address_map: &'m AddressMap,
     ) -> ResultOf<'e, Part<FileImports<'a, 'm, 'e>>>
-        ensures { let m = map_of address_map.now in
+        ensures walks { let m = map_of address_map.now in
             let places = table_places self.now in
             PartWalks file_imports_left IsFileImportsCause (λ xs. xs) result
             (import_list m.opts (offset_of m) places) bytes.now }
+        ensures listed { let m = map_of address_map.now in
+            AreListed m.opts (offset_of m) (table_places self.now) bytes.now }
     {
         let opts = address_map.opts();
         match self.imports {
@@ -123,6 +127,27 @@ impl Places {
             }
             _ => Ok(Part::Absent),
         }
+    }
+
+    // The exports as a walk.
+    #[tactic(auto, unfolding(crate::specs::Whole::export_part, crate::specs::Whole::part_map))]
+    pub(super) fn export_walk<'a, 'm>(
+        &self,
+        bytes: &'a [u8],
+        address_map: &'m AddressMap,
+    ) -> Result<Part<Exports<'a, 'm>>>
+        ensures { let m = map_of address_map.now in
+            let places = table_places self.now in
+            Reads (part_map walked_exports) result (export_part m.opts (offset_of m) places)
+            bytes.now }
+    {
+        let Some(directory) = self.exports else {
+            return Ok(Part::Absent);
+        };
+        part_of(
+            Exports::of(bytes, directory, address_map),
+            address_map.opts(),
+        )
     }
 
     // The base relocations.

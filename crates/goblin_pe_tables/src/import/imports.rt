@@ -428,11 +428,7 @@ impl<'a, 'm, 'e, T: Bitfield<'a>> Imports<'a, 'm, 'e, T> {
     }
 
     /// The imports of the libraries of the directory at the file offset `offset`.
-    pub fn at(
-        bytes: &'a [u8],
-        offset: usize,
-        address_map: &'m AddressMap,
-    ) -> Imports<'a, 'm, 'e, T>
+    pub fn at(bytes: &'a [u8], offset: usize, address_map: &'m AddressMap) -> Imports<'a, 'm, 'e, T>
         ensures walks { let m = map_of address_map.now in
             let libraries = libraries_at (reads_strictly m) T.format (offset_of m) offset in
             IsWalkOf (λ xs. xs)

@@ -4,4 +4,4 @@ use Rattle.goblin_pe_tables.specs.Exports.{own_exports}
 use Rattle.goblin_pe_tables.proofs.export.expected_count.Given as goal
 
 abbrev pub invariant-pointers : goal.invariant-pointers
-invariant-pointers g l = (l.count ≤ l.index) × (l.count ≡ own_exports (g.T.Entries.entries l.fn.tables) l.index)
+invariant-pointers l = (l.count ≤ l.index) × (l.count ≡ own_exports l.fn.tables l.index)

@@ -1,17 +1,16 @@
 use Rattle.std.proofs.Common.{length, ◌-◌}
+use Rattle.readings.proofs.Loops.{AtRead}
 use Rattle.goblin_pe_tables.specs.Addresses.{map_of, offset_of, reads_strictly}
 use Rattle.goblin_pe_tables.specs.ImportReadings.{kept_library}
 use Rattle.goblin_pe_tables.specs.ImportRecords.{import_slots}
-use Rattle.goblin_pe_tables.proofs.Collected.{AtCollected}
 use Rattle.goblin_pe_tables.proofs.import.libraries.Given as goal
 
 abbrev pub invariant-records : goal.invariant-records
 invariant-records g l =
-    AtCollected import_slots
+    AtRead import_slots
     (kept_library (reads_strictly (map_of l.fn.address_map)) g.T.Bitfield.format
     (offset_of (map_of l.fn.address_map)))
-    g.C.RecordCollector.items_of l.fn.bytes l.fn.offset l.place
-    (g.C.RecordCollector.items l.imports)
+    l.fn.bytes l.fn.offset l.place l.libraries.items
 
 abbrev pub decreases-records : goal.decreases-records
 decreases-records g l = length l.fn.bytes - l.place

@@ -12,22 +12,22 @@ use Rattle.goblin_pe.proofs.ImportParts.{list-refused, list-walked}
 use Rattle.goblin_pe.proofs.whole.places.Places.import_walk.Goals as goal
 use Rattle.goblin_pe.proofs.whole.places.Places.import_walk.Goals.{in_default-via-in-Some+else-opts, in_default-via-in_default}
 
-pub returns-in_err-imports-in-Some : goal.returns-in_err-imports-in-Some
-returns-in_err-imports-in-Some c =
+pub returns-in_err-imports-in-Some-clause-walks : goal.returns-in_err-imports-in-Some-clause-walks
+returns-in_err-imports-in-Some-clause-walks c =
     let m = map_of c.args.address_map.now in
     let asked : m.opts.parse_imports ≡ true = sym (ap (λ (o : ParseOptions). o.parse_imports) c.opts-opts.ensures) ∙ c.if-opts.true in
     let e = err_from_is_err_and c.from_residual.result c.from_residual.ensures.1 in
     rw (e.1, e.2) (list-refused m.opts (offset_of m) (table_places c.args.self.now) c.in-Some.directory asked c.in-Some.is c.args.bytes.now _ _ c.imports_at.ensures c.in_err-imports-in-Some.was)
 
-pub returns-in_ok-imports-in-Some : goal.returns-in_ok-imports-in-Some
-returns-in_ok-imports-in-Some c =
+pub returns-in_ok-imports-in-Some-clause-walks : goal.returns-in_ok-imports-in-Some-clause-walks
+returns-in_ok-imports-in-Some-clause-walks c =
     let m = map_of c.args.address_map.now in
     let asked : m.opts.parse_imports ≡ true = sym (ap (λ (o : ParseOptions). o.parse_imports) c.opts-opts.ensures) ∙ c.if-opts.true in
     list-walked m.opts (offset_of m) (table_places c.args.self.now) c.in-Some.directory asked c.in-Some.is c.args.bytes.now _ _ c.imports_at.ensures c.in_ok-imports-in-Some.was
 
-pub returns-in_default : goal.returns-in_default
+pub returns-in_default-clause-walks : goal.returns-in_default-clause-walks
 unfolding import_list import_part part_map
-returns-in_default c =
+returns-in_default-clause-walks c =
     let m = map_of c.args.address_map.now in
     let format = entry_format c.args.self.now.magic in
     let none : (m.opts.parse_imports ≡ false) ⊎ (c.args.self.now.imports ≡ None) =

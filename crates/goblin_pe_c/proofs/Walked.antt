@@ -1,0 +1,51 @@
+-- A loop that makes something of each item of a walk: what it has made so far, and what at each way out.
+use Rattle.std.proofs.Common.{◌≡◌, ℕ, List, [], ◌∷◌, ◌++◌, map, Option, Some, None, Result, Ok, Err}
+use Rattle.std.proofs.Common.{refl, sym, ap, subst, ◌∙◌, append-nil}
+use Rattle.std.specs.Prelude.{option_map}
+use Rattle.std.proofs.lemmas.List.{map-append, map-id}
+use Rattle.goblin_base.specs.declared.error.ErrorOf.{ErrorOf}
+use Rattle.goblin_base.specs.Answers.{all_of}
+use Rattle.goblin_base.specs.Tables.{join}
+use Rattle.goblin_pe.specs.Walks.{GivesNext}
+use Rattle.readings.proofs.WalkValues.{all_of-append, all_of-made}
+use Rattle.readings.proofs.Walked.{AtWalk, walk-more, walk-start}
+
+module _ {S A B : Type 0} (left : S → List (Option A)) (IsCause : S → ErrorOf → Type 0) (item : A → B) (start : S) where
+  -- the walk that began at `start` is now at `now`, and this was made of the items so far
+  pub record AtMade (now : S) (made : List B) : Type 0 where
+    pub items : List A
+    pub at : AtWalk left IsCause start now items
+    pub said : made ≡ map item items
+
+  pub made-start : AtMade start []
+  made-start = record { items = []; at = walk-start left IsCause start; said = refl }
+
+  module _ (now : S) (made : List B) (h : AtMade now made) {X : Type 0} (view : X → A) (next : S) where
+    -- one item more
+    pub made-more : (r : Result X ErrorOf) → GivesNext view left IsCause now (Some r) next → (x : X) → r ≡ Ok x → (more : List B) → more ≡ made ++ item (view x) ∷ [] → AtMade next more
+    made-more r given x is more added =
+        let one = subst (λ (q : Result X ErrorOf). GivesNext view left IsCause now (Some q) next) is given in
+        record {
+          items = h.items ++ view x ∷ [];
+          at = walk-more left IsCause start now h.items h.at view next x one;
+          said = added ∙ ap (λ (xs : List B). xs ++ item (view x) ∷ []) h.said ∙ sym (map-append item h.items (view x ∷ []));
+        }
+
+    -- the walk has ended
+    pub made-all : GivesNext view left IsCause now None next → option_map (map item) (all_of (left start)) ≡ Some made
+    made-all given =
+        let all : left start ≡ map (λ x. Some x) h.items = h.at.yielded ∙ ap (λ (items : List (Option A)). map (λ x. Some x) h.items ++ items) given.0 ∙ append-nil (map (λ x. Some x) h.items) in
+        ap (λ (items : List (Option A)). option_map (map item) (all_of items)) all
+        ∙ ap (option_map (map item)) (all_of-made (λ x. x) h.items ∙ ap (λ (xs : List A). Some xs) (map-id h.items))
+        ∙ ap (λ (xs : List B). Some xs) (sym h.said)
+
+    -- it ends with a refusal
+    pub made-fault : (r : Result X ErrorOf) → GivesNext view left IsCause now (Some r) next → (e : ErrorOf) → r ≡ Err e → (option_map (map item) (all_of (left start)) ≡ None) × IsCause start e
+    unfolding all_of join
+    made-fault r given e is =
+        let one = subst (λ (q : Result X ErrorOf). GivesNext view left IsCause now (Some q) next) is given in
+        let all : left start ≡ map (λ x. Some x) h.items ++ None ∷ [] = h.at.yielded ∙ ap (λ (items : List (Option A)). map (λ x. Some x) h.items ++ items) one.0 in
+        let none : all_of (left start) ≡ None =
+        ap all_of all ∙ all_of-append (map (λ x. Some x) h.items) (None ∷ [])
+        ∙ ap (λ (made : Option (List A)). join made None) (all_of-made (λ x. x) h.items) in
+        (ap (option_map (map item)) none, h.at.cause e one.2)

@@ -1,0 +1,48 @@
+use Rattle.std.proofs.lemmas.Result.{err_from_is_err_and}
+use Rattle.goblin_base.specs.Reading.{Reading}
+use Rattle.goblin_pe_tables.specs.Addresses.{offset_of}
+use Rattle.goblin_pe.specs.Layouts.{layout_map, layout_places}
+use Rattle.goblin_pe.specs.Whole.{collected_exports, collected_imports, export_part}
+use Rattle.goblin_pe.specs.Whole.{import_parts, part_map, relocation_part, table_parts}
+use Rattle.goblin_pe.proofs.Collected.{all-read, first-refused, second-refused, third-refused}
+use Rattle.goblin_pe_c.specs.Exports.{export_said}
+use Rattle.goblin_pe_c.specs.Filled.{alone}
+use Rattle.goblin_pe_c.proofs.records.file_records.Goals as goal
+
+pub returns-in_err-imports : goal.returns-in_err-imports
+unfolding table_parts
+returns-in_err-imports c =
+    let l = c.args.layout.now in
+    let m = layout_map l in
+    let places = layout_places l in
+    let error = err_from_is_err_and c.from_residual.result c.from_residual.ensures.1 in
+    rw (error.1, error.2)
+    (λ other. first-refused (import_parts m.opts (offset_of m) places) (export_part m.opts (offset_of m) places) (relocation_part m.opts (offset_of m) places) (collected_imports alone) (part_map (collected_exports export_said)) l.bytes.now _ (c.in_err-imports.ensures other))
+
+pub returns-in_err-exports : goal.returns-in_err-exports
+unfolding table_parts
+returns-in_err-exports c =
+    let l = c.args.layout.now in
+    let m = layout_map l in
+    let places = layout_places l in
+    let error = err_from_is_err_and c.from_residual-in_err-exports.result c.from_residual-in_err-exports.ensures.1 in
+    rw (error.1, error.2)
+    (λ other. second-refused (import_parts m.opts (offset_of m) places) (export_part m.opts (offset_of m) places) (relocation_part m.opts (offset_of m) places) (collected_imports alone) (part_map (collected_exports export_said)) l.bytes.now _ _ c.in_ok-imports.ensures (c.in_err-exports.ensures other))
+
+pub returns-in_err-relocations : goal.returns-in_err-relocations
+unfolding table_parts
+returns-in_err-relocations c =
+    let l = c.args.layout.now in
+    let m = layout_map l in
+    let places = layout_places l in
+    let error = err_from_is_err_and c.from_residual-in_err-relocations.result c.from_residual-in_err-relocations.ensures.1 in
+    rw (error.1, error.2)
+    (λ other. third-refused (import_parts m.opts (offset_of m) places) (export_part m.opts (offset_of m) places) (relocation_part m.opts (offset_of m) places) (collected_imports alone) (part_map (collected_exports export_said)) l.bytes.now _ _ _ c.in_ok-imports.ensures c.in_ok-exports.ensures c.in_err-relocations.ensures)
+
+pub returns : goal.returns
+unfolding table_parts
+returns c =
+    let l = c.args.layout.now in
+    let m = layout_map l in
+    let places = layout_places l in
+    all-read (import_parts m.opts (offset_of m) places) (export_part m.opts (offset_of m) places) (relocation_part m.opts (offset_of m) places) (collected_imports alone) (part_map (collected_exports export_said)) l.bytes.now _ _ _ c.in_ok-imports.ensures c.in_ok-exports.ensures c.in_ok-relocations.ensures

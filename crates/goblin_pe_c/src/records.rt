@@ -1,0 +1,45 @@
+//! The tables of a file that its directories lead to, imports and exports as records.
+
+ghost use Rattle.goblin_base.specs.Reading.{ReadsOrMemory};
+ghost use Rattle.goblin_pe.specs.Reads.{mapped};
+ghost use Rattle.goblin_pe_tables.specs.Addresses.{offset_of};
+ghost use Rattle.goblin_pe.specs.Layouts.{layout_map, layout_places};
+ghost use Rattle.goblin_pe.specs.Whole.{collected_tables, table_parts};
+ghost use Rattle.goblin_pe_c.specs.Exports.{export_said};
+ghost use Rattle.goblin_pe_c.specs.Filled.{alone};
+ghost use Rattle.goblin_pe_c.specs.Opened.{tables_view};
+
+use crate::export::{PeExport, export_records};
+use crate::import::{PeImport, import_records};
+use goblin_pe::relocation::RelocationData;
+use goblin_pe::{Layout, Part, Result};
+use std::alloc::Global;
+
+/// The imports and exports of a file as records, and the bytes of its base relocations.
+#[derive(Drop)]
+pub struct FileRecords<'a> {
+    /// The imports.
+    pub imports: Part<Vec<PeImport<'a>>>,
+    /// The exports.
+    pub exports: Part<Vec<PeExport<'a>>>,
+    /// The base relocations.
+    pub relocations: Part<RelocationData<'a>>,
+}
+
+/// Reads the tables of a file, in this order.
+pub fn file_records<'a>(alloc: Global, layout: &Layout<'a>) -> Result<FileRecords<'a>>
+    ensures { let m = layout_map layout.now in
+        ReadsOrMemory tables_view result
+        (mapped (collected_tables alone export_said)
+        (table_parts m.opts (offset_of m) (layout_places layout.now)))
+        layout.now.bytes.now }
+{
+    let imports = import_records(alloc, layout)?;
+    let exports = export_records(alloc, layout)?;
+    let relocations = layout.relocations()?;
+    Ok(FileRecords {
+        imports,
+        exports,
+        relocations,
+    })
+}

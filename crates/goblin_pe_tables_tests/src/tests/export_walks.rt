@@ -1,0 +1,133 @@
+//! Exports walked over one by one, also from each position on.
+
+use crate::rows::{ExportRow, FORWARDED, PLAIN};
+use fixture::sample::{ALIGNMENT, EXPORTS, directory, sample, sample_section, sample_with};
+use goblin_base::{Cause, Error};
+use goblin_pe_sect::ParseOptions;
+use goblin_pe_tables::address_map::AddressMap;
+use goblin_pe_tables::export::{Exports, WalkedExport};
+use std::alloc::Global;
+use std::test::Fail;
+
+/// The hint and the ordinal of an export, and what it is.
+type Row<'r> = (usize, usize, ExportRow<'r>);
+
+/// Whether this is the export of a row.
+fn is_row(walked: &WalkedExport, row: Row) -> bool {
+    let export = &walked.export;
+    (walked.hint, walked.ordinal) == (row.0, row.1)
+        && (export.name, export.offset, export.rva, export.reexport) == row.2
+        && export.size == 0
+}
+
+/// Whether the next export is that of a row.
+fn gives(walk: &mut Exports, row: Row) -> bool {
+    matches!(walk.next(), Some(export) if is_row(&export, row))
+}
+
+/// Whether the exports of these rows are still to come, and no others.
+fn gives_all(mut walk: Exports, rows: &[Row]) -> bool {
+    for row in rows {
+        if !gives(&mut walk, *row) {
+            return false;
+        }
+    }
+    walk.next().is_none() && walk.next().is_none()
+}
+
+/// Whether a walk that begins at a position gives these rows and then ends.
+fn gives_from(
+    bytes: &[u8],
+    map: &AddressMap,
+    position: usize,
+    rows: &[Row],
+) -> goblin_base::Result<bool> {
+    let walk = Exports::of(bytes, EXPORTS, map)?;
+    Ok(gives_all(walk.from_position(position), rows))
+}
+
+/// Whether the walk over a file's exports gives these rows and then ends, and so does one that
+/// begins at each of its positions.
+fn walks(bytes: &[u8], map: &AddressMap, rows: &[Row]) -> goblin_base::Result<bool> {
+    let mut walk = Exports::of(bytes, EXPORTS, map)?;
+    'rows: for begin in 0..rows.len() {
+        if !gives_from(bytes, map, walk.position(), &rows[begin..])? {
+            return Ok(false);
+        }
+        if !gives(&mut walk, rows[begin]) {
+            return Ok(false);
+        }
+    }
+    Ok(gives_from(bytes, map, walk.position(), &[])? && gives_all(walk, &[]))
+}
+
+/// How the addresses of a file with the sample's section are mapped.
+fn sample_map(alloc: Global) -> goblin_base::Result<AddressMap> {
+    let opts = ParseOptions::default();
+    AddressMap::prepare(alloc, &[sample_section()], ALIGNMENT, &opts)
+}
+
+/// Whether the exports of the sample file with these bytes at an offset are those of the rows.
+fn are_walked(
+    alloc: Global,
+    offset: usize,
+    bytes: &[u8],
+    rows: &[Row],
+) -> goblin_base::Result<bool> {
+    let file = sample_with(alloc, offset, bytes)?;
+    walks(&file, &sample_map(alloc)?, rows)
+}
+
+#[test]
+fn exports_are_walked_over_from_each_position(rt: HostRuntime) -> Result<(), Fail> {
+    let unnamed = (None, PLAIN.1, PLAIN.2, None);
+    let second_address = (Some("f"), FORWARDED.1, FORWARDED.2, FORWARDED.3);
+    // Bytes that are changed, and the exports that are left.
+    let cases: [(usize, &[u8], &[Row]); 6] = [
+        (0x000, b"MZ", &[(0, 1, PLAIN), (1, 2, FORWARDED)]),
+        (0x2B0, b"\x00\x01", &[(0, 256, PLAIN), (1, 257, FORWARDED)]),
+        (0x2D0, b"\x00\x90", &[(0, 1, unnamed), (1, 2, FORWARDED)]),
+        (0x2D8, b"\x01", &[(0, 2, second_address), (1, 2, FORWARDED)]),
+        (0x2D8, b"\x02", &[(1, 2, FORWARDED)]),
+        (0x2E1, b"-", &[(0, 1, PLAIN)]),
+    ];
+    for (offset, bytes, rows) in cases {
+        let walked = are_walked(rt.alloc(), offset, bytes, rows)?;
+        assert!(rt; walked, "at {offset:#x}");
+    }
+    Ok(())
+}
+
+/// Whether a walk over the sample's exports says what it is over.
+fn is_sample_walk(walk: &Exports) -> bool {
+    walk.name() == Some("a.dll")
+        && walk.directory_table().ordinal_base == 1
+        && walk.position() == 0
+        && walk.size_hint() == (0, Some(2))
+}
+
+#[test]
+fn a_walk_says_what_it_is_over(rt: HostRuntime) -> Result<(), Fail> {
+    let file = sample(rt.alloc())?;
+    let map = sample_map(rt.alloc())?;
+    let walk = Exports::of(&file, EXPORTS, &map)?;
+    assert!(rt; is_sample_walk(&walk));
+    assert!(rt; walk.count() == 2);
+    Ok(())
+}
+
+/// Whether a walk over a directory at an address that no section maps is refused.
+fn is_refused(bytes: &[u8], map: &AddressMap) -> bool {
+    matches!(
+        Exports::of(bytes, directory(0x9000, 0x28), map),
+        Err(Error::Malformed(Cause::Unmapped(0x9000)))
+    )
+}
+
+#[test]
+fn a_walk_over_a_directory_that_is_not_mapped_is_refused(rt: HostRuntime) -> Result<(), Fail> {
+    let file = sample(rt.alloc())?;
+    let map = sample_map(rt.alloc())?;
+    assert!(rt; is_refused(&file, &map));
+    Ok(())
+}
