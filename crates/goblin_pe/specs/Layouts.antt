@@ -4,8 +4,7 @@ use Rattle.goblin_base.specs.declared.error.ErrorOf.{ErrorOf}
 use Rattle.goblin_base.specs.Reading.{Reading}
 use Rattle.readings.specs.Walks.{IsWalkOf}
 use Rattle.goblin_pe_sect.specs.declared.options.ParseOptions.{ParseOptions}
-use Rattle.goblin_pe_sect.specs.SectionTable.{Section}
-use Rattle.goblin_pe_head.specs.PeHeader.{PeHeader, header_value}
+use Rattle.goblin_pe_head.specs.declared.header.pe_header.Header.{Header}
 use Rattle.goblin_pe_tables.specs.Addresses.{MapOfAddresses, map_by, map_of}
 use Rattle.goblin_pe_tables.specs.declared.export.exports.Exports.{Exports}
 use Rattle.goblin_pe_tables.specs.ExportRecords.{ExportRow, ExportTables}
@@ -20,27 +19,27 @@ use Rattle.goblin_pe.specs.declared.whole.imports.FileImports.{FileImports}
 use Rattle.goblin_pe.specs.declared.whole.imports.FileImports.TheVariants.{Narrow, Wide}
 use Rattle.goblin_pe.specs.declared.whole.layout.Layout.{Layout}
 use Rattle.goblin_pe_tables.specs.declared.import.imports.WalkedImport.{WalkedImport}
-use Rattle.goblin_pe.specs.Whole.{TablePlaces, places_in}
+use Rattle.goblin_pe.specs.Whole.{TablePlaces, places_in, table_places}
 
 -- ---- what all tables are read by
 
--- the header and the sections
-abbrev pub layout_view : Layout → PeHeader × List Section
-layout_view l = (header_value l.header, l.sections.items)
-
 -- where the tables lie
 abbrev pub layout_places : Layout → TablePlaces
-layout_places l = places_in l.header.optional_header
+layout_places l = table_places l.places
 
 -- how addresses are mapped, and how the bytes there are read
 abbrev pub layout_map : Layout → MapOfAddresses
 layout_map l = map_of l.address_map
 
--- It is that of these bytes: its addresses are mapped by its own sections and file alignment, and by
--- these options.
-pub record IsLayoutOf (opts : ParseOptions) (bytes : List ℕ) (l : Layout) : Type 0 where
-  pub over : l.bytes.now ≡ bytes
-  pub mapped : layout_map l ≡ map_by opts l.sections.items (layout_places l).file_alignment
+-- It is that of these bytes with this header: its addresses are mapped by its own sections, by the
+-- header's file alignment and by these options.
+pub record IsLayoutOf (opts : ParseOptions) (bytes : List ℕ) (header : Header) (l : Layout) : Type 0
+  where
+    pub over : l.bytes.now ≡ bytes
+    pub after : l.header.now ≡ header
+    pub placed : layout_places l ≡ places_in header.optional_header
+    pub mapped : layout_map l
+        ≡ map_by opts l.sections.items (places_in header.optional_header).file_alignment
 
 -- ---- tables as walks
 

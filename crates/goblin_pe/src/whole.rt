@@ -118,17 +118,13 @@ impl<'a> Whole<'a> {
             IsMemory e → IsSome ((pe_header (is_strict opts.now.parse_mode)).value bytes.now)) }
     {
         let header = Header::parse_with_opts(bytes, opts)?;
-        let layout = Layout::after(alloc, bytes, header, opts)?;
+        let layout = Layout::of(alloc, bytes, &header, opts)?;
         let ListedTables {
             imports,
             exports,
             relocations,
         } = layout.listed(alloc)?;
-        let Layout {
-            header,
-            sections,
-            ..
-        } = layout;
+        let Layout { sections, .. } = layout;
         let (import_data, imports) = imports;
         let (export_data, exports) = export_parts(exports);
         Ok(Whole {

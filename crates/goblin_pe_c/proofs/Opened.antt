@@ -1,29 +1,33 @@
 -- The records that were collected of a file are those of its imports and its exports.
-use Rattle.std.proofs.Common.{◌≡◌, ◌∙◌, ℕ, List, map, Some, None, refl, ap, subst}
+use Rattle.std.proofs.Common.{◌≡◌, ◌∙◌, ℕ, List, map, Some, None, refl, sym, ap, subst}
 use Rattle.std.specs.Prelude.{option_map, Result, Ok, Err}
 use Rattle.std.proofs.lemmas.List.{length-map}
 use Rattle.goblin_base.specs.declared.error.ErrorOf.{ErrorOf}
 use Rattle.goblin_base.specs.Answers.{IsMemory}
-use Rattle.goblin_base.specs.Reading.{Reading, ReadsOrMemory}
+use Rattle.goblin_base.specs.Reading.{ReadsOrMemory}
 use Rattle.goblin_base.proofs.Steps as steps
 use Rattle.readings.specs.Reads.{mapped}
 use Rattle.goblin_pe_sect.specs.declared.options.ParseOptions.{ParseOptions}
-use Rattle.goblin_pe_sect.specs.SectionTable.{Section}
-use Rattle.goblin_pe_head.specs.PeHeader.{PeHeader}
+use Rattle.goblin_pe_sect.specs.BaseRelocations.{relocation_bytes}
+use Rattle.goblin_pe_sect.specs.Options.{is_strict}
+use Rattle.goblin_pe_head.specs.declared.header.pe_header.Header.{Header}
+use Rattle.goblin_pe_head.specs.HeaderReadings.{pe_header}
+use Rattle.goblin_pe_head.specs.PeHeader.{header_value}
 use Rattle.goblin_pe_tables.specs.Addresses.{MapOfAddresses, map_by, offset_of}
 use Rattle.goblin_pe.specs.declared.whole.Part.{Part}
 use Rattle.goblin_pe.specs.declared.whole.Part.TheVariants.{Absent, Refused}
 use Rattle.goblin_pe.specs.declared.whole.Part.TheVariants as part
 use Rattle.goblin_pe.specs.declared.whole.layout.Layout.{Layout}
-use Rattle.goblin_pe.specs.Layouts.{IsLayoutOf, layout_map, layout_places, layout_view}
-use Rattle.goblin_pe.specs.Whole.{TableParts, WholeFile, collected_tables, layout, part_map}
+use Rattle.goblin_pe.specs.Layouts.{IsLayoutOf, layout_map, layout_places}
+use Rattle.goblin_pe.specs.Whole.{TablePlaces, WholeFile, collected_tables, part_map, places_in, sections_after}
 use Rattle.goblin_pe.specs.Whole.{table_parts, whole_file, whole_of, whole_with}
 use Rattle.goblin_pe.proofs.Collected.{file_read, unmapped}
-use Rattle.goblin_pe.proofs.Layouts.{layout-cause, layout-found}
+use Rattle.goblin_pe.proofs.Layouts.{tables-cause, tables-value}
 use Rattle.goblin_pe_c.specs.declared.records.FileRecords.{FileRecords}
-use Rattle.goblin_pe_c.specs.Exports.{export_said}
+use Rattle.goblin_pe_c.specs.Exports.{export_said, export_views}
 use Rattle.goblin_pe_c.specs.Files.{entries_of, table_of}
 use Rattle.goblin_pe_c.specs.Filled.{alone}
+use Rattle.goblin_pe_c.specs.Imports.{import_views}
 use Rattle.goblin_pe_c.specs.Opened.{RecordsOfFile, records_of_file, records_view, tables_view}
 
 -- ---- tables by what is made of each entry
@@ -79,42 +83,51 @@ file-of-records opts bytes v is =
 
 -- ---- the records of a file's tables
 
-module _ (opts : ParseOptions) (bytes : List ℕ) (l : Layout)
-    (found : (layout opts).value bytes ≡ Some (layout_view l)) (of : IsLayoutOf opts bytes l) where
-  abbrev header : PeHeader
-  header = (layout_view l).0
+module _ (opts : ParseOptions) (bytes : List ℕ) (h : Header)
+    (header : (pe_header (is_strict opts.parse_mode)).value bytes ≡ Some (header_value h))
+    (l : Layout) (sections : (sections_after (is_strict opts.parse_mode) (header_value h)).value bytes
+    ≡ Some l.sections.items) (of : IsLayoutOf opts bytes h l) where
+  abbrev places : TablePlaces
+  places = places_in h.optional_header
 
-  abbrev sections : List Section
-  sections = (layout_view l).1
+  abbrev MakesTables : Result FileRecords ErrorOf → MapOfAddresses → TablePlaces → List ℕ → Type 0
+  MakesTables result m at file =
+      ReadsOrMemory tables_view result
+      (mapped (collected_tables alone export_said) (table_parts m.opts (offset_of m) at)) file
 
-  abbrev parts : MapOfAddresses → Reading TableParts
-  parts m = table_parts m.opts (offset_of m) (layout_places l)
-
-  abbrev MakesTables : Result FileRecords ErrorOf → MapOfAddresses → List ℕ → Type 0
-  MakesTables result m file =
-      ReadsOrMemory tables_view result (mapped (collected_tables alone export_said) (parts m)) file
-
-  makes : (result : Result FileRecords ErrorOf) → MakesTables result (layout_map l) l.bytes.now
-      → MakesTables result (map_by opts sections (layout_places l).file_alignment) bytes
-  makes result h =
-      subst (λ (file : List ℕ). MakesTables result (map_by opts sections (layout_places l).file_alignment) file) of.over
-      (subst (λ (m : MapOfAddresses). MakesTables result m l.bytes.now) of.mapped h)
+  makes : (result : Result FileRecords ErrorOf)
+      → MakesTables result (layout_map l) (layout_places l) l.bytes.now
+      → MakesTables result (map_by opts l.sections.items places.file_alignment) places bytes
+  makes result made =
+      let m = map_by opts l.sections.items places.file_alignment in
+      subst (λ (file : List ℕ). MakesTables result m places file) of.over
+      (subst (λ (at : TablePlaces). MakesTables result m at l.bytes.now) of.placed
+      (subst (λ (m : MapOfAddresses). MakesTables result m (layout_places l) l.bytes.now) of.mapped made))
 
   -- they are those of the file
-  pub records-read : (r : FileRecords) → MakesTables (Ok r) (layout_map l) l.bytes.now
+  pub records-read : (r : FileRecords)
+      → MakesTables (Ok r) (layout_map l) (layout_places l) l.bytes.now
       → option_map records_of_file ((whole_file opts).value bytes) ≡ Some (records_view l r)
   unfolding whole_with
-  records-read r h =
-      ap (option_map records_of_file) (layout-found opts bytes header sections found)
-      ∙ file_read alone export_said opts header sections bytes (tables_view r) (makes (Ok r) h)
+  records-read r made =
+      ap (option_map records_of_file) (tables-value opts bytes (header_value h) header l.sections.items sections)
+      ∙ file_read alone export_said opts (header_value h) l.sections.items bytes (tables_view r) (makes (Ok r) made)
+      ∙ ap (λ (x : Header). Some (record {
+        header = header_value x;
+        sections = l.sections.items;
+        imports = part_map import_views r.imports;
+        exports = part_map export_views r.exports;
+        relocations = part_map relocation_bytes r.relocations;
+      })) (sym of.after)
 
   -- and a file is refused as they are
-  pub records-refused : (e : ErrorOf) → MakesTables (Err e) (layout_map l) l.bytes.now → ¬ IsMemory e
+  pub records-refused : (e : ErrorOf)
+      → MakesTables (Err e) (layout_map l) (layout_places l) l.bytes.now → ¬ IsMemory e
       → ((whole_file opts).value bytes ≡ None) × (whole_file opts).IsCause bytes e
   unfolding whole_with
-  records-refused e h other =
-      let none = makes (Err e) h other in (
-        layout-found opts bytes header sections found
-            ∙ ap (option_map (whole_of header sections)) (unmapped _ _ none.0),
-        layout-cause opts bytes header sections found e none.1,
+  records-refused e made other =
+      let none = makes (Err e) made other in (
+        tables-value opts bytes (header_value h) header l.sections.items sections
+            ∙ ap (option_map (whole_of (header_value h) l.sections.items)) (unmapped _ _ none.0),
+        tables-cause opts bytes (header_value h) header l.sections.items sections e none.1,
       )

@@ -5,7 +5,7 @@ use Rattle.goblin_pe.specs.Imports.{ImportValue}
 use Rattle.goblin_pe.specs.Whole.{CollectedFileValue, CollectedParts, WholeFile, collected_file, part_map}
 use Rattle.goblin_pe.specs.declared.whole.layout.Layout.{Layout}
 use Rattle.goblin_pe.specs.BaseRelocations.{relocation_bytes}
-use Rattle.goblin_pe.specs.Layouts.{layout_view}
+use Rattle.goblin_pe.specs.PeHeader.{header_value}
 use Rattle.goblin_pe_c.specs.declared.directory.PeDirectory.{PeDirectory}
 use Rattle.goblin_pe_c.specs.declared.file.PeFile.{PeFile}
 use Rattle.goblin_pe_c.specs.declared.open.PeTables.{PeTables}
@@ -64,8 +64,8 @@ tables_view x = (
 -- the file, by what its tables are read by and their records
 abbrev pub records_view : Layout → FileRecords → RecordsOfFile
 records_view l x = record {
-  header = (layout_view l).0;
-  sections = (layout_view l).1;
+  header = header_value l.header.now;
+  sections = l.sections.items;
   imports = part_map import_views x.imports;
   exports = part_map export_views x.exports;
   relocations = part_map relocation_bytes x.relocations;

@@ -112,7 +112,7 @@ fn records_of<'a, 'm>(
 
 /// The records of a file's exports, in the order of the name pointers.
 #[tactic(auto, unfolding(goblin_pe::specs::Whole::part_map))]
-pub fn export_records<'a>(alloc: Global, layout: &Layout<'a>) -> Result<Part<Vec<PeExport<'a>>>>
+pub fn export_records<'a>(alloc: Global, layout: &Layout<'a, '_>) -> Result<Part<Vec<PeExport<'a>>>>
     ensures { let m = layout_map layout.now in
         ReadsOrMemory (part_map export_views) result
         (mapped (part_map (collected_exports export_said))

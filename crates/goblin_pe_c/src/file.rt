@@ -88,14 +88,14 @@ fn exports_table(exports: &Part<Vec<PeExport>>) -> PeTable
 
 /// What is said of a file as a whole: with what is said of its base relocations and its Rich header.
 pub fn file_of<'a>(
-    layout: &Layout<'a>,
+    layout: &Layout<'a, '_>,
     records: &FileRecords<'a>,
     relocations: PeRelocations,
     rich_header: PeRichHeader,
 ) -> PeFile
     requires relocations { let v = records_view layout.now records.now in
         relocations ≡ relocations_of v.relocations }
-    requires rich_header { rich_header ≡ rich_of (header_value layout.now.header).rich_header }
+    requires rich_header { rich_header ≡ rich_of (header_value layout.now.header.now).rich_header }
     ensures { let v = records_view layout.now records.now in
         result
         ≡ summary v.header (length v.sections) (table_of v.imports) (table_of v.exports)

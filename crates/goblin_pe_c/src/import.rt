@@ -119,7 +119,7 @@ fn file_records_of<'a, 'm, 'e>(
 
 // The records of a file's imports.
 #[tactic(auto, unfolding(goblin_pe::specs::Whole::part_map))]
-fn listed_records<'a>(alloc: Global, layout: &Layout<'a>) -> Result<Part<Vec<PeImport<'a>>>>
+fn listed_records<'a>(alloc: Global, layout: &Layout<'a, '_>) -> Result<Part<Vec<PeImport<'a>>>>
     ensures value { let m = layout_map layout.now in
         ReadsOrMemory (part_map import_views) result
         (mapped (part_map (map alone)) (import_list m.opts (offset_of m) (layout_places layout.now)))
@@ -139,7 +139,7 @@ fn listed_records<'a>(alloc: Global, layout: &Layout<'a>) -> Result<Part<Vec<PeI
 
 /// The records of a file's imports, in the order of the libraries and of their entries.
 #[tactic(auto, using(goblin_pe::proofs::ImportParts::list_collected))]
-pub fn import_records<'a>(alloc: Global, layout: &Layout<'a>) -> Result<Part<Vec<PeImport<'a>>>>
+pub fn import_records<'a>(alloc: Global, layout: &Layout<'a, '_>) -> Result<Part<Vec<PeImport<'a>>>>
     ensures { let m = layout_map layout.now in
         ReadsOrMemory (part_map import_views) result
         (mapped (collected_imports alone)

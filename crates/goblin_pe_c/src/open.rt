@@ -28,6 +28,7 @@ use crate::options::{PeOptions, options_of};
 use crate::records::{FileRecords, file_records};
 use crate::rich::{PeRichEntry, PeRichHeader, entry_records};
 use crate::section::{PeSection, section_records};
+use goblin_pe::header::Header;
 use goblin_pe::options::ParseOptions;
 use goblin_pe::{Layout, Part, Result};
 use std::alloc::Global;
@@ -61,7 +62,7 @@ struct Made<'a> {
 // What is made of a file that was read.
 fn made_of<'a>(
     alloc: Global,
-    layout: &Layout<'a>,
+    layout: &Layout<'a, '_>,
     records: &FileRecords<'a>,
     bytes: &'a [u8],
     opts: &ParseOptions,
@@ -155,13 +156,11 @@ fn open<'a>(
         ReadsInto (pe_header (is_strict opts.now.parse_mode)) (HasRoom bytes.now)
         (whole_file opts.now) bytes.now (λ w. Opens w old new) (new ≡ old) result }
 {
-    let layout = Layout::read(alloc, bytes, opts)?;
+    let header = Header::parse_with_opts(bytes, opts)?;
+    let layout = Layout::of(alloc, bytes, &header, opts)?;
     let records = file_records(alloc, &layout)?;
     let made = made_of(alloc, &layout, &records, bytes, opts)?;
-    fill_directories(
-        directories,
-        directories_of(&layout.header().optional_header),
-    );
+    fill_directories(directories, directories_of(&header.optional_header));
     *file = file_of(&layout, &records, made.relocations, made.rich_header);
     *tables = handed_over(made, records.imports, records.exports);
     Ok(())

@@ -27,7 +27,7 @@ pub struct FileRecords<'a> {
 }
 
 /// Reads the tables of a file, in this order.
-pub fn file_records<'a>(alloc: Global, layout: &Layout<'a>) -> Result<FileRecords<'a>>
+pub fn file_records<'a>(alloc: Global, layout: &Layout<'a, '_>) -> Result<FileRecords<'a>>
     ensures { let m = layout_map layout.now in
         ReadsOrMemory tables_view result
         (mapped (collected_tables alone export_said)

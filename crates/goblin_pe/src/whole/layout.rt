@@ -1,19 +1,16 @@
 //! What all tables of a file are read by.
 
-ghost use Rattle.std.specs.Prelude.{◌+◌, ◌≡◌, ◌<◌, ◌/◌, IfErr, IfOk, IfSome, IsErrAnd, IsSome, length};
-ghost use Rattle.goblin_base.specs.Answers.{IsMemory};
+ghost use Rattle.std.specs.Prelude.{◌+◌, ◌≡◌, ◌<◌, ◌/◌, IfOk, IsErrAnd, length};
 ghost use Rattle.goblin_base.specs.Reading.{Reads, ReadsOrMemory};
-ghost use Rattle.readings.specs.Reads.{mapped};
 ghost use Rattle.goblin_pe_sect.specs.BaseRelocations.{relocation_bytes};
 ghost use Rattle.goblin_pe_sect.specs.Options.{is_strict};
-ghost use Rattle.goblin_pe_head.specs.HeaderReadings.{pe_header};
 ghost use Rattle.goblin_pe_head.specs.PeHeader.{header_value};
 ghost use Rattle.goblin_pe_head.specs.CoffHeader.{IsTooManySections};
 ghost use Rattle.goblin_pe_tables.specs.Addresses.{offset_of};
 ghost use Rattle.goblin_pe.specs.Layouts.{IsFileImportsCause, IsLayoutOf, PartWalks};
-ghost use Rattle.goblin_pe.specs.Layouts.{file_imports_left, layout_map, layout_places, layout_view};
+ghost use Rattle.goblin_pe.specs.Layouts.{file_imports_left, layout_map, layout_places};
 ghost use Rattle.goblin_pe.specs.Layouts.{walked_exports};
-ghost use Rattle.goblin_pe.specs.Whole.{AreListed, export_part, import_list, layout, listed_view, part_map, places_in};
+ghost use Rattle.goblin_pe.specs.Whole.{AreListed, export_part, import_list, listed_view, part_map, places_in};
 ghost use Rattle.goblin_pe.specs.Whole.{relocation_part, sections_after, table_parts};
 
 use crate::export::Exports;
@@ -33,9 +30,10 @@ use std::alloc::Global;
 ///
 /// Source: PE Format, "Overview".
 #[derive(Drop)]
-pub struct Layout<'a> {
+pub struct Layout<'a, 'h> {
     bytes: &'a [u8],
-    pub(super) header: Header<'a>,
+    header: &'h Header<'a>,
+    places: Places,
     pub(super) sections: Vec<SectionTable>,
     address_map: AddressMap,
 }
@@ -69,55 +67,35 @@ fn sections_of(
     coff_header.sections_with_opts(alloc, bytes, &mut offset, opts)
 }
 
-impl<'a> Layout<'a> {
-    // The layout of a file with this header.
-    pub(super) fn after(
+impl<'a, 'h> Layout<'a, 'h> {
+    /// Reads the sections of a file with this header, as [`Whole::read`](crate::Whole::read) does,
+    /// and prepares what maps its addresses. Memory is taken for the sections and the map.
+    ///
+    /// # Errors
+    /// As [`CoffHeader::sections_with_opts`](goblin_pe_head::CoffHeader::sections_with_opts).
+    pub fn of(
         alloc: Global,
         bytes: &'a [u8],
-        header: Header<'a>,
+        header: &'h Header<'a>,
         opts: &ParseOptions,
-    ) -> Result<Layout<'a>>
+    ) -> Result<Layout<'a, 'h>>
         ensures value { let strict = is_strict opts.now.parse_mode in
             ReadsOrMemory (λ l. l.sections.items) result
-            (sections_after strict (header_value header.entry)) bytes.now }
-        ensures header { IfOk result (λ l. l.header ≡ header.entry) }
-        ensures over { IfOk result (IsLayoutOf opts.now bytes.now) }
-        ensures first { let count = header.entry.coff_header.number_of_sections in
+            (sections_after strict (header_value header.now)) bytes.now }
+        ensures over { IfOk result (IsLayoutOf opts.now bytes.now header.now) }
+        ensures first { let count = header.now.coff_header.number_of_sections in
             length bytes.now / 40 < count → IsErrAnd result (IsTooManySections count bytes.now) }
     {
-        let sections = sections_of(alloc, bytes, &header, opts)?;
+        let sections = sections_of(alloc, bytes, header, opts)?;
         let places = Places::of(&header.optional_header);
         let address_map = AddressMap::prepare(alloc, &sections, places.file_alignment, opts)?;
         Ok(Layout {
             bytes,
             header,
+            places,
             sections,
             address_map,
         })
-    }
-
-    /// Reads the header and the sections of a file, as [`Whole::read`](crate::Whole::read) does,
-    /// and prepares what maps its addresses. Memory is taken for the sections and the map.
-    ///
-    /// # Errors
-    /// As [`Header::parse_with_opts`]; as
-    /// [`CoffHeader::sections_with_opts`](goblin_pe_head::CoffHeader::sections_with_opts);
-    /// [`Error::Memory`](goblin_base::Error::Memory) if memory is refused, in both modes, and never
-    /// of a file whose header is refused.
-    #[tactic(auto, unfolding(crate::specs::Whole::layout), using(goblin_pe_head::proofs::HeaderFaults::header_there))]
-    pub fn read(alloc: Global, bytes: &'a [u8], opts: &ParseOptions) -> Result<Layout<'a>>
-        ensures value { ReadsOrMemory layout_view result (layout opts.now) bytes.now }
-        ensures over { IfOk result (IsLayoutOf opts.now bytes.now) }
-        ensures first { let found = (pe_header (is_strict opts.now.parse_mode)).value bytes.now in
-            IfSome found (λ header.
-            let count = header.coff_header.number_of_sections in
-            length bytes.now / 40 < count → IsErrAnd result (IsTooManySections count bytes.now)) }
-        ensures grown { IfErr result
-            (λ e.
-            IsMemory e → IsSome ((pe_header (is_strict opts.now.parse_mode)).value bytes.now)) }
-    {
-        let header = Header::parse_with_opts(bytes, opts)?;
-        Layout::after(alloc, bytes, header, opts)
     }
 
     /// The bytes of the file.
@@ -128,10 +106,10 @@ impl<'a> Layout<'a> {
     }
 
     /// The header: everything before the section table.
-    pub fn header(&self) -> &Header<'a>
-        ensures { result.now ≡ self.now.header }
+    pub fn header(&self) -> &'h Header<'a>
+        ensures { result.now ≡ self.now.header.now }
     {
-        &self.header
+        self.header
     }
 
     /// The sections, in the order of their records; they map the addresses.
@@ -152,7 +130,7 @@ impl<'a> Layout<'a> {
         ensures listed { let m = layout_map self.now in
             AreListed m.opts (offset_of m) (layout_places self.now) self.now.bytes.now }
     {
-        Places::of(&self.header.optional_header).import_walk(self.bytes, &self.address_map)
+        self.places.import_walk(self.bytes, &self.address_map)
     }
 
     /// The exports that the export directory lists, one by one.
@@ -164,7 +142,7 @@ impl<'a> Layout<'a> {
             Reads (part_map walked_exports) result
             (export_part m.opts (offset_of m) (layout_places self.now)) self.now.bytes.now }
     {
-        Places::of(&self.header.optional_header).export_walk(self.bytes, &self.address_map)
+        self.places.export_walk(self.bytes, &self.address_map)
     }
 
     /// The base relocations: the bytes of their directory, whose blocks are read one by one.
@@ -176,7 +154,7 @@ impl<'a> Layout<'a> {
             Reads (part_map relocation_bytes) result
             (relocation_part m.opts (offset_of m) (layout_places self.now)) self.now.bytes.now }
     {
-        Places::of(&self.header.optional_header).relocations(self.bytes, &self.address_map)
+        self.places.relocations(self.bytes, &self.address_map)
     }
 
     // The lists of all tables.
@@ -185,7 +163,7 @@ impl<'a> Layout<'a> {
             ReadsOrMemory listed_view result
             (table_parts m.opts (offset_of m) (layout_places self.now)) self.now.bytes.now }
     {
-        let places = Places::of(&self.header.optional_header);
-        places.listed(alloc, self.bytes, &self.address_map, &self.sections)
+        self.places
+            .listed(alloc, self.bytes, &self.address_map, &self.sections)
     }
 }
