@@ -486,7 +486,7 @@ module _ (strict : Bool) (format : Format EntryValue) (offset_of : ℕ → Optio
         cause = λ e fault. rw at (is.cause e fault);
       }
 
--- ---- a collector's items of the imports
+-- ---- what is made of the imports
 
 module _ {X : Type 0} (item_of : ImportValue → X) (width : ℕ) where
   items-all : (libraries : List ImportedLibrary)

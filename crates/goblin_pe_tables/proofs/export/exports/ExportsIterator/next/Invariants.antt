@@ -1,12 +1,12 @@
--- No name pointer that was passed over has an export.
+-- What was still to come is what comes from the name pointer that is looked at.
 use Rattle.std.proofs.Common.{◌≡◌, ◌≤◌}
-use Rattle.goblin_pe_tables.specs.ExportWalks.{KeepsOver, exports_bound, exports_left}
+use Rattle.goblin_pe_tables.specs.ExportWalks.{KeepsOver, exports_at, exports_left}
 use Rattle.goblin_pe_tables.proofs.export.exports.ExportsIterator.next.Given as goal
 
 abbrev pub invariant-pointers : goal.invariant-pointers
 invariant-pointers l = record {
-  at : l.self.next ≡ l.index;
+  begun : l.fn.self.next ≤ l.index;
+  at : l.index ≤ l.self.next;
   over : KeepsOver l.fn.self l.self;
-  left : exports_left l.fn.self ≡ exports_left l.self;
-  bound : exports_bound l.self ≤ exports_bound l.fn.self;
+  left : exports_left l.fn.self ≡ exports_at l.self l.index;
 }
