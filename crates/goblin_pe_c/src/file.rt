@@ -87,6 +87,7 @@ fn exports_table(exports: &Part<Vec<PeExport>>) -> PeTable
 }
 
 /// What is said of a file as a whole: with what is said of its base relocations and its Rich header.
+#[inline(always)]
 pub fn file_of<'a>(
     layout: &Layout<'a, '_>,
     records: &FileRecords<'a>,

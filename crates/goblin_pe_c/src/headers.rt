@@ -148,6 +148,7 @@ pub struct PeOptionalHeader {
 }
 
 /// The DOS header, field by field.
+#[inline(always)]
 pub fn dos_record(header: &DosHeader) -> PeDosHeader
     ensures { result ≡ dos_record header.now }
 {
@@ -224,6 +225,7 @@ const NO_OPTIONAL_HEADER: PeOptionalHeader = PeOptionalHeader {
 };
 
 /// The optional header, field by field, or zeros.
+#[inline(always)]
 pub fn optional_record(header: &Option<OptionalHeader>) -> PeOptionalHeader
     ensures { result ≡ optional_record header.now }
 {

@@ -78,6 +78,19 @@ fn stub_in<'a>(bytes: &'a [u8], pe_pointer: u32, opts: &ParseOptions) -> Result<
     DosStub::parse(bytes, pe_pointer).or_permissive_and_default(is_permissive, "DOS stub")
 }
 
+// The optional header at an offset, which is there if its size is not 0.
+#[tactic(auto, unfolding(crate::specs::HeaderReadings::optional_at))]
+fn optional_at(bytes: &[u8], offset: usize, size: u16) -> Result<Option<OptionalHeader>>
+    requires { offset ≤ length bytes.now }
+    ensures { Reads (λ header. header) result (reading.optional_at size offset) bytes.now }
+{
+    if size == 0 {
+        return Ok(None);
+    }
+    let (header, _) = OptionalHeader::try_from_ctx(&bytes[offset..], Endian::Little)?;
+    Ok(Some(header))
+}
+
 impl<'a> Header<'a> {
     /// Reads the header of a file, as [`Header::parse_with_opts`] with the default options.
     ///
@@ -129,7 +142,7 @@ impl<'a> Header<'a> {
     }
 
     // Reads the parts from the signature at `offset` on.
-    #[tactic(auto, unfolding(crate::specs::HeaderReadings::header_at, crate::specs::HeaderReadings::parts_at, crate::specs::HeaderReadings::optional_at))]
+    #[tactic(auto, unfolding(crate::specs::HeaderReadings::header_at, crate::specs::HeaderReadings::parts_at))]
     fn parse_at(
         bytes: &'a [u8],
         offset: usize,
@@ -147,21 +160,14 @@ impl<'a> Header<'a> {
         };
         let mut end = offset + SIZEOF_PE_MAGIC;
         let coff_header = CoffHeader::parse(bytes, &mut end)?;
-        let header = Header {
+        let optional_header = optional_at(bytes, end, coff_header.size_of_optional_header)?;
+        Ok(Header {
             dos_header,
             dos_stub,
             rich_header,
             signature,
             coff_header,
-            optional_header: None,
-        };
-        if coff_header.size_of_optional_header == 0 {
-            return Ok(header);
-        }
-        let (optional_header, _) = OptionalHeader::try_from_ctx(&bytes[end..], Endian::Little)?;
-        Ok(Header {
-            optional_header: Some(optional_header),
-            ..header
+            optional_header,
         })
     }
 
