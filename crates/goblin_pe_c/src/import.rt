@@ -70,6 +70,7 @@ fn import_record<'a>(bytes: &'a [u8], import: WalkedImport<'a>) -> PeImport<'a>
 const FIRST_ROOM: usize = 4;
 
 // Adds the record of an import.
+#[inline(always)]
 fn push_import<'a>(
     records: &mut Vec<PeImport<'a>>,
     bytes: &'a [u8],
