@@ -1,10 +1,32 @@
 """The package for callers in Python."""
+import re
 import sys
 
-from tests.programs import BY_NAME, CALLERS, CC, IMAGES, SAMPLES, Case, environment, library, need, run, succeed
+from tests.programs import BY_NAME, CALLERS, CC, FLAGS, IMAGES, SAMPLES, Case, environment, library, need, run, succeed
 
 PYTHON = [sys.executable, "-X", "dev"]
 LISTS = [*PYTHON, "-m", "goblin_pe"]
+# A Terse Executable whose signature tells whether the interpreter's lock is held while it is read.
+TELLS_THE_LOCK = b"""#include "goblin_pe.h"
+int PyGILState_Check(void);
+uint32_t goblin_pe_interface(void) { return GOBLIN_PE_INTERFACE; }
+struct goblin_pe_fault goblin_pe_read_te(
+    const uint8_t *bytes, size_t length, struct goblin_pe_te_header *header, struct goblin_pe_section *sections, size_t section_room)
+{
+    static const struct goblin_pe_te_header none;
+    (void)bytes, (void)length, (void)sections, (void)section_room;
+    *header = none;
+    header->signature = PyGILState_Check();
+    return (struct goblin_pe_fault) { 0 };
+}
+"""
+READS_BUFFERS = """import mmap, goblin_pe
+data = bytearray(b"VZ")
+with mmap.mmap(-1, 2) as mapped, mmap.mmap(-1, 2, access=mmap.ACCESS_READ) as read_only:
+    for buffer, is_held in ((bytes(data), 0), (memoryview(bytes(data)), 0), (read_only, 0), (data, 1), (memoryview(data), 1),
+                            (memoryview(data).toreadonly(), 1), (mapped, 1)):
+        assert goblin_pe.Te(buffer).header.signature == is_held, buffer
+"""
 
 
 def setUpModule():
@@ -45,9 +67,17 @@ class Package(Case):
         self.assertNotEqual(status, 0)
         self.assertRegex(said, rb"ImportError: .*another interface")
 
+    def test_no_thread_runs_while_bytes_are_read_that_it_could_write(self):
+        declared = set(re.findall(r'"(goblin_pe_\w+)": ', (CALLERS / "python/goblin_pe/_library.py").read_text("utf-8")))
+        others = b"".join(b"void %s(void) {}\n" % name.encode() for name in declared - {"goblin_pe_read_te"})
+        made = self.folder / "tells.so"
+        succeed([CC, *FLAGS, "-shared", "-fPIC", "-I", CALLERS / "c", "-o", made, self.written("tells.c", TELLS_THE_LOCK),
+                 self.written("others.c", others)])
+        succeed([*PYTHON, "-c", READS_BUFFERS], env={**self.env, "GOBLIN_PE_SO": str(made)})
+
     def test_type_hints(self):
         need("mypy")
-        succeed(["mypy", "--cache-dir=/dev/null", CALLERS / "python/goblin_pe", CALLERS / "beside_objdump.py"],
+        succeed(["mypy", "--strict", "--cache-dir=/dev/null", CALLERS / "python/goblin_pe", CALLERS / "beside_objdump.py"],
                 env={**self.env, "MYPYPATH": str(CALLERS / "python")})
 
     def test_changed_blocks_beside_objdump(self):

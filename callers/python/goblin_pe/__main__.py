@@ -5,7 +5,7 @@ import os
 import sys
 from typing import Iterator, List, Sequence
 
-from . import Export, ObjectFile, Pe, Refused, Te, options
+from . import Export, ObjectFile, Options, Pe, Refused, State, Te
 
 
 def shown(text: bytes) -> str:
@@ -13,9 +13,9 @@ def shown(text: bytes) -> str:
     return "".join(chr(it) if 0x20 <= it <= 0x7E and it != 0x5C else "\\x%02x" % it for it in text)
 
 
-def heading(label: str, state: str, entries: Sequence[object]) -> str:
+def heading(label: str, state: State, entries: Sequence[object]) -> str:
     """How a table stands."""
-    return "%s %s" % (label, len(entries) if state == "read" else state)
+    return "%s %s" % (label, len(entries) if state == State.READ else state.name.lower())
 
 
 def export(x: Export) -> str:
@@ -31,7 +31,7 @@ def export(x: Export) -> str:
 
 def image(data: bytes, is_permissive: bool = False) -> Iterator[str]:
     """The lines of an image."""
-    pe = Pe(data, options(is_permissive=is_permissive))
+    pe = Pe(data, Options(is_permissive=is_permissive))
     line = "header machine=%#x sections=%d" % (pe.coff_header.machine, len(pe.sections))
     if pe.optional_header:
         line += " magic=%#x entry=%#x" % (pe.optional_header.magic, pe.optional_header.address_of_entry_point)
