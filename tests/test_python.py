@@ -1,8 +1,12 @@
 """The package for callers in Python."""
+import json
+import os
+import pty
 import re
+import subprocess
 import sys
 
-from tests.programs import BY_NAME, CALLERS, CC, FLAGS, IMAGES, SAMPLES, Case, environment, library, need, run, succeed
+from tests.programs import BY_NAME, CALLERS, CC, FLAGS, IMAGES, OBJECTS, SAMPLES, Case, beside, environment, library, need, run, succeed
 
 PYTHON = [sys.executable, "-X", "dev"]
 LISTS = [*PYTHON, "-m", "goblin_pe"]
@@ -45,6 +49,40 @@ class Package(Case):
 
     def test_the_samples_are_listed(self):
         self.assert_lists(LISTS, env=self.env)
+
+    def test_many_files_as_json(self):
+        status, out, said = run([*LISTS, "--json", *IMAGES], env=self.env)
+        self.assertEqual((status, said), (0, b""))
+        for sample, line in zip(IMAGES, out.splitlines(), strict=True):
+            with self.subTest(sample=sample.name):
+                found, listed = json.loads(line), beside(sample, "listing").decode().splitlines()
+                self.assertEqual(found["file"], str(sample))
+                for kind in ("section", "import", "export", "block"):
+                    self.assertEqual(len(found[kind + "s"]), sum(it.startswith(kind + " ") for it in listed), kind)
+
+    def test_what_json_has_of_a_file(self):
+        image, lost = self.written("no.dll", b"no image"), self.folder / "lost.dll"
+        status, out, said = run([*LISTS, "--json", BY_NAME, image, lost], env=self.env)
+        self.assertEqual((status, said), (1, b""))
+        found, refused, failed = map(json.loads, out.splitlines())
+        self.assertEqual((found["import_table"], found["imports"][0]["dll"], found["imports"][0]["name"], found["blocks"][0]["words"]),
+                         ("READ", "KERNEL32.dll", "GetTickCount", 4))
+        self.assertEqual((found["coff_header"]["machine"], found["data_directories"]["IMPORT_TABLE"]["size"], found["rich_header"],
+                          found["imphash"]), (0x8664, 40, None, "27abfd9cfda7519d5efb3f08a2a4f3ce"))
+        self.assertEqual(refused, {"file": str(image), "refused": {
+            "text": "the file begins with 0x6f6e in place of the DOS signature", "status": "MALFORMED", "cause": "DOS_MAGIC",
+            "first": 0x6F6E, "second": 0}})
+        self.assertEqual(failed["file"], str(lost))
+        self.assertIn("No such file", failed["read failed"])
+        found = json.loads(succeed([*LISTS, "--json", "--symbols", OBJECTS[0]], env=self.env))
+        self.assertEqual(len(found["symbols"]), beside(OBJECTS[0], "symbols").count(b"symbol "))
+
+    def test_a_terminal_is_told_how_far_it_is(self):
+        terminal, end = pty.openpty()
+        with os.fdopen(terminal, "rb", buffering=0) as told, os.fdopen(end, "wb") as end:
+            for files in [BY_NAME], [BY_NAME, BY_NAME]:
+                subprocess.run([*LISTS, "--json", *files], stdout=subprocess.DEVNULL, stderr=end, env=self.env, check=True)
+            self.assertEqual(told.read(1000), b"\r1 of 2 files\r2 of 2 files\r\n")
 
     def test_fields_of_headers(self):
         succeed([*PYTHON, CALLERS / "python/fields.py", *IMAGES], env=self.env)

@@ -252,6 +252,32 @@ class Files(unittest.TestCase):
             other[begin: begin + length] = data[begin: begin + length]
         self.assertEqual(Pe(other, how).imports, pe.imports)
 
+    def test_the_hash_of_imports_is_that_of_other_tools(self):
+        # (told by pefile 2023.2.7)
+        self.assertEqual(Pe(sample("imports_by_name_x86.dll")).imphash(), "5fd9bbcd68e633c2417c6dd0c112ae23")
+        self.assertEqual(Pe(sample("forwarders_x64.dll")).imphash(), "")
+        for dll, ordinal, wanted in [
+            (b"KERNEL32.dll", 901, "149d2e96f294661822cac53bee31923e"),
+            (b"WS2_32.dll", 115, "b37125ceef051f12e08e29efb577946e"),
+            (b"wsock32.DLL", 1142, "2abbd9ade07297967661cfa09c911406"),
+            (b"OLEAUT32.dll", 6, "34cc24834ac54238d20258721638305d"),
+            (b"oleaut32.dll", 999, "ac4335c367c483416ad8947728b70e5d"),
+            (b"OLEAUT32.sys", 6, "0b95961135d7de048291c05a30a259f5"),
+            (b"a.b.OCX", 7, "f97b2ce4f275cbebbfc8005f20b35541"),
+            (b"WINSPOOL.DRV", 7, "c527aa300d7842640afcc4bcdda0752e"),
+            (b"x", 65535, "715966133c5213185739d6c03fd6a968"),
+            (b"a.dll", 0, ""),
+            (b"", 5, ""),
+        ]:
+            with self.subTest(dll=dll, ordinal=ordinal):
+                data = sample("imports_by_ordinal_x64.dll").replace(b"KERNEL32.dll", dll.ljust(12, b"\0"))
+                data = data.replace(struct.pack("<Q", 1 << 63 | 901), struct.pack("<Q", 1 << 63 | ordinal))
+                self.assertEqual(Pe(data).imphash(), wanted)
+
+    def test_all_that_is_for_users_is_named(self):
+        public = {name for name, it in vars(goblin_pe).items() if not name.startswith("_") and getattr(it, "__module__", "").startswith("goblin_pe")}
+        self.assertEqual(public, set(goblin_pe.__all__) - {"Data"})
+
     def test_help_names_what_is_for_users(self):
         text = pydoc.plain(pydoc.render_doc(goblin_pe))
         for name in ("class Pe", "class ObjectFile", "class Te", "class Refused", "class Options", "import_footprint("):

@@ -13,7 +13,7 @@ relocations, objects with their symbols, and Terse Executables.
         for x in pe.imports:
             print(x.dll, x.name, x.ordinal)
 
-`python -m goblin_pe FILE` lists a file.
+`python -m goblin_pe FILE` lists a file, and with --json many of them.
 
 Pe, ObjectFile and Te read bytes, a memoryview, a mapped file or any other buffer that lies in one piece, and copy
 none of it; Options say how. The bytes must not change meanwhile: no thread of Python runs while bytes are read into
@@ -39,6 +39,7 @@ import sys
 from typing import Any, Dict, List, Optional, Tuple, Union
 
 from . import records
+from ._imphash import imphash as _imphash
 from ._library import LIB as _LIB, held as _held, text_of as _text_of
 from .numbers import Cause, Counted, DirectoryType, ReadFault, State, Status
 from .records import CoffHeader, DataDirectory, DosHeader, OptionalHeader, RichEntry, TeHeader
@@ -227,6 +228,11 @@ class Pe:
         is_found = _LIB.goblin_pe_find_offset(rva, self._mapping, len(self._mapping) - 1, self._header.file_alignment,
                                               c.byref(self._options), c.byref(offset))
         return offset.value if is_found else None
+
+    def imphash(self) -> str:
+        """The hash of the imports that analysts compare: the MD5 in hexadecimal, or an empty text where there are no
+        imports. Other tools tell the same where they see the same imports."""
+        return _imphash(self.imports)
 
     def import_footprint(self) -> List[Range]:
         """The bytes of the file on which its imports depend, by its headers and sections: a file of the same length,
