@@ -24,6 +24,21 @@ struct goblin_pe_fault goblin_pe_read_te(
     return (struct goblin_pe_fault) { 0 };
 }
 """
+# A program whose types are right.
+TYPED = b"""from typing import Dict, List, Optional
+from goblin_pe import DataDirectory, Options, Pe, Refused, State, Status
+
+def names(data: bytes) -> Optional[List[bytes]]:
+    pe = Pe(data, Options(is_permissive=True))
+    directories: Dict[int, DataDirectory] = pe.data_directories
+    if pe.import_table == State.REFUSED or not directories or pe.optional_header is None:
+        return None
+    return [x.dll + b"." + (x.name or b"%d" % x.ordinal) for x in pe.imports]
+
+def is_out_of_memory(error: Refused) -> bool:
+    return error.status == Status.NO_MEMORY
+
+"""
 READS_BUFFERS = """import mmap, goblin_pe
 data = bytearray(b"VZ")
 with mmap.mmap(-1, 2) as mapped, mmap.mmap(-1, 2, access=mmap.ACCESS_READ) as read_only:
@@ -115,8 +130,14 @@ class Package(Case):
 
     def test_type_hints(self):
         need("mypy")
-        succeed(["mypy", "--strict", "--cache-dir=/dev/null", CALLERS / "python/goblin_pe", CALLERS / "beside_objdump.py"],
-                env={**self.env, "MYPYPATH": str(CALLERS / "python")})
+        check, env = ["mypy", "--strict", "--cache-dir=/dev/null"], {**self.env, "MYPYPATH": str(CALLERS / "python")}
+        succeed([*check, CALLERS / "python/goblin_pe", CALLERS / "beside_objdump.py"], env=env)
+        succeed([*check, self.written("right.py", TYPED)], env=env)
+        for line, wrong in ((b"Options(is_permissive=1)", b"arg-type"), (b"Pe(b'').coff_header.machine = 1", b"misc"),
+                            (b"Pe(b'').imports[0].name.lower()", b"union-attr")):
+            with self.subTest(line=line):
+                status, out, _ = run([*check, self.written("wrong.py", TYPED + line + b"\n")], env=env)
+                self.assertEqual((status, re.findall(rb"error: .*\[(.*)\]", out)), (1, [wrong]), out)
 
     def test_changed_blocks_beside_objdump(self):
         need("objdump")

@@ -70,12 +70,12 @@ class Refused(ValueError):
     a Cause, a Counted or a ReadFault, else 0, and `first` and `second` are the numbers of the cause. A number
     that has no name here is an int."""
 
-    _CAUSES = {Status.MALFORMED: Cause, Status.TOO_SHORT: Counted, Status.BAD_READ: ReadFault}
+    _CAUSES: Dict[int, Any] = {Status.MALFORMED: Cause, Status.TOO_SHORT: Counted, Status.BAD_READ: ReadFault}
 
     def __init__(self, status: int, cause: int = 0, first: int = 0, second: int = 0):
         super().__init__(_text_of(records.Fault(status, cause, first, second)))
-        self.status = _named(Status, status)
-        self.cause = _named(self._CAUSES.get(self.status, int), cause)
+        self.status: Union[Status, int] = _named(Status, status)
+        self.cause: Union[Cause, Counted, ReadFault, int] = _named(self._CAUSES.get(self.status, int), cause)
         self.first, self.second = first, second
 
     def __reduce__(self) -> Tuple[Any, ...]:
