@@ -95,6 +95,10 @@ class Crate(Case):
                 status, _, said = run([self.folder / "debug/examples/list", *words, BY_NAME])
                 self.assertEqual(status, 101)
                 self.assertIn(b"another interface", said)
+        words = ["test", "--test", "memory", "the_text_of_a_refusal_before_any_call", "--manifest-path", CALLERS / "rust/Cargo.toml"]
+        status, out, _ = run([*CARGO, *words, "--target-dir", self.folder], env=environment(GOBLIN_PE_LIB=str(self.other)))
+        self.assertNotEqual(status, 0)
+        self.assertIn(b"another interface", out)
 
 
 @functools.cache
