@@ -48,7 +48,7 @@ from .rows import Block, Export, Import, Range, RichHeader, Rows as _Rows, Secti
 __all__ = ["Pe", "ObjectFile", "Te", "Options", "Refused", "Data",
            "DosHeader", "CoffHeader", "OptionalHeader", "DataDirectory", "RichHeader", "RichEntry", "TeHeader",
            "Section", "Import", "Export", "Block", "Symbol", "Range",
-           "State", "Status", "Cause", "Counted", "ReadFault", "DirectoryType", "options"]
+           "State", "Status", "Cause", "Counted", "ReadFault", "DirectoryType"]
 
 # The bytes of a file.
 if sys.version_info >= (3, 12):

@@ -57,8 +57,10 @@ def _record(kind: _Kind) -> _Kind:
 
 
 def _header(kind: _Kind) -> _Kind:
-    # a header, and its record
-    _RECORDS[kind] = _record(type("Record", (Record,), {"__annotations__": kind.__annotations__}))
+    # a header, and its record; of the types of its fields, users see Python's alone
+    hints: Dict[str, Any] = kind.__annotations__
+    _RECORDS[kind] = _record(type("Record", (Record,), {"__annotations__": dict(hints)}))
+    hints.update((name, hint.__origin__) for name, hint in hints.items() if hint not in _RECORDS)
     return kind
 
 

@@ -167,8 +167,8 @@ impl<'a> Pe<'a> {
     }
 
     /// The pair (data of a section in the file, how many zeros follow it in memory); `None` where the
-    /// data passes the file. It begins where [`Pe::find_offset`] maps the section's address: at the raw
-    /// pointer, rounded down to 512 where the options say so.
+    /// data passes the file, or has no place in it. It begins where [`Pe::find_offset`] maps the section's
+    /// address, by the options with which the file was read.
     ///
     /// ```no_run
     /// # use goblin_pe::{Options, Pe};
@@ -182,12 +182,11 @@ impl<'a> Pe<'a> {
     /// # Ok::<(), goblin_pe::Error>(())
     /// ```
     pub fn section_data(&self, section: &Section) -> Option<(&'a [u8], u32)> {
-        let pointer = section.pointer_to_raw_data;
-        let is_rounded = self.options.rounds_raw_pointers;
-        section.data_at(
-            self.bytes,
-            if is_rounded { pointer & !511 } else { pointer },
-        )
+        let begin = match section.size_of_raw_data {
+            0 => 0,
+            _ => self.find_offset(section.virtual_address as usize)?,
+        };
+        section.data_at(self.bytes, begin)
     }
 
     fn section_records(&self) -> &[raw::Section<'a>] {

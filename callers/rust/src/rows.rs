@@ -78,10 +78,8 @@ impl<'a> Section<'a> {
     }
 
     // The pair (data that begins at this place of the file, how many zeros follow it in memory).
-    pub(crate) fn data_at<'b>(&self, bytes: &'b [u8], begin: u32) -> Option<(&'b [u8], u32)> {
-        let data = bytes
-            .get(begin as usize..)?
-            .get(..self.size_of_raw_data as usize)?;
+    pub(crate) fn data_at<'b>(&self, bytes: &'b [u8], begin: usize) -> Option<(&'b [u8], u32)> {
+        let data = bytes.get(begin..)?.get(..self.size_of_raw_data as usize)?;
         Some((
             data,
             self.virtual_size.saturating_sub(self.size_of_raw_data),

@@ -68,7 +68,7 @@ impl<'a> Te<'a> {
     /// The pair (data of a section in the file, how many zeros follow it in memory); `None` where the
     /// data passes the file.
     pub fn section_data(&self, section: &Section) -> Option<(&'a [u8], u32)> {
-        section.data_at(self.bytes, section.pointer_to_raw_data)
+        section.data_at(self.bytes, section.pointer_to_raw_data as usize)
     }
 }
 
