@@ -136,6 +136,15 @@ class Buffers(unittest.TestCase):
         data = sample("firmware_x64.te")
         self.assertEqual(Te(bytearray(data)).sections, Te(data).sections)
 
+    def test_threads_read_at_once(self):
+        files = [make(sample(name)) for name in sorted(os.listdir(SAMPLES)) if name.endswith((".dll", ".exe", ".efi"))
+                 for make in (bytes, bytearray)] * 20
+        with concurrent.futures.ThreadPoolExecutor(8) as threads:
+            read = list(threads.map(Pe, files))
+        for pe, data in zip(read, files):
+            wanted = Pe(data)
+            self.assertEqual((pe.sections, pe.imports, pe.exports, pe.blocks), (wanted.sections, wanted.imports, wanted.exports, wanted.blocks))
+
     def test_no_buffer_is_copied(self):
         data = bytearray(sample("imports_by_name_x64.dll")) + bytearray(1 << 26)
         tracemalloc.start()

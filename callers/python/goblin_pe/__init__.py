@@ -140,7 +140,7 @@ def _record_of(how: Optional[Options]) -> records.Options:
     how = Options() if how is None else how
     if not isinstance(how, Options):
         raise TypeError("options have to be Options, not %r" % (how,))
-    return records.Options(*dataclasses.astuple(how))
+    return records.Options(how.is_permissive, how.resolve_rva, how.rounds_raw_pointers, how.parse_imports)
 
 
 class Pe:

@@ -4,6 +4,8 @@ compares them, and goblin_pe.h says of each field what it is.
 Headers are named tuples, which nobody can change. What lies in memory is a record with the same fields (`laid_out`);
 a header that stands in a record is read as its named tuple."""
 import ctypes as c
+import functools
+import operator
 from typing import Annotated, Any, Dict, List, NamedTuple, Tuple, Type, TypeVar
 
 # The types of fields: what Python sees of each, and how it lies in memory.
@@ -26,8 +28,9 @@ class Record(c.Structure):
 
 _Kind = TypeVar("_Kind")
 
-# The records of the headers.
-_RECORDS: Dict[Any, Type[Record]] = {}
+# Of each header the record, and what takes all fields of one.
+_RECORDS: Dict[Any, Any] = {}
+_FIELDS: Dict[Any, Any] = {}
 
 
 def laid_out(kind: Any) -> Any:
@@ -37,29 +40,32 @@ def laid_out(kind: Any) -> Any:
 
 def read(header: Type[_Kind], record: Any) -> _Kind:
     """The header that stands in its record."""
-    values = [getattr(record, field[0]) for field in record._fields_]
-    return header(*(tuple(it) if isinstance(it, c.Array) else it for it in values))
+    return header(*_FIELDS[header](record))
 
 
-def _as_header(header: Any, field: Any) -> property:
-    # a field whose record is read as a header
-    return property(lambda record: read(header, field.__get__(record)))
+def _converted(convert: Any, field: Any) -> property:
+    # a field whose value is another one than ctypes gives
+    return property(lambda record: convert(field.__get__(record)))
 
 
 def _record(kind: _Kind) -> _Kind:
-    # a record with the fields that it names, in their order
+    # a record with the fields that it names, in their order; what stands there of headers is read as such
     hints: Dict[str, Any] = kind.__annotations__
     setattr(kind, "_fields_", [(name, laid_out(getattr(hint, "__metadata__", [hint])[0])) for name, hint in hints.items()])
     for name, hint in hints.items():
         if hint in _RECORDS:
-            setattr(kind, name, _as_header(hint, getattr(kind, name)))
+            setattr(kind, name, _converted(functools.partial(read, hint), getattr(kind, name)))
     return kind
 
 
 def _header(kind: _Kind) -> _Kind:
     # a header, and its record; of the types of its fields, users see Python's alone
     hints: Dict[str, Any] = kind.__annotations__
-    _RECORDS[kind] = _record(type("Record", (Record,), {"__annotations__": dict(hints)}))
+    record: Any = _record(type("Record", (Record,), {"__annotations__": dict(hints)}))
+    _RECORDS[kind], _FIELDS[kind] = record, operator.attrgetter(*hints)
+    for name, field in record._fields_:
+        if issubclass(field, c.Array):
+            setattr(record, name, _converted(tuple, getattr(record, name)))
     hints.update((name, hint.__origin__) for name, hint in hints.items() if hint not in _RECORDS)
     return kind
 
