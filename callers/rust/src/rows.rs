@@ -132,7 +132,7 @@ impl fmt::Display for Imported<'_> {
     fn fmt(&self, f: &mut fmt::Formatter<'_>) -> fmt::Result {
         match self {
             Imported::Name { name, .. } => name.fmt(f),
-            Imported::Ordinal(ordinal) => write!(f, "ORDINAL {ordinal}"),
+            Imported::Ordinal(ordinal) => f.pad(&format!("ORDINAL {ordinal}")),
         }
     }
 }

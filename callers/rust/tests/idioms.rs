@@ -48,6 +48,7 @@ fn texts_are_shown_with_a_width() {
         hint: 0,
     };
     assert_eq!(format!("[{imported:>3}]"), "[  f]");
+    assert_eq!(format!("[{:11}]", Imported::Ordinal(3)), "[ORDINAL 3  ]");
 }
 
 // All that is read of a file in a function of its own.
