@@ -88,7 +88,7 @@ class Package(Case):
             "text": "the file begins with 0x6f6e in place of the DOS signature", "status": "MALFORMED", "cause": "DOS_MAGIC",
             "first": 0x6F6E, "second": 0}})
         self.assertEqual(failed["file"], str(lost))
-        self.assertIn("No such file", failed["read failed"])
+        self.assertIn("No such file", failed["error"])
         found = json.loads(succeed([*LISTS, "--json", "--symbols", OBJECTS[0]], env=self.env))
         self.assertEqual(len(found["symbols"]), beside(OBJECTS[0], "symbols").count(b"symbol "))
 
@@ -98,6 +98,12 @@ class Package(Case):
             for files in [BY_NAME], [BY_NAME, BY_NAME]:
                 subprocess.run([*LISTS, "--json", *files], stdout=subprocess.DEVNULL, stderr=end, env=self.env, check=True)
             self.assertEqual(told.read(1000), b"\r1 of 2 files\r2 of 2 files\r\n")
+
+    def test_the_programs_of_its_readme(self):
+        programs = re.findall(r"(?s)```python\n(.*?)```", (CALLERS / "python/README.md").read_text("utf-8"))
+        self.written("some.dll", BY_NAME.read_bytes())
+        told = succeed([*PYTHON, "-c", "\n".join(programs)], env=self.env, cwd=self.folder)
+        self.assertEqual(told.splitlines()[:3], ["b'KERNEL32.dll' b'GetTickCount'", "x86-64", "b'.text' 1.23"])
 
     def test_fields_of_headers(self):
         succeed([*PYTHON, CALLERS / "python/fields.py", *IMAGES], env=self.env)

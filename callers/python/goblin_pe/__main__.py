@@ -101,7 +101,7 @@ def describe(paths: List[str], read: Callable[[bytes], Any]) -> int:
         if is_told:
             print("\r%d of %d files" % (number, len(paths)), end="", file=sys.stderr, flush=True)
         found = described(path, read)
-        status |= "refused" in found or "read failed" in found
+        status |= "refused" in found or "error" in found
         print(json.dumps(found))
     if is_told:
         print(file=sys.stderr)

@@ -32,6 +32,6 @@ def described(path: str, read: Callable[[bytes], Any]) -> Dict[str, Any]:
     except Refused as refused:
         return {"file": path, "refused": plain(refused)}
     except (OSError, MemoryError) as error:
-        return {"file": path, "read failed": str(error) or "out of memory"}
+        return {"file": path, "error": str(error) or "out of memory"}
     attributes = {name: value for name, value in vars(found).items() if not name.startswith("_")}
     return {"file": path, **plain(attributes), **({"imphash": found.imphash()} if isinstance(found, Pe) else {})}
