@@ -64,7 +64,7 @@ def python_kinds(source):
 
 def python_records(source):
     kinds = {**PYTHON, **python_kinds(source)}
-    found = re.findall(r"^class (\w+)\(Record\):\n.*?\n\n((?:    \w+: \w+\n)+)", source, re.S | re.M)
+    found = re.findall(r"^class (\w+)\((?:Record|NamedTuple)\):\n.*?\n\n((?:    \w+: \w+\n)+)", source, re.S | re.M)
     tables = re.findall(r"^class (\w+)\(HandedOver\):.*?KINDS = \{(.*?)\}", source, re.S | re.M)
     return {**{name: [(field, "table of " + kind) for field, kind in re.findall(r'"(\w+)": (\w+)', body)] for name, body in tables},
             **{name: [(field, kinds.get(kind, kind)) for field, kind in re.findall(r"(\w+): (\w+)", body)]
@@ -136,7 +136,7 @@ def rust_numbers(source):
 
 
 def python_numbers(source):
-    found = re.findall(r"^class (\w+)\(enum\.IntEnum\):(.*?)\n\n\n", source, re.S | re.M)
+    found = re.findall(r"^class (\w+)\(Number\):(.*?)\n\n\n", source, re.S | re.M)
     return named_alike({kind: numbered(re.findall(r"^    ([A-Z]\w*) = (\d+)$", body, re.M)) for kind, body in found})
 
 
@@ -173,13 +173,13 @@ def python_calls(source):
     """The calls as the module declares them; its pointers to bytes have no type of their own."""
     found = re.findall(r'"(goblin_pe_\w+)": \(([\w.]+), \[(.*?)\]\)', source, re.S)
     def kinds(taken):
-        for whole, counted, pointer, kind in re.findall(r"(\*_counted\(([\w, ]+)\)|c\.POINTER\(([\w.]+)\)|([\w.]+))", taken):
+        for whole, counted, pointer, kind in re.findall(r"(\*_counted\(([\w, ]+)\)|(?:_to|c\.POINTER)\(([\w.]+)\)|([\w.]+))", taken):
             if counted:
                 yield from (it for name in counted.split(", ") for it in ("*" + name, "usize"))
             elif pointer:
                 yield "*" + PYTHON.get(pointer, pointer)
             else:
-                yield {"c.c_void_p": "*u8", "c.c_char_p": "*u8", "_OPTIONS": "*Options"}.get(kind) or PYTHON[kind]
+                yield {"c.c_void_p": "*u8", "c.c_char_p": "*u8"}.get(kind) or PYTHON[kind]
     calls = {name: [PYTHON.get(answer, answer), *kinds(taken)] for name, answer, taken in found}
     return {"goblin_pe_interface": ["u32"], **calls}
 

@@ -4,6 +4,7 @@ import pathlib
 import platform
 import re
 import shutil
+import sys
 import unittest
 
 from tests.programs import BY_NAME, CALLERS, CC, FLAGS, Case, beside, environment, library, need, run, succeed
@@ -94,45 +95,72 @@ class Crate(Case):
                 status, _, said = run([self.folder / "debug/examples/list", *words, BY_NAME])
                 self.assertEqual(status, 101)
                 self.assertIn(b"another interface", said)
+        words = ["test", "--test", "memory", "the_text_of_a_refusal_before_any_call", "--manifest-path", CALLERS / "rust/Cargo.toml"]
+        status, out, _ = run([*CARGO, *words, "--target-dir", self.folder], env=environment(GOBLIN_PE_LIB=str(self.other)))
+        self.assertNotEqual(status, 0)
+        self.assertIn(b"another interface", out)
 
 
 @functools.cache
 def python():
-    """A Python that has what builds a package."""
+    """A Python that makes environments with pip."""
     need(CC)  # (for the shared library)
-    for it in ("python3", "/usr/bin/python3"):
-        if shutil.which(it) and not run([it, "-c", "import setuptools, wheel, pip, venv, ensurepip"])[0]:
+    for it in (sys.executable, "/usr/bin/python3"):
+        if shutil.which(it) and not run([it, "-c", "import pip, venv, ensurepip"])[0]:
             return it
-    raise unittest.SkipTest("no Python with setuptools, wheel, pip and venv")
+    raise unittest.SkipTest("no Python with pip and venv")
 
 
 class Package(Case):
-    """In an environment of its own, with no variable of ours."""
+    """In an environment of its own, with no variable of ours and no index of packages."""
 
     def setUp(self):
         python()
         super().setUp()
         self.package = self.folder / "python"
-        shutil.copytree(CALLERS / "python", self.package)
+        shutil.copytree(CALLERS / "python", self.package, ignore=shutil.ignore_patterns("__pycache__"))
         (self.folder / "lib").mkdir()
         shutil.copy(library() / "libgoblin_pe.so", self.folder / "lib")
 
-    def installed(self, what, venv=(), pip=()):
+    def wheel(self, folder, **more):
+        """A wheel of the package, in a folder of its own."""
+        succeed([python(), "-m", "pip", "wheel", "-q", "--no-index", "-w", self.folder / folder, self.package], env=environment(**more))
+        made, = (self.folder / folder).iterdir()
+        return made
+
+    def installed(self, *what):
         """The Python of a new environment, with the package installed, which has to list."""
         made = self.folder / "environment"
-        succeed([python(), "-m", "venv", *venv, made])
-        succeed([made / "bin/pip", "install", "-q", "--no-deps", *pip, what], cwd="/", env={})
+        succeed([python(), "-m", "venv", made])
+        succeed([made / "bin/pip", "install", "-q", "--no-index", *what], cwd="/", env={})
         self.assert_runs([made / "bin/python", "-m", "goblin_pe", BY_NAME], LISTED, cwd="/", env={})
         return made / "bin/python"
 
+    def assert_is_from(self, it, folder):
+        module = pathlib.Path(succeed([it, "-c", "import goblin_pe; print(goblin_pe.__file__)"], cwd="/", env={}).strip())
+        self.assertTrue(module.is_relative_to(folder), module)
+        self.assertTrue(module.with_name("py.typed").exists(), "the type hints are not there")
+
     def test_a_wheel(self):
-        wheels = self.folder / "wheels"
-        succeed([python(), "-m", "pip", "wheel", "-q", "--no-build-isolation", "--no-deps", "-w", wheels, self.package], env=environment())
-        wheel, = wheels.iterdir()
+        wheel = self.wheel("wheels")
         self.assertRegex(wheel.name, f"^goblin_pe-.*-py3-none-linux_{platform.machine()}\\.whl$")
-        self.installed(wheel, pip=["--no-index"])
+        it = self.installed(wheel)
+        told = succeed([it, "-c", "import importlib.metadata as m; print(m.metadata('goblin_pe')['Requires-Python'])"], cwd="/", env={})
+        self.assertEqual(told, ">=3.9\n")
+        self.assertEqual(succeed([it, "-m", "pip", "check"], cwd="/", env={}), "No broken requirements found.\n")
+
+    def test_a_wheel_is_built_again_to_the_byte(self):
+        first, second = (self.wheel(folder, SOURCE_DATE_EPOCH="1700000000") for folder in ("first", "second"))
+        self.assertEqual(first.read_bytes(), second.read_bytes())
 
     def test_the_folder_of_the_package(self):
-        it = self.installed(self.package, venv=["--system-site-packages"], pip=["--no-build-isolation"])
-        module = succeed([it, "-c", "import goblin_pe; print(goblin_pe.__file__)"], cwd="/", env={})
-        self.assertTrue(pathlib.Path(module.strip()).with_name("py.typed").exists(), "the type hints are not there")
+        self.assert_is_from(self.installed(self.package), self.folder / "environment")
+
+    def test_the_folder_of_the_package_as_it_stands(self):
+        self.assert_is_from(self.installed("-e", self.package), self.package)
+
+    def test_without_a_library(self):
+        (self.folder / "lib/libgoblin_pe.so").unlink()
+        status, _, said = run([python(), "-m", "pip", "wheel", "-q", "--no-index", "-w", self.folder, self.package], env=environment())
+        self.assertNotEqual(status, 0)
+        self.assertIn(b"run callers/build first", said)

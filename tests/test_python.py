@@ -1,10 +1,51 @@
 """The package for callers in Python."""
+import json
+import os
+import pty
+import re
+import subprocess
 import sys
 
-from tests.programs import BY_NAME, CALLERS, CC, IMAGES, SAMPLES, Case, environment, library, need, run, succeed
+from tests.programs import BY_NAME, CALLERS, CC, FLAGS, IMAGES, OBJECTS, SAMPLES, Case, beside, environment, library, need, run, succeed
 
 PYTHON = [sys.executable, "-X", "dev"]
 LISTS = [*PYTHON, "-m", "goblin_pe"]
+# A Terse Executable whose signature tells whether the interpreter's lock is held while it is read.
+TELLS_THE_LOCK = b"""#include "goblin_pe.h"
+int PyGILState_Check(void);
+uint32_t goblin_pe_interface(void) { return GOBLIN_PE_INTERFACE; }
+struct goblin_pe_fault goblin_pe_read_te(
+    const uint8_t *bytes, size_t length, struct goblin_pe_te_header *header, struct goblin_pe_section *sections, size_t section_room)
+{
+    static const struct goblin_pe_te_header none;
+    (void)bytes, (void)length, (void)sections, (void)section_room;
+    *header = none;
+    header->signature = PyGILState_Check();
+    return (struct goblin_pe_fault) { 0 };
+}
+"""
+# A program whose types are right.
+TYPED = b"""from typing import Dict, List, Optional
+from goblin_pe import DataDirectory, Options, Pe, Refused, State, Status
+
+def names(data: bytes) -> Optional[List[bytes]]:
+    pe = Pe(data, Options(is_permissive=True))
+    directories: Dict[int, DataDirectory] = pe.data_directories
+    if pe.import_table == State.REFUSED or not directories or pe.optional_header is None:
+        return None
+    return [x.dll + b"." + (x.name or b"%d" % x.ordinal) for x in pe.imports]
+
+def is_out_of_memory(error: Refused) -> bool:
+    return error.status == Status.NO_MEMORY
+
+"""
+READS_BUFFERS = """import mmap, goblin_pe
+data = bytearray(b"VZ")
+with mmap.mmap(-1, 2) as mapped, mmap.mmap(-1, 2, access=mmap.ACCESS_READ) as read_only:
+    for buffer, is_held in ((bytes(data), 0), (memoryview(bytes(data)), 0), (read_only, 0), (data, 1), (memoryview(data), 1),
+                            (memoryview(data).toreadonly(), 1), (mapped, 1)):
+        assert goblin_pe.Te(buffer).header.signature == is_held, buffer
+"""
 
 
 def setUpModule():
@@ -23,6 +64,46 @@ class Package(Case):
 
     def test_the_samples_are_listed(self):
         self.assert_lists(LISTS, env=self.env)
+
+    def test_many_files_as_json(self):
+        status, out, said = run([*LISTS, "--json", *IMAGES], env=self.env)
+        self.assertEqual((status, said), (0, b""))
+        for sample, line in zip(IMAGES, out.splitlines(), strict=True):
+            with self.subTest(sample=sample.name):
+                found, listed = json.loads(line), beside(sample, "listing").decode().splitlines()
+                self.assertEqual(found["file"], str(sample))
+                for kind in ("section", "import", "export", "block"):
+                    self.assertEqual(len(found[kind + "s"]), sum(it.startswith(kind + " ") for it in listed), kind)
+
+    def test_what_json_has_of_a_file(self):
+        image, lost = self.written("no.dll", b"no image"), self.folder / "lost.dll"
+        status, out, said = run([*LISTS, "--json", BY_NAME, image, lost], env=self.env)
+        self.assertEqual((status, said), (1, b""))
+        found, refused, failed = map(json.loads, out.splitlines())
+        self.assertEqual((found["import_table"], found["imports"][0]["dll"], found["imports"][0]["name"], found["blocks"][0]["words"]),
+                         ("READ", "KERNEL32.dll", "GetTickCount", 4))
+        self.assertEqual((found["coff_header"]["machine"], found["data_directories"]["IMPORT_TABLE"]["size"], found["rich_header"],
+                          found["imphash"]), (0x8664, 40, None, "27abfd9cfda7519d5efb3f08a2a4f3ce"))
+        self.assertEqual(refused, {"file": str(image), "refused": {
+            "text": "the file begins with 0x6f6e in place of the DOS signature", "status": "MALFORMED", "cause": "DOS_MAGIC",
+            "first": 0x6F6E, "second": 0}})
+        self.assertEqual(failed["file"], str(lost))
+        self.assertIn("No such file", failed["error"])
+        found = json.loads(succeed([*LISTS, "--json", "--symbols", OBJECTS[0]], env=self.env))
+        self.assertEqual(len(found["symbols"]), beside(OBJECTS[0], "symbols").count(b"symbol "))
+
+    def test_a_terminal_is_told_how_far_it_is(self):
+        terminal, end = pty.openpty()
+        with os.fdopen(terminal, "rb", buffering=0) as told, os.fdopen(end, "wb") as end:
+            for files in [BY_NAME], [BY_NAME, BY_NAME]:
+                subprocess.run([*LISTS, "--json", *files], stdout=subprocess.DEVNULL, stderr=end, env=self.env, check=True)
+            self.assertEqual(told.read(1000), b"\r1 of 2 files\r2 of 2 files\r\n")
+
+    def test_the_programs_of_its_readme(self):
+        programs = re.findall(r"(?s)```python\n(.*?)```", (CALLERS / "python/README.md").read_text("utf-8"))
+        self.written("some.dll", BY_NAME.read_bytes())
+        told = succeed([*PYTHON, "-c", "\n".join(programs)], env=self.env, cwd=self.folder)
+        self.assertEqual(told.splitlines()[:3], ["b'KERNEL32.dll' b'GetTickCount'", "x86-64", "b'.text' 1.23"])
 
     def test_fields_of_headers(self):
         succeed([*PYTHON, CALLERS / "python/fields.py", *IMAGES], env=self.env)
@@ -45,10 +126,24 @@ class Package(Case):
         self.assertNotEqual(status, 0)
         self.assertRegex(said, rb"ImportError: .*another interface")
 
+    def test_no_thread_runs_while_bytes_are_read_that_it_could_write(self):
+        declared = set(re.findall(r'"(goblin_pe_\w+)": ', (CALLERS / "python/goblin_pe/_library.py").read_text("utf-8")))
+        others = b"".join(b"void %s(void) {}\n" % name.encode() for name in declared - {"goblin_pe_read_te"})
+        made = self.folder / "tells.so"
+        succeed([CC, *FLAGS, "-shared", "-fPIC", "-I", CALLERS / "c", "-o", made, self.written("tells.c", TELLS_THE_LOCK),
+                 self.written("others.c", others)])
+        succeed([*PYTHON, "-c", READS_BUFFERS], env={**self.env, "GOBLIN_PE_SO": str(made)})
+
     def test_type_hints(self):
         need("mypy")
-        succeed(["mypy", "--cache-dir=/dev/null", CALLERS / "python/goblin_pe", CALLERS / "beside_objdump.py"],
-                env={**self.env, "MYPYPATH": str(CALLERS / "python")})
+        check, env = ["mypy", "--strict", "--cache-dir=/dev/null"], {**self.env, "MYPYPATH": str(CALLERS / "python")}
+        succeed([*check, CALLERS / "python/goblin_pe", CALLERS / "beside_objdump.py"], env=env)
+        succeed([*check, self.written("right.py", TYPED)], env=env)
+        for line, wrong in ((b"Options(is_permissive=1)", b"arg-type"), (b"Pe(b'').coff_header.machine = 1", b"misc"),
+                            (b"Pe(b'').imports[0].name.lower()", b"union-attr")):
+            with self.subTest(line=line):
+                status, out, _ = run([*check, self.written("wrong.py", TYPED + line + b"\n")], env=env)
+                self.assertEqual((status, re.findall(rb"error: .*\[(.*)\]", out)), (1, [wrong]), out)
 
     def test_changed_blocks_beside_objdump(self):
         need("objdump")

@@ -3,7 +3,7 @@ names, and what the module says of wrong input: fields.py FILE.."""
 import struct
 import sys
 
-from goblin_pe import Cause, Counted, DirectoryType, ObjectFile, Pe, ReadFault, Refused, Status, Te, options
+from goblin_pe import Cause, Counted, DirectoryType, ObjectFile, Options, Pe, ReadFault, Refused, Status, Te
 
 DOS = ("signature bytes_on_last_page pages_in_file relocations size_of_header_in_paragraphs minimum_extra_paragraphs_needed "
        "maximum_extra_paragraphs_needed initial_relative_ss initial_sp checksum initial_ip initial_relative_cs "
@@ -62,9 +62,9 @@ def rich_header(path):
     struct.pack_into("<%dI" % len(words), data, 64, *[word ^ key for word in words])
     struct.pack_into("<II", data, 64 + 4 * len(words), 0x68636952, key)
     pe = Pe(data)
-    same(path, pe.rich_header, ["key", "padding_size", "start_offset", "end_offset", "entries"], (key, 12, 64, 64 + 4 * len(words), 2))
+    same(path, pe.rich_header, ["key", "padding_size", "start_offset", "end_offset"], (key, 12, 64, 64 + 4 * len(words)))
     assert [(it.build, it.product, it.use_count) for it in pe.rich_entries] == entries, pe.rich_entries
-    assert pe.rich_header.rest.status == 0
+    assert pe.rich_rest is None
 
 
 def refused(kind, data, text):
@@ -104,7 +104,7 @@ def main(paths):
     texts()
     names()
     refused(Pe, b"", "the file is too short for the DOS signature")
-    refused(lambda data: Pe(data, options(is_permissive=True)), b"no image", "the file begins with 0x6f6e in place of the DOS signature")
+    refused(lambda data: Pe(data, Options(is_permissive=True)), b"no image", "the file begins with 0x6f6e in place of the DOS signature")
     refused(ObjectFile, b"", "the offset lies at or past the end")
     refused(Te, bytes(40), "Stripped size (0x0) is smaller than TE header size (0x28)")
     print("%d files" % len(paths))

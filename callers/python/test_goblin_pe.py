@@ -3,11 +3,13 @@ import array
 import concurrent.futures
 import copy
 import ctypes
+import dataclasses
 import mmap
 import multiprocessing
 import os
 import pickle
 import pydoc
+import re
 import struct
 import tempfile
 import tracemalloc
@@ -15,11 +17,12 @@ import unittest
 import unittest.mock
 
 import goblin_pe
-from goblin_pe import Cause, DirectoryType, ObjectFile, Pe, ReadFault, Refused, Status, Te, options
+from goblin_pe import Cause, DirectoryType, ObjectFile, Options, Pe, ReadFault, Refused, State, Status, Te
 from goblin_pe.records import Text
 from goblin_pe.rows import Rows
 
-SAMPLES = os.environ.get("GOBLIN_PE_SAMPLES", os.path.join(os.path.dirname(os.path.abspath(__file__)), "../../samples"))
+HERE = os.path.dirname(os.path.abspath(__file__))
+SAMPLES = os.environ.get("GOBLIN_PE_SAMPLES", os.path.join(HERE, "../../samples"))
 
 
 def sample(name):
@@ -90,7 +93,7 @@ class Texts(unittest.TestCase):
             take_tables(pe, file, tables, rows)
 
         with unittest.mock.patch.object(Pe, "_take_tables", take):
-            Pe(data, options(is_permissive=True))
+            Pe(data, Options(is_permissive=True))
         return begins
 
     def test_each_text_lies_in_the_file(self):
@@ -105,7 +108,7 @@ class Texts(unittest.TestCase):
         pe = Pe(data)
         record = pe.find_offset(pe.data_directories[DirectoryType.IMPORT_TABLE].virtual_address)
         struct.pack_into("<I", data, record + 12, 0x7FFFFFFF)
-        self.assertEqual(Pe(data, options(is_permissive=True)).imports[0].dll, b"")
+        self.assertEqual(Pe(data, Options(is_permissive=True)).imports[0].dll, b"")
         self.assertIn((0, 0), self.begins(data))
 
 
@@ -133,6 +136,15 @@ class Buffers(unittest.TestCase):
         data = sample("firmware_x64.te")
         self.assertEqual(Te(bytearray(data)).sections, Te(data).sections)
 
+    def test_threads_read_at_once(self):
+        files = [make(sample(name)) for name in sorted(os.listdir(SAMPLES)) if name.endswith((".dll", ".exe", ".efi"))
+                 for make in (bytes, bytearray)] * 20
+        with concurrent.futures.ThreadPoolExecutor(8) as threads:
+            read = list(threads.map(Pe, files))
+        for pe, data in zip(read, files):
+            wanted = Pe(data)
+            self.assertEqual((pe.sections, pe.imports, pe.exports, pe.blocks), (wanted.sections, wanted.imports, wanted.exports, wanted.blocks))
+
     def test_no_buffer_is_copied(self):
         data = bytearray(sample("imports_by_name_x64.dll")) + bytearray(1 << 26)
         tracemalloc.start()
@@ -150,17 +162,30 @@ class Buffers(unittest.TestCase):
             self.assertTrue(pe.import_footprint())
         self.assertRaises(ValueError, pe.import_footprint)
         self.assertEqual([x.dll for x in pe.imports], [b"KERNEL32.dll"])
-        self.assertEqual(repr(pe), "<Pe machine=0x8664 sections=4 imports=1 exports=2 blocks=1>")
+
+    def test_what_was_read_is_shown_by_its_numbers(self):
+        shown = (Pe(sample("imports_by_name_x64.dll")), ObjectFile(sample("object_x64.obj")), Te(sample("firmware_x64.te")))
+        for read, wanted in zip(shown, ("<Pe machine=0x8664 sections=4 imports=1 exports=2 blocks=1>",
+                                        r"<ObjectFile machine=0x8664 sections=\d+ symbols=\d+>", r"<Te machine=0x8664 sections=\d+>")):
+            self.assertRegex(repr(read), wanted)
 
 
-class Records(unittest.TestCase):
-    def test_records_are_shown_and_compared_by_their_fields(self):
+class Headers(unittest.TestCase):
+    def test_headers_are_values_that_nobody_changes(self):
+        pe = Pe(sample("imports_by_name_x64.dll"))
+        headers = [pe.dos_header, pe.coff_header, pe.optional_header, pe.data_directories[DirectoryType.IMPORT_TABLE],
+                   Te(sample("firmware_x64.te")).header, ObjectFile(sample("object_x64.obj")).coff_header]
+        for header in headers:
+            with self.assertRaises(AttributeError):
+                setattr(header, header._fields[-1], 3)
+        self.assertEqual(pe.optional_header._replace(file_alignment=3).file_alignment, 3)
+        self.assertEqual(pe.find_offset(0x1020), 0x420)
+
+    def test_headers_are_shown_and_compared_by_their_fields(self):
         header, other = (Pe(sample("imports_by_name_x64.dll")).dos_header for _ in range(2))
         self.assertEqual(header, other)
-        self.assertIn("reserved=[0, 0, 0, 0], oem_id=0", repr(header))
-        other.reserved[3] = 1
-        self.assertNotEqual(header, other)
-        self.assertNotEqual(header, Pe(sample("imports_by_name_x64.dll")).coff_header)
+        self.assertIn("reserved=(0, 0, 0, 0), oem_id=0", repr(header))
+        self.assertNotEqual(header, other._replace(oem_id=1))
 
     def test_a_rest_of_the_rich_header_is_told(self):
         data, key = bytearray(sample("program_x64.exe")), 0x1234ABCD
@@ -173,16 +198,41 @@ class Records(unittest.TestCase):
             self.assertEqual([(it.build, it.product, it.use_count) for it in pe.rich_entries], [(30159, 261, 7)])
             self.assertEqual(pe.rich_rest and (pe.rich_rest.status, pe.rich_rest.cause), wanted)
 
-    def test_the_options_are_those_of_the_read(self):
-        how = options()
-        pe = Pe(sample("imports_by_name_x64.dll"), how)
-        how.resolve_rva = False
-        self.assertEqual(pe.find_offset(0x1020), 0x420)
+
+class HowFilesAreRead(unittest.TestCase):
+    def test_options_are_those_of_the_library_but_for_what_is_said(self):
+        with open(os.path.join(HERE, "../c/goblin_pe.h"), encoding="ascii") as file:
+            stored = re.search(r"GOBLIN_PE_DEFAULT_OPTIONS \{(.*)\}", file.read()).group(1)
+        self.assertEqual(str(dataclasses.astuple(Options())).lower().strip("()"), stored.strip())
+        data = sample("imports_by_name_x64.dll")
+        self.assertEqual(Pe(data, Options(is_permissive=True)).imports, Pe(data).imports)
+        self.assertEqual(Pe(data, Options(parse_imports=False)).import_table, State.ABSENT)
+
+    def test_options_are_bools(self):
+        for wrong in (1, 0, "no", None):
+            self.assertRaises(TypeError, Options, is_permissive=wrong)
+
+    def test_nothing_else_is_taken_for_options(self):
+        for read in (Pe, ObjectFile):
+            for wrong in (b"\0\0\0\0", {}, True):
+                self.assertRaises(TypeError, read, sample("object_x64.obj"), wrong)
+
+    def test_options_can_not_be_changed(self):
+        with self.assertRaises(AttributeError):
+            Options().resolve_rva = False
 
 
 class Numbers(unittest.TestCase):
+    def test_the_text_of_a_number_is_its_name(self):
+        named = (Status.MALFORMED, Cause.DOS_MAGIC, State.READ, DirectoryType.IMPORT_TABLE)
+        wanted = "Status.MALFORMED Cause.DOS_MAGIC State.READ DirectoryType.IMPORT_TABLE"
+        self.assertEqual(" ".join(map(str, named)), wanted)
+        self.assertEqual(" ".join("{}".format(it) for it in named), wanted)
+        self.assertEqual("%d %#x {:#x} {:>15}".format(Cause.DOS_MAGIC, State.READ) % (Cause.DOS_MAGIC, Cause.DOS_MAGIC),
+                         "3 0x3 0x3      State.READ")
+
     def test_addresses_have_64_bits(self):
-        for how in (options(), options(is_permissive=True, resolve_rva=False)):
+        for how in (Options(), Options(is_permissive=True, resolve_rva=False)):
             pe = Pe(sample("imports_by_name_x64.dll"), how)
             for rva in (2**64 + 0x1020, 2**64, -1):
                 self.assertRaises(OverflowError, pe.find_offset, rva)
@@ -204,16 +254,42 @@ class Files(unittest.TestCase):
         self.assertEqual((pe.optional_header, pe.data_directories, pe.import_footprint()), (None, {}, []))
 
     def test_imports_depend_on_their_footprint_alone(self):
-        data, how = sample("imports_by_name_x64.dll"), options(is_permissive=True)
+        data, how = sample("imports_by_name_x64.dll"), Options(is_permissive=True)
         pe = Pe(data, how)
         other = bytearray(~it & 0xFF for it in data)
         for begin, length in [(0, pe.optional_header.size_of_headers), *pe.import_footprint()]:
             other[begin: begin + length] = data[begin: begin + length]
         self.assertEqual(Pe(other, how).imports, pe.imports)
 
+    def test_the_hash_of_imports_is_that_of_other_tools(self):
+        # (told by pefile 2023.2.7)
+        self.assertEqual(Pe(sample("imports_by_name_x86.dll")).imphash(), "5fd9bbcd68e633c2417c6dd0c112ae23")
+        self.assertEqual(Pe(sample("forwarders_x64.dll")).imphash(), "")
+        for dll, ordinal, wanted in [
+            (b"KERNEL32.dll", 901, "149d2e96f294661822cac53bee31923e"),
+            (b"WS2_32.dll", 115, "b37125ceef051f12e08e29efb577946e"),
+            (b"wsock32.DLL", 1142, "2abbd9ade07297967661cfa09c911406"),
+            (b"OLEAUT32.dll", 6, "34cc24834ac54238d20258721638305d"),
+            (b"oleaut32.dll", 999, "ac4335c367c483416ad8947728b70e5d"),
+            (b"OLEAUT32.sys", 6, "0b95961135d7de048291c05a30a259f5"),
+            (b"a.b.OCX", 7, "f97b2ce4f275cbebbfc8005f20b35541"),
+            (b"WINSPOOL.DRV", 7, "c527aa300d7842640afcc4bcdda0752e"),
+            (b"x", 65535, "715966133c5213185739d6c03fd6a968"),
+            (b"a.dll", 0, ""),
+            (b"", 5, ""),
+        ]:
+            with self.subTest(dll=dll, ordinal=ordinal):
+                data = sample("imports_by_ordinal_x64.dll").replace(b"KERNEL32.dll", dll.ljust(12, b"\0"))
+                data = data.replace(struct.pack("<Q", 1 << 63 | 901), struct.pack("<Q", 1 << 63 | ordinal))
+                self.assertEqual(Pe(data).imphash(), wanted)
+
+    def test_all_that_is_for_users_is_named(self):
+        public = {name for name, it in vars(goblin_pe).items() if not name.startswith("_") and getattr(it, "__module__", "").startswith("goblin_pe")}
+        self.assertEqual(public - {"options"}, set(goblin_pe.__all__) - {"Data"})
+
     def test_help_names_what_is_for_users(self):
         text = pydoc.plain(pydoc.render_doc(goblin_pe))
-        for name in ("class Pe", "class ObjectFile", "class Te", "class Refused", "options(", "import_footprint("):
+        for name in ("class Pe", "class ObjectFile", "class Te", "class Refused", "class Options", "import_footprint("):
             self.assertIn(name, text)
         self.assertNotIn("ctypes", text)
 

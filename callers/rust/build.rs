@@ -1,5 +1,5 @@
-//! Links the library: from the folder that the variable GOBLIN_PE_LIB names, else from that into which
-//! callers/build puts it, else from where pkg-config finds it.
+//! Links the library: from the folder that the variable GOBLIN_PE_LIB names, else from the folder lib that comes
+//! with the crate, else from that into which callers/build puts it, else from where pkg-config finds it.
 use std::env;
 use std::path::{Path, PathBuf};
 use std::process::Command;
@@ -33,10 +33,11 @@ fn kind_in(folder: &Path) -> Option<(&'static str, &'static str)> {
         .find(|(_, name)| folder.join(name).exists())
 }
 
-// The folder lib beside that of this crate, in the repository.
+// The folder lib in that of this crate, or beside it in the repository.
 fn beside() -> Option<PathBuf> {
     let here = PathBuf::from(env::var_os("CARGO_MANIFEST_DIR")?);
-    Some(here.join("../lib")).filter(|it| kind_in(it).is_some())
+    let folders = [here.join("lib"), here.join("../lib")];
+    folders.into_iter().find(|it| kind_in(it).is_some())
 }
 
 // The folder that pkg-config answers.

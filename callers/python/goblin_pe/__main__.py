@@ -1,11 +1,13 @@
 """Lists a file as pe_list does. With --symbols it lists the symbols of an object, and with --te the header of a Terse
-Executable, as beside the samples."""
+Executable, as beside the samples. With --json it writes all that was read of each of many files, as an object on a line."""
 import argparse
+import json
 import os
 import sys
-from typing import Iterator, List, Sequence
+from typing import Any, Callable, Iterator, List, Sequence
 
-from . import Export, ObjectFile, Pe, Refused, Te, options
+from ._described import described
+from . import Export, ObjectFile, Options, Pe, Refused, State, Te
 
 
 def shown(text: bytes) -> str:
@@ -13,9 +15,9 @@ def shown(text: bytes) -> str:
     return "".join(chr(it) if 0x20 <= it <= 0x7E and it != 0x5C else "\\x%02x" % it for it in text)
 
 
-def heading(label: str, state: str, entries: Sequence[object]) -> str:
+def heading(label: str, state: State, entries: Sequence[object]) -> str:
     """How a table stands."""
-    return "%s %s" % (label, len(entries) if state == "read" else state)
+    return "%s %s" % (label, len(entries) if state == State.READ else state.name.lower())
 
 
 def export(x: Export) -> str:
@@ -29,9 +31,8 @@ def export(x: Export) -> str:
     return line + (" name=" + shown(x.name) if x.name is not None else "")
 
 
-def image(data: bytes, is_permissive: bool = False) -> Iterator[str]:
+def image(pe: Pe) -> Iterator[str]:
     """The lines of an image."""
-    pe = Pe(data, options(is_permissive=is_permissive))
     line = "header machine=%#x sections=%d" % (pe.coff_header.machine, len(pe.sections))
     if pe.optional_header:
         line += " magic=%#x entry=%#x" % (pe.optional_header.magic, pe.optional_header.address_of_entry_point)
@@ -53,9 +54,8 @@ def image(data: bytes, is_permissive: bool = False) -> Iterator[str]:
         yield "block refused"
 
 
-def symbols(data: bytes) -> Iterator[str]:
+def symbols(found: ObjectFile) -> Iterator[str]:
     """The lines of an object."""
-    found = ObjectFile(data)
     for it in found.symbols:
         yield "symbol %d value=%d section=%d class=%d aux=%d name=%s" % (
             it.index, it.value, it.section_number, it.storage_class, it.number_of_aux_symbols, shown(it.name or b""))
@@ -64,9 +64,8 @@ def symbols(data: bytes) -> Iterator[str]:
             yield "relocations %s %d" % (shown(s.name), s.number_of_relocations)
 
 
-def te(data: bytes) -> Iterator[str]:
+def te(found: Te) -> Iterator[str]:
     """The lines of a Terse Executable."""
-    found = Te(data)
     h = found.header
     for field in ("signature", "machine", "number_of_sections", "subsystem", "stripped_size", "entry_point", "base_of_code", "image_base"):
         yield "%s %#x" % (field, getattr(h, field))
@@ -77,32 +76,60 @@ def te(data: bytes) -> Iterator[str]:
             shown(s.name), s.virtual_address, s.virtual_size, s.size_of_raw_data, s.pointer_to_raw_data, s.characteristics)
 
 
-def permissively(data: bytes) -> Iterator[str]:
-    """The lines of an image, damaged parts passed over."""
-    return image(data, is_permissive=True)
+def permissively(data: bytes) -> Pe:
+    """An image, damaged parts passed over."""
+    return Pe(data, Options(is_permissive=True))
+
+
+def show(path: str, read: Callable[[bytes], Any], lines: Callable[[Any], Iterator[str]]) -> int:
+    """Writes the lines of a file, all of them or none, and answers the status of the program."""
+    try:
+        with open(path, "rb") as file:
+            listing = "\n".join(lines(read(file.read())))
+    except (OSError, Refused) as error:
+        return complain("refused" if isinstance(error, Refused) else "read failed", error)
+    print(listing)
+    return 0
+
+
+def describe(paths: List[str], read: Callable[[bytes], Any]) -> int:
+    """Writes a line of JSON for each file, and tells how far it is where standard error, but not the output, is a terminal.
+    Answers the status of the program: 1 where a file was not read."""
+    is_told = len(paths) > 1 and sys.stderr.isatty() and not sys.stdout.isatty()
+    status = 0
+    for number, path in enumerate(paths, 1):
+        if is_told:
+            print("\r%d of %d files" % (number, len(paths)), end="", file=sys.stderr, flush=True)
+        found = described(path, read)
+        status |= "refused" in found or "error" in found
+        print(json.dumps(found))
+    if is_told:
+        print(file=sys.stderr)
+    return status
 
 
 def main(words: List[str]) -> int:
-    """Lists the file that the words name, and answers the status of the program."""
+    """Lists what the words name, and answers the status of the program."""
     parser = argparse.ArgumentParser(prog="python -m goblin_pe", description="Lists a PE file.")
     kind = parser.add_mutually_exclusive_group()
-    for name, lines, what in [("--permissive", permissively, "pass over damaged parts"), ("--symbols", symbols, "list the symbols of an object"),
-                              ("--te", te, "list a Terse Executable")]:
-        kind.add_argument(name, dest="lines", action="store_const", const=lines, help=what)
-    parser.add_argument("file", metavar="FILE")
-    parser.set_defaults(lines=image)
+    for name, how, what in [("--permissive", (permissively, image), "pass over damaged parts"),
+                            ("--symbols", (ObjectFile, symbols), "list the symbols of an object"),
+                            ("--te", (Te, te), "list a Terse Executable")]:
+        kind.add_argument(name, dest="how", action="store_const", const=how, help=what)
+    parser.add_argument("--json", action="store_true", help="write a line of JSON for each of many files")
+    parser.add_argument("files", metavar="FILE", nargs="+")
+    parser.set_defaults(how=(Pe, image))
     asked = parser.parse_args(words)
+    read, lines = asked.how
+    if not asked.json and len(asked.files) > 1:
+        parser.error("only --json takes many files")
     try:
-        with open(asked.file, "rb") as file:
-            listing = "\n".join(asked.lines(file.read()))
-    except (OSError, Refused) as error:
-        return complain("refused" if isinstance(error, Refused) else "read failed", error)
-    try:
-        print(listing, flush=True)
-    except OSError as error:
+        status = describe(asked.files, read) if asked.json else show(asked.files[0], read, lines)
+        sys.stdout.flush()
+    except OSError as error:  # (a file that can't be read is told above)
         os.dup2(os.open(os.devnull, os.O_WRONLY), sys.stdout.fileno())  # Python writes what is left as it ends
         return complain("write failed", error)
-    return 0
+    return status
 
 
 def complain(what: str, error: Exception) -> int:

@@ -2,10 +2,10 @@
 import contextlib
 import ctypes as c
 import os
-from typing import Any, Iterator, List, Tuple
+from typing import Any, Iterator, List, Tuple, Type
 
 from .records import (NOWHERE, Directory, Fault, File, Object, OptionalHeader, Options, Ranges, Section, Symbol, Tables,
-                      TeHeader)
+                      TeHeader, laid_out)
 
 # The version of the interface that is declared here.
 INTERFACE = 2
@@ -23,25 +23,29 @@ def _path() -> str:
     raise ImportError("there is no %s: run callers/build, or say by the variable GOBLIN_PE_SO where it is" % places[-1])
 
 
+def _to(kind: Any) -> Any:
+    # a pointer to a record
+    return c.POINTER(laid_out(kind))
+
+
 def _counted(*kinds: Any) -> List[Any]:
     # a pointer and a count for each kind of record
-    return [it for kind in kinds for it in (c.POINTER(kind), c.c_size_t)]
+    return [it for kind in kinds for it in (_to(kind), c.c_size_t)]
 
 
-_OPTIONS = c.POINTER(Options)
 _CALLS = {
-    "goblin_pe_open": (Fault, [c.c_void_p, c.c_size_t, _OPTIONS, c.POINTER(File), *_counted(Directory), c.POINTER(Tables)]),
-    "goblin_pe_read_object": (Fault, [c.c_void_p, c.c_size_t, _OPTIONS, c.POINTER(Object), *_counted(Section, Symbol)]),
-    "goblin_pe_read_te": (Fault, [c.c_void_p, c.c_size_t, c.POINTER(TeHeader), *_counted(Section)]),
-    "goblin_pe_find_offset": (c.c_bool, [c.c_size_t, *_counted(Section), c.c_uint32, _OPTIONS, c.POINTER(c.c_size_t)]),
-    "goblin_pe_footprint_imports": (Fault, [c.c_void_p, c.c_size_t, _OPTIONS, c.POINTER(OptionalHeader), c.POINTER(Directory),
-                                            *_counted(Section), c.POINTER(Ranges)]),
-    "goblin_pe_fault_text": (c.c_size_t, [c.POINTER(Fault), c.c_char_p, c.c_size_t]),
+    "goblin_pe_open": (Fault, [c.c_void_p, c.c_size_t, _to(Options), _to(File), *_counted(Directory), _to(Tables)]),
+    "goblin_pe_read_object": (Fault, [c.c_void_p, c.c_size_t, _to(Options), _to(Object), *_counted(Section, Symbol)]),
+    "goblin_pe_read_te": (Fault, [c.c_void_p, c.c_size_t, _to(TeHeader), *_counted(Section)]),
+    "goblin_pe_find_offset": (c.c_bool, [c.c_size_t, *_counted(Section), c.c_uint32, _to(Options), c.POINTER(c.c_size_t)]),
+    "goblin_pe_footprint_imports": (Fault, [c.c_void_p, c.c_size_t, _to(Options), _to(OptionalHeader), _to(Directory),
+                                            *_counted(Section), _to(Ranges)]),
+    "goblin_pe_fault_text": (c.c_size_t, [_to(Fault), c.c_char_p, c.c_size_t]),
 }
 
 
-def _load() -> c.CDLL:
-    library = c.CDLL(_path())
+def _load(how: Type[c.CDLL]) -> c.CDLL:
+    library = how(_path())
     if library.goblin_pe_interface() != INTERFACE:
         raise ImportError("%s has another interface than this module" % library._name)
     for name, (answer, arguments) in _CALLS.items():
@@ -50,7 +54,10 @@ def _load() -> c.CDLL:
     return library
 
 
-LIB = _load()
+# The calls; each lets other threads run meanwhile.
+LIB = _load(c.CDLL)
+# The same calls, each of which keeps the interpreter's lock, so that no thread of Python runs meanwhile.
+_LOCKED = _load(c.PyDLL)
 
 
 def text_of(fault: Fault) -> str:
@@ -73,12 +80,22 @@ _release_buffer = c.pythonapi.PyBuffer_Release
 _release_buffer.restype, _release_buffer.argtypes = None, [c.POINTER(_Buffer)]
 
 
-@contextlib.contextmanager
-def held(data: Any) -> Iterator[Tuple[int, int]]:
-    """The address and the length of the bytes of any buffer, which stay where they are meanwhile. Nothing is copied."""
-    buffer = _Buffer()
-    _get_buffer(data, c.byref(buffer), 0)
+def _is_writable(view: memoryview) -> bool:
+    # whether the bytes can be written into, be it past this view of them; so it is where nobody can tell
     try:
-        yield buffer.buf or NOWHERE, buffer.len
+        with memoryview(view.obj) as owner:
+            return not (view.readonly and owner.readonly)
+    except TypeError:
+        return True
+
+
+@contextlib.contextmanager
+def held(view: memoryview) -> Iterator[Tuple[c.CDLL, int, int]]:
+    """The calls to make with the bytes of a buffer, their address and their length. The bytes are not copied, and stay
+    where they are meanwhile. Where a thread could write into them, the calls let none run."""
+    buffer = _Buffer()
+    _get_buffer(view, c.byref(buffer), 0)
+    try:
+        yield _LOCKED if _is_writable(view) else LIB, buffer.buf or NOWHERE, buffer.len
     finally:
         _release_buffer(c.byref(buffer))

@@ -3,7 +3,16 @@ goblin_pe_c."""
 import enum
 
 
-class State(enum.IntEnum):
+class Number(enum.IntEnum):
+    """A number that has a name, which is its text; formats for numbers, such as %d and {:#x}, take the number."""
+
+    __str__ = enum.Enum.__str__
+
+    def __format__(self, form: str) -> str:
+        return format(int(self) if form.endswith(("b", "c", "d", "n", "o", "x", "X")) else str(self), form)
+
+
+class State(Number):
     """The state of a table: the file has none or it was not asked for, it was read, or it is refused and was
     passed over."""
 
@@ -12,7 +21,7 @@ class State(enum.IntEnum):
     REFUSED = 2
 
 
-class Forwards(enum.IntEnum):
+class Forwards(Number):
     """What an export forwards to."""
 
     NO_FORWARDER = 0
@@ -20,7 +29,7 @@ class Forwards(enum.IntEnum):
     ORDINAL = 2
 
 
-class Status(enum.IntEnum):
+class Status(Number):
     """What kind of refusal it is; goblin_pe.h says what each means, also of those below."""
 
     OK = 0
@@ -31,7 +40,7 @@ class Status(enum.IntEnum):
     NO_MEMORY = 5
 
 
-class Cause(enum.IntEnum):
+class Cause(Number):
     """What is wrong with a file: the cause where the status is MALFORMED."""
 
     MESSAGE = 1
@@ -70,7 +79,7 @@ class Cause(enum.IntEnum):
     SLOT_COUNT = 34
 
 
-class Counted(enum.IntEnum):
+class Counted(Number):
     """What a file is too short for: the cause where the status is TOO_SHORT."""
 
     OTHER = 0
@@ -79,7 +88,7 @@ class Counted(enum.IntEnum):
     ADDRESS_TABLE_ENTRIES = 3
 
 
-class ReadFault(enum.IntEnum):
+class ReadFault(Number):
     """Why a read was refused: the cause where the status is BAD_READ."""
 
     BAD_OFFSET = 1
@@ -87,7 +96,7 @@ class ReadFault(enum.IntEnum):
     BAD_INPUT = 3
 
 
-class DirectoryType(enum.IntEnum):
+class DirectoryType(Number):
     """The kinds of data directories, by their indexes. The sixteenth is reserved and has no kind."""
 
     EXPORT_TABLE = 0

@@ -1,7 +1,12 @@
 """The library's records. Their fields are those of the crate goblin_pe_c, in the same order; callers/layout.py
-compares them, and goblin_pe.h says of each field what it is."""
+compares them, and goblin_pe.h says of each field what it is.
+
+Headers are named tuples, which nobody can change. What lies in memory is a record with the same fields (`laid_out`);
+a header that stands in a record is read as its named tuple."""
 import ctypes as c
-from typing import Annotated, Any, List, Sequence, Type, TypeVar
+import functools
+import operator
+from typing import Annotated, Any, Dict, List, NamedTuple, Tuple, Type, TypeVar
 
 # The types of fields: what Python sees of each, and how it lies in memory.
 U8 = Annotated[int, c.c_uint8]
@@ -12,36 +17,60 @@ I16 = Annotated[int, c.c_int16]
 Size = Annotated[int, c.c_size_t]
 Address = Annotated[int, c.c_void_p]
 Flag = Annotated[bool, c.c_bool]
-Name = Annotated[Sequence[int], c.c_uint8 * 8]
-Words4 = Annotated[Sequence[int], c.c_uint16 * 4]
-Words10 = Annotated[Sequence[int], c.c_uint16 * 10]
+Name = Annotated[Tuple[int, ...], c.c_uint8 * 8]
+Words4 = Annotated[Tuple[int, ...], c.c_uint16 * 4]
+Words10 = Annotated[Tuple[int, ...], c.c_uint16 * 10]
 
 
 class Record(c.Structure):
-    """A record: it is shown by its fields, and is the same as one with the same fields."""
-
-    def _values(self) -> List[Any]:
-        values = (getattr(self, field[0]) for field in self._fields_)
-        return [list(it) if isinstance(it, c.Array) else it for it in values]
-
-    def __repr__(self) -> str:
-        fields = ", ".join("%s=%r" % (field[0], value) for field, value in zip(self._fields_, self._values()))
-        return "%s(%s)" % (type(self).__name__, fields)
-
-    def __eq__(self, other: object) -> bool:
-        return isinstance(other, Record) and type(other) is type(self) and self._values() == other._values()
+    """A record of the library's."""
 
 
-_Kind = TypeVar("_Kind", bound=Record)
+_Kind = TypeVar("_Kind")
+
+# Of each header the record, and what takes all fields of one.
+_RECORDS: Dict[Any, Any] = {}
+_FIELDS: Dict[Any, Any] = {}
 
 
-def _laid_out(kind: Type[_Kind]) -> Type[_Kind]:
-    # a record with the fields that it names, in their order
-    kind._fields_ = [(name, getattr(hint, "__metadata__", [hint])[0]) for name, hint in kind.__annotations__.items()]
+def laid_out(kind: Any) -> Any:
+    """What lies in memory: of a header its record, of a record itself."""
+    return _RECORDS.get(kind, kind)
+
+
+def read(header: Type[_Kind], record: Any) -> _Kind:
+    """The header that stands in its record."""
+    return header(*_FIELDS[header](record))
+
+
+def _converted(convert: Any, field: Any) -> property:
+    # a field whose value is another one than ctypes gives
+    return property(lambda record: convert(field.__get__(record)))
+
+
+def _record(kind: _Kind) -> _Kind:
+    # a record with the fields that it names, in their order; what stands there of headers is read as such
+    hints: Dict[str, Any] = kind.__annotations__
+    setattr(kind, "_fields_", [(name, laid_out(getattr(hint, "__metadata__", [hint])[0])) for name, hint in hints.items()])
+    for name, hint in hints.items():
+        if hint in _RECORDS:
+            setattr(kind, name, _converted(functools.partial(read, hint), getattr(kind, name)))
     return kind
 
 
-@_laid_out
+def _header(kind: _Kind) -> _Kind:
+    # a header, and its record; of the types of its fields, users see Python's alone
+    hints: Dict[str, Any] = kind.__annotations__
+    record: Any = _record(type("Record", (Record,), {"__annotations__": dict(hints)}))
+    _RECORDS[kind], _FIELDS[kind] = record, operator.attrgetter(*hints)
+    for name, field in record._fields_:
+        if issubclass(field, c.Array):
+            setattr(record, name, _converted(tuple, getattr(record, name)))
+    hints.update((name, hint.__origin__) for name, hint in hints.items() if hint not in _RECORDS)
+    return kind
+
+
+@_record
 class Text(Record):
     """Bytes of the file that was read."""
 
@@ -49,7 +78,7 @@ class Text(Record):
     length: Size
 
 
-@_laid_out
+@_record
 class Options(Record):
     """What a call does and leaves out."""
 
@@ -59,7 +88,7 @@ class Options(Record):
     parse_imports: Flag
 
 
-@_laid_out
+@_record
 class Fault(Record):
     """Why a call gave no value, in numbers; the status 0 is that it gave one."""
 
@@ -69,8 +98,8 @@ class Fault(Record):
     second: U64
 
 
-@_laid_out
-class DosHeader(Record):
+@_header
+class DosHeader(NamedTuple):
     """The DOS header."""
 
     pe_pointer: U32
@@ -94,8 +123,8 @@ class DosHeader(Record):
     reserved2: Words10
 
 
-@_laid_out
-class CoffHeader(Record):
+@_header
+class CoffHeader(NamedTuple):
     """The COFF header."""
 
     machine: U16
@@ -107,9 +136,9 @@ class CoffHeader(Record):
     characteristics: U16
 
 
-@_laid_out
-class OptionalHeader(Record):
-    """The optional header; zeros where there is none."""
+@_header
+class OptionalHeader(NamedTuple):
+    """The optional header."""
 
     size_of_code: U64
     size_of_initialized_data: U64
@@ -143,7 +172,7 @@ class OptionalHeader(Record):
     minor_linker_version: U8
 
 
-@_laid_out
+@_record
 class Directory(Record):
     """An entry of the table of data directories."""
 
@@ -153,16 +182,16 @@ class Directory(Record):
     is_present: Flag
 
 
-@_laid_out
-class DataDirectory(Record):
+@_header
+class DataDirectory(NamedTuple):
     """Where a table of an image lies."""
 
     virtual_address: U32
     size: U32
 
 
-@_laid_out
-class TeHeader(Record):
+@_header
+class TeHeader(NamedTuple):
     """The header of a Terse Executable, its addresses as they are in the stripped file."""
 
     image_base: U64
@@ -177,8 +206,8 @@ class TeHeader(Record):
     subsystem: U8
 
 
-@_laid_out
-class RichEntry(Record):
+@_header
+class RichEntry(NamedTuple):
     """An entry of the Rich header: a tool, and how often it was used."""
 
     use_count: U32
@@ -186,7 +215,7 @@ class RichEntry(Record):
     product: U16
 
 
-@_laid_out
+@_record
 class RichHeader(Record):
     """The Rich header; zeros where there is none."""
 
@@ -199,7 +228,7 @@ class RichHeader(Record):
     is_present: Flag
 
 
-@_laid_out
+@_record
 class Section(Record):
     """A section, as its record describes it."""
 
@@ -217,7 +246,7 @@ class Section(Record):
     has_real_name: Flag
 
 
-@_laid_out
+@_record
 class Import(Record):
     """An import."""
 
@@ -231,7 +260,7 @@ class Import(Record):
     is_by_name: Flag
 
 
-@_laid_out
+@_record
 class Export(Record):
     """An export."""
 
@@ -247,7 +276,7 @@ class Export(Record):
     forwards: U8
 
 
-@_laid_out
+@_record
 class Block(Record):
     """A block of base relocations, for one page of the image in memory."""
 
@@ -256,7 +285,7 @@ class Block(Record):
     size: U32
 
 
-@_laid_out
+@_record
 class Table(Record):
     """A table of the file."""
 
@@ -264,7 +293,7 @@ class Table(Record):
     state: U32
 
 
-@_laid_out
+@_record
 class Relocations(Record):
     """The base relocations."""
 
@@ -272,7 +301,7 @@ class Relocations(Record):
     rest: Fault
 
 
-@_laid_out
+@_record
 class Symbol(Record):
     """A symbol."""
 
@@ -287,7 +316,7 @@ class Symbol(Record):
     has_name: Flag
 
 
-@_laid_out
+@_record
 class File(Record):
     """The file as a whole."""
 
@@ -302,7 +331,7 @@ class File(Record):
     coff_header: CoffHeader
 
 
-@_laid_out
+@_record
 class Object(Record):
     """An object as a whole."""
 
@@ -311,7 +340,7 @@ class Object(Record):
     coff_header: CoffHeader
 
 
-@_laid_out
+@_record
 class Range(Record):
     """A range of the file."""
 
@@ -331,10 +360,10 @@ class HandedOver(c.Structure):
     """Tables that the library hands over, each a block of memory of its own where it is not empty. They are
     empty before, and freed at the end of a `with`."""
 
-    KINDS: "dict[str, Type[Record]]" = {}
+    KINDS: Dict[str, Any] = {}
 
     def __init__(self) -> None:
-        super().__init__(*(it for kind in self.KINDS.values() for it in (c.cast(NOWHERE, c.POINTER(kind)), 0)))
+        super().__init__(*(it for kind in self.KINDS.values() for it in (c.cast(NOWHERE, c.POINTER(laid_out(kind))), 0)))
 
     def records(self, name: str) -> List[Any]:
         """The records of a table, good until it is freed."""
@@ -350,9 +379,9 @@ class HandedOver(c.Structure):
                 _free(getattr(self, name))
 
 
-def _tables(kinds: "dict[str, Type[Record]]") -> List[Any]:
+def _tables(kinds: Dict[str, Any]) -> List[Any]:
     # each table is a pointer and a count
-    return [it for name, kind in kinds.items() for it in ((name, c.POINTER(kind)), (name + "_count", c.c_size_t))]
+    return [it for name, kind in kinds.items() for it in ((name, c.POINTER(laid_out(kind))), (name + "_count", c.c_size_t))]
 
 
 class Tables(HandedOver):

@@ -6,6 +6,16 @@ from . import records
 from .numbers import Forwards
 
 
+class RichHeader(NamedTuple):
+    """The Rich header, which says by which tools a file was made: the key, the size of the padding before the entries, and
+    the file offsets of its two markers, `DanS` under the key and `Rich`."""
+
+    key: int
+    padding_size: int
+    start_offset: int
+    end_offset: int
+
+
 class Section(NamedTuple):
     """A section: its name (that of the string table where it has one, else its eight bytes up to the first NUL) and the
     fields of its record."""

@@ -106,7 +106,7 @@ fn symbols(bytes: &[u8]) -> Result<String, goblin_pe::Error> {
             s.section_number,
             s.storage_class,
             s.number_of_aux_symbols,
-            s.name.map_or_else(String::new, |name| name.to_string())
+            s.name.unwrap_or_default()
         );
     }
     for s in object.sections().filter(|s| s.number_of_relocations > 0) {

@@ -8,7 +8,7 @@ macro_rules! numbers {
     })*) => {$(
         $(#[$of_type])*
         #[repr(u32)]
-        #[derive(Clone, Copy, Debug, PartialEq, Eq, Hash)]
+        #[derive(Clone, Copy, Debug, PartialEq, Eq, PartialOrd, Ord, Hash)]
         pub enum $name {
             $($(#[$of_variant])* $variant = $number,)*
         }
@@ -59,6 +59,7 @@ numbers! {
     }
 
     /// What kind of refusal it is.
+    #[non_exhaustive]
     ErrorKind {
         /// The bytes are not what the format says.
         Malformed = 1,
@@ -70,6 +71,9 @@ numbers! {
         Read = 4,
         /// Memory was refused.
         Memory = 5,
+        // (no number of the library's)
+        /// A kind that this crate does not know.
+        Unknown = 0xFFFF_FFFF,
     }
 
     /// What is wrong with a file. `first` and `second` are the two numbers of the cause; offsets

@@ -1,6 +1,7 @@
 //! The library's interface, and all that is unsafe. The records' fields are those of the crate
 //! `goblin_pe_c`, in the same order; callers/layout.py compares them.
 
+use std::alloc::{Layout, handle_alloc_error};
 use std::marker::PhantomData;
 use std::ptr::NonNull;
 use std::sync::Once;
@@ -38,9 +39,19 @@ impl<'a> Slice<'a> {
     }
 }
 
-/// What a call does and leaves out.
+/// What a call does and leaves out; by default it reads strictly, and all tables.
+///
+/// ```
+/// use goblin_pe::Options;
+///
+/// let options = Options {
+///     parse_imports: false,
+///     ..Options::permissive()
+/// };
+/// assert!(options.is_permissive && options.resolve_rva);
+/// ```
 #[repr(C)]
-#[derive(Clone, Copy, Debug, PartialEq, Eq)]
+#[derive(Clone, Copy, Debug, PartialEq, Eq, Hash)]
 pub struct Options {
     /// Whether damaged parts are passed over.
     pub is_permissive: bool,
@@ -56,7 +67,7 @@ pub struct Options {
 
 /// Why a call gave no value, in numbers; the status 0 is that it gave one.
 #[repr(C)]
-#[derive(Clone, Copy, Debug, Default, PartialEq, Eq)]
+#[derive(Clone, Copy, Debug, Default, PartialEq, Eq, Hash)]
 pub struct Fault {
     /// What kind of refusal it is: 0 where nothing is refused, else an `ErrorKind`.
     pub status: u32,
@@ -70,7 +81,7 @@ pub struct Fault {
 
 /// The DOS header.
 #[repr(C)]
-#[derive(Clone, Copy, Debug, Default, PartialEq, Eq)]
+#[derive(Clone, Copy, Debug, Default, PartialEq, Eq, Hash)]
 pub struct DosHeader {
     /// The file offset of the PE signature.
     pub pe_pointer: u32,
@@ -114,7 +125,7 @@ pub struct DosHeader {
 
 /// The COFF header.
 #[repr(C)]
-#[derive(Clone, Copy, Debug, Default, PartialEq, Eq)]
+#[derive(Clone, Copy, Debug, Default, PartialEq, Eq, Hash)]
 pub struct CoffHeader {
     /// The machine that the file is for: 0x14c is x86, 0x8664 x86-64, 0xaa64 ARM64.
     pub machine: u16,
@@ -136,7 +147,7 @@ pub struct CoffHeader {
 
 /// The optional header; zeros where there is none.
 #[repr(C)]
-#[derive(Clone, Copy, Debug, Default, PartialEq, Eq)]
+#[derive(Clone, Copy, Debug, Default, PartialEq, Eq, Hash)]
 pub struct OptionalHeader {
     /// The size of the code, in bytes: the sum of all code sections.
     pub size_of_code: u64,
@@ -211,7 +222,7 @@ pub struct OptionalHeader {
 
 /// An entry of the table of data directories.
 #[repr(C)]
-#[derive(Clone, Copy, Debug, Default, PartialEq, Eq)]
+#[derive(Clone, Copy, Debug, Default, PartialEq, Eq, Hash)]
 pub struct Directory {
     /// Where the entry's record ends, in bytes from the front of the optional header; 0 where there
     /// is no entry.
@@ -228,7 +239,7 @@ pub struct Directory {
 
 /// Where a table of an image lies.
 #[repr(C)]
-#[derive(Clone, Copy, Debug, Default, PartialEq, Eq)]
+#[derive(Clone, Copy, Debug, Default, PartialEq, Eq, Hash)]
 pub struct DataDirectory {
     /// The table's address, relative to the image's base.
     pub virtual_address: u32,
@@ -238,7 +249,7 @@ pub struct DataDirectory {
 
 /// The header of a Terse Executable, its addresses as they are in the stripped file.
 #[repr(C)]
-#[derive(Clone, Copy, Debug, Default, PartialEq, Eq)]
+#[derive(Clone, Copy, Debug, Default, PartialEq, Eq, Hash)]
 pub struct TeHeader {
     /// The address at which the image is best loaded.
     pub image_base: u64,
@@ -264,7 +275,7 @@ pub struct TeHeader {
 
 /// An entry of the Rich header: a tool, and how often it was used.
 #[repr(C)]
-#[derive(Clone, Copy, Debug, Default, PartialEq, Eq)]
+#[derive(Clone, Copy, Debug, Default, PartialEq, Eq, Hash)]
 pub struct RichEntry {
     /// How many files the tool made.
     pub use_count: u32,
@@ -276,7 +287,7 @@ pub struct RichEntry {
 
 /// The Rich header; zeros where there is none.
 #[repr(C)]
-#[derive(Clone, Copy, Debug, Default, PartialEq, Eq)]
+#[derive(Clone, Copy, Debug, Default, PartialEq, Eq, Hash)]
 pub struct RichHeader {
     /// How many entries there are.
     pub entries: usize,
@@ -395,7 +406,7 @@ pub struct Block<'a> {
 
 /// A table of the file.
 #[repr(C)]
-#[derive(Clone, Copy, Debug, Default, PartialEq, Eq)]
+#[derive(Clone, Copy, Debug, Default, PartialEq, Eq, Hash)]
 pub struct Table {
     /// How many entries it has, whatever the room.
     pub count: usize,
@@ -405,7 +416,7 @@ pub struct Table {
 
 /// The base relocations.
 #[repr(C)]
-#[derive(Clone, Copy, Debug, Default, PartialEq, Eq)]
+#[derive(Clone, Copy, Debug, Default, PartialEq, Eq, Hash)]
 pub struct Relocations {
     /// The blocks.
     pub blocks: Table,
@@ -440,7 +451,7 @@ pub struct Symbol<'a> {
 
 /// The file as a whole.
 #[repr(C)]
-#[derive(Clone, Copy, Debug, Default, PartialEq, Eq)]
+#[derive(Clone, Copy, Debug, Default, PartialEq, Eq, Hash)]
 pub struct File {
     /// The optional header.
     pub optional_header: OptionalHeader,
@@ -465,7 +476,7 @@ pub struct File {
 
 /// An object as a whole.
 #[repr(C)]
-#[derive(Clone, Copy, Debug, Default, PartialEq, Eq)]
+#[derive(Clone, Copy, Debug, Default, PartialEq, Eq, Hash)]
 pub struct Object {
     /// How many sections there are, whatever the room.
     pub sections: usize,
@@ -508,15 +519,27 @@ impl Symbol<'_> {
     };
 }
 
+impl Options {
+    /// Damaged parts are passed over; else as by default.
+    pub const fn permissive() -> Options {
+        Options {
+            is_permissive: true,
+            ..Options::STRICT
+        }
+    }
+
+    const STRICT: Options = Options {
+        is_permissive: false,
+        resolve_rva: true,
+        rounds_raw_pointers: false,
+        parse_imports: true,
+    };
+}
+
 impl Default for Options {
     /// Strictly, with addresses mapped by the sections from their raw pointers as stored, and imports.
     fn default() -> Options {
-        Options {
-            is_permissive: false,
-            resolve_rva: true,
-            rounds_raw_pointers: false,
-            parse_imports: true,
-        }
+        Options::STRICT
     }
 }
 
@@ -548,6 +571,24 @@ impl<T> List<'_, T> {
     }
 }
 
+impl<T: Copy> Clone for List<'_, T> {
+    /// A block of its own. Where memory for it is refused, the process ends, as it does for a `Vec`.
+    fn clone(&self) -> Self {
+        if self.count == 0 {
+            return Self::EMPTY;
+        }
+        let layout = Layout::for_value(self.get());
+        // SAFETY: it may be asked for any size.
+        let block = unsafe { malloc(layout.size()) };
+        let Some(first) = NonNull::new(block.cast::<T>()) else {
+            handle_alloc_error(layout)
+        };
+        // SAFETY: the new block has room for as many records, which are copied as they are.
+        unsafe { first.copy_from_nonoverlapping(self.first, self.count) };
+        List { first, ..*self }
+    }
+}
+
 impl<T> Drop for List<'_, T> {
     fn drop(&mut self) {
         if self.count != 0 {
@@ -559,6 +600,7 @@ impl<T> Drop for List<'_, T> {
 
 /// The tables of a file.
 #[repr(C)]
+#[derive(Clone)]
 pub struct Tables<'a> {
     /// The entries of the Rich header.
     pub rich_entries: List<'a, RichEntry>,
@@ -585,7 +627,7 @@ impl Tables<'_> {
 
 /// A range of the file.
 #[repr(C)]
-#[derive(Clone, Copy, Debug, Default, PartialEq, Eq)]
+#[derive(Clone, Copy, Debug, Default, PartialEq, Eq, Hash)]
 pub struct Range {
     /// The file offset of its first byte.
     pub offset: usize,
@@ -608,6 +650,7 @@ impl Ranges<'_> {
 }
 
 unsafe extern "C" {
+    fn malloc(size: usize) -> *mut std::ffi::c_void;
     fn free(block: *mut std::ffi::c_void);
 }
 
@@ -671,7 +714,7 @@ pub fn is_linked_as_declared() -> bool {
     goblin_pe_interface() == INTERFACE
 }
 
-// Tests, before the first read, that the library has the interface that is declared here: the records of
+// Tests, before the first call, that the library has the interface that is declared here: the records of
 // another would be other records.
 fn test_interface() {
     static TEST: Once = Once::new();
@@ -753,6 +796,7 @@ pub fn find_offset(
     file_alignment: u32,
     options: &Options,
 ) -> Option<usize> {
+    test_interface();
     let mut offset = 0;
     // SAFETY: as in `open`; the records are only read.
     let is_found = unsafe {
@@ -777,6 +821,7 @@ pub fn footprint_imports(
     sections: &[Section<'_>],
     ranges: &mut Ranges<'_>,
 ) -> Fault {
+    test_interface();
     // SAFETY: as in `open`; the records are only read.
     unsafe {
         goblin_pe_footprint_imports(
@@ -794,6 +839,7 @@ pub fn footprint_imports(
 
 /// Writes the text of a refusal as far as there is room; answers how long it is.
 pub fn fault_text(fault: &Fault, text: &mut [u8]) -> usize {
+    test_interface();
     // SAFETY: as in `open`.
     unsafe { goblin_pe_fault_text(fault, text.as_mut_ptr(), text.len()) }
 }

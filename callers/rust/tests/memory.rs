@@ -32,12 +32,23 @@ fn sample(name: &str) -> Vec<u8> {
     std::fs::read(format!("{folder}/{name}")).expect("the sample is there")
 }
 
-// What a call answers that is refused all memory.
-fn refused<T>(call: impl FnOnce() -> Result<T, Error>) -> Option<ErrorKind> {
+// The refusal of a call that is refused all memory.
+fn refusal<T>(call: impl FnOnce() -> Result<T, Error>) -> Option<Error> {
     IS_REFUSED.set(true);
     let answer = call();
     IS_REFUSED.set(false);
-    answer.err().map(|error| error.kind())
+    answer.err()
+}
+
+fn refused<T>(call: impl FnOnce() -> Result<T, Error>) -> Option<ErrorKind> {
+    refusal(call).map(|error| error.kind())
+}
+
+// It is this crate that is refused memory, before any call of the library: the text is the first.
+#[test]
+fn the_text_of_a_refusal_before_any_call() {
+    let error = refusal(|| Te::read(b"VZ")).unwrap();
+    assert_eq!(error.to_string(), "out of memory");
 }
 
 #[test]

@@ -42,10 +42,7 @@ fn imports_by_name_and_by_ordinal() {
 #[test]
 fn forwarders() {
     let bytes = sample("forwarders_x64.dll");
-    let options = Options {
-        is_permissive: true,
-        ..Options::default()
-    };
+    let options = Options::permissive();
     let pe = Pe::read(&bytes, &options).unwrap();
     assert_eq!(pe.import_table(), Part::Absent);
     let forwarders: Vec<_> = pe.exports().filter_map(|x| x.forwarder).collect();
@@ -117,18 +114,16 @@ fn addresses_are_mapped() {
     assert_eq!(pe.find_offset(0x9000), None);
     // unmapped: the address itself
     let options = Options {
-        is_permissive: true,
         resolve_rva: false,
-        ..Options::default()
+        ..Options::permissive()
     };
     let pe = Pe::read(&bytes, &options).unwrap();
     assert_eq!(pe.find_offset(0x9000), Some(0x9000));
     // by the rule of the Windows loader: from the raw pointer rounded down to 512
     let bytes = sample("align16_x64.dll");
     let options = Options {
-        is_permissive: true,
         rounds_raw_pointers: true,
-        ..Options::default()
+        ..Options::permissive()
     };
     let pe = Pe::read(&bytes, &options).unwrap();
     let section = pe.sections().next().unwrap();
@@ -136,6 +131,66 @@ fn addresses_are_mapped() {
     assert_ne!(pointer % 512, 0);
     let offset = pe.find_offset(section.virtual_address as usize);
     assert_eq!(offset, Some(pointer / 512 * 512));
+}
+
+// Where in the file some of its bytes lie.
+fn place(bytes: &[u8], part: &[u8]) -> usize {
+    part.as_ptr() as usize - bytes.as_ptr() as usize
+}
+
+#[test]
+fn the_data_of_a_section_begins_where_its_address_is_mapped() {
+    for name in ["align16_x64.dll", "imports_by_name_x64.dll"] {
+        let bytes = sample(name);
+        for rounds_raw_pointers in [false, true] {
+            let options = Options {
+                rounds_raw_pointers,
+                ..Options::permissive()
+            };
+            let pe = Pe::read(&bytes, &options).unwrap();
+            for s in pe.sections() {
+                let (data, zeros) = pe.section_data(&s).unwrap();
+                let begin = Some(place(&bytes, data));
+                assert_eq!(begin, pe.find_offset(s.virtual_address as usize));
+                assert_eq!(data.len(), s.size_of_raw_data as usize);
+                let grown = s.virtual_size.max(s.size_of_raw_data);
+                assert_eq!(data.len() + zeros as usize, grown as usize);
+            }
+        }
+    }
+    let bytes = sample("imports_by_name_x64.dll");
+    let cut = bytes.len() - 1;
+    let pe = Pe::read(&bytes[..cut], &Options::permissive()).unwrap();
+    let last = pe.sections().next_back().unwrap();
+    assert_eq!(pe.section_data(&last), None);
+}
+
+#[test]
+fn names_of_sections_are_those_of_their_records() {
+    let named = |name: Text<'_>, raw_name: [u8; 8]| {
+        let short = raw_name.split(|&byte| byte == 0).next().unwrap();
+        raw_name[0] == b'/' || name == short
+    };
+    for name in ["program_x64.exe", "forwarders_x64.dll", "align16_x86.dll"] {
+        let bytes = sample(name);
+        let pe = Pe::read(&bytes, &Options::permissive()).unwrap();
+        let count = usize::from(pe.coff_header().number_of_sections);
+        assert_eq!(pe.sections().len(), count);
+        assert!(pe.sections().all(|s| named(s.name, s.raw_name)));
+    }
+    let bytes = sample("object_x64.obj");
+    let object = Object::read(&bytes, &Options::default()).unwrap();
+    assert!(object.sections().all(|s| named(s.name, s.raw_name)));
+    let text = object.section_by_name(".text").unwrap();
+    let (data, _) = object.section_data(&text).unwrap();
+    assert_eq!(place(&bytes, data), text.pointer_to_raw_data as usize);
+    let bytes = sample("firmware_x64.te");
+    let te = Te::read(&bytes).unwrap();
+    assert_eq!(te.sections().len(), usize::from(bytes[4]));
+    assert!(te.sections().all(|s| named(s.name, s.raw_name)));
+    let text = te.section_by_name(b".text").unwrap();
+    let (data, _) = te.section_data(&text).unwrap();
+    assert_eq!(place(&bytes, data), text.pointer_to_raw_data as usize);
 }
 
 // The records of one file are never those of the one before it.
@@ -157,10 +212,7 @@ fn a_file_without_directories_has_none_after_one_with_them() {
 // All of a file is changed but for its headers and the footprint of its imports: they are the same.
 #[test]
 fn imports_depend_on_their_footprint_alone() {
-    let options = Options {
-        is_permissive: true,
-        ..Options::default()
-    };
+    let options = Options::permissive();
     for name in ["imports_by_name_x64.dll", "imports_by_ordinal_x86.dll"] {
         let bytes = sample(name);
         let pe = Pe::read(&bytes, &options).unwrap();
@@ -225,16 +277,13 @@ fn refusals() {
     );
     assert_eq!(error.named_cause(), Some(Cause::NoDosSignature));
     assert_eq!((error.counted(), error.read_fault()), (None, None));
-    let options = Options {
-        is_permissive: true,
-        ..Options::default()
-    };
+    let options = Options::permissive();
     let error = Pe::read(b"no image", &options).err().unwrap();
     assert_eq!(
         error.to_string(),
         "the file begins with 0x6f6e in place of the DOS signature"
     );
-    assert_eq!(error.cause(), (Cause::DosMagic.into(), 0x6f6e, 0));
+    assert_eq!(error.numbers(), (Cause::DosMagic.into(), 0x6f6e, 0));
     let error = Te::read(b"VZ").err().unwrap();
     assert_eq!(
         (error.kind(), error.read_fault(), error.named_cause()),

@@ -1,0 +1,80 @@
+"""Builds the wheel, as pip asks for it (PEP 517, PEP 660), and needs nothing but Python: the module, and beside it the
+shared library that callers/build made. The wheel is for this platform and for each Python 3. Its bytes depend on these
+files alone, and on SOURCE_DATE_EPOCH where that is set."""
+import base64
+import hashlib
+import os
+import re
+import sysconfig
+import time
+import zipfile
+
+HERE = os.path.dirname(os.path.abspath(__file__))
+LIBRARY = os.environ.get("GOBLIN_PE_SO", os.path.join(HERE, "../lib/libgoblin_pe.so"))
+
+
+class UnsupportedOperation(Exception):
+    """What pip takes for an answer where there is no such thing to build."""
+
+
+def read(*path):
+    """The bytes of a file of this folder."""
+    with open(os.path.join(HERE, *path), "rb") as file:
+        return file.read()
+
+
+def project():
+    """What pyproject.toml says of the project. Python has no reader of that before 3.11, so each value has a line."""
+    lines = read("pyproject.toml").decode().split("[project]")[1]
+    return dict(re.findall(r'(?m)^([\w-]+) = "(.*)"$', lines)), re.findall(r'(?m)^ +"(.*)",$', lines)
+
+
+def metadata():
+    """The metadata, with the text of README.md."""
+    values, classifiers = project()
+    lines = ["Metadata-Version: 2.1", "Name: " + values["name"], "Version: " + values["version"], "Summary: " + values["description"],
+             "License: " + values["license"], "Requires-Python: " + values["requires-python"],
+             *("Classifier: " + it for it in classifiers), "Description-Content-Type: text/markdown"]
+    return "\n".join(lines).encode() + b"\n\n" + read("README.md")
+
+
+def module():
+    """The files of the module by their places in the wheel, the library among them."""
+    if not os.path.exists(LIBRARY):
+        raise FileNotFoundError("there is no %s: run callers/build first, or say by the variable GOBLIN_PE_SO where it is" % LIBRARY)
+    names = [it for it in os.listdir(os.path.join(HERE, "goblin_pe")) if it.endswith((".py", ".typed"))]
+    return {**{"goblin_pe/" + it: read("goblin_pe", it) for it in names}, "goblin_pe/libgoblin_pe.so": read(os.path.abspath(LIBRARY))}
+
+
+def written(folder, files):
+    """Writes a wheel with these files, by their places, and answers its name."""
+    values, _ = project()
+    tag = "py3-none-" + re.sub(r"\W", "_", sysconfig.get_platform())
+    stem = "%s-%s" % (values["name"], values["version"])
+    wheel = "Wheel-Version: 1.0\nGenerator: goblin_pe\nRoot-Is-Purelib: false\nTag: %s\n" % tag
+    files = {**files, stem + ".dist-info/METADATA": metadata(), stem + ".dist-info/WHEEL": wheel.encode()}
+    record = stem + ".dist-info/RECORD"
+    digest = lambda data: base64.urlsafe_b64encode(hashlib.sha256(data).digest()).rstrip(b"=").decode()
+    rows = ["%s,sha256=%s,%d\n" % (place, digest(data), len(data)) for place, data in sorted(files.items())]
+    date = time.gmtime(max(int(os.environ.get("SOURCE_DATE_EPOCH", 0)), 315532800))[:6]  # a zip begins with 1980
+    with zipfile.ZipFile(os.path.join(folder, "%s-%s.whl" % (stem, tag)), "w", zipfile.ZIP_DEFLATED) as file:
+        for place, data in [*sorted(files.items()), (record, "".join([*rows, record + ",,\n"]).encode())]:
+            entry = zipfile.ZipInfo(place, date)
+            entry.compress_type, entry.external_attr = zipfile.ZIP_DEFLATED, 0o100644 << 16
+            file.writestr(entry, data)
+    return os.path.basename(file.filename)
+
+
+def build_wheel(wheel_directory, config_settings=None, metadata_directory=None):
+    """The wheel."""
+    return written(wheel_directory, module())
+
+
+def build_editable(wheel_directory, config_settings=None, metadata_directory=None):
+    """A wheel that leads to this folder, whose module takes the library from callers/lib."""
+    return written(wheel_directory, {"goblin_pe.pth": HERE.encode() + b"\n"})
+
+
+def build_sdist(sdist_directory, config_settings=None):
+    """The library has to be built in the repository, so there are no sources to hand on."""
+    raise UnsupportedOperation("the sources are the repository's: build a wheel there")

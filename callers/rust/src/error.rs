@@ -1,0 +1,133 @@
+//! Why a file was refused.
+
+use std::{fmt, io};
+
+use crate::numbers::{Cause, Counted, ErrorKind, ReadFault};
+use crate::raw;
+
+/// Why a file was refused. Its text says so; where a program has to tell refusals apart, it asks for
+/// the kind, and by the kind for the cause.
+///
+/// ```no_run
+/// use goblin_pe::{ErrorKind, Options, Pe};
+///
+/// # let bytes = [];
+/// match Pe::read(&bytes, &Options::default()) {
+///     Ok(pe) => println!("{pe:?}"),
+///     Err(error) if error.kind() == ErrorKind::Memory => println!("once more, alone"),
+///     Err(error) => println!("{error}: {:?}", error.named_cause()),
+/// }
+/// ```
+#[derive(Clone, Copy, PartialEq, Eq, Hash)]
+pub struct Error(raw::Fault);
+
+impl Error {
+    // That memory was refused, to this crate itself.
+    pub(crate) const MEMORY: Error = Error(raw::Fault {
+        status: ErrorKind::Memory as u32,
+        cause: 0,
+        first: 0,
+        second: 0,
+    });
+
+    // The refusal that a fault says, where it says one.
+    pub(crate) fn of(fault: raw::Fault) -> Option<Error> {
+        (fault.status != 0).then_some(Error(fault))
+    }
+
+    // The refusal of a call, where there is one.
+    pub(crate) fn test(fault: raw::Fault) -> Result<(), Error> {
+        Error::of(fault).map_or(Ok(()), Err)
+    }
+
+    /// What kind of refusal it is.
+    pub fn kind(&self) -> ErrorKind {
+        ErrorKind::try_from(self.0.status).unwrap_or(ErrorKind::Unknown)
+    }
+
+    /// The triple (number of the cause, its first number, its second number), each 0 where there is
+    /// none. By the kind the cause is a [`Cause`], a [`Counted`] or a [`ReadFault`].
+    ///
+    /// ```no_run
+    /// # let bytes = *b"no image";
+    /// let error = goblin_pe::Te::read(&bytes).unwrap_err();
+    /// let (cause, first, second) = error.numbers();
+    /// ```
+    pub fn numbers(&self) -> (u32, u64, u64) {
+        (self.0.cause, self.0.first, self.0.second)
+    }
+
+    /// What is wrong with the file, where the kind is [`ErrorKind::Malformed`].
+    pub fn named_cause(&self) -> Option<Cause> {
+        self.named(ErrorKind::Malformed)
+    }
+
+    /// What the file is too short for, where the kind is [`ErrorKind::BufferTooShort`].
+    pub fn counted(&self) -> Option<Counted> {
+        self.named(ErrorKind::BufferTooShort)
+    }
+
+    /// Why a read was refused, where the kind is [`ErrorKind::Read`].
+    pub fn read_fault(&self) -> Option<ReadFault> {
+        self.named(ErrorKind::Read)
+    }
+
+    // The cause by name, where the refusal is of this kind.
+    fn named<T: TryFrom<u32>>(&self, kind: ErrorKind) -> Option<T> {
+        let cause = (self.kind() == kind).then_some(self.0.cause)?;
+        T::try_from(cause).ok()
+    }
+}
+
+impl fmt::Display for Error {
+    fn fmt(&self, f: &mut fmt::Formatter<'_>) -> fmt::Result {
+        let mut text = [0; 160];
+        let length = raw::fault_text(&self.0, &mut text).min(text.len());
+        match (self.kind(), self.0.status) {
+            (ErrorKind::Unknown, status) => write!(f, "refused, by the unknown status {status}"),
+            _ => f.pad(&String::from_utf8_lossy(&text[..length])),
+        }
+    }
+}
+
+impl fmt::Debug for Error {
+    fn fmt(&self, f: &mut fmt::Formatter<'_>) -> fmt::Result {
+        write!(f, "Error({self})")
+    }
+}
+
+impl std::error::Error for Error {}
+
+impl From<Error> for io::Error {
+    /// An error of the kind [`io::ErrorKind::OutOfMemory`] where memory was refused, else of
+    /// [`io::ErrorKind::InvalidData`].
+    fn from(error: Error) -> io::Error {
+        let kind = match error.kind() {
+            ErrorKind::Memory => io::ErrorKind::OutOfMemory,
+            _ => io::ErrorKind::InvalidData,
+        };
+        io::Error::new(kind, error)
+    }
+}
+
+#[cfg(test)]
+mod tests {
+    use super::*;
+
+    #[test]
+    fn a_status_that_is_not_known_is_no_other() {
+        let error = Error::of(raw::Fault {
+            status: 7,
+            cause: 22,
+            first: 0,
+            second: 0,
+        });
+        let error = error.unwrap();
+        assert_eq!(error.kind(), ErrorKind::Unknown);
+        assert_eq!((error.named_cause(), error.counted()), (None, None));
+        assert_eq!(error.to_string(), "refused, by the unknown status 7");
+        assert_eq!(io::Error::from(error).kind(), io::ErrorKind::InvalidData);
+        let refused = io::Error::from(Error::MEMORY);
+        assert_eq!(refused.kind(), io::ErrorKind::OutOfMemory);
+    }
+}

@@ -1,0 +1,109 @@
+//! Objects.
+
+use std::fmt;
+
+use crate::error::Error;
+use crate::iterators::{Sections, Symbols};
+use crate::memory::records;
+use crate::raw::{self, CoffHeader, Options};
+use crate::rows::Section;
+
+// The size of the COFF header, in bytes.
+const COFF_HEADER: usize = 20;
+
+/// An object that was read.
+///
+/// ```no_run
+/// use goblin_pe::{Object, Options};
+///
+/// let bytes = std::fs::read("some.obj")?;
+/// let object = Object::read(&bytes, &Options::default())?;
+/// for symbol in object.symbols().filter(|s| s.section_number > 0) {
+///     println!("{:#010x} {}", symbol.value, symbol.name.unwrap_or_default());
+/// }
+/// # Ok::<(), std::io::Error>(())
+/// ```
+#[derive(Clone)]
+pub struct Object<'a> {
+    bytes: &'a [u8],
+    object: raw::Object,
+    sections: Vec<raw::Section<'a>>,
+    symbols: Vec<raw::Symbol<'a>>,
+}
+
+impl<'a> Object<'a> {
+    /// Reads an object that lies in memory; of the options only the mode counts.
+    ///
+    /// # Errors
+    /// Why it was refused.
+    pub fn read(bytes: &'a [u8], options: &Options) -> Result<Object<'a>, Error> {
+        let mut object = raw::Object::default();
+        Error::test(raw::read_object(
+            bytes,
+            options,
+            &mut object,
+            &mut [],
+            &mut [],
+        ))?;
+        let mut sections = records(raw::Section::EMPTY, object.sections)?;
+        let mut symbols = records(raw::Symbol::EMPTY, object.symbols.count)?;
+        Error::test(raw::read_object(
+            bytes,
+            options,
+            &mut object,
+            &mut sections,
+            &mut symbols,
+        ))?;
+        Ok(Object {
+            bytes,
+            object,
+            sections,
+            symbols,
+        })
+    }
+
+    /// The COFF header.
+    pub fn coff_header(&self) -> &CoffHeader {
+        &self.object.coff_header
+    }
+
+    /// The sections.
+    pub fn sections(&self) -> Sections<'_, 'a> {
+        let size = usize::from(self.object.coff_header.size_of_optional_header);
+        Sections::at(self.bytes, COFF_HEADER + size, &self.sections)
+    }
+
+    /// The first section of this name; `None` where there is none.
+    ///
+    /// ```no_run
+    /// # let bytes = [];
+    /// let object = goblin_pe::Object::read(&bytes, &goblin_pe::Options::default())?;
+    /// let code = object.section_by_name(".text").and_then(|s| object.section_data(&s));
+    /// # Ok::<(), goblin_pe::Error>(())
+    /// ```
+    pub fn section_by_name(&self, name: impl AsRef<[u8]>) -> Option<Section<'a>> {
+        self.sections().find(|s| s.name == *name.as_ref())
+    }
+
+    /// The pair (data of a section in the file, how many zeros follow it in memory); `None` where the
+    /// data passes the file.
+    pub fn section_data(&self, section: &Section) -> Option<(&'a [u8], u32)> {
+        section.data_at(self.bytes, section.pointer_to_raw_data as usize)
+    }
+
+    /// The symbols.
+    pub fn symbols(&self) -> Symbols<'_, 'a> {
+        Symbols(self.symbols.iter())
+    }
+}
+
+impl fmt::Debug for Object<'_> {
+    /// What was read, by its numbers.
+    fn fmt(&self, f: &mut fmt::Formatter<'_>) -> fmt::Result {
+        f.debug_struct("Object")
+            .field("machine", &self.coff_header().machine)
+            .field("sections", &self.sections.len())
+            .field("symbols", &self.symbols.len())
+            .finish_non_exhaustive()
+    }
+}

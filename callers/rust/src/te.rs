@@ -1,0 +1,83 @@
+//! Terse Executables.
+
+use std::fmt;
+
+use crate::error::Error;
+use crate::iterators::Sections;
+use crate::memory::records;
+use crate::raw::{self, TeHeader};
+use crate::rows::Section;
+
+// The size of the header, in bytes.
+const HEADER: usize = 40;
+
+/// A Terse Executable that was read.
+///
+/// ```no_run
+/// let bytes = std::fs::read("firmware.te")?;
+/// let te = goblin_pe::Te::read(&bytes)?;
+/// println!("{:#x}, {} sections", te.header().entry_point, te.sections().len());
+/// # Ok::<(), std::io::Error>(())
+/// ```
+#[derive(Clone)]
+pub struct Te<'a> {
+    bytes: &'a [u8],
+    header: TeHeader,
+    sections: Vec<raw::Section<'a>>,
+}
+
+impl<'a> Te<'a> {
+    /// Reads a Terse Executable that lies in memory. Its signature is not looked at.
+    ///
+    /// # Errors
+    /// Why it was refused.
+    pub fn read(bytes: &'a [u8]) -> Result<Te<'a>, Error> {
+        let mut header = TeHeader::default();
+        let mut sections = records(raw::Section::EMPTY, u8::MAX.into())?;
+        Error::test(raw::read_te(bytes, &mut header, &mut sections))?;
+        sections.truncate(header.number_of_sections.into());
+        Ok(Te {
+            bytes,
+            header,
+            sections,
+        })
+    }
+
+    /// The header.
+    pub fn header(&self) -> &TeHeader {
+        &self.header
+    }
+
+    /// The sections.
+    pub fn sections(&self) -> Sections<'_, 'a> {
+        Sections::at(self.bytes, HEADER, &self.sections)
+    }
+
+    /// The first section of this name; `None` where there is none.
+    ///
+    /// ```no_run
+    /// # let bytes = [];
+    /// let te = goblin_pe::Te::read(&bytes)?;
+    /// let code = te.section_by_name(".text").and_then(|s| te.section_data(&s));
+    /// # Ok::<(), goblin_pe::Error>(())
+    /// ```
+    pub fn section_by_name(&self, name: impl AsRef<[u8]>) -> Option<Section<'a>> {
+        self.sections().find(|s| s.name == *name.as_ref())
+    }
+
+    /// The pair (data of a section in the file, how many zeros follow it in memory); `None` where the
+    /// data passes the file.
+    pub fn section_data(&self, section: &Section) -> Option<(&'a [u8], u32)> {
+        section.data_at(self.bytes, section.pointer_to_raw_data as usize)
+    }
+}
+
+impl fmt::Debug for Te<'_> {
+    /// What was read, by its numbers.
+    fn fmt(&self, f: &mut fmt::Formatter<'_>) -> fmt::Result {
+        f.debug_struct("Te")
+            .field("machine", &self.header.machine)
+            .field("sections", &self.sections.len())
+            .finish_non_exhaustive()
+    }
+}

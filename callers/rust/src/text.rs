@@ -1,0 +1,142 @@
+//! Texts of a file.
+
+use std::borrow::{Borrow, Cow};
+use std::fmt::{self, Write};
+use std::ops::Deref;
+
+/// A text of the file: bytes that mostly, but not always, are UTF-8. It is shown with each byte
+/// outside printable ASCII, and the backslash, as `\x` and two hexadecimal digits.
+///
+/// ```
+/// use goblin_pe::Text;
+///
+/// let name = Text::from("KERNEL32.dll");
+/// assert!(name == "KERNEL32.dll" && name.eq_ignore_ascii_case(b"kernel32.DLL"));
+/// assert_eq!(format!("{name:>14}"), "  KERNEL32.dll");
+/// assert_eq!(Text(b"a\xFF").to_string(), r"a\xff");
+/// ```
+#[derive(Clone, Copy, Default, PartialEq, Eq, PartialOrd, Ord, Hash)]
+pub struct Text<'a>(pub &'a [u8]);
+
+impl<'a> Text<'a> {
+    /// The text; `None` where it is not UTF-8, as the short name of a section need not be. All
+    /// other texts are.
+    ///
+    /// ```
+    /// assert_eq!(goblin_pe::Text(b".text").as_str(), Some(".text"));
+    /// ```
+    pub fn as_str(self) -> Option<&'a str> {
+        std::str::from_utf8(self.0).ok()
+    }
+
+    /// The text, with the replacement character for what is not UTF-8. Memory is taken only then.
+    ///
+    /// ```
+    /// assert_eq!(goblin_pe::Text(b"a\xFF").to_string_lossy(), "a\u{FFFD}");
+    /// ```
+    pub fn to_string_lossy(self) -> Cow<'a, str> {
+        String::from_utf8_lossy(self.0)
+    }
+
+    // The characters by which it is shown.
+    fn shown(self) -> impl Iterator<Item = char> {
+        self.0.iter().flat_map(|&byte| {
+            let is_shown = matches!(byte, b' '..=b'~') && byte != b'\\';
+            let digit = |number: u8| char::from(b"0123456789abcdef"[usize::from(number)]);
+            let escaped = ['\\', 'x', digit(byte >> 4), digit(byte & 0xF)];
+            let characters = if is_shown {
+                [char::from(byte); 4]
+            } else {
+                escaped
+            };
+            characters.into_iter().take(if is_shown { 1 } else { 4 })
+        })
+    }
+}
+
+impl fmt::Display for Text<'_> {
+    fn fmt(&self, f: &mut fmt::Formatter<'_>) -> fmt::Result {
+        if f.width().is_some() || f.precision().is_some() {
+            return f.pad(&self.shown().collect::<String>());
+        }
+        self.shown().try_for_each(|it| f.write_char(it))
+    }
+}
+
+impl fmt::Debug for Text<'_> {
+    fn fmt(&self, f: &mut fmt::Formatter<'_>) -> fmt::Result {
+        f.write_char('"')?;
+        self.shown().try_for_each(|it| f.write_char(it))?;
+        f.write_char('"')
+    }
+}
+
+impl Deref for Text<'_> {
+    type Target = [u8];
+
+    fn deref(&self) -> &[u8] {
+        self.0
+    }
+}
+
+impl AsRef<[u8]> for Text<'_> {
+    fn as_ref(&self) -> &[u8] {
+        self.0
+    }
+}
+
+impl Borrow<[u8]> for Text<'_> {
+    fn borrow(&self) -> &[u8] {
+        self.0
+    }
+}
+
+impl<'a> From<&'a str> for Text<'a> {
+    fn from(text: &'a str) -> Text<'a> {
+        Text(text.as_bytes())
+    }
+}
+
+impl<'a> From<&'a [u8]> for Text<'a> {
+    fn from(bytes: &'a [u8]) -> Text<'a> {
+        Text(bytes)
+    }
+}
+
+impl<'a, const N: usize> From<&'a [u8; N]> for Text<'a> {
+    fn from(bytes: &'a [u8; N]) -> Text<'a> {
+        Text(bytes)
+    }
+}
+
+impl<'a> From<Text<'a>> for &'a [u8] {
+    fn from(text: Text<'a>) -> &'a [u8] {
+        text.0
+    }
+}
+
+// A text is the same as what has the same bytes, on either side.
+macro_rules! same_bytes {
+    ($([$($generic:tt)*] $other:ty;)*) => {$(
+        impl<$($generic)*> PartialEq<$other> for Text<'_> {
+            fn eq(&self, other: &$other) -> bool {
+                *self.0 == *AsRef::<[u8]>::as_ref(other)
+            }
+        }
+
+        impl<$($generic)*> PartialEq<Text<'_>> for $other {
+            fn eq(&self, text: &Text<'_>) -> bool {
+                text == self
+            }
+        }
+    )*};
+}
+
+same_bytes! {
+    [] str;
+    [] &str;
+    [] [u8];
+    [] &[u8];
+    [const N: usize] [u8; N];
+    [const N: usize] &[u8; N];
+}

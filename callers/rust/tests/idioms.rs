@@ -1,0 +1,140 @@
+//! What a user of Rust takes for granted of texts, rows, iterators and errors.
+use goblin_pe::{
+    DirectoryType, Error, ErrorKind, Import, Imported, Object, Options, Part, Pe, Text,
+};
+use std::collections::{BTreeSet, HashMap};
+use std::io;
+
+fn sample(name: &str) -> Vec<u8> {
+    let folder = std::env::var("GOBLIN_PE_SAMPLES").expect("GOBLIN_PE_SAMPLES names the samples");
+    std::fs::read(format!("{folder}/{name}")).expect("the sample is there")
+}
+
+#[test]
+fn texts_are_compared_with_what_has_bytes() {
+    let text = Text(b"a.dll");
+    assert_eq!(text, "a.dll");
+    assert_eq!("a.dll", text);
+    assert_eq!(text, *"a.dll");
+    assert_eq!(text, b"a.dll");
+    assert_eq!(text, b"a.dll"[..]);
+    assert_eq!(&b"a.dll"[..], text);
+    assert_ne!(text, "A.dll");
+    assert!(text.ends_with(b".dll") && text.eq_ignore_ascii_case(b"A.DLL"));
+    assert_eq!((Text::from("a.dll"), Text::from(b"a.dll")), (text, text));
+    assert_eq!(<&[u8]>::from(text), b"a.dll");
+    assert_eq!(Text::default(), "");
+}
+
+#[test]
+fn texts_are_keys_that_bytes_find() {
+    let counts = HashMap::from([(Text(b"a.dll"), 1), (Text(b"b.dll"), 2)]);
+    assert_eq!(counts.get(&b"b.dll"[..]), Some(&2));
+    let names = BTreeSet::from([Text(b"b"), Text(b"a")]);
+    assert_eq!(names.first().copied(), Some(Text(b"a")));
+    assert!(names.contains(&b"b"[..]));
+}
+
+#[test]
+fn texts_are_shown_with_a_width() {
+    assert_eq!(format!("[{:6}]", Text(b"abc")), "[abc   ]");
+    assert_eq!(format!("[{:>6}]", Text(b"abc")), "[   abc]");
+    assert_eq!(format!("[{:*^7.2}]", Text(b"abc")), "[**ab***]");
+    assert_eq!(format!("[{:>6}]", Text(b"\\\xFF")), r"[\x5c\xff]");
+    assert_eq!(format!("{:?}", Text(b"a\n")), r#""a\x0a""#);
+    assert_eq!(Text(b"\xC3\xA9\xFF").to_string_lossy(), "\u{E9}\u{FFFD}");
+    let imported = Imported::Name {
+        name: Text(b"f"),
+        hint: 0,
+    };
+    assert_eq!(format!("[{imported:>3}]"), "[  f]");
+    assert_eq!(format!("[{:11}]", Imported::Ordinal(3)), "[ORDINAL 3  ]");
+}
+
+// All that is read of a file in a function of its own.
+fn names_and_imports(bytes: &[u8]) -> Result<(Vec<Text<'_>>, Vec<Import<'_>>), Error> {
+    let pe = Pe::read(bytes, &Options::default())?;
+    let names = pe.sections().map(|s| s.name).collect();
+    Ok((names, pe.imports().collect()))
+}
+
+#[test]
+fn rows_live_as_long_as_the_bytes() {
+    let bytes = sample("imports_by_name_x64.dll");
+    let (names, imports) = names_and_imports(&bytes).unwrap();
+    assert_eq!(names, [".text", ".rdata", ".data", ".reloc"]);
+    assert_eq!(imports[0].name.name(), Some(Text(b"GetTickCount")));
+    assert_eq!(Imported::Ordinal(3).name(), None);
+    let object = sample("object_x64.obj");
+    let read = Object::read(&object, &Options::default()).unwrap();
+    let sections: Vec<_> = read.sections().collect();
+    drop(read);
+    assert!(sections.iter().any(|s| s.name == ".text"));
+}
+
+#[test]
+fn iterators_go_from_either_end_and_again() {
+    let bytes = sample("imports_by_name_x64.dll");
+    let pe = Pe::read(&bytes, &Options::default()).unwrap();
+    let sections = pe.sections();
+    let backwards: Vec<_> = sections.clone().rev().map(|s| s.name).collect();
+    assert_eq!(backwards, [".reloc", ".data", ".rdata", ".text"]);
+    assert_eq!((sections.len(), sections.clone().skip(1).len()), (4, 3));
+    assert_eq!(sections.clone().nth(2).unwrap().name, ".data");
+    let exports = pe.exports();
+    assert_eq!(
+        exports.clone().next_back(),
+        exports.collect::<Vec<_>>().pop()
+    );
+    let words = pe.blocks().next().unwrap().words();
+    assert_eq!((words.len(), words.rev().count()), (4, 4));
+    let mut directories = pe.data_directories();
+    let (first, last) = (
+        directories.next().unwrap(),
+        directories.next_back().unwrap(),
+    );
+    assert_eq!(first.0, DirectoryType::ExportTable as usize);
+    assert!(first.0 < last.0 && directories.all(|(index, _)| index < last.0));
+}
+
+#[test]
+fn rows_and_kinds_are_sorted_and_hashed() {
+    let bytes = sample("imports_by_name_x64.dll");
+    let pe = Pe::read(&bytes, &Options::default()).unwrap();
+    let mut sections: Vec<_> = pe.sections().collect();
+    sections.sort();
+    let names: Vec<_> = sections.iter().map(|s| s.name).collect();
+    assert_eq!(names, [".data", ".rdata", ".reloc", ".text"]);
+    let parts = HashMap::from([(pe.import_table(), pe.imports().next())]);
+    assert!(parts[&Part::Read].is_some());
+    assert!(Part::Absent < Part::Read && ErrorKind::Malformed < ErrorKind::Memory);
+}
+
+#[test]
+fn a_copy_outlives_what_it_is_of() {
+    let bytes = sample("forwarders_x64.dll");
+    let pe = Pe::read(&bytes, &Options::default()).unwrap();
+    let exports: Vec<_> = pe.exports().collect();
+    let copy = pe.clone();
+    drop(pe);
+    assert_eq!(
+        (copy.imports().len(), copy.exports().len()),
+        (0, exports.len())
+    );
+    assert!(copy.exports().eq(exports));
+    assert_eq!(copy.clone().find_offset(0x1000), copy.find_offset(0x1000));
+}
+
+fn count_of_sections(bytes: &[u8]) -> io::Result<usize> {
+    Ok(Pe::read(bytes, &Options::default())?.sections().len())
+}
+
+#[test]
+fn a_refusal_is_an_error_of_input() {
+    let error = count_of_sections(b"no image").unwrap_err();
+    assert_eq!(error.kind(), io::ErrorKind::InvalidData);
+    let said = "the file begins with 0x6f6e in place of the DOS signature";
+    assert_eq!(error.to_string(), said);
+    let refused = error.get_ref().unwrap().downcast_ref::<Error>().unwrap();
+    assert_eq!(refused.kind(), ErrorKind::Malformed);
+}
