@@ -9,3 +9,4 @@ pub mod PermissiveReads
 pub mod SectionRoom
 pub mod TableRuns
 pub mod TwinParts
+pub mod Walked

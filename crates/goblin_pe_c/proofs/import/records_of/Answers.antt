@@ -2,7 +2,7 @@ use Rattle.std.proofs.Common.{sym}
 use Rattle.std.proofs.lemmas.Result.{err_from_is_err_and}
 use Rattle.goblin_pe_tables.specs.ImportWalks.{IsImportsCause, imports_left, walked_value}
 use Rattle.goblin_pe_c.specs.Filled.{alone}
-use Rattle.goblin_pe_c.proofs.Walked.{made-all, made-fault, made-more, made-start}
+use Rattle.goblin_pe.proofs.Walked.{made-all, made-fault, made-more, made-start}
 use Rattle.goblin_pe_c.proofs.import.records_of.Goals as goal
 
 pub imports-init : goal.imports-init

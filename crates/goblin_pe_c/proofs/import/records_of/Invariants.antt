@@ -2,7 +2,7 @@ use Rattle.std.proofs.Common.{map}
 use Rattle.goblin_pe_tables.specs.ImportWalks.{IsImportsCause, imports_left}
 use Rattle.goblin_pe_c.specs.Filled.{alone}
 use Rattle.goblin_pe_c.specs.Imports.{import_view}
-use Rattle.goblin_pe_c.proofs.Walked.{AtMade}
+use Rattle.goblin_pe.proofs.Walked.{AtMade}
 use Rattle.goblin_pe_c.proofs.import.records_of.Given as goal
 
 abbrev pub invariant-imports : goal.invariant-imports
