@@ -7,6 +7,7 @@ pub mod ListedImports
 pub mod Parts
 pub mod PermissiveReads
 pub mod SectionRoom
+pub mod SoundFiles
 pub mod TableRuns
 pub mod TwinParts
 pub mod Walked

@@ -248,7 +248,7 @@ module _ (opts : ParseOptions) (offset_of : ℕ → Option ℕ) (places : TableP
 -- ---- a whole file
 
 module _ (opts : ParseOptions) (header : PeHeader) where
-  sections_repeat : Repeats (sections_after true header) (sections_after false header)
+  pub sections_repeat : Repeats (sections_after true header) (sections_after false header)
   unfolding sections_after
   sections_repeat = record {
     kept = λ bytes.

@@ -1,7 +1,7 @@
 -- A loop that makes something of each item of a walk: what it has made so far, and what at each way out.
 use Rattle.std.proofs.Common.{◌≡◌, ℕ, List, [], ◌∷◌, ◌++◌, map, Option, Some, None, Result, Ok, Err}
 use Rattle.std.proofs.Common.{refl, sym, ap, subst, ◌∙◌, append-nil}
-use Rattle.std.specs.Prelude.{option_map}
+use Rattle.std.specs.Prelude.{IsSome, option_map}
 use Rattle.std.proofs.lemmas.List.{map-append, map-id}
 use Rattle.goblin_base.specs.declared.error.ErrorOf.{ErrorOf}
 use Rattle.goblin_base.specs.Answers.{all_of}
@@ -9,6 +9,14 @@ use Rattle.goblin_base.specs.Tables.{join}
 use Rattle.goblin_pe.specs.Walks.{GivesNext}
 use Rattle.readings.proofs.WalkValues.{all_of-append, all_of-made}
 use Rattle.readings.proofs.Walked.{AtWalk, walk-more, walk-start}
+
+mapped-there : {A : Type 0} (o : Option (List A)) {xs : List A} → option_map (map (λ x. x)) o ≡ Some xs → IsSome o
+mapped-there None is = absurd cc
+mapped-there (Some xs) is = refl
+
+mapped-none : {A B : Type 0} (f : A → B) (o : Option A) → option_map f o ≡ None → o ≡ None
+mapped-none f None is = refl
+mapped-none f (Some x) is = absurd cc
 
 module _ {S A B : Type 0} (left : S → List (Option A)) (IsCause : S → ErrorOf → Type 0) (item : A → B) (start : S) where
   -- the walk that began at `start` is now at `now`, and this was made of the items so far
@@ -49,3 +57,32 @@ module _ {S A B : Type 0} (left : S → List (Option A)) (IsCause : S → ErrorO
         ap all_of all ∙ all_of-append (map (λ x. Some x) h.items) (None ∷ [])
         ∙ ap (λ (made : Option (List A)). join made None) (all_of-made (λ x. x) h.items) in
         (ap (option_map (map item)) none, h.at.cause e one.2)
+
+-- A loop that makes nothing of the items of a walk.
+module _ {S A : Type 0} (left : S → List (Option A)) (IsCause : S → ErrorOf → Type 0) (start : S) where
+  -- the walk that began at `start` is now at `now`
+  pub record IsWalked (now : S) : Type 0 where
+    pub items : List A
+    pub at : AtWalk left IsCause start now items
+
+  pub walked-start : IsWalked start
+  walked-start = record { items = []; at = walk-start left IsCause start }
+
+  module _ (now : S) (h : IsWalked now) {X : Type 0} (view : X → A) (next : S) where
+    abbrev so_far : AtMade left IsCause (λ x. x) start now h.items
+    so_far = record { items = h.items; at = h.at; said = sym (map-id h.items) }
+
+    pub walked-more : (r : Result X ErrorOf) → GivesNext view left IsCause now (Some r) next → (x : X) → r ≡ Ok x → IsWalked next
+    walked-more r given x is =
+        let one = subst (λ (q : Result X ErrorOf). GivesNext view left IsCause now (Some q) next) is given in
+        record { items = h.items ++ view x ∷ []; at = walk-more left IsCause start now h.items h.at view next x one }
+
+    -- all items have come
+    pub walked-all : GivesNext view left IsCause now None next → IsSome (all_of (left start))
+    walked-all given = mapped-there (all_of (left start)) (made-all left IsCause (λ x. x) start now h.items so_far view next given)
+
+    -- it ends with a refusal
+    pub walked-fault : (r : Result X ErrorOf) → GivesNext view left IsCause now (Some r) next → (e : ErrorOf) → r ≡ Err e → (all_of (left start) ≡ None) × IsCause start e
+    walked-fault r given e is =
+        let fault = made-fault left IsCause (λ x. x) start now h.items so_far view next r given e is in
+        (mapped-none (map (λ x. x)) (all_of (left start)) fault.0, fault.1)

@@ -1,3 +1,4 @@
+pub mod Damages
 pub mod Layouts
 pub mod Modes
 pub mod SectionRoom

@@ -238,6 +238,12 @@ sections_after strict h =
     sections_at strict (symbols_end h.coff_header) h.coff_header.number_of_sections
     (section_table_offset h)
 
+-- the header and the sections, which both modes require
+unfoldable pub layout : ParseOptions → Reading (PeHeader × List Section)
+layout opts =
+    let strict = is_strict opts.parse_mode in
+    pe_header strict >>= λ h. mapped (λ sections. (h, sections)) (sections_after strict h)
+
 -- the file with this header and these sections
 unfoldable pub whole_with : ParseOptions → PeHeader → List Section → Reading WholeFile
 whole_with opts h sections =

@@ -27,11 +27,13 @@ use goblin_pe_sect::{ParseOptions, SectionTable};
 use std::alloc::Global;
 use std::marker::Model;
 
+mod damage;
 mod imports;
 mod layout;
 mod listed;
 mod places;
 
+pub use damage::Damage;
 pub use imports::FileImports;
 pub use layout::Layout;
 use listed::{ListedTables, export_parts};

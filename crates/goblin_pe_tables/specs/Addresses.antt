@@ -1,5 +1,6 @@
 -- What maps the addresses of a file to its offsets.
 use Rattle.std.specs.Prelude.{ℕ, Bool, List, Option}
+use Rattle.goblin_base.specs.declared.permissive.ParseMode.TheVariants.{Strict}
 use Rattle.goblin_pe_sect.specs.declared.options.ParseOptions.{ParseOptions}
 use Rattle.goblin_pe_sect.specs.Mapping.{file_offset}
 use Rattle.goblin_pe_sect.specs.Options.{is_strict}
@@ -28,3 +29,7 @@ offset_of m = m.offset
 -- the mode is strict: what can't be read is refused, and not passed over
 abbrev pub reads_strictly : MapOfAddresses → Bool
 reads_strictly m = is_strict m.opts.parse_mode
+
+-- the same map, by which damaged parts are refused
+abbrev pub strict_map : MapOfAddresses → MapOfAddresses
+strict_map m = record { opts = record m.opts { parse_mode = Strict }; offset = m.offset }

@@ -7,10 +7,11 @@ ghost use Rattle.goblin_pe_sect.specs.AddressReadings.{name_or_none};
 ghost use Rattle.goblin_pe_sect.specs.Mapping.{file_offset};
 ghost use Rattle.goblin_base.specs.declared.permissive.ParseMode.TheVariants.{Permissive};
 ghost use Rattle.goblin_pe_tables.specs.Addresses.{map_by, map_of, offset_of, reads_strictly};
+ghost use Rattle.goblin_pe_tables.specs.Addresses.{strict_map};
 ghost use Rattle.goblin_pe_sect.specs.WindowIndex.{HasPieces, located};
 
 use goblin_base::Result;
-use goblin_pe_sect::options::ParseOptions;
+use goblin_pe_sect::options::{ParseMode, ParseOptions};
 use goblin_pe_sect::section_table::SectionTable;
 use goblin_pe_sect::utils::safe_name_at;
 use goblin_pe_sect::windows::WindowIndex;
@@ -65,6 +66,16 @@ impl AddressMap {
     {
         let index = index_of(alloc, sections, file_alignment, opts)?;
         Ok(AddressMap { opts: *opts, index })
+    }
+
+    /// The same map, by which damaged parts are refused and not passed over.
+    pub fn strictly(self) -> AddressMap
+        ensures { map_of result ≡ strict_map (map_of self) }
+    {
+        AddressMap {
+            opts: self.opts.with_parse_mode(ParseMode::Strict),
+            index: self.index,
+        }
     }
 
     /// The options for mapping addresses and for reading there.

@@ -6,7 +6,7 @@ ghost use Rattle.goblin_pe_sect.specs.BaseRelocations.{relocation_bytes};
 ghost use Rattle.goblin_pe_sect.specs.Options.{is_strict};
 ghost use Rattle.goblin_pe_head.specs.PeHeader.{header_value};
 ghost use Rattle.goblin_pe_head.specs.CoffHeader.{IsTooManySections};
-ghost use Rattle.goblin_pe_tables.specs.Addresses.{offset_of};
+ghost use Rattle.goblin_pe_tables.specs.Addresses.{offset_of, strict_map};
 ghost use Rattle.goblin_pe.specs.Layouts.{IsFileImportsCause, IsLayoutOf, PartWalks};
 ghost use Rattle.goblin_pe.specs.Layouts.{file_imports_left, layout_map, layout_places};
 ghost use Rattle.goblin_pe.specs.Layouts.{walked_exports};
@@ -47,7 +47,7 @@ fn after_optional_header(pe_pointer: u32, size_of_optional_header: u16) -> usize
 
 // The sections of a file with this header, whose records follow the optional header.
 #[tactic(auto, unfolding(crate::specs::Whole::sections_after))]
-fn sections_of(
+pub(super) fn sections_of(
     alloc: Global,
     bytes: &[u8],
     header: &Header,
@@ -96,6 +96,21 @@ impl<'a, 'h> Layout<'a, 'h> {
             sections,
             address_map,
         })
+    }
+
+    // The same layout, by which damaged tables are refused and not passed over.
+    pub(super) fn strictly(self) -> Layout<'a, 'h>
+        ensures over { result.bytes.now ≡ self.entry.bytes.now }
+        ensures placed { layout_places result ≡ layout_places self.entry }
+        ensures mapped { layout_map result ≡ strict_map (layout_map self.entry) }
+    {
+        Layout {
+            bytes: self.bytes,
+            header: self.header,
+            places: self.places,
+            sections: self.sections,
+            address_map: self.address_map.strictly(),
+        }
     }
 
     /// The bytes of the file.

@@ -1,0 +1,117 @@
+-- A file of which nothing is damaged is one that strict mode reads.
+use Rattle.std.proofs.Common.{◌≡◌, ℕ, ◌<◌, ◌^◌, List, length, Bool, true, false, Option, Some, None, IsSome, refl, sym, ap, subst, ◌∙◌}
+use Rattle.std.specs.Prelude.{IfOk, IsSomeAnd, Result, Ok, Err, option_map}
+use Rattle.goblin_base.specs.declared.error.ErrorOf.{ErrorOf}
+use Rattle.goblin_base.specs.declared.permissive.ParseMode.TheVariants.{Permissive, Strict}
+use Rattle.goblin_base.specs.Bytes.{IsBytes}
+use Rattle.goblin_base.specs.Reading.{Reading}
+use Rattle.goblin_base.proofs.Steps.{mapped, same_value, step}
+use Rattle.readings.specs.Reads.{◌beside◌, in_its_place, pair_of}
+use Rattle.goblin_pe_sect.specs.declared.options.ParseOptions.{ParseOptions}
+use Rattle.goblin_pe_sect.specs.Mapping.{file_offset}
+use Rattle.goblin_pe_sect.specs.Options.{is_strict}
+use Rattle.goblin_pe_sect.specs.SectionTable.{Section}
+use Rattle.goblin_pe_head.specs.declared.header.dos.DosHeader.{DosHeader}
+use Rattle.goblin_pe_head.specs.HeaderReadings.{dos_header, header_after, pe_header, stub_at, stub_in}
+use Rattle.goblin_pe_head.specs.PeHeader.{PeHeader}
+use Rattle.goblin_pe.specs.declared.whole.damage.Damage.{Damage}
+use Rattle.goblin_pe.specs.Damages.{AreDamaged, IsDamage, IsDamaged, IsReadByBoth, IsSound, TellsDamage}
+use Rattle.goblin_pe.specs.Modes.{in_mode, in_permissive_mode}
+use Rattle.goblin_pe.specs.Whole.{TablePlaces, WholeFile, export_part, import_list, import_parts, layout, offset_by}
+use Rattle.goblin_pe.specs.Whole.{places_in, relocation_part, sections_after, table_parts, whole_file}
+use Rattle.goblin_pe.specs.Whole.{whole_with}
+use Rattle.goblin_pe.proofs.ImportParts.{list_value}
+use Rattle.goblin_pe.proofs.PermissiveReads.{repeats-whole_file, sections_repeat}
+
+there : {A : Type 0} (reading : Reading A) (bytes : List ℕ) (damage : Option ErrorOf) → damage ≡ None → IsDamage reading bytes damage → IsSome (reading.value bytes)
+there reading bytes None is h = h
+there reading bytes (Some e) is h = absurd cc
+
+unmapped-there : {A B : Type 0} (f : A → B) (o : Option A) (made : Option B) → made ≡ option_map f o → IsSome made → IsSome o
+unmapped-there f None made is some = let none = subst IsSome is some in absurd cc
+unmapped-there f (Some x) made is some = refl
+
+placed : {A : Type 0} (strict : Bool) (d : A) (o : Option A) → IsSome o → in_its_place strict d o ≡ o
+placed strict d None some = absurd cc
+placed strict d (Some x) some = refl
+
+-- ---- the header
+
+module _ (bytes : List ℕ) where
+  stub-same : (strict : Bool) (p : ℕ) → IsSome ((stub_at p).value bytes) → (stub_in strict p).value bytes ≡ (stub_at p).value bytes
+  unfolding stub_in
+  stub-same strict p some = placed strict _ ((stub_at p).value bytes) some
+
+  header-strict : (strict : Bool) (h : PeHeader) → (pe_header strict).value bytes ≡ Some h → IsSome ((stub_at h.dos_header.pe_pointer).value bytes) → (pe_header true).value bytes ≡ Some h
+  unfolding pe_header
+  header-strict strict h found some =
+      let dos = step (dos_header.value bytes) (λ dos. (header_after strict dos).value bytes) h found in
+      let whole = mapped _ _ h dos.then in
+      let same : dos.value ≡ h.dos_header = ap (λ (x : PeHeader). x.dos_header) whole.made in
+      let here : IsSome ((stub_at dos.value.pe_pointer).value bytes) = subst (λ (d : DosHeader). IsSome ((stub_at d.pe_pointer).value bytes)) (sym same) some in
+      rw (dos.is, stub-same true dos.value.pe_pointer here, ← stub-same strict dos.value.pe_pointer here) dos.then
+
+  -- ---- the sections
+
+  same-sections : (opts : ParseOptions) (strict : Bool) (h : PeHeader) (s : List Section) → (sections_after strict h).value bytes ≡ Some s → (all : Option (List Section)) → (sections_after true h).value bytes ≡ all → IsSome all → (sections_after true h).value bytes ≡ Some s
+  same-sections opts strict h s found None is some = absurd cc
+  same-sections opts true h s found (Some t) is some = found
+  same-sections opts false h s found (Some t) is some =
+      let again : (sections_after false h).value bytes ≡ Some t = (sections_repeat opts h).kept bytes t is in
+      is ∙ sym again ∙ found
+
+-- ---- the tables
+
+both-there : {A B : Type 0} (a : Option A) (b : Option B) → IsSome a → IsSome b → IsSome (pair_of a b)
+both-there None b first second = absurd cc
+both-there (Some x) None first second = absurd cc
+both-there (Some x) (Some y) first second = refl
+
+all-there : {A B C : Type 0} (a : Reading A) (b : Reading B) (c : Reading C) (bytes : List ℕ) → IsSome (a.value bytes) → IsSome (b.value bytes) → IsSome (c.value bytes) → IsSome ((a beside b beside c).value bytes)
+all-there a b c bytes first second third = both-there (pair_of (a.value bytes) (b.value bytes)) (c.value bytes) (both-there (a.value bytes) (b.value bytes) first second) third
+
+module _ (opts : ParseOptions) (bytes : List ℕ) (short : length bytes < 2 ^ 63) (fit : IsBytes bytes) where
+  tables-there : (offset_of : ℕ → Option ℕ) (places : TablePlaces) (imports exports relocations : Option ErrorOf) → imports ≡ None → exports ≡ None → relocations ≡ None → AreDamaged opts offset_of places bytes imports exports relocations → IsSome ((table_parts (in_mode Strict opts) offset_of places).value bytes)
+  unfolding table_parts
+  tables-there offset_of places imports exports relocations no_imports no_exports no_relocations damage =
+      let listed = there (import_list (in_mode Strict opts) offset_of places) bytes imports no_imports damage.imports in
+      let parts = unmapped-there _ ((import_parts (in_mode Strict opts) offset_of places).value bytes) _ (list_value (in_mode Strict opts) offset_of places bytes short fit) listed in
+      all-there (import_parts (in_mode Strict opts) offset_of places) (export_part (in_mode Strict opts) offset_of places) (relocation_part (in_mode Strict opts) offset_of places) bytes parts
+      (there (export_part (in_mode Strict opts) offset_of places) bytes exports no_exports damage.exports)
+      (there (relocation_part (in_mode Strict opts) offset_of places) bytes relocations no_relocations damage.relocations)
+
+  mapped-there : {A B : Type 0} (f : A → B) (o : Option A) → IsSome o → IsSome (option_map f o)
+  mapped-there f None some = absurd cc
+  mapped-there f (Some x) some = refl
+
+  with-there : (h : PeHeader) (s : List Section) → IsSome ((table_parts (in_mode Strict opts) (offset_by opts s (places_in h.optional_header)) (places_in h.optional_header)).value bytes) → IsSome ((whole_with (in_mode Strict opts) h s).value bytes)
+  unfolding whole_with file_offset
+  with-there h s parts = mapped-there _ _ parts
+
+  kept-by-both : (o : Option WholeFile) → (whole_file (in_mode Strict opts)).value bytes ≡ o → IsSome o → IsReadByBoth opts bytes
+  kept-by-both None is some = absurd cc
+  kept-by-both (Some w) is some = rw is ((repeats-whole_file opts).kept bytes w is)
+
+  sound_read : (l : PeHeader × List Section) (d : Damage) → (layout opts).value bytes ≡ Some l → IsDamaged opts l.0 l.1 bytes d → IsSound d → IsReadByBoth opts bytes
+  unfolding layout whole_file
+  sound_read l d found damaged sound =
+      let strict = is_strict opts.parse_mode in
+      let first = step ((pe_header strict).value bytes) (λ h. option_map (λ s. (h, s)) ((sections_after strict h).value bytes)) l found in
+      let second = mapped ((sections_after strict first.value).value bytes) (λ s. (first.value, s)) l first.then in
+      let h : first.value ≡ l.0 = ap (λ (p : PeHeader × List Section). p.0) second.made in
+      let s : second.value ≡ l.1 = ap (λ (p : PeHeader × List Section). p.1) second.made in
+      let header = header-strict bytes strict l.0 (subst (λ (x : PeHeader). (pe_header strict).value bytes ≡ Some x) h first.is) (there (stub_at l.0.dos_header.pe_pointer) bytes d.dos_stub sound.dos_stub damaged.dos_stub) in
+      let own : (sections_after strict l.0).value bytes ≡ Some l.1 = subst (λ (x : PeHeader). (sections_after strict x).value bytes ≡ Some l.1) h (subst (λ (y : List Section). (sections_after strict first.value).value bytes ≡ Some y) s second.is) in
+      let sections = same-sections bytes opts strict l.0 l.1 own _ refl (there (sections_after true l.0) bytes d.section_names sound.section_names damaged.section_names) in
+      let parts = tables-there (offset_by opts l.1 (places_in l.0.optional_header)) (places_in l.0.optional_header) d.imports d.exports d.relocations sound.imports sound.exports sound.relocations damaged.tables in
+      let whole : (whole_file (in_mode Strict opts)).value bytes ≡ (whole_with (in_mode Strict opts) l.0 l.1).value bytes = rw (header, sections) refl in
+      kept-by-both _ refl (subst IsSome (sym whole) (with-there l.0 l.1 parts))
+
+  told : (o : Option (PeHeader × List Section)) (d : Damage) → (layout opts).value bytes ≡ o → IsSomeAnd o (λ l. IsDamaged opts l.0 l.1 bytes d) → IsSound d → IsReadByBoth opts bytes
+  told None d is damaged sound = absurd damaged
+  told (Some l) d is damaged sound = sound_read l d is damaged sound
+
+  -- what a call tells of a file in which nothing is damaged
+  pub sound_told : (result : Result Damage ErrorOf) → TellsDamage opts bytes result → IfOk result (λ d. IsSound d → IsReadByBoth opts bytes)
+  sound_told (Ok d) tells = told ((layout opts).value bytes) d refl tells
+  sound_told (Err e) tells = tt

@@ -1,0 +1,62 @@
+-- What strict mode would refuse of a file, part by part.
+use Rattle.std.specs.Prelude.{◌≡◌, ℕ, true, List, Option, None, Some, IsSome, IsSomeAnd, Result, Ok}
+use Rattle.std.specs.Prelude.{Err}
+use Rattle.goblin_base.specs.declared.error.ErrorOf.{ErrorOf}
+use Rattle.goblin_base.specs.declared.permissive.ParseMode.TheVariants.{Permissive, Strict}
+use Rattle.goblin_base.specs.Answers.{IsMemory}
+use Rattle.goblin_base.specs.Reading.{Reading}
+use Rattle.goblin_pe_sect.specs.declared.options.ParseOptions.{ParseOptions}
+use Rattle.goblin_pe_sect.specs.SectionTable.{Section}
+use Rattle.goblin_pe_head.specs.HeaderReadings.{stub_at}
+use Rattle.goblin_pe_head.specs.PeHeader.{PeHeader}
+use Rattle.goblin_pe.specs.declared.whole.damage.Damage.{Damage}
+use Rattle.goblin_pe.specs.Modes.{in_mode, in_permissive_mode}
+use Rattle.goblin_pe.specs.Whole.{TablePlaces, export_part, import_list, layout, offset_by}
+use Rattle.goblin_pe.specs.Whole.{places_in, relocation_part, sections_after, whole_file}
+
+-- There is a value and no damage, or there is none and the cause is true.
+abbrev pub IsDamageOf : {A : Type 0} → Option A → (ErrorOf → Type 0) → Option ErrorOf → Type 0
+IsDamageOf value IsCause None = IsSome value
+IsDamageOf value IsCause (Some e) = (value ≡ None) × IsCause e
+
+-- the same of a reading
+abbrev pub IsDamage : {A : Type 0} → Reading A → List ℕ → Option ErrorOf → Type 0
+IsDamage reading bytes damage = IsDamageOf (reading.value bytes) (reading.IsCause bytes) damage
+
+-- What strict mode would refuse of the tables whose addresses are mapped so.
+pub record AreDamaged (opts : ParseOptions) (offset_of : ℕ → Option ℕ) (places : TablePlaces)
+    (bytes : List ℕ) (of_imports of_exports of_relocations : Option ErrorOf) : Type 0 where
+  pub imports : IsDamage (import_list (in_mode Strict opts) offset_of places) bytes of_imports
+  pub exports : IsDamage (export_part (in_mode Strict opts) offset_of places) bytes of_exports
+  pub relocations : IsDamage (relocation_part (in_mode Strict opts) offset_of places) bytes of_relocations
+
+-- What strict mode would refuse of a file with this header and these sections.
+pub record IsDamaged (opts : ParseOptions) (h : PeHeader) (sections : List Section)
+    (bytes : List ℕ) (d : Damage) : Type 0 where
+  pub dos_stub : IsDamage (stub_at h.dos_header.pe_pointer) bytes d.dos_stub
+  pub section_names : IsDamage (sections_after true h) bytes d.section_names
+  pub tables : let places = places_in h.optional_header in
+      AreDamaged opts (offset_by opts sections places) places bytes d.imports d.exports d.relocations
+
+-- A call tells the damage of a file that has a header and sections in its own mode; or these are
+-- refused, or memory.
+abbrev pub TellsDamage : ParseOptions → List ℕ → Result Damage ErrorOf → Type 0
+TellsDamage opts bytes (Ok d) =
+    IsSomeAnd ((layout opts).value bytes) (λ l. IsDamaged opts l.0 l.1 bytes d)
+TellsDamage opts bytes (Err e) =
+    ¬ IsMemory e → ((layout opts).value bytes ≡ None) × (layout opts).IsCause bytes e
+
+-- nothing is damaged
+pub record IsSound (d : Damage) : Type 0 where
+  pub dos_stub : d.dos_stub ≡ None
+  pub section_names : d.section_names ≡ None
+  pub imports : d.imports ≡ None
+  pub exports : d.exports ≡ None
+  pub relocations : d.relocations ≡ None
+
+-- Strict mode reads the file, and permissive mode reads the same, but for imports from the front of
+-- the file.
+abbrev pub IsReadByBoth : ParseOptions → List ℕ → Type 0
+IsReadByBoth opts bytes =
+    IsSomeAnd ((whole_file (in_mode Strict opts)).value bytes) (λ w.
+    (whole_file (in_mode Permissive opts)).value bytes ≡ Some (in_permissive_mode opts w))

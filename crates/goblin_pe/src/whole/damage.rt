@@ -1,0 +1,150 @@
+//! Why a file is damaged, part by part.
+
+ghost use Rattle.std.specs.Prelude.{◌≡◌, true, IfErr, IfOk, IsSome, MatchResult, None, Some};
+ghost use Rattle.goblin_base.specs.Answers.{AnswersOrMemory, IsMemory, all_of};
+ghost use Rattle.goblin_pe_sect.specs.Options.{is_strict};
+ghost use Rattle.goblin_pe_head.specs.HeaderReadings.{pe_header};
+ghost use Rattle.goblin_pe_head.specs.PeHeader.{header_value};
+ghost use Rattle.goblin_pe_tables.specs.Addresses.{offset_of};
+ghost use Rattle.goblin_pe_tables.specs.ImportWalks.{IsImportsCause, imports_left};
+ghost use Rattle.goblin_pe.specs.Damages.{AreDamaged, IsDamage, IsDamageOf, IsReadByBoth, IsSound};
+ghost use Rattle.goblin_pe.specs.Damages.{TellsDamage};
+ghost use Rattle.goblin_pe.specs.Layouts.{IsFileImportsCause, file_imports_left, layout_map};
+ghost use Rattle.goblin_pe.specs.Layouts.{layout_places};
+ghost use Rattle.goblin_pe.specs.Whole.{import_list, sections_after};
+
+use crate::import::{Bitfield, Imports};
+use crate::whole::layout::sections_of;
+use crate::whole::{FileImports, Layout, Part, Whole};
+use goblin_base::{Error, ErrorOf, Result, ResultOf};
+use goblin_pe_head::header::{DosStub, Header};
+use goblin_pe_sect::options::{ParseMode, ParseOptions};
+use std::alloc::Global;
+
+/// What strict mode would refuse of a file, part by part: `None` where it would read the part, or
+/// the file has no such part; else why not, as the part's own reader says it.
+///
+/// Damage of one part says nothing of the others: each is read for itself.
+#[derive(Debug, Drop)]
+pub struct Damage {
+    /// The DOS stub.
+    pub dos_stub: Option<Error>,
+    /// The names of the sections that stand in the string table.
+    pub section_names: Option<Error>,
+    /// The imports, if they are asked for.
+    pub imports: Option<Error>,
+    /// The exports.
+    pub exports: Option<Error>,
+    /// The base relocations: their directory, not its blocks.
+    pub relocations: Option<Error>,
+}
+
+// The refusal that ends a walk, if one does.
+fn refusal_of<'a, 'm, 'e, T: Bitfield<'a>>(imports: Imports<'a, 'm, 'e, T>) -> Option<ErrorOf<'e>>
+    ensures { IsDamageOf (all_of (imports_left T.format imports.entry))
+        (IsImportsCause T.format imports.entry) result }
+{
+    'imports: for import in imports {
+        match import {
+            Ok(_) => {}
+            Err(error) => return Some(error),
+        }
+    }
+    None
+}
+
+// The same of a file's imports.
+fn file_refusal_of<'a, 'm, 'e>(imports: FileImports<'a, 'm, 'e>) -> Option<ErrorOf<'e>>
+    ensures { IsDamageOf (all_of (file_imports_left imports.entry))
+        (IsFileImportsCause imports.entry) result }
+{
+    match imports {
+        FileImports::Narrow(imports) => refusal_of(imports),
+        FileImports::Wide(imports) => refusal_of(imports),
+    }
+}
+
+// What is refused of the imports.
+fn import_damage(layout: &Layout) -> Option<Error>
+    ensures { let m = layout_map layout.now in
+        IsDamage (import_list m.opts (offset_of m) (layout_places layout.now)) layout.now.bytes.now
+        result }
+{
+    match layout.imports() {
+        Ok(Part::Read(imports)) => file_refusal_of(imports),
+        Ok(Part::Absent | Part::Refused) => None,
+        Err(error) => Some(error),
+    }
+}
+
+// What strict mode refuses of the names of sections after this header.
+fn name_damage(alloc: Global, bytes: &[u8], header: &Header) -> Result<Option<Error>>
+    ensures value { IfOk result (IsDamage (sections_after true (header_value header.now)) bytes.now) }
+    ensures refused { IfErr result IsMemory }
+{
+    let opts = ParseOptions::default();
+    match sections_of(alloc, bytes, header, &opts) {
+        Ok(_) => Ok(None),
+        Err(Error::Memory(error)) => Err(Error::Memory(error)),
+        Err(error) => Ok(Some(error)),
+    }
+}
+
+// What strict mode refuses of the imports, the exports and the base relocations.
+fn table_damage(layout: Layout) -> (Option<Error>, Option<Error>, Option<Error>)
+    ensures { let m = layout_map layout.entry in
+        AreDamaged m.opts (offset_of m) (layout_places layout.entry) layout.entry.bytes.now
+        result.0 result.1 result.2 }
+{
+    let layout = layout.strictly();
+    let imports = import_damage(&layout);
+    let exports = layout.exports().err();
+    let relocations = layout.relocations().err();
+    (imports, exports, relocations)
+}
+
+// What strict mode refuses of a file whose header and sections are read by these options.
+#[tactic(auto, unfolding(crate::specs::Whole::layout))]
+fn file_damage(alloc: Global, bytes: &[u8], opts: &ParseOptions) -> Result<Damage>
+    ensures tells { TellsDamage opts.now bytes.now result }
+    ensures grown { IfErr result
+        (λ e.
+        IsMemory e → IsSome ((pe_header (is_strict opts.now.parse_mode)).value bytes.now)) }
+{
+    let header = Header::parse_with_opts(bytes, opts)?;
+    let layout = Layout::of(alloc, bytes, &header, opts)?;
+    let section_names = name_damage(alloc, bytes, &header)?;
+    let (imports, exports, relocations) = table_damage(layout);
+    Ok(Damage {
+        dos_stub: DosStub::parse(bytes, header.dos_header.pe_pointer).err(),
+        section_names,
+        imports,
+        exports,
+        relocations,
+    })
+}
+
+impl Whole<'_> {
+    /// Tells what strict mode would refuse of a file, part by part, where its header and its
+    /// sections are read as `opts` say. In permissive mode a stub and names of sections can be
+    /// damaged; in strict mode these refuse the file as ever. No list is made: memory is taken for
+    /// the sections, and for what maps the file's addresses.
+    ///
+    /// A file without damage is one that strict mode reads, and permissive mode reads the same, but
+    /// for imports from the front of the file.
+    ///
+    /// # Errors
+    /// As [`Header::parse_with_opts`]; as
+    /// [`CoffHeader::sections_with_opts`](goblin_pe_head::CoffHeader::sections_with_opts);
+    /// [`Error::Memory`] if memory is refused, and never of a file whose header is refused.
+    #[tactic(auto, using(crate::proofs::SoundFiles::sound_told))]
+    pub fn damage(alloc: Global, bytes: &[u8], opts: &ParseOptions) -> Result<Damage>
+        ensures tells { TellsDamage opts.now bytes.now result }
+        ensures sound { IfOk result (λ d. IsSound d → IsReadByBoth opts.now bytes.now) }
+        ensures grown { IfErr result
+            (λ e.
+            IsMemory e → IsSome ((pe_header (is_strict opts.now.parse_mode)).value bytes.now)) }
+    {
+        file_damage(alloc, bytes, opts)
+    }
+}
