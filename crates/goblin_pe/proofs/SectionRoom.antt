@@ -1,5 +1,5 @@
 -- Too many sections for a file are told before memory is asked for, so want of memory tells that there is room.
-use Rattle.std.proofs.Common.{◌≡◌, ◌<◌, List, ℕ, arith, length}
+use Rattle.std.proofs.Common.{◌≡◌, ◌∙◌, ◌<◌, ◌+◌, ◌*◌, List, [], ℕ, zero, suc, Bool, ap, arith, length, sym}
 use Rattle.std.specs.Prelude.{◌/◌, codes, IfErr, IfSome, IsErrAnd, IsSome, IsSomeAnd, Option, None, Some, Result, Ok, Err}
 use Rattle.goblin_base.specs.declared.error.ErrorOf.{ErrorOf}
 use Rattle.goblin_base.specs.declared.error.ErrorOf.TheVariants.{Memory}
@@ -8,6 +8,14 @@ use Rattle.goblin_pe_head.specs.declared.header.te.TeHeader.{TeHeader}
 use Rattle.goblin_pe_head.specs.CoffHeader.{IsTooManySections}
 use Rattle.goblin_pe_head.specs.PeHeader.{PeHeader}
 use Rattle.goblin_pe_head.specs.TeReadings.{te_header}
+use Rattle.goblin_base.specs.Reading.{Reading}
+use Rattle.goblin_base.proofs.Steps.{all_at-zero, same_value}
+use Rattle.readings.specs.Reads.{each}
+use Rattle.goblin_pe_sect.specs.SectionReadings.{section_at}
+use Rattle.goblin_pe_sect.specs.SectionTable.{Section}
+use Rattle.goblin_pe_head.specs.CoffHeader.{symbols_end}
+use Rattle.goblin_pe_head.specs.CoffReadings.{sections_at, with_room}
+use Rattle.goblin_pe.specs.Whole.{section_table_offset, sections_after}
 use Rattle.goblin_pe.specs.SectionRoom.{HasRoom, HasRoomFor, TakesSections}
 
 short_none : (n room : ℕ) (kind : List ℕ) (e : ErrorOf) → IsMemory e → IsTooShort n kind room e → ⊥
@@ -44,3 +52,14 @@ pub whole_answer_takes : {A : Type 0} (header : Option PeHeader) (bytes : List �
     → IfErr result (λ e. IsMemory e → IsSome header) → IfErr result (λ e. IsMemory e → IsSomeAnd header (HasRoom bytes))
 whole_answer_takes header bytes (Ok x) first grown = tt
 whole_answer_takes header bytes (Err e) first grown = whole_takes header bytes e first grown
+
+-- a table that has sections has a count of them
+counted : (n : ℕ) (read : ℕ → Reading Section) (bytes : List ℕ) (s : List Section) → (with_room n (each read n)).value bytes ≡ Some s → 0 < length s → 0 < n
+counted zero read bytes s found some =
+    let none : [] ≡ s = same_value [] s (sym (all_at-zero (λ i. (read i).value bytes)) ∙ found) in
+    absurd (omega (arith, some, ap (λ (xs : List Section). length xs) none))
+counted (suc n) read bytes s found some = omega arith
+
+pub sections_counted : (strict : Bool) (h : PeHeader) (bytes : List ℕ) (s : List Section) → (sections_after strict h).value bytes ≡ Some s → 0 < length s → 0 < h.coff_header.number_of_sections
+unfolding sections_after sections_at
+sections_counted strict h bytes s found some = counted h.coff_header.number_of_sections (λ i. section_at strict (symbols_end h.coff_header) (section_table_offset h + 40 * i)) bytes s found some

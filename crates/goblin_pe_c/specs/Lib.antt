@@ -1,3 +1,4 @@
+pub mod Blocked
 pub mod Blocks
 pub mod Calls
 pub mod Directories

@@ -1,6 +1,6 @@
 //! The records of exports.
 
-ghost use Rattle.std.specs.Prelude.{◌≡◌, ◌++◌, ◌∷◌, [], map};
+ghost use Rattle.std.specs.Prelude.{◌≡◌, ◌++◌, ◌∷◌, [], IfOk, OnOk, map};
 ghost use Rattle.goblin_base.specs.Answers.{GivesOrMemory};
 ghost use Rattle.goblin_base.specs.Reading.{ReadsOrMemory};
 ghost use Rattle.goblin_pe.specs.Reads.{mapped};
@@ -8,6 +8,7 @@ ghost use Rattle.goblin_pe_tables.specs.Addresses.{offset_of};
 ghost use Rattle.goblin_pe_tables.specs.ExportWalks.{exports_left};
 ghost use Rattle.goblin_pe.specs.Layouts.{layout_map, layout_places};
 ghost use Rattle.goblin_pe.specs.Whole.{collected_exports, export_part, part_map};
+ghost use Rattle.goblin_pe_c.specs.Blocked.{HasNoIdleBlock, HasNoIdleBlockIn};
 ghost use Rattle.goblin_pe_c.specs.Exports.{export_said, export_view, export_views};
 
 use crate::room::make_room;
@@ -80,9 +81,10 @@ fn push_export<'a>(
     export: &Export<'a>,
     expected: usize,
 ) -> Result<()>
-    ensures { let made = export_said export.now ∷ [] in
+    ensures value { let made = export_said export.now ∷ [] in
         GivesOrMemory (λ _. map export_view records.new.items) result
         (map export_view records.old.items ++ made) }
+    ensures kept { OnOk result (HasNoIdleBlock records.new) }
 {
     make_room(records, expected)?;
     records.push(export_record(bytes, export))?;
@@ -95,8 +97,9 @@ fn records_of<'a, 'm>(
     bytes: &'a [u8],
     exports: Exports<'a, 'm>,
 ) -> Result<Vec<PeExport<'a>>>
-    ensures { GivesOrMemory (λ v. map export_view v.items) result
+    ensures value { GivesOrMemory export_views result
         (map export_said (map (λ x. x.row) (exports_left exports.entry))) }
+    ensures none { IfOk result HasNoIdleBlock }
 {
     let expected = exports
         .size_hint()
@@ -113,11 +116,12 @@ fn records_of<'a, 'm>(
 /// The records of a file's exports, in the order of the name pointers.
 #[tactic(auto, unfolding(goblin_pe::specs::Whole::part_map))]
 pub fn export_records<'a>(alloc: Global, layout: &Layout<'a, '_>) -> Result<Part<Vec<PeExport<'a>>>>
-    ensures { let m = layout_map layout.now in
+    ensures value { let m = layout_map layout.now in
         ReadsOrMemory (part_map export_views) result
         (mapped (part_map (collected_exports export_said))
         (export_part m.opts (offset_of m) (layout_places layout.now)))
         layout.now.bytes.now }
+    ensures none { IfOk result HasNoIdleBlockIn }
 {
     match layout.exports()? {
         Part::Absent => Ok(Part::Absent),

@@ -1,6 +1,6 @@
 //! The records of imports.
 
-ghost use Rattle.std.specs.Prelude.{◌≡◌, ◌++◌, ◌∷◌, [], map, option_map};
+ghost use Rattle.std.specs.Prelude.{◌≡◌, ◌++◌, ◌∷◌, [], IfOk, OnOk, map, option_map};
 ghost use Rattle.goblin_base.specs.Answers.{AnswersOrMemory, GivesOrMemory, all_of};
 ghost use Rattle.goblin_base.specs.Reading.{ReadsOrMemory};
 ghost use Rattle.goblin_pe.specs.Reads.{mapped};
@@ -10,6 +10,7 @@ ghost use Rattle.goblin_pe.specs.Layouts.{IsFileImportsCause, file_imports_left,
 ghost use Rattle.goblin_pe.specs.Layouts.{layout_places};
 ghost use Rattle.goblin_pe.specs.Whole.{AreListed, collected_imports, import_list, import_parts};
 ghost use Rattle.goblin_pe.specs.Whole.{part_map};
+ghost use Rattle.goblin_pe_c.specs.Blocked.{HasNoIdleBlock, HasNoIdleBlockIn};
 ghost use Rattle.goblin_pe_c.specs.Filled.{alone};
 ghost use Rattle.goblin_pe_c.specs.Imports.{import_view, import_views};
 
@@ -76,9 +77,10 @@ fn push_import<'a>(
     bytes: &'a [u8],
     import: WalkedImport<'a>,
 ) -> Result<()>
-    ensures { let made = alone (walked_value import.entry) ∷ [] in
+    ensures value { let made = alone (walked_value import.entry) ∷ [] in
         GivesOrMemory (λ _. map import_view records.new.items) result
         (map import_view records.old.items ++ made) }
+    ensures kept { OnOk result (HasNoIdleBlock records.new) }
 {
     make_room(records, FIRST_ROOM)?;
     records.push(import_record(bytes, import))?;
@@ -91,9 +93,10 @@ fn records_of<'a, 'm, 'e, T: Bitfield<'a>>(
     bytes: &'a [u8],
     imports: Imports<'a, 'm, 'e, T>,
 ) -> ResultOf<'e, Vec<PeImport<'a>>>
-    ensures { let items = all_of (imports_left T.format imports.entry) in
-        AnswersOrMemory (λ v. map import_view v.items) result (option_map (map alone) items)
+    ensures value { let items = all_of (imports_left T.format imports.entry) in
+        AnswersOrMemory import_views result (option_map (map alone) items)
         (IsImportsCause T.format imports.entry) }
+    ensures none { IfOk result HasNoIdleBlock }
 {
     let mut records = Vec::new(alloc);
     'imports: for import in imports {
@@ -108,9 +111,10 @@ fn file_records_of<'a, 'm, 'e>(
     bytes: &'a [u8],
     imports: FileImports<'a, 'm, 'e>,
 ) -> ResultOf<'e, Vec<PeImport<'a>>>
-    ensures { let items = all_of (file_imports_left imports.entry) in
-        AnswersOrMemory (λ v. map import_view v.items) result (option_map (map alone) items)
+    ensures value { let items = all_of (file_imports_left imports.entry) in
+        AnswersOrMemory import_views result (option_map (map alone) items)
         (IsFileImportsCause imports.entry) }
+    ensures none { IfOk result HasNoIdleBlock }
 {
     match imports {
         FileImports::Narrow(imports) => records_of(alloc, bytes, imports),
@@ -127,6 +131,7 @@ fn listed_records<'a>(alloc: Global, layout: &Layout<'a, '_>) -> Result<Part<Vec
         layout.now.bytes.now }
     ensures listed { let m = layout_map layout.now in
         AreListed m.opts (offset_of m) (layout_places layout.now) layout.now.bytes.now }
+    ensures none { IfOk result HasNoIdleBlockIn }
 {
     match layout.imports()? {
         Part::Absent => Ok(Part::Absent),
@@ -141,11 +146,12 @@ fn listed_records<'a>(alloc: Global, layout: &Layout<'a, '_>) -> Result<Part<Vec
 /// The records of a file's imports, in the order of the libraries and of their entries.
 #[tactic(auto, using(goblin_pe::proofs::ImportParts::list_collected))]
 pub fn import_records<'a>(alloc: Global, layout: &Layout<'a, '_>) -> Result<Part<Vec<PeImport<'a>>>>
-    ensures { let m = layout_map layout.now in
+    ensures value { let m = layout_map layout.now in
         ReadsOrMemory (part_map import_views) result
         (mapped (collected_imports alone)
         (import_parts m.opts (offset_of m) (layout_places layout.now)))
         layout.now.bytes.now }
+    ensures none { IfOk result HasNoIdleBlockIn }
 {
     listed_records(alloc, layout)
 }

@@ -1,6 +1,7 @@
 //! What all tables of a file are read by.
 
-ghost use Rattle.std.specs.Prelude.{◌+◌, ◌≡◌, ◌<◌, ◌/◌, IfOk, IsErrAnd, length};
+ghost use Rattle.std.specs.Prelude.{◌+◌, ◌≡◌, ◌<◌, ◌/◌, IfErr, IfOk, IsErrAnd, length};
+ghost use Rattle.goblin_base.specs.Answers.{IsMemory};
 ghost use Rattle.goblin_base.specs.Reading.{Reads, ReadsOrMemory};
 ghost use Rattle.goblin_pe_sect.specs.BaseRelocations.{relocation_bytes};
 ghost use Rattle.goblin_pe_sect.specs.Options.{is_strict};
@@ -58,6 +59,8 @@ pub(super) fn sections_of(
         bytes.now }
     ensures first { let count = header.now.coff_header.number_of_sections in
         length bytes.now / 40 < count → IsErrAnd result (IsTooManySections count bytes.now) }
+    ensures grown { IfErr result
+        (λ e. IsMemory e → 0 < header.now.coff_header.number_of_sections) }
 {
     let coff_header = &header.coff_header;
     let mut offset = after_optional_header(
@@ -72,7 +75,9 @@ impl<'a, 'h> Layout<'a, 'h> {
     /// and prepares what maps its addresses. Memory is taken for the sections and the map.
     ///
     /// # Errors
-    /// As [`CoffHeader::sections_with_opts`](goblin_pe_head::CoffHeader::sections_with_opts).
+    /// As [`CoffHeader::sections_with_opts`](goblin_pe_head::CoffHeader::sections_with_opts); no
+    /// memory is asked for where there are no sections.
+    #[tactic(auto, using(crate::proofs::SectionRoom::sections_counted))]
     pub fn of(
         alloc: Global,
         bytes: &'a [u8],
@@ -85,6 +90,8 @@ impl<'a, 'h> Layout<'a, 'h> {
         ensures over { IfOk result (IsLayoutOf opts.now bytes.now header.now) }
         ensures first { let count = header.now.coff_header.number_of_sections in
             length bytes.now / 40 < count → IsErrAnd result (IsTooManySections count bytes.now) }
+        ensures grown { IfErr result
+            (λ e. IsMemory e → 0 < header.now.coff_header.number_of_sections) }
     {
         let sections = sections_of(alloc, bytes, header, opts)?;
         let places = Places::of(&header.optional_header);

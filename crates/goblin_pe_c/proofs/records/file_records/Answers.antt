@@ -17,7 +17,7 @@ returns-in_err-imports c =
     let places = layout_places l in
     let error = err_from_is_err_and c.from_residual.result c.from_residual.ensures.1 in
     rw (error.1, error.2)
-    (λ other. first-refused (import_parts m.opts (offset_of m) places) (export_part m.opts (offset_of m) places) (relocation_part m.opts (offset_of m) places) (collected_imports alone) (part_map (collected_exports export_said)) l.bytes.now _ (c.in_err-imports.ensures other))
+    (λ other. first-refused (import_parts m.opts (offset_of m) places) (export_part m.opts (offset_of m) places) (relocation_part m.opts (offset_of m) places) (collected_imports alone) (part_map (collected_exports export_said)) l.bytes.now _ (c.in_err-imports.ensures.value other))
 
 pub returns-in_err-exports : goal.returns-in_err-exports
 unfolding table_parts
@@ -27,7 +27,7 @@ returns-in_err-exports c =
     let places = layout_places l in
     let error = err_from_is_err_and c.from_residual-in_err-exports.result c.from_residual-in_err-exports.ensures.1 in
     rw (error.1, error.2)
-    (λ other. second-refused (import_parts m.opts (offset_of m) places) (export_part m.opts (offset_of m) places) (relocation_part m.opts (offset_of m) places) (collected_imports alone) (part_map (collected_exports export_said)) l.bytes.now _ _ c.in_ok-imports.ensures (c.in_err-exports.ensures other))
+    (λ other. second-refused (import_parts m.opts (offset_of m) places) (export_part m.opts (offset_of m) places) (relocation_part m.opts (offset_of m) places) (collected_imports alone) (part_map (collected_exports export_said)) l.bytes.now _ _ c.in_ok-imports.ensures.value (c.in_err-exports.ensures.value other))
 
 pub returns-in_err-relocations : goal.returns-in_err-relocations
 unfolding table_parts
@@ -37,7 +37,7 @@ returns-in_err-relocations c =
     let places = layout_places l in
     let error = err_from_is_err_and c.from_residual-in_err-relocations.result c.from_residual-in_err-relocations.ensures.1 in
     rw (error.1, error.2)
-    (λ other. third-refused (import_parts m.opts (offset_of m) places) (export_part m.opts (offset_of m) places) (relocation_part m.opts (offset_of m) places) (collected_imports alone) (part_map (collected_exports export_said)) l.bytes.now _ _ _ c.in_ok-imports.ensures c.in_ok-exports.ensures c.in_err-relocations.ensures)
+    (λ other. third-refused (import_parts m.opts (offset_of m) places) (export_part m.opts (offset_of m) places) (relocation_part m.opts (offset_of m) places) (collected_imports alone) (part_map (collected_exports export_said)) l.bytes.now _ _ _ c.in_ok-imports.ensures.value c.in_ok-exports.ensures.value c.in_err-relocations.ensures)
 
 pub returns : goal.returns
 unfolding table_parts
@@ -45,4 +45,4 @@ returns c =
     let l = c.args.layout.now in
     let m = layout_map l in
     let places = layout_places l in
-    all-read (import_parts m.opts (offset_of m) places) (export_part m.opts (offset_of m) places) (relocation_part m.opts (offset_of m) places) (collected_imports alone) (part_map (collected_exports export_said)) l.bytes.now _ _ _ c.in_ok-imports.ensures c.in_ok-exports.ensures c.in_ok-relocations.ensures
+    all-read (import_parts m.opts (offset_of m) places) (export_part m.opts (offset_of m) places) (relocation_part m.opts (offset_of m) places) (collected_imports alone) (part_map (collected_exports export_said)) l.bytes.now _ _ _ c.in_ok-imports.ensures.value c.in_ok-exports.ensures.value c.in_ok-relocations.ensures
