@@ -42,7 +42,7 @@ entries_of_table format offset_of bytes o =
     sum_of_slots (entry_slots format) (λ entry. from_bool (is_entry_left_out offset_of bytes entry))
     bytes o
 
--- a record leads to no library, which is left out
+-- a record leads to no library, and is left out
 abbrev pub is_library_left_out : Format EntryValue → (ℕ → Option ℕ) → List ℕ
     → ImportDirectoryEntry → Bool
 is_library_left_out format offset_of bytes r =

@@ -21,9 +21,9 @@ pub struct LeftOut {
     /// How many libraries: those of records that lead to no library, since they have no address
     /// table.
     pub libraries: usize,
-    /// How many entries of the lookup tables of the other libraries: those whose hint is not whole.
-    /// Entries that lead nowhere, which both modes leave out, do not count. [`usize::MAX`] if there
-    /// are more than that.
+    /// How many entries of the lookup tables of the other libraries: those whose hint is not whole;
+    /// [`usize::MAX`] if there are more. Entries that lead nowhere, which both modes leave out, do
+    /// not count.
     pub entries: usize,
 }
 
@@ -83,7 +83,7 @@ fn is_library_left_out<'a, T: Bitfield<'a>>(
     test_address_table::<T>(bytes, entry, address_map).is_err()
 }
 
-// How much is left out of the library of a record, or that the library is.
+// How much is left out for a record: its library, or entries of that library's lookup table.
 #[tactic(auto, unfolding(crate::specs::LeftOut::entries_of_record))]
 fn of_record<'a, T: Bitfield<'a>>(
     bytes: &'a [u8],
@@ -144,8 +144,9 @@ fn of_directory<'a, T: Bitfield<'a>>(
 
 impl LeftOut {
     /// How much permissive mode leaves out of the imports of the directory at the address of
-    /// `directory`, whatever the mode of `address_map`. Nothing is left out of a directory at the
-    /// front of the file, or whose address has no file offset: permissive mode takes it as empty.
+    /// `directory`, by entries of type `T` and whatever the mode of `address_map`. Nothing is left
+    /// out of a directory at the front of the file, or whose address has no file offset: permissive
+    /// mode takes it as empty. No memory is taken.
     pub fn of<'a, T: Bitfield<'a>>(
         bytes: &'a [u8],
         directory: DataDirectory,
