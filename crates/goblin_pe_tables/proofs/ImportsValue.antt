@@ -173,7 +173,7 @@ module _ (strict : Bool) (format : Format EntryValue) (offset_of : ℕ → Optio
       is_there ((kept_entry strict offset_of v).value bytes)
       (λ none. entry-never strict offset_of v bytes none permissive)
 
-  table-there : (at : Option ℕ) → IsSome ((lookup_if strict format offset_of at).value bytes)
+  pub table-there : (at : Option ℕ) → IsSome ((lookup_if strict format offset_of at).value bytes)
   unfolding lookup_if slot_table stop
   table-there None = refl
   table-there (Some o) =

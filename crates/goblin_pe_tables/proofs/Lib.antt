@@ -9,12 +9,14 @@ mod ImportSteps
 mod ImportsValue
 mod ImportsWalk
 mod Listed
+mod SlotSums
 mod SomeRanges
 mod WholeEntries
 pub mod ExportDirectoryRoundTrip
 pub mod ImportBound
 pub mod ImportDirectoryRoundTrip
 pub mod Imports
+pub mod LeftOutLibraries
 pub mod LibraryNames
 pub mod ListedImports
 pub mod LookupSlots

@@ -13,4 +13,5 @@ pub mod ImportReadings
 pub mod ImportRecords
 pub mod ImportWalks
 pub mod Imports
+pub mod LeftOut
 pub mod LookupReadings

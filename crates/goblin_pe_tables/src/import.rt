@@ -27,6 +27,7 @@ mod bitfield;
 mod directory_entry;
 mod imports;
 mod kept;
+mod left_out;
 mod library;
 mod listed;
 mod lookup_table;
@@ -38,6 +39,7 @@ pub use bitfield::{
 };
 pub use directory_entry::{ImportDirectoryEntry, SIZEOF_IMPORT_DIRECTORY_ENTRY};
 pub use imports::{ImportPosition, Imports, WalkedImport};
+pub use left_out::LeftOut;
 pub use library::SyntheticImportDirectoryEntry;
 use library::directory_offset;
 pub(crate) use library::{address_table_rva, lookup_offset};

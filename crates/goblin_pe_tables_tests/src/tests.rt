@@ -3,6 +3,7 @@
 mod export_walks;
 mod exports;
 mod imports;
+mod left_out;
 mod overlapping;
 mod walks;
 
