@@ -1,5 +1,6 @@
 mod AddressMaps
 mod ExportGrowths
+mod ExportRanges
 mod ExportRows
 mod ExportWalk
 mod Grammar
@@ -9,7 +10,6 @@ mod ImportSteps
 mod ImportsValue
 mod ImportsWalk
 mod Listed
-mod SomeRanges
 mod WholeEntries
 pub mod ExportDirectoryRoundTrip
 pub mod ImportBound
