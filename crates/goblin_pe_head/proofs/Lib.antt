@@ -2,6 +2,7 @@ pub mod Beside
 pub mod CoffHeaderRoundTrip
 pub mod DosHeaderRoundTrip
 pub mod HeaderFaults
+mod HeaderRanges
 pub mod OptionalFieldsRoundTrip
 pub mod OptionalHeaderRoundTrip
 pub mod PeHeaderRoundTrip
