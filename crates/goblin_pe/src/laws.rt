@@ -11,6 +11,8 @@
 //! two are equal values or both refusals if the files agree on the footprint of the read in `a` and
 //! neither is `Error::Memory`. Nothing is said about equal causes.
 //!
+//! The calls whose names begin with `footprint` list the footprint of a read, as ranges.
+//!
 //! The calls whose names begin with `mode` read one file in both modes, and
 //! [`reorder_whole_tables`] reads it under two tables of sections: permissive mode repeats what
 //! strict mode reads, and the order of sections changes nothing where their windows are disjoint.

@@ -23,6 +23,12 @@ use goblin_base::{Endian, ResultOf, field_u32, pread_slice, pread_u16};
 use goblin_pe_sect::footprint::add_directories;
 use std::alloc::Global;
 
+// The size of the DOS signature and of the magic of an optional header, in bytes.
+const SIZEOF_MAGIC: usize = 2;
+
+// The size of the marker of a Rich header with the key after it, in bytes.
+const SIZEOF_MARKER_AND_KEY: usize = 8;
+
 // Adds the footprint of the DOS header, and of the PE signature where it points.
 #[tactic(auto, unfolding(crate::specs::HeaderReadings::dos_header, goblin_base::specs::Footprints::led_to))]
 fn add_dos_header<'e>(ranges: &mut Vec<(usize, usize)>, bytes: &[u8]) -> ResultOf<'e, ()>
@@ -31,7 +37,7 @@ fn add_dos_header<'e>(ranges: &mut Vec<(usize, usize)>, bytes: &[u8]) -> ResultO
     ensures refused { IfErr result IsMemory }
     ensures grown { OnErr result (0 < length (reading.dos_header.reaches bytes.now)) }
 {
-    add_slice(ranges, bytes, 0, 2)?;
+    add_slice(ranges, bytes, 0, SIZEOF_MAGIC)?;
     add_slice(ranges, bytes, 0, SIZEOF_DOS_HEADER)?;
     let Ok(record) = pread_slice(bytes, 0, SIZEOF_DOS_HEADER) else {
         return Ok(());
@@ -42,7 +48,6 @@ fn add_dos_header<'e>(ranges: &mut Vec<(usize, usize)>, bytes: &[u8]) -> ResultO
 
 // Adds what a search in a stretch after the DOS header looked at: through the `width` bytes at the
 // place found, or all if none was found.
-#[tactic(auto, using(crate::proofs::HeaderRanges::searched_to, crate::proofs::HeaderRanges::searched_all))]
 fn add_searched<'e>(
     ranges: &mut Vec<(usize, usize)>,
     stretch: &[u8],
@@ -65,7 +70,7 @@ fn add_searched<'e>(
 }
 
 // Adds what the search for a Rich header looked at in a stretch after the DOS header.
-#[tactic(auto, using(crate::proofs::HeaderRanges::marker_missing, crate::proofs::HeaderRanges::marker_there))]
+#[tactic(auto, using(crate::proofs::HeaderRanges::marker_missing))]
 fn add_markers<'e>(ranges: &mut Vec<(usize, usize)>, stretch: &[u8]) -> ResultOf<'e, ()>
     requires { length stretch.now + 64 < 2 ^ 32 }
     ensures added { let reached = moved_by 64 (rich_reading.rich_in.reaches stretch.now) in
@@ -75,11 +80,11 @@ fn add_markers<'e>(ranges: &mut Vec<(usize, usize)>, stretch: &[u8]) -> ResultOf
         OnErr result (0 < length reached) }
 {
     let marker = marker_place(stretch);
-    add_searched(ranges, stretch, marker, RICH_MARKER_SIZE + 4)?;
+    add_searched(ranges, stretch, marker, SIZEOF_MARKER_AND_KEY)?;
     let Some(end) = marker else {
         return Ok(());
     };
-    let stored = &stretch[..end + RICH_MARKER_SIZE + 4];
+    let stored = &stretch[..end + SIZEOF_MARKER_AND_KEY];
     let key = field_u32(stored, end + RICH_MARKER_SIZE, Endian::Little);
     add_searched(ranges, stretch, dans_place(stretch, key), DANS_MARKER_SIZE)
 }
@@ -160,7 +165,7 @@ fn add_optional_header<'e>(
         OnErr result (0 < length reached) }
 {
     let own = &bytes[offset..];
-    add_slice(ranges, bytes, offset, 2)?;
+    add_slice(ranges, bytes, offset, SIZEOF_MAGIC)?;
     let Ok(magic) = pread_u16(own, 0, Endian::Little) else {
         return Ok(());
     };

@@ -1,4 +1,4 @@
-use Rattle.std.proofs.Common.{◌≡◌, ◌<◌, ◌+◌, ℕ, Option, Some, List, ◌++◌, take, length, ap, sym, ◌∙◌, arith}
+use Rattle.std.proofs.Common.{◌≡◌, ◌<◌, ◌+◌, ℕ, Option, Some, List, ◌++◌, take, length, ap, sym, ◌∙◌}
 use Rattle.std.proofs.lemmas.Result.{err_from_is_err_and}
 use Rattle.goblin_base.specs.Footprints.{Range}
 use Rattle.goblin_base.specs.Parts.{moved_by, search_footprint}
@@ -23,8 +23,7 @@ returns-clause-added c =
     let there : marker_place stretch ≡ Some end = sym c.marker_place-marker.ensures.value ∙ c.in-Some.is in
     let key = word_at (take (end + 8) stretch) (end + 4) in
     let first : c.add_searched.new.ranges.items ≡ old ++ marker_reach 64 stretch = rw (← c.marker_place-marker.ensures.value) c.in_ok-add_searched.ensures.added in
-    let sum : end + 4 + 4 ≡ end + 8 = omega arith in
-    let dans : c.dans_place.result ≡ dans_place key stretch = rw (← sum) (c.dans_place.ensures.value ∙ ap (λ (k : ℕ). dans_place k stretch) c.field_u32-key.ensures) in
+    let dans : c.dans_place.result ≡ dans_place key stretch = c.dans_place.ensures.value ∙ ap (λ (k : ℕ). dans_place k stretch) c.field_u32-key.ensures in
     on_ok c.add_searched-2.result
     (λ second.
     listed-then old c.add_searched.new.ranges.items c.add_searched-2.new.ranges.items (marker_reach 64 stretch) (dans_reach 64 stretch key) first
@@ -37,6 +36,5 @@ returns-clause-grown c =
     let end = c.in-Some.end in
     let there : marker_place stretch ≡ Some end = sym c.marker_place-marker.ensures.value ∙ c.in-Some.is in
     let key = word_at (take (end + 8) stretch) (end + 4) in
-    let sum : end + 4 + 4 ≡ end + 8 = omega arith in
-    let dans : c.dans_place.result ≡ dans_place key stretch = rw (← sum) (c.dans_place.ensures.value ∙ ap (λ (k : ℕ). dans_place k stretch) c.field_u32-key.ensures) in
+    let dans : c.dans_place.result ≡ dans_place key stretch = c.dans_place.ensures.value ∙ ap (λ (k : ℕ). dans_place k stretch) c.field_u32-key.ensures in
     rw (marker_there 64 stretch end there, ← dans) (on_err c.add_searched-2.result (some-right (marker_reach 64 stretch) (moved_by 64 (search_footprint 4 c.dans_place.result stretch))) c.add_searched-2.ensures.grown)
