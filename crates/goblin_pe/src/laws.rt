@@ -11,18 +11,23 @@
 //! two are equal values or both refusals if the files agree on the footprint of the read in `a` and
 //! neither is `Error::Memory`. Nothing is said about equal causes.
 //!
+//! The calls whose names begin with `footprint` list the footprint of a read, as ranges.
+//!
 //! The calls whose names begin with `mode` read one file in both modes, and
 //! [`reorder_whole_tables`] reads it under two tables of sections: permissive mode repeats what
 //! strict mode reads, and the order of sections changes nothing where their windows are disjoint.
 
+mod footprint;
 mod header;
 mod modes;
 mod order;
 mod parts;
 mod whole;
 
+pub use footprint::footprint_whole;
+pub use goblin_pe_head::laws::footprint_header;
 pub use goblin_pe_tables::laws::{
-    ExportRead, footprint_imports, twin_exports, twin_imports, twin_lookup,
+    ExportRead, footprint_exports, footprint_imports, twin_exports, twin_imports, twin_lookup,
 };
 pub use header::twin_header;
 pub use modes::{mode_header, mode_tables, mode_whole};

@@ -2,6 +2,8 @@ pub mod Beside
 pub mod CoffHeaderRoundTrip
 pub mod DosHeaderRoundTrip
 pub mod HeaderFaults
+mod HeaderRanges
+pub mod HeaderReached
 pub mod OptionalFieldsRoundTrip
 pub mod OptionalHeaderRoundTrip
 pub mod PeHeaderRoundTrip

@@ -24,6 +24,7 @@ pub use machine::{
     COFF_MACHINE_UNKNOWN, COFF_MACHINE_WCEMIPSV2, COFF_MACHINE_X86, COFF_MACHINE_X86_64,
 };
 pub use pe_header::Header;
+pub(crate) use rich::{dans_place, marker_place};
 pub use rich::{
     DANS_MARKER, DANS_MARKER_SIZE, RICH_MARKER, RICH_MARKER_SIZE, RichHeader, RichMetadata,
     RichMetadataIterator,

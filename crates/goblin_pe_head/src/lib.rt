@@ -2,6 +2,7 @@
 #![tactic(auto)]
 
 pub mod header;
+pub mod laws;
 pub mod optional_header;
 
 pub use header::{

@@ -70,10 +70,10 @@ pub struct OptionalHeader {
 
 // The fields before the directories, and how many bytes they take.
 #[derive(Copy, Clone)]
-struct FixedFields {
-    standard_fields: StandardFields,
-    windows_fields: WindowsFields,
-    size: usize,
+pub(crate) struct FixedFields {
+    pub(crate) standard_fields: StandardFields,
+    pub(crate) windows_fields: WindowsFields,
+    pub(crate) size: usize,
 }
 
 /// What is written of an optional header, by its width.
@@ -103,7 +103,8 @@ impl WrittenHeader {
 
 // The fields of an optional header for 32 bits.
 fn fields_32(bytes: &[u8]) -> Result<FixedFields>
-    ensures { Reads (λ f. f) result reading.fields_32 bytes.now }
+    ensures value { Reads (λ f. f) result reading.fields_32 bytes.now }
+    ensures size { IfOk result (λ f. f.size ≡ 96) }
 {
     let standard = pread_slice(bytes, 0, SIZEOF_STANDARD_FIELDS_32)?;
     let windows = pread_slice(bytes, SIZEOF_STANDARD_FIELDS_32, SIZEOF_WINDOWS_FIELDS_32)?;
@@ -119,7 +120,8 @@ fn fields_32(bytes: &[u8]) -> Result<FixedFields>
 
 // The fields of an optional header for 64 bits.
 fn fields_64(bytes: &[u8]) -> Result<FixedFields>
-    ensures { Reads (λ f. f) result reading.fields_64 bytes.now }
+    ensures value { Reads (λ f. f) result reading.fields_64 bytes.now }
+    ensures size { IfOk result (λ f. f.size ≡ 112) }
 {
     let standard = pread_slice(bytes, 0, SIZEOF_STANDARD_FIELDS_64)?;
     let windows = pread_slice(bytes, SIZEOF_STANDARD_FIELDS_64, SIZEOF_WINDOWS_FIELDS_64)?;
@@ -135,8 +137,9 @@ fn fields_64(bytes: &[u8]) -> Result<FixedFields>
 
 // The fields that the magic asks for.
 #[tactic(auto, unfolding(crate::specs::HeaderReadings::fixed_fields))]
-fn fixed_fields(magic: u16, bytes: &[u8]) -> Result<FixedFields>
-    ensures { Reads (λ f. f) result (reading.fixed_fields magic) bytes.now }
+pub(crate) fn fixed_fields(magic: u16, bytes: &[u8]) -> Result<FixedFields>
+    ensures value { Reads (λ f. f) result (reading.fixed_fields magic) bytes.now }
+    ensures size { IfOk result (λ f. f.size ≤ 112) }
 {
     match magic {
         MAGIC_32 => fields_32(bytes),

@@ -1,6 +1,7 @@
 pub mod AuxiliarySymbolsRoundTrip
 pub mod BlockItems
 pub mod BlocksOf
+pub mod CutOffsets
 pub mod Cuts
 pub mod DataDirectoriesRoundTrip
 pub mod DigitSums

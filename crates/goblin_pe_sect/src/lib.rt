@@ -4,6 +4,7 @@
 
 pub mod data_directories;
 mod digits;
+pub mod footprint;
 pub mod options;
 pub mod relocation;
 pub mod section_table;

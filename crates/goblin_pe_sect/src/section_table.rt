@@ -472,7 +472,7 @@ impl SectionTable {
 
 // What the name in a record says. Most names begin with no slash and are looked at no further.
 #[tactic(auto, unfolding(crate::specs::SectionName::name_value))]
-fn name_in_record(bytes: &[u8], mode: ParseMode) -> Result<Option<usize>>
+pub(crate) fn name_in_record(bytes: &[u8], mode: ParseMode) -> Result<Option<usize>>
     requires { length bytes.now ≡ 40 }
     ensures { let name = slice_range bytes.now 0 8 in
         Answers (λ v. v) result (name_value (is_strict mode) name) (IsNameFault (is_strict mode) name) }

@@ -1,25 +1,26 @@
 mod AddressMaps
+pub mod ExportDirectoryRoundTrip
 mod ExportGrowths
+mod ExportRanges
 mod ExportRows
 mod ExportWalk
 mod Grammar
+pub mod ImportBound
+pub mod ImportDirectoryRoundTrip
 mod ImportFaults
 mod ImportPositions
 mod ImportSteps
+pub mod Imports
 mod ImportsValue
 mod ImportsWalk
-mod Listed
-mod SlotSums
-mod SomeRanges
-mod WholeEntries
-pub mod ExportDirectoryRoundTrip
-pub mod ImportBound
-pub mod ImportDirectoryRoundTrip
-pub mod Imports
 pub mod LeftOutLibraries
 pub mod LibraryNames
+mod Listed
 pub mod ListedImports
 pub mod LookupSlots
 pub mod LookupWalk
 pub mod Modes
 pub mod PermissiveReads
+mod SlotSums
+mod SomeRanges
+mod WholeEntries

@@ -1,11 +1,10 @@
--- What is listed of a text, of a hint and of an entry.
-use Rattle.std.proofs.Common.{◌≡◌, ℕ, ◌+◌, ◌-◌, min, Bool, true, false, nat_le, nat_lt, Option}
-use Rattle.std.proofs.Common.{Some, None, List, [], ◌++◌, length, take, drop, ap, ◌∙◌, refl}
+-- What is listed of a hint and of an entry.
+use Rattle.std.proofs.Common.{◌≡◌, ℕ, ◌+◌, Bool, true, false, nat_le, nat_lt, Option}
+use Rattle.std.proofs.Common.{Some, None, List, [], ◌++◌, length, refl}
 use Rattle.std.proofs.Common.{arith, inl, inr}
 use Rattle.std.specs.Prelude.{slice_range}
 use Rattle.std.proofs.lemmas.Bool.{cases_Bool, le-leb, leb-false, leb-true, lt-ltb}
-use Rattle.std.proofs.lemmas.List.{length-drop, take_all}
-use Rattle.goblin_base.specs.Bytes.{before_nul, slice_at}
+use Rattle.goblin_base.specs.Bytes.{slice_at}
 use Rattle.goblin_base.specs.Footprints.{Range, positions, slice_footprint, stretch_footprint}
 use Rattle.goblin_base.proofs.Numbers.{slice_at-some}
 use Rattle.goblin_base.proofs.SlotFootprints.{stretch-none}
@@ -15,18 +14,6 @@ use Rattle.goblin_pe_tables.specs.LookupReadings.{hint_name, kept_entry, kept_na
 -- what is reached of a hint and of the text after it
 abbrev pub hint_reach : List ℕ → ℕ → List Range
 hint_reach bytes p = slice_footprint bytes p 2 ++ stretch_footprint bytes (p + 2)
-
--- the positions up to and with the byte after the text, where the file has one
-pub stretch-is : (bytes : List ℕ) (p end : ℕ) (text : List ℕ)
-    → text ≡ before_nul (take (length bytes - p) (drop p bytes))
-    → end ≡ min (length bytes) (p + length text + 1)
-    → positions p end ≡ stretch_footprint bytes p
-unfolding stretch_footprint
-stretch-is bytes p end text is ends =
-    let all : take (length bytes - p) (drop p bytes) ≡ drop p bytes =
-    take_all (length bytes - p) (drop p bytes) (omega (arith, length-drop p bytes)) in
-    ap (positions p)
-    (ends ∙ ap (λ (t : List ℕ). min (length bytes) (p + length t + 1)) (is ∙ ap before_nul all))
 
 -- no hint, and so no text after it
 pub hint-none : (bytes : List ℕ) (p : ℕ) → slice_at bytes p 2 ≡ None → hint_reach bytes p ≡ []

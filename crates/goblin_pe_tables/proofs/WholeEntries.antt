@@ -140,7 +140,7 @@ module _ {V : Type 0} (format : Format V) (count : ℕ) (bytes : List ℕ) (o : 
       slice-missing bytes (o + w * n) w (omega (arith, past)) in
       ap (option_map format.value_of) none
 
-  whole-is : whole_entries format count bytes o ≡ min room count
+  pub whole-is : whole_entries format count bytes o ≡ min room count
   unfolding whole_entries
   whole-is =
       least-is (λ i. is_none (entry i)) count (min room count) (omega arith)

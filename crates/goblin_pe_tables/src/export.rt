@@ -29,9 +29,10 @@ mod exports;
 mod forwarder;
 mod tables;
 
-use entries::{Entries, TablesInFile};
+pub(crate) use entries::{Entries, TablesInFile};
 pub use exports::{Exports, WalkedExport};
 pub use forwarder::Reexport;
+pub(crate) use tables::{SIZEOF_NAME_POINTER, SIZEOF_ORDINAL, room, test_counts};
 pub use tables::{
     ExportAddressTable, ExportAddressTableEntry, ExportDirectoryTable, ExportNamePointerTable,
     ExportOrdinalTable, SIZEOF_EXPORT_ADDRESS_TABLE_ENTRY, SIZEOF_EXPORT_DIRECTORY_TABLE,

@@ -9,7 +9,9 @@ use goblin_pe::export::{Export, ExportData};
 use goblin_pe::import::{
     ImportData, SyntheticImportDirectoryEntry as Library, SyntheticImportLookupTableEntry as Lookup,
 };
-use goblin_pe::laws::footprint_imports;
+use goblin_pe::laws::{
+    footprint_exports, footprint_header, footprint_imports, footprint_whole,
+};
 use goblin_pe_sect::{ParseOptions, SectionTable, WindowIndex};
 use goblin_pe_tables::laws::read_exports;
 use std::io;
@@ -44,6 +46,8 @@ pub fn show_call(
         "index_of_no_alignment" => show_index(rt, 0, opts),
         "index_of_offsets" => show_index(rt, ALIGNMENT, &ParseOptions::te()),
         "whole" => show_answer(rt, Whole::read(alloc, file, opts)),
+        "footprint_header" => show_answer(rt, footprint_header(alloc, file)),
+        "footprint_whole" => show_answer(rt, footprint_whole(alloc, file, opts)),
         _ => show_imports(rt, call, file, sections, opts),
     }
 }
@@ -113,6 +117,10 @@ fn show_exports(
         "exports" => show_answer(
             rt,
             read_exports(alloc, file, EXPORTS, sections, ALIGNMENT, opts),
+        ),
+        "footprint_exports" => show_answer(
+            rt,
+            footprint_exports(alloc, file, EXPORTS, sections, ALIGNMENT, opts),
         ),
         "exports_of_no_bytes" => show_answer(
             rt,

@@ -82,7 +82,7 @@ pub struct DosHeader {
 impl DosHeader {
     // The DOS header in a record's bytes.
     #[tactic(auto, unfolding(crate::specs::DosHeader::dos_record))]
-    fn in_record(bytes: &[u8], endian: Endian) -> DosHeader
+    pub(crate) fn in_record(bytes: &[u8], endian: Endian) -> DosHeader
         requires { length bytes.now ≡ 64 }
         ensures { result ≡ dos_record endian bytes.now }
     {

@@ -308,7 +308,7 @@ fn rich_in<'a>(stretch: &'a [u8]) -> Result<Option<RichHeader<'a>>>
 }
 
 // The first position of the marker with a key after it.
-fn marker_place(stretch: &[u8]) -> Option<usize>
+pub(crate) fn marker_place(stretch: &[u8]) -> Option<usize>
     ensures value { result ≡ marker_place stretch.now }
     ensures room { IfSome result (λ i. i + 8 ≤ length stretch.now) }
 {
@@ -317,7 +317,7 @@ fn marker_place(stretch: &[u8]) -> Option<usize>
 
 // The first position of a word that is the other marker under the key.
 #[tactic(auto, using(crate::proofs::WordPlaces::under_key))]
-fn dans_place(stretch: &[u8], key: u32) -> Option<usize>
+pub(crate) fn dans_place(stretch: &[u8], key: u32) -> Option<usize>
     ensures value { result ≡ dans_place key stretch.now }
     ensures room { IfSome result (λ j. j + 4 ≤ length stretch.now) }
 {

@@ -23,7 +23,7 @@ use goblin_pe_sect::DataDirectory;
 use std::alloc::Global;
 
 // The entries of the tables that an export directory leads to.
-pub(super) trait Entries {
+pub(crate) trait Entries {
     // All of them.
     ghost entries: { Self → ExportTables };
 
@@ -66,7 +66,7 @@ impl<'a> Entries for ExportData<'a> {
 
 // What an export directory leads to, where the tables are the bytes of their entries in the file.
 #[derive(Copy, Clone)]
-pub(super) struct TablesInFile<'a> {
+pub(crate) struct TablesInFile<'a> {
     // The library's own name, if there is a text at its address.
     pub(super) name: Option<&'a str>,
     // The record itself.
@@ -112,7 +112,7 @@ impl<'a> TablesInFile<'a> {
 
     // The tables that the record at a directory's address leads to, if its counts fit the file.
     #[tactic(auto, unfolding(crate::specs::ExportReadings::export_data, crate::specs::ExportReadings::tables_if, crate::specs::ExportReadings::fitting))]
-    pub(super) fn find(
+    pub(crate) fn find(
         bytes: &'a [u8],
         directory: DataDirectory,
         address_map: &AddressMap,

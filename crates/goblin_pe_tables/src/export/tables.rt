@@ -27,9 +27,9 @@ pub const SIZEOF_EXPORT_ADDRESS_TABLE_ENTRY: usize = 4;
 const _: () = prove!(SIZEOF_EXPORT_ADDRESS_TABLE_ENTRY == 4);
 
 // The sizes of a name pointer and of an ordinal, in bytes.
-pub(super) const SIZEOF_NAME_POINTER: usize = 4;
+pub(crate) const SIZEOF_NAME_POINTER: usize = 4;
 
-pub(super) const SIZEOF_ORDINAL: usize = 2;
+pub(crate) const SIZEOF_ORDINAL: usize = 2;
 
 /// The record that an image's exports begin with.
 ///
@@ -215,7 +215,7 @@ pub(super) fn whole_entries(bytes: &[u8], offset: Option<usize>, width: usize, c
 }
 
 // How many whole entries of `width` bytes the file has from here on, of `count`.
-fn room(bytes: &[u8], begin: usize, width: usize, count: u32) -> usize
+pub(crate) fn room(bytes: &[u8], begin: usize, width: usize, count: u32) -> usize
     requires { 0 < width }
     ensures { result ≡ min ((length bytes.now - begin) / width) count }
 {
@@ -227,7 +227,7 @@ fn room(bytes: &[u8], begin: usize, width: usize, count: u32) -> usize
 
 // Refuses a record that counts more entries than the file has bytes.
 #[tactic(auto, unfolding(crate::specs::ExportReadings::fitting))]
-pub(super) fn test_counts(bytes: &[u8], table: &ExportDirectoryTable) -> Result<()>
+pub(crate) fn test_counts(bytes: &[u8], table: &ExportDirectoryTable) -> Result<()>
     ensures { Reads (λ fits. table.now) result (fitting table.now) bytes.now }
 {
     let name_pointers = table.number_of_name_pointers as usize;

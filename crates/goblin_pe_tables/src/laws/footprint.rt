@@ -4,8 +4,7 @@ ghost use Rattle.std.specs.Prelude.{◌≡◌, ◌+◌, ◌<◌, ◌≤◌, ◌�
 ghost use Rattle.std.specs.Prelude.{OnOk, length};
 ghost use Rattle.std.specs.List.{All};
 ghost use Rattle.goblin_base.specs.Answers.{IsMemory};
-ghost use Rattle.goblin_base.specs.Footprints.{Covers, positions, slice_footprint};
-ghost use Rattle.goblin_base.specs.Footprints.{stretch_footprint};
+ghost use Rattle.goblin_base.specs.Footprints.{Covers, slice_footprint, stretch_footprint};
 ghost use Rattle.goblin_pe_sect.specs.WindowIndex.{HasPieces};
 ghost use Rattle.goblin_pe_tables.specs.Addresses.{map_by, map_of, offset_of, reads_strictly};
 ghost use Rattle.goblin_pe_tables.specs.ImportReadings.{import_data, libraries_at, library_of};
@@ -16,42 +15,12 @@ use crate::import::{
     Bitfield, ImportDirectoryEntry, SIZEOF_IMPORT_DIRECTORY_ENTRY, address_table_rva,
     lookup_offset, read_entry,
 };
-use goblin_base::{Endian, Record, ResultOf, before_nul, pread_slice};
+use goblin_base::footprint::{add_positions, add_stretch};
+use goblin_base::{Endian, Record, ResultOf, pread_slice};
 use goblin_pe_sect::data_directories::DataDirectory;
 use goblin_pe_sect::options::ParseOptions;
 use goblin_pe_sect::section_table::SectionTable;
 use std::alloc::Global;
-
-// Adds the positions from `begin` on and before `end`, if there are any.
-#[tactic(auto, unfolding(goblin_base::specs::Footprints::positions))]
-fn add_positions<'e>(ranges: &mut Vec<(usize, usize)>, begin: usize, end: usize) -> ResultOf<'e, ()>
-    ensures added { OnOk result (ranges.new.items ≡ ranges.old.items ++ positions begin end) }
-    ensures refused { IfErr result IsMemory }
-    ensures grown { OnErr result (0 < length (positions begin end)) }
-{
-    if begin < end {
-        ranges.push((begin, end))?;
-    }
-    Ok(())
-}
-
-// Adds the text at an offset, through its NUL or to the end of the file.
-fn add_stretch<'e>(
-    ranges: &mut Vec<(usize, usize)>,
-    bytes: &[u8],
-    offset: usize,
-) -> ResultOf<'e, ()>
-    ensures added { OnOk result
-        (ranges.new.items ≡ ranges.old.items ++ stretch_footprint bytes.now offset) }
-    ensures refused { IfErr result IsMemory }
-    ensures grown { OnErr result (0 < length (stretch_footprint bytes.now offset)) }
-{
-    if bytes.len() <= offset {
-        return Ok(());
-    }
-    let end = offset + before_nul(&bytes[offset..]).len();
-    add_positions(ranges, offset, bytes.len().min(end + 1))
-}
 
 // Adds the hint at an offset, and the text after it.
 fn add_hint<'e>(ranges: &mut Vec<(usize, usize)>, bytes: &[u8], offset: usize) -> ResultOf<'e, ()>
@@ -213,31 +182,32 @@ fn add_libraries<'a, 'e, T: Bitfield<'a>>(
     }
 }
 
-// The footprint of the import directory at an address.
+/// Adds the footprint of the import data of a directory at the address `rva`.
+///
+/// # Errors
+/// [`Error::Memory`](goblin_base::Error::Memory) only, and only if a range is added.
 #[tactic(auto, unfolding(crate::specs::ImportReadings::import_data, crate::specs::ImportReadings::libraries_past_front, goblin_base::specs::Footprints::led_to))]
-fn import_ranges<'a, 'e, T: Bitfield<'a>>(
-    alloc: Global,
+pub fn add_imports<'a, 'e, T: Bitfield<'a>>(
+    ranges: &mut Vec<(usize, usize)>,
     bytes: &'a [u8],
     rva: u32,
     address_map: &AddressMap,
-) -> ResultOf<'e, Vec<(usize, usize)>>
-    ensures ranges { let m = map_of address_map.now in
-        IfOk result
-        (λ v.
-        v.items ≡ (import_data (reads_strictly m) T.format (offset_of m) rva).reaches bytes.now) }
+) -> ResultOf<'e, ()>
+    ensures added { let m = map_of address_map.now in
+        let reached =
+        (import_data (reads_strictly m) T.format (offset_of m) rva).reaches bytes.now in
+        OnOk result (ranges.new.items ≡ ranges.old.items ++ reached) }
     ensures refused { IfErr result IsMemory }
     ensures grown { let m = map_of address_map.now in
         let reached =
         (import_data (reads_strictly m) T.format (offset_of m) rva).reaches bytes.now in
         OnErr result (0 < length reached) }
 {
-    let mut ranges = Vec::new(alloc);
     match address_map.offset_of(rva) {
-        Some(0) if address_map.is_permissive() => {}
-        Some(offset) => add_libraries::<T>(&mut ranges, bytes, offset, address_map)?,
-        None => {}
+        Some(0) if address_map.is_permissive() => Ok(()),
+        Some(offset) => add_libraries::<T>(ranges, bytes, offset, address_map),
+        None => Ok(()),
     }
-    Ok(ranges)
 }
 
 /// The footprint of the imports of a file: the ranges (begin, end) of the positions on which the
@@ -276,6 +246,7 @@ pub fn footprint_imports<'a, 'e, T: Bitfield<'a>>(
         OnErr result ((0 < length footprint) ⊎ HasPieces opts.now file_alignment) }
 {
     let address_map = AddressMap::prepare(alloc, sections, file_alignment, opts)?;
-    let ranges = import_ranges::<T>(alloc, bytes, directory.virtual_address, &address_map)?;
+    let mut ranges = Vec::new(alloc);
+    add_imports::<T>(&mut ranges, bytes, directory.virtual_address, &address_map)?;
     Ok(ranges)
 }

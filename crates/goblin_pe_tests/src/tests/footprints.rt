@@ -3,12 +3,14 @@
 use super::modes::are_wholes;
 use super::sample::{is_export_read, is_header, is_import_data, is_lookup};
 use fixture::sample::{
-    ALIGNMENT, EXPORTS, IMPORTS, LOOKUP, MODES, SAMPLE_LEN, in_mode, sample, sample_section,
+    ALIGNMENT, EXPORTS, IMPORTS, LOOKUP, MODES, SAMPLE_LEN, in_mode, put_all, sample,
+    sample_section, sample_with,
 };
-use goblin_base::ParseMode;
+use goblin_base::{ParseMode, ResultOf};
 use goblin_pe::import::ImportData;
 use goblin_pe::laws::{
-    footprint_imports, twin_exports, twin_header, twin_imports, twin_lookup, twin_whole,
+    footprint_exports, footprint_header, footprint_imports, footprint_whole, twin_exports,
+    twin_header, twin_imports, twin_lookup, twin_whole,
 };
 use goblin_pe_sect::ParseOptions;
 use goblin_pe_tables_tests::rows::Short;
@@ -231,26 +233,169 @@ fn a_whole_file_depends_on_its_footprint_alone(rt: HostRuntime) -> Result<(), Fa
     Ok(())
 }
 
-/// Whether the footprint of the sample directory's imports is listed.
-fn is_listed(alloc: Global, file: &[u8], mode: ParseMode) -> bool {
+/// Whether a call lists these positions.
+fn are_listed<'e>(spans: &ResultOf<'e, Vec<Span>>, want: &[Span]) -> bool {
+    matches!(spans, Ok(spans) if are_the_same(spans, want))
+}
+
+/// Whether the footprint of the sample file's header is listed.
+fn is_header_listed(alloc: Global, file: &[u8]) -> bool {
+    are_listed(&footprint_header(alloc, file), OF_HEADER)
+}
+
+/// Whether that of its imports is listed.
+fn are_imports_listed(alloc: Global, file: &[u8], mode: ParseMode) -> bool {
     let sections = [sample_section()];
     let opts = in_mode(mode);
     let spans = footprint_imports::<u32>(alloc, file, IMPORTS, &sections, ALIGNMENT, &opts);
-    matches!(&spans, Ok(spans) if are_the_same(spans, OF_IMPORTS))
+    are_listed(&spans, OF_IMPORTS)
+}
+
+/// Whether that of its exports is listed.
+fn are_exports_listed(alloc: Global, file: &[u8], mode: ParseMode) -> bool {
+    let sections = [sample_section()];
+    let opts = in_mode(mode);
+    let spans = footprint_exports(alloc, file, EXPORTS, &sections, ALIGNMENT, &opts);
+    are_listed(&spans, OF_EXPORTS)
+}
+
+/// Whether these positions are listed of a whole file in both modes.
+fn is_reached(alloc: Global, file: &[u8], want: &[Span]) -> bool {
+    let is_listed = |mode: &ParseMode| {
+        are_listed(&footprint_whole(alloc, file, &in_mode(*mode)), want)
+    };
+    MODES.iter().all(is_listed)
+}
+
+/// Whether the same is listed of this file, and of each that differs from it outside of these
+/// positions, at one place or at all of them.
+fn is_listed_alike<F: Fn(&[u8]) -> bool>(file: &mut [u8], spans: &[Span], is_listed: F) -> bool
+    requires { F.IsAlwaysCallable is_listed }
+{
+    is_listed(file)
+        && ignores_each_outside(file, spans, &is_listed)
+        && ignores_all_outside(file, spans, &is_listed)
+}
+
+#[test]
+fn the_footprint_of_a_header_is_listed(rt: HostRuntime) -> Result<(), Fail> {
+    let alloc = rt.alloc();
+    let is_listed = |file: &[u8]| is_header_listed(alloc, file);
+    assert!(rt; is_listed_alike(&mut sample(alloc)?, OF_HEADER, is_listed));
+    Ok(())
 }
 
 #[test]
 fn the_footprint_of_imports_is_listed(rt: HostRuntime) -> Result<(), Fail> {
     let alloc = rt.alloc();
-    // The file as it stands, and with every byte outside changed.
-    let mut file = sample(alloc)?;
     for mode in MODES {
-        assert!(rt; is_listed(alloc, &file, mode), "{mode:?}");
+        let is_listed = |file: &[u8]| are_imports_listed(alloc, file, mode);
+        assert!(rt;
+            is_listed_alike(&mut sample(alloc)?, OF_IMPORTS, is_listed),
+            "{mode:?}"
+        );
     }
-    flip_outside(&mut file, OF_IMPORTS);
+    Ok(())
+}
+
+#[test]
+fn the_footprint_of_exports_is_listed(rt: HostRuntime) -> Result<(), Fail> {
+    let alloc = rt.alloc();
     for mode in MODES {
-        assert!(rt; is_listed(alloc, &file, mode), "{mode:?}");
+        let is_listed = |file: &[u8]| are_exports_listed(alloc, file, mode);
+        assert!(rt;
+            is_listed_alike(&mut sample(alloc)?, OF_EXPORTS, is_listed),
+            "{mode:?}"
+        );
     }
+    Ok(())
+}
+
+#[test]
+fn the_footprint_of_a_whole_file_is_listed(rt: HostRuntime) -> Result<(), Fail> {
+    let alloc = rt.alloc();
+    let is_listed = |file: &[u8]| is_reached(alloc, file, OF_WHOLE);
+    assert!(rt; is_listed_alike(&mut sample(alloc)?, OF_WHOLE, is_listed));
+    Ok(())
+}
+
+/// What bytes at an offset make of the sample file, whose parts are then reached as far as the
+/// earlier ones lead.
+const CHANGES: &[(&str, usize, &[u8], &[Span])] = &[
+    ("another signature", 0x00, b"ZM", &[(0x000, 0x044)]),
+    ("a pointer past the end", 0x3D, b"\x10", &[(0x000, 0x040)]),
+    ("no optional header", 0x54, b"\0", &[(0x000, 0x080)]),
+    ("another magic", 0x58, b"\x07", &[(0x000, 0x05A)]),
+    ("17 directories", 0xB4, b"\x11", &[(0x000, 0x0B8)]),
+    (
+        "20 sections, 11 in the file",
+        0x46,
+        b"\x14",
+        &[(0x000, 0x2F0)],
+    ),
+    (
+        "a name without a number",
+        0x138,
+        b"/a\0\0\0\0",
+        &[(0x000, 0x160)],
+    ),
+];
+
+/// Of these the whole file is reached as before, and what the bytes lead to.
+const ADDITIONS: &[(&str, usize, &[u8], Span)] = &[
+    ("a name at 0x230", 0x138, b"/560\0\0", (0x230, 0x231)),
+    ("a name past the end", 0x138, b"/768\0\0", (0x000, 0x160)),
+    (
+        "base relocations",
+        0xE0,
+        b"\xF8\x10\0\0\x08",
+        (0x2F8, 0x300),
+    ),
+    (
+        "too many base relocations",
+        0xE0,
+        b"\xF8\x10\0\0\x09",
+        (0x000, 0x160),
+    ),
+];
+
+#[test]
+fn a_refused_file_is_reached_as_far_as_its_parts_lead(rt: HostRuntime) -> Result<(), Fail> {
+    let alloc = rt.alloc();
+    for (name, offset, bytes, want) in CHANGES {
+        let file = sample_with(alloc, *offset, bytes)?;
+        assert!(rt; is_reached(alloc, &file, want), "{name}");
+    }
+    assert!(rt; is_reached(alloc, b"", &[]));
+    assert!(rt; is_reached(alloc, b"MZ", &[(0, 2)]));
+    Ok(())
+}
+
+#[test]
+fn names_and_base_relocations_are_reached(rt: HostRuntime) -> Result<(), Fail> {
+    let alloc = rt.alloc();
+    for (name, offset, bytes, more) in ADDITIONS {
+        let file = sample_with(alloc, *offset, bytes)?;
+        let mut want = Vec::from_slice(alloc, OF_WHOLE)?;
+        want.push(*more)?;
+        assert!(rt; is_reached(alloc, &file, &want), "{name}");
+    }
+    Ok(())
+}
+
+/// A file with a Rich header, which ends within its COFF header.
+const RICH: &[(usize, &[u8])] = &[
+    (0x00, b"MZ"),
+    (0x3C, b"\x60"),
+    (0x40, b"EanS\x01\0\0\0\x01\0\0\0\x01\0\0\0"),
+    (0x50, b"\x03\0\x03\0\x05\0\0\0Rich\x01\0\0\0PE"),
+];
+
+#[test]
+fn a_rich_header_is_reached(rt: HostRuntime) -> Result<(), Fail> {
+    let mut file = [0; 0x70];
+    put_all(&mut file, RICH);
+    assert!(rt; is_reached(rt.alloc(), &file, &[(0x00, 0x64)]));
     Ok(())
 }
 

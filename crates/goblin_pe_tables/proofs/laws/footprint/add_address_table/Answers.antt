@@ -1,7 +1,7 @@
 use Rattle.std.proofs.Common.{◌≤◌, sym, ◌∙◌, arith}
 use Rattle.std.proofs.lemmas.List.{append-nil}
 use Rattle.goblin_base.proofs.SlotFootprints.{ranges-end, ranges-last, ranges-next, ranges-start}
-use Rattle.goblin_pe_tables.proofs.SomeRanges.{on_err, ranges-all}
+use Rattle.goblin_base.proofs.SomeRanges.{on_err, ranges-all}
 use Rattle.goblin_pe_tables.proofs.laws.footprint.add_address_table.Goals as goal
 
 pub slots-init : goal.slots-init

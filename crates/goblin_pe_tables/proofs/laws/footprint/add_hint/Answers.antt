@@ -2,7 +2,7 @@ use Rattle.std.proofs.Common.{◌≡◌, ◌<◌, ℕ, ◌+◌, List, ◌++◌, 
 use Rattle.std.proofs.lemmas.Result.{err_from_is_err_and}
 use Rattle.goblin_base.specs.Footprints.{Range, positions, stretch_footprint}
 use Rattle.goblin_pe_tables.proofs.Listed.{hint-none, hint-some, hint_reach}
-use Rattle.goblin_pe_tables.proofs.SomeRanges.{on_err, some-left, some-right}
+use Rattle.goblin_base.proofs.SomeRanges.{on_err, some-left, some-right}
 use Rattle.goblin_pe_tables.proofs.laws.footprint.add_hint.Goals as goal
 
 pub returns-in_default-clause-added : goal.returns-in_default-clause-added

@@ -1,7 +1,7 @@
 use Rattle.std.proofs.Common.{◌≤◌, sym, ◌∙◌, arith}
 use Rattle.std.proofs.lemmas.Result.{err_from_is_err_and}
 use Rattle.goblin_base.proofs.SlotFootprints.{ranges-end, ranges-last, ranges-next, ranges-start}
-use Rattle.goblin_pe_tables.proofs.SomeRanges.{on_err, ranges-all, ranges-some}
+use Rattle.goblin_base.proofs.SomeRanges.{on_err, ranges-all, ranges-some}
 use Rattle.goblin_pe_tables.proofs.laws.footprint.add_lookup_table.Goals as goal
 
 pub slots-init : goal.slots-init

@@ -1,5 +1,5 @@
--- Footprints that have a range.
-use Rattle.std.proofs.Common.{◌≡◌, ◌<◌, ◌≤◌, ℕ, Some, Result, Ok, Err, OnErr, false, List, [], ◌∷◌, ◌++◌, length, ap, ◌∙◌, arith, inl, inr}
+-- Footprints that have a range, and what is said of an answer.
+use Rattle.std.proofs.Common.{◌≡◌, ◌<◌, ◌≤◌, ℕ, Some, Result, Ok, Err, OnErr, OnOk, false, List, [], ◌∷◌, ◌++◌, length, ap, ◌∙◌, arith, inl, inr}
 use Rattle.std.proofs.Math.Nat.{mul-le-mul_left}
 use Rattle.std.proofs.lemmas.List.{length-append}
 use Rattle.std.specs.Option.{is_some}
@@ -20,6 +20,11 @@ some-right (x ∷ xs) ys h = omega arith
 pub some-positions : (begin end : ℕ) → begin < end → 0 < length (positions begin end)
 unfolding positions
 some-positions begin end less = rw (lt-ltb begin end less) (omega arith)
+
+-- where what is returned says the one, it says the other
+pub on_ok : {X E P Q : Type 0} → (r : Result X E) → (P → Q) → OnOk r P → OnOk r Q
+on_ok (Ok x) next h = next h
+on_ok (Err e) next h = h
 
 -- where what is refused says the one, it says the other
 pub on_err : {X E P Q : Type 0} → (r : Result X E) → (P → Q) → OnErr r P → OnErr r Q

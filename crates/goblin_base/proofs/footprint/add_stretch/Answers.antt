@@ -1,8 +1,8 @@
 use Rattle.std.proofs.Common.{◌≡◌, [], append-nil, sym, arith}
 use Rattle.goblin_base.specs.Footprints.{stretch_footprint}
 use Rattle.goblin_base.proofs.SlotFootprints.{stretch-none}
-use Rattle.goblin_pe_tables.proofs.Listed.{stretch-is}
-use Rattle.goblin_pe_tables.proofs.laws.footprint.add_stretch.Goals as goal
+use Rattle.goblin_base.proofs.Ranges.{stretch-is}
+use Rattle.goblin_base.proofs.footprint.add_stretch.Goals as goal
 
 pub returns-then-bytes-offset-clause-added : goal.returns-then-bytes-offset-clause-added
 returns-then-bytes-offset-clause-added c =

@@ -1,0 +1,131 @@
+-- Ranges that are listed: those of a text, those of a part of the bytes, and those of pieces one
+-- after the other.
+use Rattle.std.proofs.Common.{◌≡◌, ◌<◌, ℕ, zero, suc, ◌+◌, ◌-◌, min, true, false, nat_le, nat_lt}
+use Rattle.std.proofs.Common.{Option, Some, None, List, [], ◌++◌, length, take, drop, append_assoc}
+use Rattle.std.proofs.Common.{ap, sym, ◌∙◌, refl, arith, inl, inr}
+use Rattle.std.proofs.lemmas.Bool.{cases_Bool, cases_lt, le-leb, le-ltb, leb-false, leb-true}
+use Rattle.std.proofs.lemmas.Bool.{lt-ltb, ltb-false, ltb-true}
+use Rattle.std.proofs.lemmas.List.{length-drop, map-append, take_all}
+use Rattle.goblin_base.specs.Bytes.{before_nul}
+use Rattle.goblin_base.specs.Footprints.{Range, led_to, positions, slice_footprint}
+use Rattle.goblin_base.specs.Footprints.{stretch_footprint}
+use Rattle.goblin_base.specs.Parts.{moved_by}
+use Rattle.goblin_base.specs.Tables.{concat_below}
+use Rattle.goblin_base.proofs.Below.{concat_below-next}
+use Rattle.goblin_base.proofs.SomeRanges.{some-left, some-right}
+
+-- the positions up to and with the byte after the text, where the file has one
+pub stretch-is : (bytes : List ℕ) (p end : ℕ) (text : List ℕ)
+    → text ≡ before_nul (take (length bytes - p) (drop p bytes))
+    → end ≡ min (length bytes) (p + length text + 1)
+    → positions p end ≡ stretch_footprint bytes p
+unfolding stretch_footprint
+stretch-is bytes p end text is ends =
+    let all : take (length bytes - p) (drop p bytes) ≡ drop p bytes =
+    take_all (length bytes - p) (drop p bytes) (omega (arith, length-drop p bytes)) in
+    ap (positions p)
+    (ends ∙ ap (λ (t : List ℕ). min (length bytes) (p + length t + 1)) (is ∙ ap before_nul all))
+
+-- ---- ranges of a part of the bytes
+
+pub moved-append : (p : ℕ) (xs ys : List Range)
+    → moved_by p (xs ++ ys) ≡ moved_by p xs ++ moved_by p ys
+unfolding moved_by
+moved-append p xs ys = map-append (λ (range : Range). (p + range.0, p + range.1)) xs ys
+
+pub moved-led : {A : Type 0} → (p : ℕ) (value : Option A) (leads_to : A → List Range)
+    → moved_by p (led_to value leads_to) ≡ led_to value (λ x. moved_by p (leads_to x))
+unfolding moved_by led_to
+moved-led p None leads_to = refl
+moved-led p (Some x) leads_to = refl
+
+pub moved-positions : (p begin end : ℕ)
+    → moved_by p (positions begin end) ≡ positions (p + begin) (p + end)
+unfolding moved_by positions
+moved-positions p begin end =
+    elim (cases_Bool (nat_lt begin end)) [
+      | inl less ↦
+          let after : nat_lt (p + begin) (p + end) ≡ true =
+          lt-ltb (p + begin) (p + end) (omega (arith, ltb-true begin end less)) in
+          rw (less, after) refl
+      | inr more ↦
+          let after : nat_lt (p + begin) (p + end) ≡ false =
+          le-ltb (p + begin) (p + end) (omega (arith, ltb-false begin end more)) in
+          rw (more, after) refl
+    ]
+
+moved_nothing : (p : ℕ) → moved_by p [] ≡ []
+unfolding moved_by
+moved_nothing p = refl
+
+moved_none : (p begin end : ℕ) → nat_lt begin end ≡ false → moved_by p (positions begin end) ≡ []
+unfolding positions
+moved_none p begin end none = rw none (moved_nothing p)
+
+-- a slice of the bytes from p on
+pub moved-slice : (p : ℕ) (bytes : List ℕ) (o n : ℕ)
+    → moved_by p (slice_footprint (drop p bytes) o n) ≡ slice_footprint bytes (p + o) n
+unfolding slice_footprint
+moved-slice p bytes o n =
+    elim (cases_Bool (nat_le (p + o + n) (length bytes))) [
+      | inl there ↦
+          let end = leb-true (p + o + n) (length bytes) there in
+          let own : nat_le (o + n) (length (drop p bytes)) ≡ true =
+          le-leb (o + n) (length (drop p bytes)) (omega (arith, end, length-drop p bytes)) in
+          let same : p + o + n ≡ p + (o + n) = omega arith in
+          rw (there, own, same) (moved-positions p o (o + n))
+      | inr past ↦
+          let end = leb-false (p + o + n) (length bytes) past in
+          elim (cases_Bool (nat_le (o + n) (length (drop p bytes)))) [
+            | inl own ↦
+                let none : nat_lt o (o + n) ≡ false =
+                le-ltb o (o + n)
+                (omega (
+                  arith,
+                  end,
+                  length-drop p bytes,
+                  leb-true (o + n) (length (drop p bytes)) own,
+                )) in
+                rw (past, own) (moved_none p o (o + n) none)
+            | inr other ↦ rw (past, other) (moved_nothing p)
+          ]
+    ]
+
+-- the pieces of a part of the bytes
+pub moved-below : (p : ℕ) (piece : ℕ → List Range) (n : ℕ)
+    → moved_by p (concat_below piece n) ≡ concat_below (λ i. moved_by p (piece i)) n
+unfolding concat_below moved_by
+moved-below p piece zero = refl
+moved-below p piece (suc n) =
+    moved-append p (concat_below piece n) (piece n)
+    ∙ ap (λ (x : List Range). x ++ moved_by p (piece n)) (moved-below p piece n)
+
+-- ---- pieces one after the other
+
+-- two pieces
+pub listed-then : (old now more first second : List Range) → now ≡ old ++ first
+    → more ≡ now ++ second → more ≡ old ++ (first ++ second)
+listed-then old now more first second so_far next =
+    next ∙ ap (λ (x : List Range). x ++ second) so_far ∙ append_assoc old first second
+
+pub below-more : (piece : ℕ → List Range) (n : ℕ) (old now more : List Range)
+    → now ≡ old ++ concat_below piece n → more ≡ now ++ piece n
+    → more ≡ old ++ concat_below piece (n + 1)
+below-more piece n old now more so_far next =
+    listed-then old now more (concat_below piece n) (piece n) so_far next
+    ∙ ap (λ (x : List Range). old ++ x) (sym (concat_below-next piece n))
+
+-- a piece with a range is among those below n
+pub below-some : (piece : ℕ → List Range) (n i : ℕ) → i < n → 0 < length (piece i)
+    → 0 < length (concat_below piece n)
+unfolding concat_below
+below-some piece zero i lt some = absurd (omega (arith, lt))
+below-some piece (suc n) i lt some =
+    elim (cases_lt i n) [
+      | inl before ↦
+          some-left (concat_below piece n) (piece n) (below-some piece n i before some)
+      | inr past ↦
+          let here : i ≡ n = omega (arith, lt, past) in
+          let own : 0 < length (piece n) = rw (← here) some in
+          some-right (concat_below piece n) (piece n) own
+    ]
