@@ -22,5 +22,4 @@ pub mod LookupWalk
 pub mod Modes
 pub mod PermissiveReads
 mod SlotSums
-mod SomeRanges
 mod WholeEntries
