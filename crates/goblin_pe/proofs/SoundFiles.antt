@@ -14,6 +14,7 @@ use Rattle.goblin_pe_sect.specs.SectionTable.{Section}
 use Rattle.goblin_pe_head.specs.declared.header.dos.DosHeader.{DosHeader}
 use Rattle.goblin_pe_head.specs.HeaderReadings.{dos_header, header_after, pe_header, stub_at, stub_in}
 use Rattle.goblin_pe_head.specs.PeHeader.{PeHeader}
+use Rattle.goblin_pe_tables.specs.declared.import.left_out.LeftOut.{LeftOut}
 use Rattle.goblin_pe.specs.declared.whole.damage.Damage.{Damage}
 use Rattle.goblin_pe.specs.Damages.{AreDamaged, IsDamage, IsDamaged, IsReadByBoth, IsSound, TellsDamage}
 use Rattle.goblin_pe.specs.Modes.{in_mode, in_permissive_mode}
@@ -71,9 +72,9 @@ all-there : {A B C : Type 0} (a : Reading A) (b : Reading B) (c : Reading C) (by
 all-there a b c bytes first second third = both-there (pair_of (a.value bytes) (b.value bytes)) (c.value bytes) (both-there (a.value bytes) (b.value bytes) first second) third
 
 module _ (opts : ParseOptions) (bytes : List ℕ) (short : length bytes < 2 ^ 63) (fit : IsBytes bytes) where
-  tables-there : (offset_of : ℕ → Option ℕ) (places : TablePlaces) (imports exports relocations : Option ErrorOf) → imports ≡ None → exports ≡ None → relocations ≡ None → AreDamaged opts offset_of places bytes imports exports relocations → IsSome ((table_parts (in_mode Strict opts) offset_of places).value bytes)
+  tables-there : (offset_of : ℕ → Option ℕ) (places : TablePlaces) (imports exports relocations : Option ErrorOf) (left_out : LeftOut) → imports ≡ None → exports ≡ None → relocations ≡ None → AreDamaged opts offset_of places bytes imports exports relocations left_out → IsSome ((table_parts (in_mode Strict opts) offset_of places).value bytes)
   unfolding table_parts
-  tables-there offset_of places imports exports relocations no_imports no_exports no_relocations damage =
+  tables-there offset_of places imports exports relocations left_out no_imports no_exports no_relocations damage =
       let listed = there (import_list (in_mode Strict opts) offset_of places) bytes imports no_imports damage.imports in
       let parts = unmapped-there _ ((import_parts (in_mode Strict opts) offset_of places).value bytes) _ (list_value (in_mode Strict opts) offset_of places bytes short fit) listed in
       all-there (import_parts (in_mode Strict opts) offset_of places) (export_part (in_mode Strict opts) offset_of places) (relocation_part (in_mode Strict opts) offset_of places) bytes parts
@@ -103,7 +104,7 @@ module _ (opts : ParseOptions) (bytes : List ℕ) (short : length bytes < 2 ^ 63
       let header = header-strict bytes strict l.0 (subst (λ (x : PeHeader). (pe_header strict).value bytes ≡ Some x) h first.is) (there (stub_at l.0.dos_header.pe_pointer) bytes d.dos_stub sound.dos_stub damaged.dos_stub) in
       let own : (sections_after strict l.0).value bytes ≡ Some l.1 = subst (λ (x : PeHeader). (sections_after strict x).value bytes ≡ Some l.1) h (subst (λ (y : List Section). (sections_after strict first.value).value bytes ≡ Some y) s second.is) in
       let sections = same-sections bytes opts strict l.0 l.1 own _ refl (there (sections_after true l.0) bytes d.section_names sound.section_names damaged.section_names) in
-      let parts = tables-there (offset_by opts l.1 (places_in l.0.optional_header)) (places_in l.0.optional_header) d.imports d.exports d.relocations sound.imports sound.exports sound.relocations damaged.tables in
+      let parts = tables-there (offset_by opts l.1 (places_in l.0.optional_header)) (places_in l.0.optional_header) d.imports d.exports d.relocations d.left_out sound.imports sound.exports sound.relocations damaged.tables in
       let whole : (whole_file (in_mode Strict opts)).value bytes ≡ (whole_with (in_mode Strict opts) l.0 l.1).value bytes = rw (header, sections) refl in
       kept-by-both _ refl (subst IsSome (sym whole) (with-there l.0 l.1 parts))
 

@@ -1,17 +1,22 @@
 -- What strict mode would refuse of a file, part by part.
 use Rattle.std.specs.Prelude.{◌≡◌, ℕ, true, List, Option, None, Some, IsSome, IsSomeAnd, Result, Ok}
-use Rattle.std.specs.Prelude.{Err}
+use Rattle.std.specs.Prelude.{Err, if◌then◌else◌, min, ◌^◌, ◌-◌}
 use Rattle.goblin_base.specs.declared.error.ErrorOf.{ErrorOf}
 use Rattle.goblin_base.specs.declared.permissive.ParseMode.TheVariants.{Permissive, Strict}
 use Rattle.goblin_base.specs.Answers.{IsMemory}
 use Rattle.goblin_base.specs.Reading.{Reading}
+use Rattle.goblin_base.specs.Tables.{Format}
+use Rattle.goblin_pe_sect.specs.declared.data_directories.DataDirectory.{DataDirectory}
 use Rattle.goblin_pe_sect.specs.declared.options.ParseOptions.{ParseOptions}
 use Rattle.goblin_pe_sect.specs.SectionTable.{Section}
 use Rattle.goblin_pe_head.specs.HeaderReadings.{stub_at}
 use Rattle.goblin_pe_head.specs.PeHeader.{PeHeader}
+use Rattle.goblin_pe_tables.specs.declared.import.left_out.LeftOut.{LeftOut}
+use Rattle.goblin_pe_tables.specs.ImportEntries.{EntryValue}
+use Rattle.goblin_pe_tables.specs.LeftOut.{entries_left_out, libraries_left_out}
 use Rattle.goblin_pe.specs.declared.whole.damage.Damage.{Damage}
 use Rattle.goblin_pe.specs.Modes.{in_mode, in_permissive_mode}
-use Rattle.goblin_pe.specs.Whole.{TablePlaces, export_part, import_list, layout, offset_by}
+use Rattle.goblin_pe.specs.Whole.{TablePlaces, entry_format, export_part, import_list, layout, offset_by}
 use Rattle.goblin_pe.specs.Whole.{places_in, relocation_part, sections_after, whole_file}
 
 -- There is a value and no damage, or there is none and the cause is true.
@@ -23,12 +28,28 @@ IsDamageOf value IsCause (Some e) = (value ≡ None) × IsCause e
 abbrev pub IsDamage : {A : Type 0} → Reading A → List ℕ → Option ErrorOf → Type 0
 IsDamage reading bytes damage = IsDamageOf (reading.value bytes) (reading.IsCause bytes) damage
 
+-- how much permissive mode leaves out of the imports that a directory leads to, if there is one
+abbrev pub left_out_at : Format EntryValue → (ℕ → Option ℕ) → List ℕ → Option DataDirectory → LeftOut
+left_out_at format offset_of bytes None = record { libraries = 0; entries = 0 }
+left_out_at format offset_of bytes (Some d) = record {
+  libraries = libraries_left_out format offset_of bytes d.virtual_address;
+  entries = min (entries_left_out format offset_of bytes d.virtual_address) (2 ^ 64 - 1);
+}
+
+-- the same of a file's imports; nothing where they are not asked for
+unfoldable pub left_out_of : ParseOptions → (ℕ → Option ℕ) → TablePlaces → List ℕ → LeftOut
+left_out_of opts offset_of places bytes =
+    left_out_at (entry_format places.magic) offset_of bytes
+    (if opts.parse_imports then places.imports else None)
+
 -- What strict mode would refuse of the tables whose addresses are mapped so.
 pub record AreDamaged (opts : ParseOptions) (offset_of : ℕ → Option ℕ) (places : TablePlaces)
-    (bytes : List ℕ) (of_imports of_exports of_relocations : Option ErrorOf) : Type 0 where
+    (bytes : List ℕ) (of_imports of_exports of_relocations : Option ErrorOf) (of_left_out : LeftOut)
+    : Type 0 where
   pub imports : IsDamage (import_list (in_mode Strict opts) offset_of places) bytes of_imports
   pub exports : IsDamage (export_part (in_mode Strict opts) offset_of places) bytes of_exports
   pub relocations : IsDamage (relocation_part (in_mode Strict opts) offset_of places) bytes of_relocations
+  pub left_out : of_left_out ≡ left_out_of opts offset_of places bytes
 
 -- What strict mode would refuse of a file with this header and these sections.
 pub record IsDamaged (opts : ParseOptions) (h : PeHeader) (sections : List Section)
@@ -36,7 +57,7 @@ pub record IsDamaged (opts : ParseOptions) (h : PeHeader) (sections : List Secti
   pub dos_stub : IsDamage (stub_at h.dos_header.pe_pointer) bytes d.dos_stub
   pub section_names : IsDamage (sections_after true h) bytes d.section_names
   pub tables : let places = places_in h.optional_header in
-      AreDamaged opts (offset_by opts sections places) places bytes d.imports d.exports d.relocations
+      AreDamaged opts (offset_by opts sections places) places bytes d.imports d.exports d.relocations d.left_out
 
 -- A call tells the damage of a file that has a header and sections in its own mode; or these are
 -- refused, or memory.

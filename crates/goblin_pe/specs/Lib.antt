@@ -65,4 +65,5 @@ pub use Rattle.goblin_pe_tables.specs.ImportReadings
 pub use Rattle.goblin_pe_tables.specs.ImportRecords
 pub use Rattle.goblin_pe_tables.specs.ImportWalks
 pub use Rattle.goblin_pe_tables.specs.Imports
+pub use Rattle.goblin_pe_tables.specs.LeftOut
 pub use Rattle.goblin_pe_tables.specs.LookupReadings

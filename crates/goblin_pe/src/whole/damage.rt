@@ -13,7 +13,7 @@ ghost use Rattle.goblin_pe.specs.Layouts.{IsFileImportsCause, file_imports_left,
 ghost use Rattle.goblin_pe.specs.Layouts.{layout_places};
 ghost use Rattle.goblin_pe.specs.Whole.{import_list, sections_after};
 
-use crate::import::{Bitfield, Imports};
+use crate::import::{Bitfield, Imports, LeftOut};
 use crate::whole::layout::sections_of;
 use crate::whole::{FileImports, Layout, Part, Whole};
 use goblin_base::{Error, ErrorOf, Result, ResultOf};
@@ -37,6 +37,8 @@ pub struct Damage {
     pub exports: Option<Error>,
     /// The base relocations: their directory, not its blocks.
     pub relocations: Option<Error>,
+    /// How much permissive mode leaves out of the imports; nothing where they are not asked for.
+    pub left_out: LeftOut,
 }
 
 // The refusal that ends a walk, if one does.
@@ -90,17 +92,19 @@ fn name_damage(alloc: Global, bytes: &[u8], header: &Header) -> Result<Option<Er
     }
 }
 
-// What strict mode refuses of the imports, the exports and the base relocations.
-fn table_damage(layout: Layout) -> (Option<Error>, Option<Error>, Option<Error>)
+// What strict mode refuses of the imports, the exports and the base relocations, and how much
+// permissive mode leaves out of the imports.
+fn table_damage(layout: Layout) -> (Option<Error>, Option<Error>, Option<Error>, LeftOut)
     ensures { let m = layout_map layout.entry in
         AreDamaged m.opts (offset_of m) (layout_places layout.entry) layout.entry.bytes.now
-        result.0 result.1 result.2 }
+        result.0 result.1 result.2 result.3 }
 {
+    let left_out = layout.left_out();
     let layout = layout.strictly();
     let imports = import_damage(&layout);
     let exports = layout.exports().err();
     let relocations = layout.relocations().err();
-    (imports, exports, relocations)
+    (imports, exports, relocations, left_out)
 }
 
 // What strict mode refuses of a file whose header and sections are read by these options.
@@ -114,13 +118,14 @@ fn file_damage(alloc: Global, bytes: &[u8], opts: &ParseOptions) -> Result<Damag
     let header = Header::parse_with_opts(bytes, opts)?;
     let layout = Layout::of(alloc, bytes, &header, opts)?;
     let section_names = name_damage(alloc, bytes, &header)?;
-    let (imports, exports, relocations) = table_damage(layout);
+    let (imports, exports, relocations, left_out) = table_damage(layout);
     Ok(Damage {
         dos_stub: DosStub::parse(bytes, header.dos_header.pe_pointer).err(),
         section_names,
         imports,
         exports,
         relocations,
+        left_out,
     })
 }
 

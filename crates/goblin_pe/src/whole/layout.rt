@@ -8,6 +8,7 @@ ghost use Rattle.goblin_pe_sect.specs.Options.{is_strict};
 ghost use Rattle.goblin_pe_head.specs.PeHeader.{header_value};
 ghost use Rattle.goblin_pe_head.specs.CoffHeader.{IsTooManySections};
 ghost use Rattle.goblin_pe_tables.specs.Addresses.{offset_of, strict_map};
+ghost use Rattle.goblin_pe.specs.Damages.{left_out_of};
 ghost use Rattle.goblin_pe.specs.Layouts.{IsFileImportsCause, IsLayoutOf, PartWalks};
 ghost use Rattle.goblin_pe.specs.Layouts.{file_imports_left, layout_map, layout_places};
 ghost use Rattle.goblin_pe.specs.Layouts.{walked_exports};
@@ -15,6 +16,7 @@ ghost use Rattle.goblin_pe.specs.Whole.{AreListed, export_part, import_list, lis
 ghost use Rattle.goblin_pe.specs.Whole.{relocation_part, sections_after, table_parts};
 
 use crate::export::Exports;
+use crate::import::LeftOut;
 use crate::whole::listed::ListedTables;
 use crate::whole::places::Places;
 use crate::whole::{FileImports, Part};
@@ -177,6 +179,14 @@ impl<'a, 'h> Layout<'a, 'h> {
             (relocation_part m.opts (offset_of m) (layout_places self.now)) self.now.bytes.now }
     {
         self.places.relocations(self.bytes, &self.address_map)
+    }
+
+    /// How much permissive mode leaves out of the imports; nothing where they are not asked for.
+    pub fn left_out(&self) -> LeftOut
+        ensures { let m = layout_map self.now in
+            result ≡ left_out_of m.opts (offset_of m) (layout_places self.now) self.now.bytes.now }
+    {
+        self.places.left_out(self.bytes, &self.address_map)
     }
 
     // The lists of all tables.

@@ -1,6 +1,6 @@
 //! Where the tables of a file lie, and each as a walk or as its bytes.
 
-ghost use Rattle.std.specs.Prelude.{◌≡◌, ◌==◌};
+ghost use Rattle.std.specs.Prelude.{◌≡◌, ◌==◌, Some};
 ghost use Rattle.std.specs.List.{flat_map};
 ghost use Rattle.goblin_base.specs.Reading.{Reads};
 ghost use Rattle.readings.specs.Reads.{mapped};
@@ -10,13 +10,14 @@ ghost use Rattle.goblin_pe_sect.specs.Options.{is_strict};
 ghost use Rattle.goblin_pe_tables.specs.Addresses.{map_of, offset_of, reads_strictly};
 ghost use Rattle.goblin_pe_tables.specs.ImportReadings.{import_data};
 ghost use Rattle.goblin_pe_tables.specs.Imports.{kept_imports};
+ghost use Rattle.goblin_pe.specs.Damages.{left_out_at, left_out_of};
 ghost use Rattle.goblin_pe.specs.Layouts.{IsFileImportsCause, PartWalks, file_imports_left};
 ghost use Rattle.goblin_pe.specs.Layouts.{walked_exports};
 ghost use Rattle.goblin_pe.specs.Whole.{AreListed, BecomesPart, entry_format, export_part, import_list, part_map};
 ghost use Rattle.goblin_pe.specs.Whole.{places_in, relocation_part, table_places};
 
 use crate::export::Exports;
-use crate::import::Imports;
+use crate::import::{Imports, LeftOut};
 use crate::whole::{FileImports, Part};
 use goblin_base::{Result, ResultOf, is_passed_over};
 use goblin_pe_head::optional_header::{MAGIC_32, OptionalHeader};
@@ -126,6 +127,40 @@ impl Places {
                 Ok(Part::Read(imports))
             }
             _ => Ok(Part::Absent),
+        }
+    }
+
+    // How much permissive mode leaves out of the imports of a directory.
+    #[tactic(auto, unfolding(crate::specs::Whole::entry_format))]
+    fn left_out_at(
+        &self,
+        bytes: &[u8],
+        directory: DataDirectory,
+        address_map: &AddressMap,
+    ) -> LeftOut
+        ensures { let m = map_of address_map.now in
+            result
+            ≡ left_out_at (entry_format self.now.magic) (offset_of m) bytes.now (Some directory) }
+    {
+        if self.has_narrow_entries() {
+            LeftOut::of::<u32>(bytes, directory, address_map)
+        } else {
+            LeftOut::of::<u64>(bytes, directory, address_map)
+        }
+    }
+
+    // The same of the imports, if they were asked for.
+    #[tactic(auto, unfolding(crate::specs::Damages::left_out_of))]
+    pub(super) fn left_out(&self, bytes: &[u8], address_map: &AddressMap) -> LeftOut
+        ensures { let m = map_of address_map.now in
+            result ≡ left_out_of m.opts (offset_of m) (table_places self.now) bytes.now }
+    {
+        let opts = address_map.opts();
+        match self.imports {
+            Some(directory) if opts.parse_imports => {
+                self.left_out_at(bytes, directory, address_map)
+            }
+            _ => LeftOut::default(),
         }
     }
 
