@@ -13,7 +13,7 @@ use Rattle.goblin_base.specs.Tables.{concat_below, each_below, is_kept, join}
 use Rattle.goblin_base.proofs.Below.{join-none}
 use Rattle.goblin_base.proofs.Steps.{same_value}
 use Rattle.readings.specs.Reads.{with_slots}
-use Rattle.readings.specs.Walks.{HasItem, end_items, items_of, until_refused}
+use Rattle.readings.specs.Walks.{end_items, items_of, until_refused}
 
 -- ---- the values of a list, where each is there
 
@@ -190,11 +190,6 @@ module _ {A B : Type 0} (item : ℕ → A → B) (entry : B → A) (slot : B →
       ∙ by_test (needed && not (is_some end)) n (collected n)
 
 -- ---- where an item comes
-
-pub has-yielded : {A : Type 0} (xs : List A) (x : A) (items : List (Option A))
-    → HasItem (map (λ x. Some x) xs ++ Some x ∷ items)
-has-yielded [] x items = tt
-has-yielded (y ∷ xs) x items = tt
 
 -- ---- what holds of the items that are collected
 

@@ -88,9 +88,3 @@ Walks left IsCause gather (Ok walk) reading bytes =
     IsWalkOf gather reading bytes (left walk) (IsCause walk)
 Walks left IsCause gather (Err e) reading bytes =
     (reading.value bytes ≡ None) × reading.IsCause bytes e
-
--- an item comes before a refusal or the end
-abbrev pub HasItem : {A : Type 0} → List (Option A) → Type 0
-HasItem [] = ⊥
-HasItem (None ∷ items) = ⊥
-HasItem (Some x ∷ items) = Unit {0}
