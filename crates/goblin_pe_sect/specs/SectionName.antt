@@ -1,5 +1,5 @@
 -- What the eight bytes of a section's name say: the name itself, or its offset in the string table.
-use Rattle.std.specs.Prelude.{IsTrue, IsSomeAnd, ◌≢◌, ◌≡◌, ◌<◌, ◌≤◌, ℕ, ◌+◌, ◌-◌}
+use Rattle.std.specs.Prelude.{IsTrue, IsSomeAnd, ◌≢◌, ◌≡◌, ◌<◌, ◌≤◌, ℕ, ◌-◌}
 use Rattle.std.specs.Prelude.{◌^◌, ◌++◌, ◌==◌, if◌then◌else◌, Bool, List, ◌∷◌, length}
 use Rattle.std.specs.Prelude.{drop, map, slice_index, replicate, Option, Some, None}
 use Rattle.std.specs.Prelude.{option_map, nat_lt, nat_le}

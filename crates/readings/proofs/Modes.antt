@@ -1,7 +1,6 @@
 -- A read in strict mode, and again in permissive mode: once for each way to put readings together.
 use Rattle.std.proofs.Common.{ap, ◌∙◌, ◌≡◌, ℕ, Bool, true, false, cond, List, Option, Some, None}
 use Rattle.std.proofs.Common.{refl}
-use Rattle.goblin_base.specs.declared.error.CauseOf.{CauseOf}
 use Rattle.goblin_base.specs.Reading.{Reading, Repeats, RepeatsAs}
 use Rattle.goblin_base.specs.Tables.{SlotFormat, kept_slots, slot_table}
 use Rattle.goblin_base.proofs.Kept.{Keeps, kept_slots-kept, map-kept, or_left_out-kept}

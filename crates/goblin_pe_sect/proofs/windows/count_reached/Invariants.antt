@@ -1,4 +1,4 @@
-use Rattle.std.proofs.Common.{◌+◌, ◌*◌, ◌-◌, ◌^◌, ◌<◌}
+use Rattle.std.proofs.Common.{◌*◌, ◌-◌, ◌^◌, ◌<◌}
 use Rattle.goblin_pe_sect.proofs.Halving.{IsSearched}
 use Rattle.goblin_pe_sect.proofs.windows.count_reached.Given as goal
 

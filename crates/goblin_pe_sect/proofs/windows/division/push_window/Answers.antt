@@ -1,5 +1,4 @@
-use Rattle.std.proofs.Common.{ℕ, ◌+◌, ◌≤◌, arith}
-use Rattle.goblin_pe_sect.specs.WindowDivision.{HasRoom}
+use Rattle.std.proofs.Common.{◌+◌, arith}
 use Rattle.goblin_pe_sect.proofs.windows.division.push_window.Goals as goal
 use Rattle.goblin_pe_sect.proofs.windows.division.push_window.Goals.{then-end-window, else-end-window}
 
