@@ -1,15 +1,16 @@
 //! Calls by options.
 
 use crate::answer::show_answer;
-use crate::laws;
 use crate::sample::{counting, library, no_exports};
+use crate::{laws, refused};
 use fixture::sample::{ALIGNMENT, EXPORTS, IMPORTS, LOOKUP, TABLE, TABLE_END, section};
-use goblin_pe::Whole;
 use goblin_pe::export::{Export, ExportData};
 use goblin_pe::import::{
     ImportData, SyntheticImportDirectoryEntry as Library, SyntheticImportLookupTableEntry as Lookup,
 };
 use goblin_pe::laws::footprint_imports;
+use goblin_pe::{Layout, Whole};
+use goblin_pe_head::Header;
 use goblin_pe_sect::{ParseOptions, SectionTable, WindowIndex};
 use goblin_pe_tables::laws::read_exports;
 use std::io;
@@ -44,8 +45,16 @@ pub fn show_call(
         "index_of_no_alignment" => show_index(rt, 0, opts),
         "index_of_offsets" => show_index(rt, ALIGNMENT, &ParseOptions::te()),
         "whole" => show_answer(rt, Whole::read(alloc, file, opts)),
+        "layout" => show_layout(rt, file, opts),
+        "damage" => show_answer(rt, Whole::damage(alloc, file, opts)),
         _ => show_imports(rt, call, file, sections, opts),
     }
+}
+
+// What all tables of the file are read by.
+fn show_layout(rt: &HostRuntime, file: &[u8], opts: &ParseOptions) -> io::Result<()> {
+    let header = Header::parse_with_opts(file, opts).map_err(refused)?;
+    show_answer(rt, Layout::of(rt.alloc(), file, &header, opts))
 }
 
 // The index of two sections, of which the second lies around the first.
