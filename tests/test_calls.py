@@ -1,9 +1,9 @@
-"""The library's calls in the test program pe_replay: headers written back, footprints, addresses among many sections, and
-each call that takes memory with each of its growths refused."""
+"""The library's calls in the test program pe_replay: headers written back, footprints, addresses among many sections, walks
+over imports and exports, damage, and each call that takes memory with each of its growths refused."""
 import struct
 
 from tests import images
-from tests.programs import CRATES, IMAGES, PE_REPLAY, Case, run
+from tests.programs import CRATES, IMAGES, PE_REPLAY, Case, beside, run, with_memory
 
 # The forms of a call: without options, or by those of a mode.
 MODES = ("strict", "permissive")
@@ -34,6 +34,8 @@ TAKE_MEMORY = [
     (MODES, "footprint_exports", "8"),
     (MODES, "footprint_whole", "40"),
     (MODES, "whole", "22"),
+    (MODES, "layout", "1"),
+    (MODES, "damage", "0"),
     (MODES, "twin_lookup", "2 1"),
     (("strict",), "twin_imports", "1 refused"),
     (("permissive",), "twin_imports", "1 0"),
@@ -120,3 +122,55 @@ class Answers(Case):
             for rule, wanted in (("stored", sum(found) + 0x10 * len(found)), ("rounded", sum(found))):
                 with self.subTest(way=way, rule=rule):
                     self.assert_shows(made, b"%#x\n" % wanted, way, "5000", rule)
+
+
+class Walks(Case):
+    def assert_shows(self, stdin, wanted, *words):
+        self.assert_runs([PE_REPLAY, *words], (0, wanted, b""), stdin)
+
+    def test_as_many_as_are_listed(self):
+        for sample in IMAGES:
+            rows = [line.split(b" ", 1)[0] for line in beside(sample, "listing").splitlines()]
+            for word in ("imports", "exports"):
+                with self.subTest(sample=sample.name, word=word):
+                    self.assert_shows(sample, b"%d\n" % rows.count(word[:-1].encode()), word)
+
+    def test_all_imports_of_a_hostile_image(self):
+        """Of so many libraries that share one table. The walk takes no memory for them: none is left for a list."""
+        libraries, functions = 6500, 16000
+        image = images.shared_image(libraries, functions)
+        self.assertLess(len(image), 256 << 10)
+        walk = with_memory((len(image) + 100_000_000) >> 10, [PE_REPLAY, "imports"])
+        self.assert_runs(walk, (0, b"%d\n" % (libraries * functions), b""), image)
+
+    def test_what_ends_a_walk(self):
+        """The name of the third of four libraries stands at an address that no section maps."""
+        image = images.shared_image(libraries=4, functions=3)
+        struct.pack_into("<I", image, 0x200 + 20 * 2 + 12, 0x9000)
+        self.assert_shows(image, b"6\nthe address 0x9000 has no offset in the file\n", "imports")
+
+    def test_an_import_directory_at_an_address_that_no_section_maps(self):
+        image = images.shared_image(libraries=4, functions=3)
+        struct.pack_into("<I", image, 0xC8 + 8, 0x9000)
+        self.assert_shows(image, b"0\nthe address 0x9000 has no offset in the file\n", "imports")
+
+
+class Damage(Case):
+    PARTS = ("stub", "section names", "imports", "exports", "relocations")
+
+    def assert_damaged(self, stdin, **causes):
+        wanted = "".join(f"{part}: {causes.get(part, 'sound')}\n" for part in self.PARTS)
+        self.assert_runs([PE_REPLAY, "damage"], (0, wanted.encode(), b""), stdin)
+
+    def test_no_sample_is_damaged(self):
+        for sample in IMAGES:
+            with self.subTest(sample=sample.name):
+                self.assert_damaged(sample)
+
+    def test_each_part_for_itself(self):
+        """The name of a library and the base relocations stand at addresses that no section maps."""
+        image = images.shared_image(libraries=4, functions=3)
+        struct.pack_into("<I", image, 0x200 + 12, 0x9000)
+        struct.pack_into("<II", image, 0xC8 + 8 * 5, 0xA000, 8)
+        unmapped = "the address 0x%x has no offset in the file"
+        self.assert_damaged(image, imports=unmapped % 0x9000, relocations=unmapped % 0xA000)

@@ -5,7 +5,8 @@ use goblin_pe::export::{Export, ExportData};
 use goblin_pe::import::{Import, ImportData, SyntheticImportDirectoryEntry};
 use goblin_pe::laws::{PartsOf, TablesOf};
 use goblin_pe::table::Table;
-use goblin_pe::{Part, Whole};
+use goblin_pe::whole::Damage;
+use goblin_pe::{Layout, Part, Whole};
 use goblin_pe_sect::{SectionTable, WindowIndex};
 use std::alloc::Global;
 use std::borrow::CowSlice;
@@ -157,6 +158,26 @@ fn sum_of(
 impl Amount for Whole<'_> {
     fn amount(&self) -> Result<usize, Refusal> {
         sum_of(&self.sections, &self.imports, &self.exports)
+    }
+}
+
+impl Amount for Layout<'_, '_> {
+    fn amount(&self) -> Result<usize, Refusal> {
+        Ok(self.sections().len())
+    }
+}
+
+/// One for each damaged part.
+impl Amount for Damage {
+    fn amount(&self) -> Result<usize, Refusal> {
+        let parts = [
+            &self.dos_stub,
+            &self.section_names,
+            &self.imports,
+            &self.exports,
+            &self.relocations,
+        ];
+        Ok(parts.iter().filter(|part| part.is_some()).count())
     }
 }
 

@@ -1,10 +1,9 @@
 //! Calls by options.
 
 use crate::answer::show_answer;
-use crate::laws;
 use crate::sample::{counting, library, no_exports};
+use crate::{laws, refused};
 use fixture::sample::{ALIGNMENT, EXPORTS, IMPORTS, LOOKUP, TABLE, TABLE_END, section};
-use goblin_pe::Whole;
 use goblin_pe::export::{Export, ExportData};
 use goblin_pe::import::{
     ImportData, SyntheticImportDirectoryEntry as Library, SyntheticImportLookupTableEntry as Lookup,
@@ -12,6 +11,8 @@ use goblin_pe::import::{
 use goblin_pe::laws::{
     footprint_exports, footprint_header, footprint_imports, footprint_whole,
 };
+use goblin_pe::{Layout, Whole};
+use goblin_pe_head::Header;
 use goblin_pe_sect::{ParseOptions, SectionTable, WindowIndex};
 use goblin_pe_tables::laws::read_exports;
 use std::io;
@@ -48,8 +49,16 @@ pub fn show_call(
         "whole" => show_answer(rt, Whole::read(alloc, file, opts)),
         "footprint_header" => show_answer(rt, footprint_header(alloc, file)),
         "footprint_whole" => show_answer(rt, footprint_whole(alloc, file, opts)),
+        "layout" => show_layout(rt, file, opts),
+        "damage" => show_answer(rt, Whole::damage(alloc, file, opts)),
         _ => show_imports(rt, call, file, sections, opts),
     }
+}
+
+// What all tables of the file are read by.
+fn show_layout(rt: &HostRuntime, file: &[u8], opts: &ParseOptions) -> io::Result<()> {
+    let header = Header::parse_with_opts(file, opts).map_err(refused)?;
+    show_answer(rt, Layout::of(rt.alloc(), file, &header, opts))
 }
 
 // The index of two sections, of which the second lies around the first.

@@ -2,7 +2,7 @@
 //! the tests that compare it.
 //!
 //! ```text
-//! pe_replay header|footprint < FILE
+//! pe_replay header|footprint|imports|exports|damage < FILE
 //! pe_replay walk|index COUNT stored|rounded < FILE
 //! pe_replay CALL default|strict|permissive
 //! ```
@@ -16,6 +16,7 @@ mod header;
 mod laws;
 mod look_ups;
 mod sample;
+mod walks;
 
 use fixture::sample::{SAMPLE_LEN, in_mode, sample_section};
 use goblin_base::{Error, ParseMode};
@@ -89,6 +90,9 @@ fn show_file(rt: &HostRuntime, word: &str, count: &str, rule: &str) -> io::Resul
         "footprint" => header::show_footprint(rt, &file),
         "walk" => look_ups::show_walk(rt, &file, count.parse().unwrap_or(0), &opts),
         "index" => look_ups::show_index(rt, &file, count.parse().unwrap_or(0), &opts),
+        "imports" => walks::show_imports(rt, &file),
+        "exports" => walks::show_exports(rt, &file),
+        "damage" => walks::show_damage(rt, &file),
         _ => Err(ErrorKind::InvalidInput.into()),
     }
 }

@@ -1,0 +1,88 @@
+//! Tables walked over through a layout.
+
+use fixture::sample::{MODES, in_mode, sample};
+use goblin_base::ParseMode;
+use goblin_pe::export::{Export, WalkedExport};
+use goblin_pe::import::{Import, SyntheticImportLookupTableEntry, WalkedImport};
+use goblin_pe::{Layout, Part, Whole};
+use std::alloc::Global;
+use std::test::Fail;
+
+/// Whether a walk's import is this one of a list. The name of an import by ordinal is not in the
+/// file.
+fn is_import(walked: &WalkedImport, import: &Import) -> bool {
+    let name = &import.name[..];
+    let is_named = match &walked.entry {
+        SyntheticImportLookupTableEntry::HintNameTableRVA((rva, named)) => {
+            named.name == name && named.hint == import.ordinal && *rva as usize == import.rva
+        }
+        SyntheticImportLookupTableEntry::OrdinalNumber(ordinal) => {
+            *ordinal == import.ordinal && import.rva == 0
+        }
+    };
+    is_named
+        && walked.dll == import.dll
+        && (walked.offset, walked.size, walked.slot) == (import.offset, import.size, import.slot)
+}
+
+/// Whether a walk's export is this one of a list.
+fn is_export(walked: &WalkedExport, export: &Export) -> bool {
+    let found = &walked.export;
+    found.name == export.name
+        && found.offset == export.offset
+        && found.rva == export.rva
+        && found.reexport == export.reexport
+}
+
+/// Whether the walk over a layout's imports gives this list.
+fn are_imports_walked(layout: &Layout, imports: &[Import]) -> bool {
+    let Ok(Part::Read(mut walk)) = layout.imports() else {
+        return false;
+    };
+    for import in imports {
+        if !matches!(walk.next(), Some(Ok(walked)) if is_import(&walked, import)) {
+            return false;
+        }
+    }
+    walk.next().is_none()
+}
+
+/// Whether the walk over a layout's exports gives this list.
+fn are_exports_walked(layout: &Layout, exports: &[Export]) -> bool {
+    let Ok(Part::Read(mut walk)) = layout.exports() else {
+        return false;
+    };
+    for export in exports {
+        if !matches!(walk.next(), Some(walked) if is_export(&walked, export)) {
+            return false;
+        }
+    }
+    walk.next().is_none()
+}
+
+/// Whether the walks over a layout give what is listed of the whole file.
+fn are_walked(layout: &Layout, whole: &Whole) -> bool {
+    match (&whole.imports, &whole.exports) {
+        (Part::Read(imports), Part::Read(exports)) => are_imports_walked(layout, imports)
+            && are_exports_walked(layout, exports)
+            && layout.sections() == whole.sections.as_slice(),
+        _ => false,
+    }
+}
+
+/// Whether the walks over a file's layout give what is listed of it.
+fn is_walked(alloc: Global, file: &[u8], mode: ParseMode) -> goblin_base::Result<bool> {
+    let opts = in_mode(mode);
+    let whole = Whole::read(alloc, file, &opts)?;
+    let layout = Layout::of(alloc, file, &whole.header, &opts)?;
+    Ok(are_walked(&layout, &whole))
+}
+
+#[test]
+fn what_a_layout_gives_is_what_is_listed_of_the_file(rt: HostRuntime) -> Result<(), Fail> {
+    let file = sample(rt.alloc())?;
+    for mode in MODES {
+        assert!(rt; is_walked(rt.alloc(), &file, mode)?, "{mode:?}");
+    }
+    Ok(())
+}

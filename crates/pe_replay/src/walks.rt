@@ -1,0 +1,73 @@
+//! The tables of a file, walked over in constant memory, and the damage of its parts.
+
+use crate::refused;
+use fixture::sample::in_mode;
+use goblin_base::{Error, ErrorOf, ParseMode};
+use goblin_pe::{FileImports, Layout, Part, Whole};
+use goblin_pe_head::Header;
+use goblin_pe_sect::ParseOptions;
+use std::io;
+
+/// Shows how many imports a file has, and in a second line why they end, where a refusal ends them.
+pub fn show_imports(rt: &HostRuntime, file: &[u8]) -> io::Result<()> {
+    let opts = ParseOptions::default();
+    let header = Header::parse_with_opts(file, &opts).map_err(refused)?;
+    let layout = Layout::of(rt.alloc(), file, &header, &opts).map_err(refused)?;
+    let (count, end) = match layout.imports() {
+        Ok(Part::Read(imports)) => counted(imports),
+        Ok(_) => (0, None),
+        Err(error) => (0, Some(error)),
+    };
+    show_count(rt, count, &end)
+}
+
+/// Shows the same of a file's exports.
+pub fn show_exports(rt: &HostRuntime, file: &[u8]) -> io::Result<()> {
+    let opts = ParseOptions::default();
+    let header = Header::parse_with_opts(file, &opts).map_err(refused)?;
+    let layout = Layout::of(rt.alloc(), file, &header, &opts).map_err(refused)?;
+    let (count, end) = match layout.exports() {
+        Ok(Part::Read(exports)) => (exports.count(), None),
+        Ok(_) => (0, None),
+        Err(error) => (0, Some(error)),
+    };
+    show_count(rt, count, &end)
+}
+
+// How many imports a walk gives, and the refusal that ends it, if one does.
+fn counted<'a, 'm, 'e>(imports: FileImports<'a, 'm, 'e>) -> (usize, Option<ErrorOf<'e>>) {
+    let mut count = 0usize;
+    for import in imports {
+        match import {
+            Ok(_) => count = count.saturating_add(1),
+            Err(error) => return (count, Some(error)),
+        }
+    }
+    (count, None)
+}
+
+fn show_count(rt: &HostRuntime, count: usize, end: &Option<Error>) -> io::Result<()> {
+    println!(rt; "{count}")?;
+    match end {
+        Some(error) => println!(rt; "{error}"),
+        None => Ok(()),
+    }
+}
+
+/// Shows what strict mode would refuse of a file that permissive mode reads: a line for each part.
+pub fn show_damage(rt: &HostRuntime, file: &[u8]) -> io::Result<()> {
+    let opts = in_mode(ParseMode::Permissive);
+    let damage = Whole::damage(rt.alloc(), file, &opts).map_err(refused)?;
+    show_part(rt, "stub", &damage.dos_stub)?;
+    show_part(rt, "section names", &damage.section_names)?;
+    show_part(rt, "imports", &damage.imports)?;
+    show_part(rt, "exports", &damage.exports)?;
+    show_part(rt, "relocations", &damage.relocations)
+}
+
+fn show_part(rt: &HostRuntime, part: &str, damage: &Option<Error>) -> io::Result<()> {
+    match damage {
+        Some(error) => println!(rt; "{part}: {error}"),
+        None => println!(rt; "{part}: sound"),
+    }
+}
