@@ -8,9 +8,7 @@ use goblin_pe::export::{Export, ExportData};
 use goblin_pe::import::{
     ImportData, SyntheticImportDirectoryEntry as Library, SyntheticImportLookupTableEntry as Lookup,
 };
-use goblin_pe::laws::{
-    footprint_exports, footprint_header, footprint_imports, footprint_whole,
-};
+use goblin_pe::laws::{footprint_exports, footprint_header, footprint_imports, footprint_whole};
 use goblin_pe::{Layout, Whole};
 use goblin_pe_head::Header;
 use goblin_pe_sect::{ParseOptions, SectionTable, WindowIndex};
