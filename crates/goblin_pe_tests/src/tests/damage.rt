@@ -3,6 +3,7 @@
 use fixture::sample::{MODES, SAMPLE, SAMPLE_LEN, in_mode, put, sample, sample_named, sample_with};
 use goblin_base::{Cause, Error, ParseMode};
 use goblin_pe::Whole;
+use goblin_pe::import::LeftOut;
 use goblin_pe::whole::Damage;
 use std::alloc::{AllocError, Global};
 use std::test::Fail;
@@ -14,6 +15,10 @@ const SOUND: Damage = Damage {
     imports: None,
     exports: None,
     relocations: None,
+    left_out: LeftOut {
+        libraries: 0,
+        entries: 0,
+    },
 };
 
 fn is_same(damage: &Damage, wanted: &Damage) -> bool {
@@ -22,6 +27,7 @@ fn is_same(damage: &Damage, wanted: &Damage) -> bool {
         && damage.imports == wanted.imports
         && damage.exports == wanted.exports
         && damage.relocations == wanted.relocations
+        && damage.left_out == wanted.left_out
 }
 
 /// Whether permissive mode tells this damage of a file.
@@ -84,6 +90,10 @@ fn a_library_without_an_address_table_is_told(rt: HostRuntime) -> Result<(), Fai
     let file = sample_with(rt.alloc(), 0x211, b"\x90")?;
     let wanted = Damage {
         imports: Some(Error::Malformed(Cause::Unmapped(0x9060))),
+        left_out: LeftOut {
+            libraries: 1,
+            entries: 0,
+        },
         ..SOUND
     };
     assert!(rt; is_told(rt.alloc(), &file, &wanted));
