@@ -1,6 +1,7 @@
 -- What the callers count.
-use Rattle.std.specs.Prelude.{ℕ, suc, List, [], ◌∷◌, Option, drop, length}
+use Rattle.std.specs.Prelude.{ℕ, ◌-◌, ◌^◌, suc, min, List, [], ◌∷◌, Option, count_by, drop, length}
 use Rattle.std.specs.Option.{option_map}
+use Rattle.std.specs.Str.{bytes_eq}
 use Rattle.goblin_pe.specs.declared.export.ExportAddressTableEntry.{ExportAddressTableEntry}
 use Rattle.goblin_pe.specs.declared.export.ExportAddressTableEntry.TheVariants.{ExportRVA}
 use Rattle.goblin_pe.specs.declared.export.ExportAddressTableEntry.TheVariants.{ForwarderRVA}
@@ -8,6 +9,7 @@ use Rattle.goblin_pe.specs.declared.whole.Part.{Part}
 use Rattle.goblin_pe.specs.declared.whole.Part.TheVariants as part
 use Rattle.goblin_pe.specs.declared.options.ParseMode.TheVariants.{Permissive}
 use Rattle.goblin_pe.specs.declared.options.ParseOptions.{ParseOptions}
+use Rattle.goblin_pe.specs.Imports.{ImportValue}
 use Rattle.goblin_pe.specs.Options.{default_options}
 use Rattle.goblin_pe.specs.Reading.{Reading}
 use Rattle.goblin_pe.specs.Reads.{mapped}
@@ -28,6 +30,16 @@ entry_count part.Refused = 0
 -- how many functions a file imports, damaged parts passed over
 abbrev pub import_count : Reading ℕ
 import_count = mapped (λ whole. entry_count whole.imports) (whole_file permissive_options)
+
+-- how many of these imports are from a library, at most the greatest number of 64 bits
+abbrev pub count_from : List ℕ → List ImportValue → ℕ
+count_from library imports = min (count_by (λ import. bytes_eq import.dll library) imports) (2 ^ 64 - 1)
+
+-- the same of a part, 0 where it was not read
+abbrev pub part_count : List ℕ → Part (List ImportValue) → ℕ
+part_count library part.Absent = 0
+part_count library (part.Read imports) = count_from library imports
+part_count library part.Refused = 0
 
 -- the number of entries of a file's Rich header, if it has one, plus one for an error if bytes are
 -- left over

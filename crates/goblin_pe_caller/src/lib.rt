@@ -5,22 +5,27 @@ ghost use Rattle.std.specs.Prelude.{◌≡◌, ◌↔◌, ◌*◌, [], IfErr, If
 ghost use Rattle.std.specs.Prelude.{length, option_map, slice_get};
 ghost use Rattle.std.specs.List.{Contains};
 ghost use Rattle.goblin_pe.specs.AddressReadings.{data_at};
-ghost use Rattle.goblin_pe.specs.Answers.{IsMemory, IsSliceFault, Writes};
+ghost use Rattle.goblin_pe.specs.Addresses.{offset_of};
+ghost use Rattle.goblin_pe.specs.Answers.{Answers, IsMemory, IsSliceFault, Writes, all_of};
 ghost use Rattle.goblin_pe.specs.BaseRelocations.{block_items, relocation_bytes, word_items};
 ghost use Rattle.goblin_pe.specs.CoffHeader.{coff_fields, coff_header};
 ghost use Rattle.goblin_pe.specs.DataDirectories.{present_from};
+ghost use Rattle.goblin_pe.specs.Layouts.{IsFileImportsCause, file_imports_left, layout_map};
+ghost use Rattle.goblin_pe.specs.Layouts.{layout_places};
 ghost use Rattle.goblin_pe.specs.Mapping.{file_offset};
 ghost use Rattle.goblin_pe.specs.Options.{default_options};
 ghost use Rattle.goblin_pe.specs.HeaderReadings.{pe_header};
 ghost use Rattle.goblin_pe.specs.Reading.{Reads, ReadsOrMemory};
+ghost use Rattle.goblin_pe.specs.Reads.{mapped};
 ghost use Rattle.goblin_pe.specs.Record.{ReadsBack, encoding, record_over};
 ghost use Rattle.goblin_pe.specs.Relocations.{relocations_left};
 ghost use Rattle.goblin_pe.specs.Symbols.{symbols_in, table_bytes};
+ghost use Rattle.goblin_pe.specs.Whole.{import_list};
 ghost use Rattle.goblin_pe.specs.declared.endian.Endian.{Endian};
 ghost use Rattle.goblin_pe.specs.declared.error.CauseOf.TheVariants.{Message};
 ghost use Rattle.goblin_pe.specs.declared.error.ErrorOf.TheVariants.{Malformed};
-ghost use Rattle.goblin_pe_caller.specs.Counts.{entry_count, forwarder_count, import_count};
-ghost use Rattle.goblin_pe_caller.specs.Counts.{rich_entry_count};
+ghost use Rattle.goblin_pe_caller.specs.Counts.{count_from, entry_count, forwarder_count};
+ghost use Rattle.goblin_pe_caller.specs.Counts.{import_count, part_count, rich_entry_count};
 
 use goblin_pe::data_directories::{DataDirectories, DataDirectory};
 use goblin_pe::export::{
@@ -33,7 +38,9 @@ use goblin_pe::section_table::SectionTable;
 use goblin_pe::symbol::{Symbol, SymbolTable};
 use goblin_pe::table::*;
 use goblin_pe::utils::get_data;
-use goblin_pe::{Cause, Endian, Error, Part, Result, ResultOf, TryFromCtx, Whole};
+use goblin_pe::{
+    Cause, Endian, Error, FileImports, Layout, Part, Result, ResultOf, TryFromCtx, Whole,
+};
 use std::alloc::Global;
 
 #[cfg(test)]
@@ -110,6 +117,44 @@ fn imports_in(whole: &Whole) -> usize
         Part::Read(imports) => imports.len(),
         _ => 0,
     }
+}
+
+/// How many functions a file imports from the library `library`, at most `usize::MAX`; 0 where its
+/// imports are absent or refused. The imports are walked over one by one, without memory.
+///
+/// # Errors
+/// As [`Layout::imports`]; in strict mode as the walk over the imports.
+#[tactic(auto, unfolding(goblin_pe::specs::Whole::part_map))]
+pub fn count_imports_of<'e>(layout: &Layout, library: &str) -> ResultOf<'e, usize>
+    ensures { let m = layout_map layout.now in
+        Reads (λ n. n) result
+        (mapped (part_count library.now) (import_list m.opts (offset_of m) (layout_places layout.now)))
+        layout.now.bytes.now }
+{
+    match layout.imports()? {
+        Part::Absent => Ok(0),
+        Part::Read(imports) => {
+            let count = count_of(imports, library)?;
+            Ok(count)
+        }
+        Part::Refused => Ok(0),
+    }
+}
+
+// The same of the imports that a walk gives.
+fn count_of<'a, 'm, 'e>(imports: FileImports<'a, 'm, 'e>, library: &str) -> ResultOf<'e, usize>
+    ensures { Answers (λ n. n) result
+        (option_map (count_from library.now) (all_of (file_imports_left imports.entry)))
+        (IsFileImportsCause imports.entry) }
+{
+    let mut count = 0usize;
+    'imports: for import in imports {
+        let found = import?;
+        if found.dll == library {
+            count = count.saturating_add(1);
+        }
+    }
+    Ok(count)
 }
 
 /// A refusal with a text of the caller's.
