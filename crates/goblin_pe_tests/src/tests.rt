@@ -4,7 +4,9 @@
 //! and not in each function that has one. What owns memory is looked at by a function that borrows
 //! it, or takes it.
 
+mod damage;
 mod footprints;
+mod layout;
 mod modes;
 mod refusals;
 mod sample;
