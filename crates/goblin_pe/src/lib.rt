@@ -15,4 +15,4 @@ pub use goblin_pe_sect::{
     data_directories, options, relocation, section_table, symbol, utils, windows,
 };
 pub use goblin_pe_tables::{export, import, table};
-pub use whole::{FileImports, Layout, Part, Whole};
+pub use whole::{Damage, FileImports, Layout, Part, Whole};

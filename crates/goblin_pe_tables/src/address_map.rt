@@ -52,6 +52,7 @@ impl AddressMap {
     ///
     /// # Errors
     /// Only [`Error::Memory`](goblin_base::Error::Memory).
+    #[inline(always)]
     #[tactic(auto, using(crate::proofs::AddressMaps::same_map))]
     pub fn prepare(
         alloc: Global,

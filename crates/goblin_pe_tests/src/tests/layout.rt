@@ -3,26 +3,39 @@
 use fixture::sample::{MODES, in_mode, sample};
 use goblin_base::ParseMode;
 use goblin_pe::export::{Export, WalkedExport};
+use goblin_pe::header::Header;
 use goblin_pe::import::{Import, SyntheticImportLookupTableEntry, WalkedImport};
 use goblin_pe::{Layout, Part, Whole};
+use goblin_pe_caller::count_imports_of;
 use std::alloc::Global;
 use std::test::Fail;
 
-/// Whether a walk's import is this one of a list. The name of an import by ordinal is not in the
-/// file.
-fn is_import(walked: &WalkedImport, import: &Import) -> bool {
-    let name = &import.name[..];
-    let is_named = match &walked.entry {
+/// Whether an entry has this name, ordinal or hint, and address. The name of an import by ordinal is
+/// not in the file.
+fn is_entry(
+    entry: &SyntheticImportLookupTableEntry,
+    name: &str,
+    ordinal: u16,
+    address: usize,
+) -> bool {
+    match entry {
         SyntheticImportLookupTableEntry::HintNameTableRVA((rva, named)) => {
-            named.name == name && named.hint == import.ordinal && *rva as usize == import.rva
+            named.name == name && named.hint == ordinal && *rva as usize == address
         }
-        SyntheticImportLookupTableEntry::OrdinalNumber(ordinal) => {
-            *ordinal == import.ordinal && import.rva == 0
+        SyntheticImportLookupTableEntry::OrdinalNumber(number) => {
+            *number == ordinal && address == 0
         }
-    };
-    is_named
+    }
+}
+
+/// Whether a walk's import is this one of a list.
+fn is_import(walked: &WalkedImport, import: &Import) -> bool {
+    let is_same = is_entry(&walked.entry, &import.name[..], import.ordinal, import.rva);
+    is_same
         && walked.dll == import.dll
-        && (walked.offset, walked.size, walked.slot) == (import.offset, import.size, import.slot)
+        && walked.offset == import.offset
+        && walked.size == import.size
+        && walked.slot == import.slot
 }
 
 /// Whether a walk's export is this one of a list.
@@ -83,6 +96,36 @@ fn what_a_layout_gives_is_what_is_listed_of_the_file(rt: HostRuntime) -> Result<
     let file = sample(rt.alloc())?;
     for mode in MODES {
         assert!(rt; is_walked(rt.alloc(), &file, mode)?, "{mode:?}");
+    }
+    Ok(())
+}
+
+/// How many imports of a file are from a library.
+fn imports_of(
+    alloc: Global,
+    file: &[u8],
+    mode: ParseMode,
+    library: &str,
+) -> goblin_base::Result<usize> {
+    let opts = in_mode(mode);
+    let header = Header::parse_with_opts(file, &opts)?;
+    let layout = Layout::of(alloc, file, &header, &opts)?;
+    let count = count_imports_of(&layout, library)?;
+    Ok(count)
+}
+
+#[test]
+fn a_caller_counts_the_imports_from_a_library(rt: HostRuntime) -> Result<(), Fail> {
+    let file = sample(rt.alloc())?;
+    for mode in MODES {
+        assert!(rt;
+            imports_of(rt.alloc(), &file, mode, "a.dll")? == 2,
+            "{mode:?}"
+        );
+        assert!(rt;
+            imports_of(rt.alloc(), &file, mode, "A.dll")? == 0,
+            "{mode:?}"
+        );
     }
     Ok(())
 }
