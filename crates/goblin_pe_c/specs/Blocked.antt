@@ -1,6 +1,6 @@
 -- Blocks of memory that a caller frees: none where there is nothing in it, since an empty table's is
 -- not handed over.
-use Rattle.std.specs.Prelude.{◌≡◌, Vec, vec_capacity, vec_len}
+use Rattle.std.specs.Prelude.{◌≡◌, Vec, length, vec_capacity}
 use Rattle.std.specs.Global.{Global}
 use Rattle.goblin_pe.specs.declared.whole.Part.{Part}
 use Rattle.goblin_pe.specs.declared.whole.Part.TheVariants.{Absent, Refused}
@@ -8,7 +8,7 @@ use Rattle.goblin_pe.specs.declared.whole.Part.TheVariants as part
 
 -- a list without entries has no block
 abbrev pub HasNoIdleBlock : {A : Type 0} → Vec A Global → Type 0
-HasNoIdleBlock v = vec_len v ≡ 0 → vec_capacity v ≡ 0
+HasNoIdleBlock v = length v.items ≡ 0 → vec_capacity v ≡ 0
 
 abbrev pub HasNoIdleBlockIn : {A : Type 0} → Part (Vec A Global) → Type 0
 HasNoIdleBlockIn Absent = Unit {0}

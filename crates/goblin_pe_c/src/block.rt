@@ -1,9 +1,10 @@
 //! The records of base relocation blocks.
 
-ghost use Rattle.std.specs.Prelude.{◌≡◌, IfErr, IfOk, length, map, vec_capacity};
+ghost use Rattle.std.specs.Prelude.{◌≡◌, IfErr, IfOk, map};
 ghost use Rattle.goblin_base.specs.Answers.{IsMemory};
 ghost use Rattle.goblin_pe_sect.specs.BaseRelocations.{block_items, block_value, relocation_bytes};
 ghost use Rattle.goblin_pe.specs.Whole.{part_map};
+ghost use Rattle.goblin_pe_c.specs.Blocked.{HasNoIdleBlock};
 ghost use Rattle.goblin_pe_c.specs.Items.{rest_of, values_of};
 ghost use Rattle.goblin_pe_c.specs.Blocks.{block_view, blocks_in, relocations_of};
 
@@ -59,7 +60,7 @@ fn item_records<'a>(
         ≡ values_of (block_items (relocation_bytes relocations.now) 0)) }
     ensures rest { IfOk result
         (λ made. made.1 ≡ rest_of (block_items (relocation_bytes relocations.now) 0)) }
-    ensures none { IfOk result (λ made. length made.0.items ≡ 0 → vec_capacity made.0 ≡ 0) }
+    ensures none { IfOk result (λ made. HasNoIdleBlock made.0) }
 {
     let mut records = Vec::new(alloc);
     'blocks: for block in relocations.blocks() {
@@ -84,6 +85,7 @@ pub fn block_records<'a>(
         map block_view made.0.items ≡ blocks_in (part_map relocation_bytes relocations.now)) }
     ensures said { IfOk result
         (λ made. made.1 ≡ relocations_of (part_map relocation_bytes relocations.now)) }
+    ensures none { IfOk result (λ made. HasNoIdleBlock made.0) }
 {
     let (records, state, rest) = match relocations {
         Part::Absent => (Vec::new(alloc), 0, no_fault()),

@@ -1,6 +1,6 @@
 //! The records of exports.
 
-ghost use Rattle.std.specs.Prelude.{◌≡◌, ◌++◌, ◌∷◌, [], IfOk, OnOk, map};
+ghost use Rattle.std.specs.Prelude.{◌≡◌, ◌≤◌, ◌++◌, ◌∷◌, [], IfOk, OnOk, map};
 ghost use Rattle.goblin_base.specs.Answers.{GivesOrMemory};
 ghost use Rattle.goblin_base.specs.Reading.{ReadsOrMemory};
 ghost use Rattle.goblin_pe.specs.Reads.{mapped};
@@ -74,13 +74,14 @@ fn export_record<'a>(bytes: &'a [u8], export: &Export<'a>) -> PeExport<'a>
 // For at most so many records room is made first.
 const MOST_FIRST: usize = 32;
 
-// Adds the record of an export; `expected` is above 0 where there are more.
+// Adds the record of an export. Room for so many more is made at first.
 fn push_export<'a>(
     records: &mut Vec<PeExport<'a>>,
     bytes: &'a [u8],
     export: &Export<'a>,
     expected: usize,
 ) -> Result<()>
+    requires few { expected ≤ 32 }
     ensures value { let made = export_said export.now ∷ [] in
         GivesOrMemory (λ _. map export_view records.new.items) result
         (map export_view records.old.items ++ made) }
@@ -101,11 +102,7 @@ fn records_of<'a, 'm>(
         (map export_said (map (λ x. x.row) (exports_left exports.entry))) }
     ensures none { IfOk result HasNoIdleBlock }
 {
-    let expected = exports
-        .size_hint()
-        .1
-        .unwrap_or(MOST_FIRST)
-        .clamp(1, MOST_FIRST);
+    let expected = exports.size_hint().1.unwrap_or(MOST_FIRST).min(MOST_FIRST);
     let mut records = Vec::new(alloc);
     'exports: for walked in exports {
         push_export(&mut records, bytes, &walked.export, expected)?;

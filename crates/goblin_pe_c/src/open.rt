@@ -7,6 +7,7 @@ ghost use Rattle.goblin_pe_head.specs.HeaderReadings.{pe_header};
 ghost use Rattle.goblin_pe.specs.SectionRoom.{HasRoom};
 ghost use Rattle.goblin_pe.specs.Whole.{part_map, whole_file};
 ghost use Rattle.goblin_pe_c.specs.Blocks.{block_view, blocks_in, relocations_of};
+ghost use Rattle.goblin_pe_c.specs.Blocked.{HasNoIdleBlock, HasNoIdleBlockIn};
 ghost use Rattle.goblin_pe_c.specs.Calls.{ReadsInto, Reported};
 ghost use Rattle.goblin_pe_c.specs.Exports.{export_view, export_views};
 ghost use Rattle.goblin_pe_c.specs.Files.{entries_of};
@@ -80,6 +81,8 @@ fn made_of<'a>(
         IfOk result (λ m. map section_said m.sections.items ≡ map alone v.sections) }
     ensures blocks { let v = records_view layout.now records.now in
         IfOk result (λ m. map block_view m.blocks.items ≡ blocks_in v.relocations) }
+    ensures none { IfOk result
+        (λ m. HasNoIdleBlock m.rich_entries × HasNoIdleBlock m.blocks) }
 {
     let header = layout.header();
     let table = header.coff_header.symbols_end();
@@ -98,6 +101,7 @@ fn made_of<'a>(
 // Hands the records of imports over, none where there are none.
 #[tactic(auto, unfolding(goblin_pe::specs::Whole::part_map))]
 fn imports_of<'a>(imports: Part<Vec<PeImport<'a>>>) -> &'a [PeImport<'a>]
+    requires { HasNoIdleBlockIn imports }
     ensures { map import_view result.now ≡ entries_of (part_map import_views imports.entry) }
 {
     match imports {
@@ -109,6 +113,7 @@ fn imports_of<'a>(imports: Part<Vec<PeImport<'a>>>) -> &'a [PeImport<'a>]
 // Hands the records of exports over, none where there are none.
 #[tactic(auto, unfolding(goblin_pe::specs::Whole::part_map))]
 fn exports_of<'a>(exports: Part<Vec<PeExport<'a>>>) -> &'a [PeExport<'a>]
+    requires { HasNoIdleBlockIn exports }
     ensures { map export_view result.now ≡ entries_of (part_map export_views exports.entry) }
 {
     match exports {
@@ -117,12 +122,15 @@ fn exports_of<'a>(exports: Part<Vec<PeExport<'a>>>) -> &'a [PeExport<'a>]
     }
 }
 
-// Hands the tables over.
+// Hands the tables over: none of no entries has a block, which nobody would free.
 fn handed_over<'a>(
     made: Made<'a>,
     imports: Part<Vec<PeImport<'a>>>,
     exports: Part<Vec<PeExport<'a>>>,
 ) -> PeTables<'a>
+    requires none { HasNoIdleBlock made.rich_entries × HasNoIdleBlock made.blocks }
+    requires no_imports { HasNoIdleBlockIn imports }
+    requires no_exports { HasNoIdleBlockIn exports }
     ensures rich_entries { result.rich_entries.now ≡ made.entry.rich_entries.items }
     ensures sections { result.sections.now ≡ made.entry.sections.items }
     ensures imports { map import_view result.imports.now

@@ -1,10 +1,12 @@
 //! The tables of a file that its directories lead to, imports and exports as records.
 
+ghost use Rattle.std.specs.Prelude.{IfOk};
 ghost use Rattle.goblin_base.specs.Reading.{ReadsOrMemory};
 ghost use Rattle.goblin_pe.specs.Reads.{mapped};
 ghost use Rattle.goblin_pe_tables.specs.Addresses.{offset_of};
 ghost use Rattle.goblin_pe.specs.Layouts.{layout_map, layout_places};
 ghost use Rattle.goblin_pe.specs.Whole.{collected_tables, table_parts};
+ghost use Rattle.goblin_pe_c.specs.Blocked.{HasNoIdleBlockIn};
 ghost use Rattle.goblin_pe_c.specs.Exports.{export_said};
 ghost use Rattle.goblin_pe_c.specs.Filled.{alone};
 ghost use Rattle.goblin_pe_c.specs.Opened.{tables_view};
@@ -28,11 +30,13 @@ pub struct FileRecords<'a> {
 
 /// Reads the tables of a file, in this order.
 pub fn file_records<'a>(alloc: Global, layout: &Layout<'a, '_>) -> Result<FileRecords<'a>>
-    ensures { let m = layout_map layout.now in
+    ensures value { let m = layout_map layout.now in
         ReadsOrMemory tables_view result
         (mapped (collected_tables alone export_said)
         (table_parts m.opts (offset_of m) (layout_places layout.now)))
         layout.now.bytes.now }
+    ensures none { IfOk result
+        (λ r. HasNoIdleBlockIn r.imports × HasNoIdleBlockIn r.exports) }
 {
     let imports = import_records(alloc, layout)?;
     let exports = export_records(alloc, layout)?;

@@ -4,6 +4,7 @@ ghost use Rattle.std.specs.Prelude.{◌≡◌, IfErr, IfOk, drop, map, option_ma
 ghost use Rattle.goblin_base.specs.Answers.{IsMemory};
 ghost use Rattle.goblin_pe_head.specs.RichHeader.{rich_value};
 ghost use Rattle.goblin_pe_head.specs.RichMetadata.{metadata_items};
+ghost use Rattle.goblin_pe_c.specs.Blocked.{HasNoIdleBlock};
 ghost use Rattle.goblin_pe_c.specs.Items.{rest_of, values_of};
 ghost use Rattle.goblin_pe_c.specs.RichHeaders.{entries_in, entry_items, entry_view, rich_of};
 
@@ -61,6 +62,7 @@ fn item_records(alloc: Global, rich: &RichHeader) -> Result<(Vec<PeRichEntry>, P
     ensures values { IfOk result
         (λ made. map entry_view made.0.items ≡ values_of (entry_items (rich_value rich.now))) }
     ensures rest { IfOk result (λ made. made.1 ≡ rest_of (entry_items (rich_value rich.now))) }
+    ensures none { IfOk result (λ made. HasNoIdleBlock made.0) }
 {
     let mut records = Vec::new(alloc);
     // No header that was read has more padding than data.
@@ -86,6 +88,7 @@ pub fn entry_records(
     ensures values { IfOk result
         (λ made. map entry_view made.0.items ≡ entries_in (option_map rich_value rich.now)) }
     ensures said { IfOk result (λ made. made.1 ≡ rich_of (option_map rich_value rich.now)) }
+    ensures none { IfOk result (λ made. HasNoIdleBlock made.0) }
 {
     match rich {
         None => {

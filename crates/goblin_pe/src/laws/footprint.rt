@@ -200,9 +200,9 @@ fn add_whole<'e>(
 }
 
 /// The footprint of a whole file: the ranges (begin, end) of the positions on which
-/// [`Whole::read`](crate::Whole::read) depends, as [`twin_whole`](crate::laws::twin_whole) says. A
-/// file of the same length with the same bytes there has the same answer, so these are all that a
-/// verdict on the file depends on. A position is in the footprint exactly where it lies in one of
+/// [`Whole::read`](crate::Whole::read) depends, as [`twin_whole`](crate::laws::twin_whole) says. By
+/// the same options a file of the same length with the same bytes there has the same value, or is
+/// refused too, not always for the same cause. A position is in the footprint exactly where it lies in one of
 /// the ranges, which come in no order and may overlap. None is empty, and none runs past the end of
 /// the file. A file that is refused has a footprint, too.
 ///

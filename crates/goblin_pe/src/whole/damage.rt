@@ -1,7 +1,7 @@
 //! Why a file is damaged, part by part.
 
-ghost use Rattle.std.specs.Prelude.{◌≡◌, true, IfErr, IfOk, IsSome, MatchResult, None, Some};
-ghost use Rattle.goblin_base.specs.Answers.{AnswersOrMemory, IsMemory, all_of};
+ghost use Rattle.std.specs.Prelude.{◌≡◌, true, IfErr, IfOk, IsSomeAnd};
+ghost use Rattle.goblin_base.specs.Answers.{IsMemory, all_of};
 ghost use Rattle.goblin_pe_sect.specs.Options.{is_strict};
 ghost use Rattle.goblin_pe_head.specs.HeaderReadings.{pe_header};
 ghost use Rattle.goblin_pe_head.specs.PeHeader.{header_value};
@@ -11,6 +11,7 @@ ghost use Rattle.goblin_pe.specs.Damages.{AreDamaged, IsDamage, IsDamageOf, IsRe
 ghost use Rattle.goblin_pe.specs.Damages.{TellsDamage};
 ghost use Rattle.goblin_pe.specs.Layouts.{IsFileImportsCause, file_imports_left, layout_map};
 ghost use Rattle.goblin_pe.specs.Layouts.{layout_places};
+ghost use Rattle.goblin_pe.specs.SectionRoom.{TakesSections};
 ghost use Rattle.goblin_pe.specs.Whole.{import_list, sections_after};
 
 use crate::import::{Bitfield, Imports, LeftOut};
@@ -29,7 +30,7 @@ use std::alloc::Global;
 pub struct Damage {
     /// The DOS stub.
     pub dos_stub: Option<Error>,
-    /// The names of the sections that stand in the string table.
+    /// The names of the sections: one that begins with a slash and goes on with bytes that are no text.
     pub section_names: Option<Error>,
     /// The imports, if they are asked for.
     pub imports: Option<Error>,
@@ -83,6 +84,8 @@ fn import_damage(layout: &Layout) -> Option<Error>
 fn name_damage(alloc: Global, bytes: &[u8], header: &Header) -> Result<Option<Error>>
     ensures value { IfOk result (IsDamage (sections_after true (header_value header.now)) bytes.now) }
     ensures refused { IfErr result IsMemory }
+    ensures grown { IfErr result
+        (λ e. TakesSections header.now.coff_header.number_of_sections bytes.now) }
 {
     let opts = ParseOptions::default();
     match sections_of(alloc, bytes, header, &opts) {
@@ -113,7 +116,8 @@ fn file_damage(alloc: Global, bytes: &[u8], opts: &ParseOptions) -> Result<Damag
     ensures tells { TellsDamage opts.now bytes.now result }
     ensures grown { IfErr result
         (λ e.
-        IsMemory e → IsSome ((pe_header (is_strict opts.now.parse_mode)).value bytes.now)) }
+        IsMemory e → IsSomeAnd ((pe_header (is_strict opts.now.parse_mode)).value bytes.now)
+        (λ h. TakesSections h.coff_header.number_of_sections bytes.now)) }
 {
     let header = Header::parse_with_opts(bytes, opts)?;
     let layout = Layout::of(alloc, bytes, &header, opts)?;
@@ -132,8 +136,9 @@ fn file_damage(alloc: Global, bytes: &[u8], opts: &ParseOptions) -> Result<Damag
 impl Whole<'_> {
     /// Tells what strict mode would refuse of a file, part by part, where its header and its
     /// sections are read as `opts` say. In permissive mode a stub and names of sections can be
-    /// damaged; in strict mode these refuse the file as ever. No list is made: memory is taken for
-    /// the sections, and for what maps the file's addresses.
+    /// damaged; in strict mode these refuse the file as ever. No table is listed: memory is taken
+    /// for the sections, in each mode, and for what maps the file's addresses. A file can list very
+    /// many imports; each is looked at.
     ///
     /// A file without damage is one that strict mode reads, and permissive mode reads the same, but
     /// for imports from the front of the file.
@@ -141,14 +146,16 @@ impl Whole<'_> {
     /// # Errors
     /// As [`Header::parse_with_opts`]; as
     /// [`CoffHeader::sections_with_opts`](goblin_pe_head::CoffHeader::sections_with_opts);
-    /// [`Error::Memory`] if memory is refused, and never of a file whose header is refused.
+    /// [`Error::Memory`] if memory is refused, and only of a file that has sections, and room for as
+    /// many as its header says.
     #[tactic(auto, using(crate::proofs::SoundFiles::sound_told))]
     pub fn damage(alloc: Global, bytes: &[u8], opts: &ParseOptions) -> Result<Damage>
         ensures tells { TellsDamage opts.now bytes.now result }
         ensures sound { IfOk result (λ d. IsSound d → IsReadByBoth opts.now bytes.now) }
         ensures grown { IfErr result
             (λ e.
-            IsMemory e → IsSome ((pe_header (is_strict opts.now.parse_mode)).value bytes.now)) }
+            IsMemory e → IsSomeAnd ((pe_header (is_strict opts.now.parse_mode)).value bytes.now)
+            (λ h. TakesSections h.coff_header.number_of_sections bytes.now)) }
     {
         file_damage(alloc, bytes, opts)
     }

@@ -12,6 +12,7 @@ ghost use Rattle.goblin_pe.specs.Damages.{left_out_of};
 ghost use Rattle.goblin_pe.specs.Layouts.{IsFileImportsCause, IsLayoutOf, PartWalks};
 ghost use Rattle.goblin_pe.specs.Layouts.{file_imports_left, layout_map, layout_places};
 ghost use Rattle.goblin_pe.specs.Layouts.{walked_exports};
+ghost use Rattle.goblin_pe.specs.SectionRoom.{TakesSections};
 ghost use Rattle.goblin_pe.specs.Whole.{AreListed, export_part, import_list, listed_view, part_map, places_in};
 ghost use Rattle.goblin_pe.specs.Whole.{relocation_part, sections_after, table_parts};
 
@@ -49,7 +50,7 @@ fn after_optional_header(pe_pointer: u32, size_of_optional_header: u16) -> usize
 }
 
 // The sections of a file with this header, whose records follow the optional header.
-#[tactic(auto, unfolding(crate::specs::Whole::sections_after))]
+#[tactic(auto, unfolding(crate::specs::Whole::sections_after), using(crate::proofs::SectionRoom::sections_answer_takes))]
 pub(super) fn sections_of(
     alloc: Global,
     bytes: &[u8],
@@ -62,7 +63,7 @@ pub(super) fn sections_of(
     ensures first { let count = header.now.coff_header.number_of_sections in
         length bytes.now / 40 < count → IsErrAnd result (IsTooManySections count bytes.now) }
     ensures grown { IfErr result
-        (λ e. IsMemory e → 0 < header.now.coff_header.number_of_sections) }
+        (λ e. IsMemory e → TakesSections header.now.coff_header.number_of_sections bytes.now) }
 {
     let coff_header = &header.coff_header;
     let mut offset = after_optional_header(
@@ -79,7 +80,7 @@ impl<'a, 'h> Layout<'a, 'h> {
     /// # Errors
     /// As [`CoffHeader::sections_with_opts`](goblin_pe_head::CoffHeader::sections_with_opts); no
     /// memory is asked for where there are no sections.
-    #[tactic(auto, using(crate::proofs::SectionRoom::sections_counted))]
+    #[tactic(auto, using(crate::proofs::SectionRoom::sections_counted, crate::proofs::SectionRoom::sections_fit))]
     pub fn of(
         alloc: Global,
         bytes: &'a [u8],
@@ -93,7 +94,7 @@ impl<'a, 'h> Layout<'a, 'h> {
         ensures first { let count = header.now.coff_header.number_of_sections in
             length bytes.now / 40 < count → IsErrAnd result (IsTooManySections count bytes.now) }
         ensures grown { IfErr result
-            (λ e. IsMemory e → 0 < header.now.coff_header.number_of_sections) }
+            (λ e. IsMemory e → TakesSections header.now.coff_header.number_of_sections bytes.now) }
     {
         let sections = sections_of(alloc, bytes, header, opts)?;
         let places = Places::of(&header.optional_header);

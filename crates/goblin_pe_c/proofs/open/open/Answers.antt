@@ -41,14 +41,14 @@ returns-in_err-records c =
     let found = c.in_ok-header.ensures.value in
     let error = err_from_is_err_and c.from_residual-in_err-records.result c.from_residual-in_err-records.ensures.1 in
     rw (error.1, error.2) (
-      λ other. records-refused opts bytes c.in_ok-header.header found c.in_ok-layout.layout c.in_ok-layout.ensures.value c.in_ok-layout.ensures.over _ c.in_err-records.ensures other,
+      λ other. records-refused opts bytes c.in_ok-header.header found c.in_ok-layout.layout c.in_ok-layout.ensures.value c.in_ok-layout.ensures.over _ c.in_err-records.ensures.value other,
       λ memory. rw found (room-there (Some (header_value c.in_ok-header.header)) bytes c.in_ok-layout.ensures.first refl),
       refl,
     )
 
 pub made_of-requires : goal.made_of-requires
 made_of-requires c =
-    records-read c.args.opts.now c.args.bytes.now c.in_ok-header.header c.in_ok-header.ensures.value c.in_ok-layout.layout c.in_ok-layout.ensures.value c.in_ok-layout.ensures.over c.in_ok-records.records c.in_ok-records.ensures
+    records-read c.args.opts.now c.args.bytes.now c.in_ok-header.header c.in_ok-header.ensures.value c.in_ok-layout.layout c.in_ok-layout.ensures.value c.in_ok-layout.ensures.over c.in_ok-records.records c.in_ok-records.ensures.value
 
 pub returns-in_err-made : goal.returns-in_err-made
 returns-in_err-made c =
@@ -65,6 +65,6 @@ returns c =
     let opts = c.args.opts.now in
     let bytes = c.args.bytes.now in
     let v = records_view c.in_ok-layout.layout c.in_ok-records.records in
-    let read = records-read opts bytes c.in_ok-header.header c.in_ok-header.ensures.value c.in_ok-layout.layout c.in_ok-layout.ensures.value c.in_ok-layout.ensures.over c.in_ok-records.records c.in_ok-records.ensures in
+    let read = records-read opts bytes c.in_ok-header.header c.in_ok-header.ensures.value c.in_ok-layout.layout c.in_ok-layout.ensures.value c.in_ok-layout.ensures.over c.in_ok-records.records c.in_ok-records.ensures.value in
     let of = file-of-records opts bytes v read in
     rw (of.read, of.header, of.sections, of.relocations, of.imports, of.exports, of.imports_table, of.exports_table) (search rules)

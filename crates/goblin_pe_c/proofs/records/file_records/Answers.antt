@@ -9,9 +9,9 @@ use Rattle.goblin_pe_c.specs.Exports.{export_said}
 use Rattle.goblin_pe_c.specs.Filled.{alone}
 use Rattle.goblin_pe_c.proofs.records.file_records.Goals as goal
 
-pub returns-in_err-imports : goal.returns-in_err-imports
+pub returns-in_err-imports-clause-value : goal.returns-in_err-imports-clause-value
 unfolding table_parts
-returns-in_err-imports c =
+returns-in_err-imports-clause-value c =
     let l = c.args.layout.now in
     let m = layout_map l in
     let places = layout_places l in
@@ -19,9 +19,9 @@ returns-in_err-imports c =
     rw (error.1, error.2)
     (λ other. first-refused (import_parts m.opts (offset_of m) places) (export_part m.opts (offset_of m) places) (relocation_part m.opts (offset_of m) places) (collected_imports alone) (part_map (collected_exports export_said)) l.bytes.now _ (c.in_err-imports.ensures.value other))
 
-pub returns-in_err-exports : goal.returns-in_err-exports
+pub returns-in_err-exports-clause-value : goal.returns-in_err-exports-clause-value
 unfolding table_parts
-returns-in_err-exports c =
+returns-in_err-exports-clause-value c =
     let l = c.args.layout.now in
     let m = layout_map l in
     let places = layout_places l in
@@ -29,9 +29,9 @@ returns-in_err-exports c =
     rw (error.1, error.2)
     (λ other. second-refused (import_parts m.opts (offset_of m) places) (export_part m.opts (offset_of m) places) (relocation_part m.opts (offset_of m) places) (collected_imports alone) (part_map (collected_exports export_said)) l.bytes.now _ _ c.in_ok-imports.ensures.value (c.in_err-exports.ensures.value other))
 
-pub returns-in_err-relocations : goal.returns-in_err-relocations
+pub returns-in_err-relocations-clause-value : goal.returns-in_err-relocations-clause-value
 unfolding table_parts
-returns-in_err-relocations c =
+returns-in_err-relocations-clause-value c =
     let l = c.args.layout.now in
     let m = layout_map l in
     let places = layout_places l in
@@ -39,9 +39,9 @@ returns-in_err-relocations c =
     rw (error.1, error.2)
     (λ other. third-refused (import_parts m.opts (offset_of m) places) (export_part m.opts (offset_of m) places) (relocation_part m.opts (offset_of m) places) (collected_imports alone) (part_map (collected_exports export_said)) l.bytes.now _ _ _ c.in_ok-imports.ensures.value c.in_ok-exports.ensures.value c.in_err-relocations.ensures)
 
-pub returns : goal.returns
+pub returns-clause-value : goal.returns-clause-value
 unfolding table_parts
-returns c =
+returns-clause-value c =
     let l = c.args.layout.now in
     let m = layout_map l in
     let places = layout_places l in
