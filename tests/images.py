@@ -85,10 +85,11 @@ def without_directory(image, index):
 
 
 def pointers_to_nowhere(count):
-    """An image whose export directory has so many name pointers, and no address that any of them could lead to."""
+    """An image whose export directory has so many name pointers, of which only the first leads to an address."""
     base = 0x1000
-    data = struct.pack("<IIHHIIIIIII", 0, 0, 0, 0, base + 40, 1, 0, count, base, base, base) + b"nowhere.dll\0"
-    data = data.ljust(4 * count, b"\0")
+    ordinals = base + 4 * count
+    data = struct.pack("<IIHHIIIIIII", 0, 0, 0, 0, base + 40, 1, 1, count, base + 52, base, ordinals) + b"nowhere.dll\0"
+    data = (data + struct.pack("<I", base + 56)).ljust(4 * count, b"\0") + b"\0\0".ljust(2 * count, b"\xff")
     headers = image_headers(0x200, 1, 0x7FFFF000, ((0, base, 40),))
     put_section(headers, 0x148, b".edata", data, base, 0x200)
     return headers + data + bytes(-len(data) % 0x200)

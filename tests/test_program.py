@@ -91,6 +91,12 @@ class Memory(Case):
             with self.subTest(kibibytes=kibibytes):
                 self.assert_runs(with_memory(kibibytes, [PE_LIST]), NO_MEMORY, image)
 
+    def test_no_room_is_made_for_pointers_that_lead_nowhere(self):
+        image = images.pointers_to_nowhere(4000000)
+        status, out, said = run(with_memory(200000, [PE_LIST]), image)
+        self.assertEqual((status, said), (0, b""))
+        self.assertIn(b"exports 1\n", out)
+
     def test_many_imports(self):
         self.assert_counts(images.shared_image(libraries=1000, functions=1100), {"import": 1100000})
 

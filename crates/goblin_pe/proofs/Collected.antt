@@ -1,31 +1,25 @@
--- What collectors keep of a file is made of the file's own value.
-use Rattle.std.proofs.Common.{◌≡◌, ◌∙◌, ℕ, ◌<◌, ◌^◌, List, length, map, Bool, true, false}
-use Rattle.std.proofs.Common.{Option, Some, None, refl, sym, ap, inl, inr}
-use Rattle.std.specs.Prelude.{◌⊎◌, Result, Ok, Err, option_map}
-use Rattle.std.specs.List.{flat_map}
+-- What is made of a file's imports and exports, one by one, is made of the file's own value.
+use Rattle.std.proofs.Common.{◌≡◌, ◌∙◌, ℕ, List, map, Bool, true, false}
+use Rattle.std.proofs.Common.{Option, Some, None, refl, ap, inl, inr}
+use Rattle.std.specs.Prelude.{◌⊎◌, option_map}
 use Rattle.goblin_base.specs.declared.error.ErrorOf.{ErrorOf}
-use Rattle.goblin_base.specs.Bytes.{IsBytes}
-use Rattle.goblin_base.specs.Reading.{Reading, ReadsOrMemory}
+use Rattle.goblin_base.specs.Reading.{Reading}
 use Rattle.goblin_base.proofs.Steps as steps
-use Rattle.readings.specs.Reads.{◌beside◌, given, mapped, pick, turned}
+use Rattle.readings.specs.Reads.{◌beside◌, given, mapped, pick}
 use Rattle.goblin_pe_sect.specs.declared.data_directories.DataDirectory.{DataDirectory}
 use Rattle.goblin_pe_sect.specs.declared.options.ParseOptions.{ParseOptions}
 use Rattle.goblin_pe_sect.specs.SectionTable.{Section}
 use Rattle.goblin_pe_head.specs.PeHeader.{PeHeader}
 use Rattle.goblin_pe_tables.specs.ExportRecords.{ExportRow, ExportTables}
-use Rattle.goblin_pe_tables.specs.Imports.{ImportValue, kept_imports}
+use Rattle.goblin_pe_tables.specs.Imports.{ImportValue}
 use Rattle.goblin_pe.specs.declared.whole.Part.{Part}
 use Rattle.goblin_pe.specs.declared.whole.Part.TheVariants.{Absent, Refused}
 use Rattle.goblin_pe.specs.declared.whole.Part.TheVariants as part
-use Rattle.goblin_pe.specs.Whole.{BecomesPart, CollectedFileValue, CollectedParts}
-use Rattle.goblin_pe.specs.Whole.{TablePlaces, TableParts, collected_exports}
-use Rattle.goblin_pe.specs.Whole.{collected_file, collected_imports, collected_tables}
-use Rattle.goblin_pe.specs.Whole.{entry_format, import_part, import_parts}
-use Rattle.goblin_pe.specs.Whole.{offset_by, part_at, part_map, part_of, places_in}
+use Rattle.goblin_pe.specs.Whole.{CollectedFileValue, CollectedParts}
+use Rattle.goblin_pe.specs.Whole.{TableParts, collected_exports}
+use Rattle.goblin_pe.specs.Whole.{collected_file, collected_tables}
+use Rattle.goblin_pe.specs.Whole.{offset_by, part_at, part_map, places_in}
 use Rattle.goblin_pe.specs.Whole.{table_parts, whole_of}
-use Rattle.goblin_pe.proofs.KeptImports.{part-kept}
-use Rattle.goblin_pe.proofs.ListedImports.{data-listed}
-use Rattle.goblin_pe.proofs.Parts.{becomes_part}
 
 -- ---- values that something is made of
 
@@ -34,42 +28,6 @@ unmapped f None e = refl
 unmapped f (Some x) e = absurd cc
 
 -- ---- parts
-
-part-mapped : {A B : Type 0} (f : A → B) (strict : Bool) (table : Option A)
-    → part_of strict (option_map f table) ≡ option_map (part_map f) (part_of strict table)
-unfolding part_of part_map
-part-mapped f strict (Some x) = refl
-part-mapped f true None = refl
-part-mapped f false None = refl
-
--- the part of a table of which something is made
-pub becomes_mapped : {X A B : Type 0} (view : X → B) (f : A → B) (r : Reading A) (bytes : List ℕ)
-    (strict : Bool) (asked : Result X ErrorOf) (made : Result (Part X) ErrorOf)
-    → ReadsOrMemory view asked (mapped f r) bytes → BecomesPart strict asked made
-    → ReadsOrMemory (part_map view) made (mapped (part_map f) (turned (part_of strict) r)) bytes
-becomes_mapped view f r bytes strict asked (Ok p) h is =
-    sym (part-mapped f strict (r.value bytes))
-    ∙ becomes_part view (mapped f r) bytes strict asked (Ok p) h is
-becomes_mapped view f r bytes strict asked (Err e) h is =
-    let made = becomes_part view (mapped f r) bytes strict asked (Err e) h is in
-    λ other. (sym (part-mapped f strict (r.value bytes)) ∙ (made other).0, (made other).1)
-
--- the reading that is picked, of which something is made
-pub picked_mapped : {X A B : Type 0} (view : X → B) (f : A → B) (result : Result X ErrorOf)
-    (bytes : List ℕ) (test : Bool) (r s : Reading A) → test ≡ true
-    → ReadsOrMemory view result (mapped f r) bytes
-    → ReadsOrMemory view result (mapped f (pick test r s)) bytes
-picked_mapped view f result bytes true r s is h = h
-picked_mapped view f result bytes false r s is h = absurd cc
-
--- the part of a table that is not there
-pub absent_mapped : {X A B : Type 0} (view : X → B) (f : A → B) (strict : Bool)
-    (read : DataDirectory → Reading A) (directory : Option DataDirectory) (bytes : List ℕ)
-    → directory ≡ None
-    → option_map (part_map f) ((part_at strict read directory).value bytes)
-    ≡ Some (part_map view Absent)
-unfolding part_map
-absent_mapped view f strict read directory bytes is = rw is refl
 
 -- the part of a table that is not asked for, or not there
 pub unasked_mapped : {X A B : Type 0} (view : X → B) (f : A → B) (strict asked : Bool)

@@ -1,5 +1,4 @@
 pub mod Collected
-pub mod HeaderThere
 pub mod ImportParts
 pub mod KeptImports
 pub mod Layouts

@@ -2,10 +2,10 @@
 use Rattle.std.proofs.Common.{◌≡◌, ℕ, ◌<◌, ◌^◌, List, length, Bool, true, false, Option, Some, None, IsSome, refl, sym, ap, subst, ◌∙◌}
 use Rattle.std.specs.Prelude.{IfOk, IsSomeAnd, Result, Ok, Err, option_map}
 use Rattle.goblin_base.specs.declared.error.ErrorOf.{ErrorOf}
-use Rattle.goblin_base.specs.declared.permissive.ParseMode.TheVariants.{Permissive, Strict}
+use Rattle.goblin_base.specs.declared.permissive.ParseMode.TheVariants.{Strict}
 use Rattle.goblin_base.specs.Bytes.{IsBytes}
 use Rattle.goblin_base.specs.Reading.{Reading}
-use Rattle.goblin_base.proofs.Steps.{mapped, same_value, step}
+use Rattle.goblin_base.proofs.Steps.{mapped, step}
 use Rattle.readings.specs.Reads.{◌beside◌, in_its_place, pair_of}
 use Rattle.goblin_pe_sect.specs.declared.options.ParseOptions.{ParseOptions}
 use Rattle.goblin_pe_sect.specs.Mapping.{file_offset}
@@ -17,7 +17,7 @@ use Rattle.goblin_pe_head.specs.PeHeader.{PeHeader}
 use Rattle.goblin_pe_tables.specs.declared.import.left_out.LeftOut.{LeftOut}
 use Rattle.goblin_pe.specs.declared.whole.damage.Damage.{Damage}
 use Rattle.goblin_pe.specs.Damages.{AreDamaged, IsDamage, IsDamaged, IsReadByBoth, IsSound, TellsDamage}
-use Rattle.goblin_pe.specs.Modes.{in_mode, in_permissive_mode}
+use Rattle.goblin_pe.specs.Modes.{in_mode}
 use Rattle.goblin_pe.specs.Whole.{TablePlaces, WholeFile, export_part, import_list, import_parts, layout, offset_by}
 use Rattle.goblin_pe.specs.Whole.{places_in, relocation_part, sections_after, table_parts, whole_file}
 use Rattle.goblin_pe.specs.Whole.{whole_with}

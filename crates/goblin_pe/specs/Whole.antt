@@ -1,6 +1,6 @@
 -- A whole file: its header, its sections, and the tables that its directories lead to.
 use Rattle.std.specs.Prelude.{◌≡◌, ℕ, ◌+◌, ◌==◌, Bool, true, false, if◌then◌else◌, List, [], Option}
-use Rattle.std.specs.Prelude.{◌⊎◌, Some, None, Result, Ok, Err, Vec, IsSome, IsSomeAnd, IsTrue}
+use Rattle.std.specs.Prelude.{Some, None, Result, Ok, Err, Vec, IsSomeAnd}
 use Rattle.std.specs.Prelude.{map, option_map, unwrap_or}
 use Rattle.std.specs.List.{flat_map}
 use Rattle.std.specs.Global.{Global}

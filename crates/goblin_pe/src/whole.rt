@@ -1,21 +1,14 @@
 //! A whole file: its header, its sections, and the tables that its directories lead to.
 
-ghost use Rattle.std.specs.Prelude.{◌+◌, ◌≡◌, ◌<◌, ◌/◌, IfErr, IfSome, IsErrAnd, IsSome};
-ghost use Rattle.std.specs.Prelude.{[], length};
+ghost use Rattle.std.specs.Prelude.{◌≡◌, ◌<◌, ◌/◌, IfErr, IfSome, IsErrAnd, IsSome, length};
 ghost use Rattle.goblin_base.specs.Answers.{IsMemory};
 ghost use Rattle.goblin_base.specs.Reading.{Reads, ReadsOrMemory};
-ghost use Rattle.readings.specs.Reads.{mapped};
 ghost use Rattle.goblin_pe_sect.specs.AddressReadings.{text_at_address};
-ghost use Rattle.goblin_pe_sect.specs.BaseRelocations.{relocation_bytes};
 ghost use Rattle.goblin_pe_sect.specs.Options.{is_strict};
 ghost use Rattle.goblin_pe_head.specs.HeaderReadings.{pe_header};
-ghost use Rattle.goblin_pe_head.specs.PeHeader.{header_value};
 ghost use Rattle.goblin_pe_head.specs.CoffHeader.{IsTooManySections};
 ghost use Rattle.goblin_pe_tables.specs.Addresses.{map_by, offset_of};
-ghost use Rattle.goblin_pe_tables.specs.ImportReadings.{import_data};
-ghost use Rattle.goblin_pe.specs.Whole.{part_map, places_in, sections_after};
-ghost use Rattle.goblin_pe.specs.Whole.{whole_after};
-ghost use Rattle.goblin_pe.specs.Whole.{whole_file};
+ghost use Rattle.goblin_pe.specs.Whole.{places_in, whole_file};
 
 use crate::export::{Export, ExportData};
 use crate::import::{Import, ImportData};

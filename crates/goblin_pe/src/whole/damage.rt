@@ -1,6 +1,6 @@
 //! Why a file is damaged, part by part.
 
-ghost use Rattle.std.specs.Prelude.{◌≡◌, true, IfErr, IfOk, IsSomeAnd};
+ghost use Rattle.std.specs.Prelude.{true, IfErr, IfOk, IsSomeAnd};
 ghost use Rattle.goblin_base.specs.Answers.{IsMemory, all_of};
 ghost use Rattle.goblin_pe_sect.specs.Options.{is_strict};
 ghost use Rattle.goblin_pe_head.specs.HeaderReadings.{pe_header};

@@ -13,7 +13,7 @@ ghost use Rattle.goblin_pe.specs.Layouts.{IsFileImportsCause, IsLayoutOf, PartWa
 ghost use Rattle.goblin_pe.specs.Layouts.{file_imports_left, layout_map, layout_places};
 ghost use Rattle.goblin_pe.specs.Layouts.{walked_exports};
 ghost use Rattle.goblin_pe.specs.SectionRoom.{TakesSections};
-ghost use Rattle.goblin_pe.specs.Whole.{AreListed, export_part, import_list, listed_view, part_map, places_in};
+ghost use Rattle.goblin_pe.specs.Whole.{AreListed, export_part, import_list, listed_view, part_map};
 ghost use Rattle.goblin_pe.specs.Whole.{relocation_part, sections_after, table_parts};
 
 use crate::export::Exports;
