@@ -53,6 +53,7 @@ const KINDS: [DataDirectoryType; 15] = [
 ///
 /// Source: PE Format, "Optional Header Data Directories (Image Only)". Numbers are as stored; the
 /// record has 8 bytes, and `at` gives a field's offset in it.
+#[repr(C)]
 #[derive(Debug, PartialEq, Copy, Clone, Default)]
 pub struct DataDirectory {
     /// The table's address, relative to the image's base, at 0. That of the certificates is a file

@@ -142,6 +142,7 @@ const _: () = prove!(COFF_RELOCATION_SIZE == 10);
 ///
 /// Source: PE Format, "COFF Relocations (Object Only)". Numbers are as stored; the record has 10
 /// bytes, and `at` gives a field's offset in it.
+#[repr(C)]
 #[derive(Debug, PartialEq, Copy, Clone, Default)]
 pub struct Relocation {
     /// Where the bytes that are changed begin, at 0: their offset in the section, in bytes, plus

@@ -67,6 +67,7 @@ const LENGTH_FIELD_SIZE: u32 = 4;
 ///
 /// Source: PE Format, "COFF Symbol Table". Numbers are as stored; a record has 18 bytes, and `at`
 /// gives a field's offset in it.
+#[repr(C)]
 #[derive(Debug, PartialEq, Copy, Clone, Default)]
 pub struct Symbol {
     /// The eight bytes of the name, padded with NULs, at 0. Where the first is 0, the name is in

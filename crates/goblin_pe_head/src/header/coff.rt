@@ -37,6 +37,7 @@ const LENGTH_FIELD_SIZE: usize = 4;
 /// Source: PE Format, "COFF File Header (Object and Image)". Numbers are as stored; the record has
 /// 20 bytes, and `at` gives a field's offset in it. An object begins with it; in an image it
 /// follows the PE signature.
+#[repr(C)]
 #[derive(Debug, PartialEq, Copy, Clone, Default)]
 pub struct CoffHeader {
     /// The machine that the file is for, a `COFF_MACHINE_*`, at 0. No reader looks at it: the width

@@ -35,6 +35,7 @@ pub(crate) const SIZEOF_DOS_HEADER: usize = 64;
 /// Source: PE Format, "MS-DOS Stub (Image Only)"; the fields are those of a DOS executable. Numbers
 /// are as stored, little-endian in a file; the record has 64 bytes, and `at` gives a field's file
 /// offset. A loader of PE files looks only at the signature and the pointer.
+#[repr(C)]
 #[derive(Debug, PartialEq, Copy, Clone, Default)]
 pub struct DosHeader {
     /// [`DOS_MAGIC`], at 0x00.

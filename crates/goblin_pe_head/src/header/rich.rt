@@ -149,6 +149,7 @@ impl<'a> RichHeader<'a> {
 /// Source: not documented by Microsoft; the layout is what linkers write. Numbers are as stored;
 /// the record has 8 bytes, and `at` gives a field's offset in it. In a file its two words are
 /// stored under the header's key.
+#[repr(C)]
 #[derive(Debug, PartialEq, Copy, Clone, Default)]
 pub struct RichMetadata {
     /// The build of the tool, at 0.

@@ -36,6 +36,7 @@ const SIZEOF_TE_HEADER: usize = 40;
 /// but for the four that [`TeHeader::parse`] adjusts; the record has 40 bytes, and `at` gives a
 /// field's offset in it. It replaces the headers of a PE file and keeps what a loader of firmware
 /// needs of them; its addresses still count the bytes that were stripped.
+#[repr(C)]
 #[derive(Debug, PartialEq, Copy, Clone, Default)]
 pub struct TeHeader {
     /// [`TE_MAGIC`], at 0. No reader tests it.

@@ -216,6 +216,7 @@ impl StandardFields64 {
 ///
 /// Source: PE Format, "Optional Header Standard Fields (Image Only)". `at` gives a field's offset
 /// from the front of the optional header, in both widths.
+#[repr(C)]
 #[derive(Debug, PartialEq, Copy, Clone, Default)]
 pub struct StandardFields {
     /// What the optional header is, at 0: [`MAGIC_32`](super::MAGIC_32) or

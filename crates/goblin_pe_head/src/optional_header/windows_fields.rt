@@ -189,6 +189,7 @@ impl WindowsFields32 {
 /// Source: PE Format, "Optional Header Windows-Specific Fields (Image Only)". Numbers are as
 /// stored; the record has 88 bytes, and `at` gives a field's offset in it. It begins at 24 in the
 /// optional header.
+#[repr(C)]
 #[derive(Debug, PartialEq, Copy, Clone, Default)]
 pub struct WindowsFields64 {
     /// The address at which the image is best loaded, a multiple of 64 KiB, at 0. Where the loader

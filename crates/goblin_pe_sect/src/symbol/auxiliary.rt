@@ -24,6 +24,7 @@ use goblin_base::{
 ///
 /// Source: PE Format, "Auxiliary Format 1: Function Definitions". Numbers are as stored; the record
 /// has 18 bytes, and `at` gives a field's offset in it.
+#[repr(C)]
 #[derive(Debug, PartialEq, Copy, Clone, Default)]
 pub struct AuxFunctionDefinition {
     /// The index in the symbol table of the function's start, a record of class
@@ -110,6 +111,7 @@ impl AuxFunctionDefinition {
 ///
 /// Source: PE Format, "Auxiliary Format 2: .bf and .ef Symbols". Numbers are as stored; the record
 /// has 18 bytes, and `at` gives a field's offset in it.
+#[repr(C)]
 #[derive(Debug, PartialEq, Copy, Clone, Default)]
 pub struct AuxBeginAndEndFunction {
     /// Not used, at 0.
@@ -195,6 +197,7 @@ impl AuxBeginAndEndFunction {
 ///
 /// Source: PE Format, "Auxiliary Format 3: Weak Externals". Numbers are as stored; the record has
 /// 18 bytes, and `at` gives a field's offset in it.
+#[repr(C)]
 #[derive(Debug, PartialEq, Copy, Clone, Default)]
 pub struct AuxWeakExternal {
     /// The index in the symbol table of the symbol that is taken where this one is not found, at 0.
@@ -270,6 +273,7 @@ impl AuxWeakExternal {
 ///
 /// Source: PE Format, "Auxiliary Format 5: Section Definitions". Numbers are as stored; the record
 /// has 18 bytes, and `at` gives a field's offset in it.
+#[repr(C)]
 #[derive(Debug, PartialEq, Copy, Clone, Default)]
 pub struct AuxSectionDefinition {
     /// The size of the section's data, in bytes, at 0: the same as in its section record.

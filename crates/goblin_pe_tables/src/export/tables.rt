@@ -35,6 +35,7 @@ pub(crate) const SIZEOF_ORDINAL: usize = 2;
 ///
 /// Source: PE Format, "Export Directory Table". Numbers are as stored; the record has 40 bytes, and
 /// `at` gives a field's offset in it. Addresses are relative to the image's base.
+#[repr(C)]
 #[derive(Debug, PartialEq, Copy, Clone, Default)]
 pub struct ExportDirectoryTable {
     /// Reserved, 0, at 0.

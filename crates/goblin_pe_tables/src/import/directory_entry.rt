@@ -18,6 +18,7 @@ const _: () = prove!(SIZEOF_IMPORT_DIRECTORY_ENTRY == 20);
 ///
 /// Source: PE Format, "Import Directory Table". Numbers are as stored; the record has 20 bytes, and
 /// `at` gives a field's offset in it. Addresses are relative to the image's base.
+#[repr(C)]
 #[derive(Debug, PartialEq, Copy, Clone, Default)]
 pub struct ImportDirectoryEntry {
     /// The address of the lookup table, which says what is imported, at 0. Where it has no file
