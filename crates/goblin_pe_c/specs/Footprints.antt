@@ -29,18 +29,18 @@ range_said range = (range.0, range.1 - range.0)
 unfoldable pub footprint_by : ParseOptions → PeOptionalHeader → PeDirectory → List Section → List ℕ
     → List Range
 footprint_by opts header directory sections bytes =
-    let offset_of = file_offset opts sections header.file_alignment in
+    let offset_of = file_offset opts sections header.windows_fields.file_alignment in
     let strict = is_strict opts.parse_mode in
-    let format = entry_format header.magic in
+    let format = entry_format header.standard_fields.magic in
     if directory.is_present
-    then (import_data strict format offset_of directory.virtual_address).reaches bytes
+    then (import_data strict format offset_of directory.directory.virtual_address).reaches bytes
     else []
 
 -- memory is taken if there is a directory, with a section or an index that has pieces; and if there
 -- is a range to list
 abbrev pub TakesMemory : ParseOptions → PeOptionalHeader → PeDirectory → ℕ → List Range → Type 0
 TakesMemory opts header directory sections footprint =
-    (IsTrue directory.is_present × ((0 < sections) ⊎ HasPieces opts header.file_alignment))
+    (IsTrue directory.is_present × ((0 < sections) ⊎ HasPieces opts header.windows_fields.file_alignment))
     ⊎ (0 < length footprint)
 
 -- A call lists the ranges of a footprint; or memory was refused, where it may be asked for, and

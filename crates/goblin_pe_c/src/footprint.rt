@@ -91,28 +91,28 @@ fn footprint_at(
     sections: &[SectionTable],
     opts: &ParseOptions,
 ) -> Result<Vec<(usize, usize)>>
-    ensures ranges { let m = map_by opts.now sections.now header.now.file_alignment in
-        let format = entry_format header.now.magic in
+    ensures ranges { let m = map_by opts.now sections.now header.now.windows_fields.file_alignment in
+        let format = entry_format header.now.standard_fields.magic in
         let reading = import_data (reads_strictly m) format (offset_of m) rva in
         IfOk result (λ v. v.items ≡ reading.reaches bytes.now) }
     ensures refused { IfErr result IsMemory }
-    ensures grown { let m = map_by opts.now sections.now header.now.file_alignment in
-        let format = entry_format header.now.magic in
+    ensures grown { let m = map_by opts.now sections.now header.now.windows_fields.file_alignment in
+        let format = entry_format header.now.standard_fields.magic in
         let reading = import_data (reads_strictly m) format (offset_of m) rva in
         OnErr result
-        ((0 < length (reading.reaches bytes.now)) ⊎ HasPieces opts.now header.now.file_alignment) }
+        ((0 < length (reading.reaches bytes.now)) ⊎ HasPieces opts.now header.now.windows_fields.file_alignment) }
 {
     let directory = DataDirectory {
         virtual_address: rva,
         size: 0,
     };
-    if header.magic == MAGIC_32 {
+    if header.standard_fields.magic == MAGIC_32 {
         footprint_imports::<u32>(
             alloc,
             bytes,
             directory,
             sections,
-            header.file_alignment,
+            header.windows_fields.file_alignment,
             opts,
         )
     } else {
@@ -121,7 +121,7 @@ fn footprint_at(
             bytes,
             directory,
             sections,
-            header.file_alignment,
+            header.windows_fields.file_alignment,
             opts,
         )
     }
@@ -156,7 +156,7 @@ fn footprint_of(
         alloc,
         bytes,
         header,
-        directory.virtual_address,
+        directory.directory.virtual_address,
         &sections,
         opts,
     )
