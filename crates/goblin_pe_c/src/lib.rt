@@ -6,6 +6,7 @@
 #![tactic(auto)]
 
 mod block;
+mod damage;
 mod directory;
 mod export;
 mod fault;
