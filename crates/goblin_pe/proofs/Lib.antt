@@ -3,6 +3,7 @@ pub mod ImportParts
 pub mod KeptImports
 pub mod Layouts
 pub mod ListedImports
+pub mod NumberedExports
 pub mod Parts
 pub mod PermissiveReads
 pub mod SectionRoom
