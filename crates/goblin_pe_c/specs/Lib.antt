@@ -1,6 +1,7 @@
 pub mod Blocked
 pub mod Blocks
 pub mod Calls
+pub mod Damages
 pub mod Directories
 pub mod Exports
 pub mod Faults

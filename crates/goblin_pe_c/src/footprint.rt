@@ -1,29 +1,17 @@
-//! The call that tells on which bytes of a file its imports depend.
+//! The call that tells on which bytes of a file a read of the whole file depends.
 
-ghost use Rattle.std.specs.Prelude.{◌≡◌, ◌<◌, ◌⊎◌, IfErr, IfOk, OnErr, length, map};
-ghost use Rattle.goblin_base.specs.Answers.{GivesOrMemory, IsMemory};
-ghost use Rattle.goblin_pe_sect.specs.WindowIndex.{HasPieces};
-ghost use Rattle.goblin_pe.specs.Addresses.{map_by, offset_of, reads_strictly};
-ghost use Rattle.goblin_pe.specs.ImportReadings.{import_data};
-ghost use Rattle.goblin_pe.specs.Whole.{entry_format};
+ghost use Rattle.std.specs.Prelude.{◌≡◌, ◌<◌, OnErr, length, map};
+ghost use Rattle.goblin_base.specs.Answers.{GivesOrMemory};
+ghost use Rattle.goblin_pe.specs.Whole.{whole_file};
 ghost use Rattle.goblin_pe_c.specs.Calls.{Reported};
-ghost use Rattle.goblin_pe_c.specs.Footprints.{Lists, TakesMemory, footprint_by, range_said};
-ghost use Rattle.goblin_pe_c.specs.Footprints.{range_view};
+ghost use Rattle.goblin_pe_c.specs.Footprints.{Lists, range_said, range_view};
 ghost use Rattle.goblin_pe_c.specs.Options.{options_of};
-ghost use Rattle.goblin_pe_c.specs.Sections.{section_view, unnamed};
 
-use crate::directory::PeDirectory;
 use crate::fault::{PeFault, fault_of, no_fault};
-use crate::headers::PeOptionalHeader;
-use crate::mapping::section_of;
 use crate::options::{PeOptions, options_of};
-use crate::section::PeSection;
 use goblin_pe::Result;
-use goblin_pe::data_directories::DataDirectory;
-use goblin_pe::laws::footprint_imports;
-use goblin_pe::optional_header::MAGIC_32;
+use goblin_pe::laws::footprint_whole;
 use goblin_pe::options::ParseOptions;
-use goblin_pe::section_table::SectionTable;
 use std::alloc::Global;
 
 /// A range of the file.
@@ -67,118 +55,16 @@ fn range_records(alloc: Global, ranges: &[(usize, usize)]) -> Result<Vec<PeRange
     Ok(records)
 }
 
-// The sections of records, without their names from the string table, which no mapping asks for.
-fn sections_of(alloc: Global, records: &[PeSection]) -> Result<Vec<SectionTable>>
-    ensures made { GivesOrMemory (λ v. v.items) result
-        (map (λ s. unnamed (section_view s)) records.now) }
-    ensures grown { OnErr result (0 < length records.now) }
-{
-    let count = records.len();
-    let mut sections = Vec::with_capacity(alloc, count)?;
-    'sections: for i in 0..count {
-        sections.push(section_of(&records[i]))?;
-    }
-    Ok(sections)
-}
-
-// The footprint of the imports at an address, by the magic number of the optional header.
-#[tactic(auto, unfolding(goblin_pe::specs::Whole::entry_format))]
-fn footprint_at(
-    alloc: Global,
-    bytes: &[u8],
-    header: &PeOptionalHeader,
-    rva: u32,
-    sections: &[SectionTable],
-    opts: &ParseOptions,
-) -> Result<Vec<(usize, usize)>>
-    ensures ranges { let m = map_by opts.now sections.now header.now.file_alignment in
-        let format = entry_format header.now.magic in
-        let reading = import_data (reads_strictly m) format (offset_of m) rva in
-        IfOk result (λ v. v.items ≡ reading.reaches bytes.now) }
-    ensures refused { IfErr result IsMemory }
-    ensures grown { let m = map_by opts.now sections.now header.now.file_alignment in
-        let format = entry_format header.now.magic in
-        let reading = import_data (reads_strictly m) format (offset_of m) rva in
-        OnErr result
-        ((0 < length (reading.reaches bytes.now)) ⊎ HasPieces opts.now header.now.file_alignment) }
-{
-    let directory = DataDirectory {
-        virtual_address: rva,
-        size: 0,
-    };
-    if header.magic == MAGIC_32 {
-        footprint_imports::<u32>(
-            alloc,
-            bytes,
-            directory,
-            sections,
-            header.file_alignment,
-            opts,
-        )
-    } else {
-        footprint_imports::<u64>(
-            alloc,
-            bytes,
-            directory,
-            sections,
-            header.file_alignment,
-            opts,
-        )
-    }
-}
-
-// The footprint of the imports to which a directory leads, if there is one.
-#[tactic(auto, unfolding(crate::specs::Footprints::footprint_by))]
-fn footprint_of(
-    alloc: Global,
-    bytes: &[u8],
-    header: &PeOptionalHeader,
-    directory: &PeDirectory,
-    sections: &[PeSection],
-    opts: &ParseOptions,
-) -> Result<Vec<(usize, usize)>>
-    ensures ranges { IfOk result
-        (λ v.
-        v.items
-        ≡ footprint_by opts.now header.now directory.now (map section_view sections.now)
-        bytes.now) }
-    ensures refused { IfErr result IsMemory }
-    ensures grown { let footprint = footprint_by opts.now header.now directory.now
-        (map section_view sections.now) bytes.now in
-        OnErr result
-        (TakesMemory opts.now header.now directory.now (length sections.now) footprint) }
-{
-    if !directory.is_present {
-        return Ok(Vec::new(alloc));
-    }
-    let sections = sections_of(alloc, sections)?;
-    footprint_at(
-        alloc,
-        bytes,
-        header,
-        directory.virtual_address,
-        &sections,
-        opts,
-    )
-}
-
-// Lists the ranges of a footprint.
+// Lists the ranges of a file's footprint.
 fn list<'a>(
     alloc: Global,
     bytes: &[u8],
-    header: &PeOptionalHeader,
-    directory: &PeDirectory,
-    sections: &[PeSection],
     opts: &ParseOptions,
     ranges: &mut PeRanges<'a>,
 ) -> Result<()>
-    ensures { let footprint = footprint_by opts.now header.now directory.now
-        (map section_view sections.now) bytes.now in
-        Lists footprint
-        (TakesMemory opts.now header.now directory.now (length sections.now) footprint)
-        ranges.old ranges.new result }
+    ensures { Lists ((whole_file opts.now).reaches bytes.now) ranges.old ranges.new result }
 {
-    let footprint = footprint_of(alloc, bytes, header, directory, sections, opts)?;
+    let footprint = footprint_whole(alloc, bytes, opts)?;
     let records = range_records(alloc, &footprint)?;
     *ranges = PeRanges {
         ranges: records.leak(),
@@ -186,40 +72,25 @@ fn list<'a>(
     Ok(())
 }
 
-/// Puts into `ranges` the bytes of a file on which its imports depend, by its optional header, the
-/// entry of its import directory and the records of its sections: two files of one length with the
-/// same bytes in these ranges, and with the same header, entry and sections, have the same imports.
+/// Puts into `ranges` the positions of a file on which a read of the whole file by these options
+/// depends: of two files of one length with the same bytes there, both have the same header,
+/// sections and tables, or both are refused, not always for the same cause. A file that is refused
+/// has a footprint, too.
+///
 /// The ranges come in no order and may overlap; none is empty, and none passes the file. They are a
 /// block of memory that the caller frees, if there is one. Refused is memory alone (the status 5),
-/// and then nothing is changed; it is asked for only where there is a directory.
+/// only where there is a range to list, and then nothing is changed.
 #[unsafe(no_mangle)]
-pub extern "C" fn goblin_pe_footprint_imports<'a>(
+pub extern "C" fn goblin_pe_raw_footprint<'a>(
     alloc: Global,
     bytes: &[u8],
     options: &PeOptions,
-    optional_header: &PeOptionalHeader,
-    directory: &PeDirectory,
-    sections: &[PeSection],
     ranges: &mut PeRanges<'a>,
 ) -> PeFault
-    ensures { let opts = options_of options.now in
-        let footprint = footprint_by opts optional_header.now directory.now
-        (map section_view sections.now) bytes.now in
-        Reported result
-        (Lists footprint
-        (TakesMemory opts optional_header.now directory.now (length sections.now) footprint)
-        ranges.old ranges.new) }
+    ensures { let footprint = (whole_file (options_of options.now)).reaches bytes.now in
+        Reported result (Lists footprint ranges.old ranges.new) }
 {
-    let opts = options_of(options);
-    match list(
-        alloc,
-        bytes,
-        optional_header,
-        directory,
-        sections,
-        &opts,
-        ranges,
-    ) {
+    match list(alloc, bytes, &options_of(options), ranges) {
         Ok(()) => no_fault(),
         Err(error) => fault_of(&error),
     }

@@ -7,6 +7,7 @@
 
 mod auxiliary;
 mod block;
+mod damage;
 mod directory;
 mod export;
 mod fault;
