@@ -8,9 +8,7 @@ use Rattle.std.proofs.lemmas.Grind.{drop_more_same}
 use Rattle.goblin_base.specs.declared.error.ErrorOf.{ErrorOf}
 use Rattle.goblin_pe_sect.specs.declared.relocation.Relocation.{Relocation}
 use Rattle.goblin_pe_sect.specs.Relocations.{relocations_in}
-use Rattle.goblin_pe_sect.specs.Symbols.{SymbolItem, symbols_in}
 use Rattle.goblin_pe_sect.proofs.RelocationRecords.{length_relocations}
-use Rattle.goblin_pe_sect.proofs.SymbolHeads.{symbols_most}
 use Rattle.goblin_base.proofs.RecordItems.{record_items-none}
 use Rattle.goblin_pe_head.specs.RichMetadata.{metadata_at, metadata_items}
 use Rattle.goblin_pe_c.specs.declared.fault.PeFault.{PeFault}
@@ -161,11 +159,3 @@ relocations_below bytes =
     let count = length_relocations bytes in
     let same = length-map (relocations_in bytes) ok in
     omega (arith, count, same)
-
--- there are no more symbols than bytes
-pub symbols_below : {B : Type 0} (row : SymbolItem → B) (table : List ℕ) → length (as_items row (symbols_in table)) ≤ length table + 1
-symbols_below {B} row table =
-    let ok : SymbolItem → Result B ErrorOf = λ x. Ok (row x) in
-    let most = symbols_most (length table / 18) 0 table 0 in
-    let same = length-map (symbols_in table) ok in
-    omega (arith, most, same)

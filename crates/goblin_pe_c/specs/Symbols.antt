@@ -1,4 +1,4 @@
--- The records of symbols, as definitions.
+-- The symbols of a table from one of its records on, and what a call gives of them.
 use Rattle.std.specs.Prelude.{◌≡◌, ℕ, zero, suc, ◌+◌, ◌-◌, ◌*◌, ◌/◌, ◌==◌, min, if◌then◌else◌}
 use Rattle.std.specs.Prelude.{List, [], length, map, take, drop, slice_index, Option, Some, None}
 use Rattle.goblin_base.specs.Answers.{◌>>=◌}
@@ -11,14 +11,7 @@ use Rattle.goblin_pe_sect.specs.Symbols.{SymbolItem, aux, name_offset_of, symbol
 use Rattle.goblin_pe_head.specs.declared.header.coff.CoffHeader.{CoffHeader}
 use Rattle.goblin_pe_head.specs.CoffReadings.{strings_of, symbols_of}
 use Rattle.goblin_pe_c.specs.declared.symbol.PeNamedSymbol.{PeNamedSymbol}
-use Rattle.goblin_pe_c.specs.declared.symbol.PeSymbol.{PeSymbol}
 use Rattle.goblin_pe_c.specs.Filled.{Filled, alone}
-
--- a symbol with its index and its name
-pub record SymbolRow : Type 0 where
-  pub index : ℕ
-  pub name : Option (List ℕ)
-  pub symbol : Symbol
 
 -- the name: if a number is stored in its place, what the string table has at that offset, else the
 -- one in the record
@@ -27,31 +20,6 @@ name_in strings inline_name symbol =
     if slice_index symbol.name 0 == 0
     then (name_offset_of symbol.name >>= rest_at strings)
     else inline_name
-
--- a symbol of a table with its name
-abbrev pub symbol_row : List ℕ → SymbolItem → SymbolRow × List ℕ
-symbol_row strings item =
-    alone (record { index = item.0; name = name_in strings item.1 item.2; symbol = item.2 })
-
--- what a record holds of a symbol, and what replaces a missing name
-abbrev pub symbol_view : PeSymbol → SymbolRow × List ℕ
-symbol_view s = (
-  record {
-    index = s.index;
-    name = if s.has_name then Some s.name.now else None;
-    symbol = record {
-      name = s.record_name;
-      value = s.value;
-      section_number = s.section_number;
-      typ = s.typ;
-      storage_class = s.storage_class;
-      number_of_aux_symbols = s.number_of_aux_symbols;
-    };
-  },
-  if s.has_name then [] else s.name.now,
-)
-
--- ---- symbols from a record on
 
 -- a symbol with its index, its name, and the bytes of its auxiliary records
 pub record NamedSymbol : Type 0 where

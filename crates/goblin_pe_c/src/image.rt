@@ -35,7 +35,7 @@ pub struct PeText<'a> {
     pub bytes: &'a [u8],
 }
 
-// The record of a text, where there is one.
+/// The record of a text, where there is one.
 pub fn text_record<'a>(text: Option<&'a str>) -> Option<PeText<'a>>
     ensures { option_map text_view result ≡ option_map (λ s. s.now) text.entry }
 {
