@@ -6,7 +6,7 @@ use Rattle.goblin_base.specs.Record.{record_at}
 use Rattle.goblin_base.proofs.Steps.{mapped, step}
 use Rattle.goblin_pe_sect.specs.SectionReadings.{section_at}
 use Rattle.goblin_pe_head.specs.CoffHeader.{coff_header, symbols_end}
-use Rattle.goblin_pe_head.specs.CoffReadings.{sections_at, strings_of, symbols_of}
+use Rattle.goblin_pe_head.specs.CoffReadings.{sections_at}
 use Rattle.goblin_pe_c.specs.Objects.{ObjectFile, object_file, object_sections}
 use Rattle.goblin_pe_c.specs.Sections.{named_in}
 use Rattle.goblin_pe_c.proofs.Named.{all-kept, section-named}
@@ -14,12 +14,10 @@ use Rattle.goblin_pe_c.proofs.Named.{all-kept, section-named}
 pub object-named : (strict : Bool) (bytes : List ℕ) (x : ObjectFile) → (object_file strict).value bytes ≡ Some x → map (named_in strict bytes (symbols_end x.header)) x.sections ≡ x.sections
 unfolding object_file sections_at
 object-named strict bytes x h =
-    let s1 = step (record_at 20 (coff_header Little) bytes 0) _ x h in
-    let s2 = step ((object_sections strict s1.value).value bytes) _ x s1.then in
-    let s3 = step ((symbols_of s1.value).value bytes) _ x s2.then in
-    let s4 = mapped ((strings_of s1.value).value bytes) _ x s3.then in
-    let table = symbols_end s1.value in
-    let from = 20 + s1.value.size_of_optional_header in
-    let made : ObjectFile = record { header = s1.value; sections = s2.value; symbols = s3.value; strings = s4.value } in
-    subst (λ (y : ObjectFile). map (named_in strict bytes (symbols_end y.header)) y.sections ≡ y.sections) s4.made
-    (all-kept (named_in strict bytes table) (λ i. (section_at strict table (from + 40 * i)).value bytes) s1.value.number_of_sections 0 s2.value (λ i s is. section-named strict table bytes (from + 40 * i) s is) s2.is)
+    let header = step (record_at 20 (coff_header Little) bytes 0) _ x h in
+    let read = mapped ((object_sections strict header.value).value bytes) _ x header.then in
+    let table = symbols_end header.value in
+    let from = 20 + header.value.size_of_optional_header in
+    let made : ObjectFile = record { header = header.value; sections = read.value } in
+    subst (λ (y : ObjectFile). map (named_in strict bytes (symbols_end y.header)) y.sections ≡ y.sections) read.made
+    (all-kept (named_in strict bytes table) (λ i. (section_at strict table (from + 40 * i)).value bytes) header.value.number_of_sections 0 read.value (λ i s is. section-named strict table bytes (from + 40 * i) s is) read.is)

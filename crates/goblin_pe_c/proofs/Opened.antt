@@ -1,6 +1,7 @@
 -- The records that were collected of a file are those of its imports and its exports.
 use Rattle.std.proofs.Common.{◌≡◌, ◌∙◌, ℕ, List, map, Some, None, refl, sym, ap, subst}
-use Rattle.std.specs.Prelude.{option_map, Result, Ok, Err}
+use Rattle.std.specs.Global.{Global}
+use Rattle.std.specs.Prelude.{option_map, Result, Ok, Err, Vec}
 use Rattle.std.proofs.lemmas.List.{length-map}
 use Rattle.goblin_base.specs.declared.error.ErrorOf.{ErrorOf}
 use Rattle.goblin_base.specs.Answers.{IsMemory}
@@ -38,6 +39,15 @@ unfolding part_map
 table-same Absent q f is = rw (← is) refl
 table-same (part.Read xs) q f is = rw (← is, length-map xs f) refl
 table-same Refused q f is = rw (← is) refl
+
+-- a table has as many records as it has views
+pub table-viewed : {A B : Type 0} (view : A → B) (p : Part (Vec A Global))
+    → table_of (part_map (λ (v : Vec A Global). v.items) p)
+    ≡ table_of (part_map (λ (v : Vec A Global). map view v.items) p)
+unfolding part_map
+table-viewed view Absent = refl
+table-viewed view (part.Read v) = rw (length-map v.items view) refl
+table-viewed view Refused = refl
 
 entries-same : {A B : Type 0} (p : Part (List A)) (q : Part (List B)) (f : A → B)
     → part_map (map f) p ≡ q → map f (entries_of p) ≡ entries_of q

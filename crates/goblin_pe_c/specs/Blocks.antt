@@ -5,7 +5,7 @@ use Rattle.goblin_pe.specs.declared.whole.Part.{Part}
 use Rattle.goblin_pe.specs.declared.whole.Part.TheVariants.{Absent, Refused}
 use Rattle.goblin_pe.specs.declared.whole.Part.TheVariants as part
 use Rattle.goblin_pe_c.specs.declared.block.PeBlock.{PeBlock}
-use Rattle.goblin_pe_c.specs.declared.block.PeRelocations.{PeRelocations}
+use Rattle.goblin_pe_c.specs.declared.block.PeBaseRelocations.{PeBaseRelocations}
 use Rattle.goblin_pe_c.specs.Faults.{no_fault}
 use Rattle.goblin_pe_c.specs.Items.{rest_of, values_of}
 
@@ -20,7 +20,7 @@ blocks_in (part.Read directory) = values_of (block_items directory 0)
 blocks_in Refused = []
 
 -- the summary of the base relocations
-abbrev pub relocations_of : Part (List ℕ) → PeRelocations
+abbrev pub relocations_of : Part (List ℕ) → PeBaseRelocations
 relocations_of Absent = record { blocks = record { count = 0; state = 0 }; rest = no_fault }
 relocations_of (part.Read directory) =
     record {

@@ -7,9 +7,11 @@ use Rattle.goblin_pe.specs.PeHeader.{PeHeader}
 use Rattle.goblin_pe.specs.Whole.{WholeFile}
 use Rattle.goblin_pe_c.specs.declared.file.PeTable.{PeTable}
 use Rattle.goblin_pe_c.specs.declared.file.PeFile.{PeFile}
+use Rattle.goblin_pe_c.specs.declared.file.State.{State}
+use Rattle.goblin_pe_c.specs.declared.file.State.TheVariants as state
 use Rattle.goblin_pe_c.specs.Blocks.{relocations_of}
 use Rattle.goblin_pe_c.specs.Directories.{directories_of}
-use Rattle.goblin_pe_c.specs.Headers.{coff_record, dos_record, optional_record}
+use Rattle.goblin_pe_c.specs.Headers.{optional_record}
 use Rattle.goblin_pe_c.specs.RichHeaders.{rich_of}
 
 -- the entries of a table, none where it was not read
@@ -18,11 +20,17 @@ entries_of Absent = []
 entries_of (part.Read entries) = entries
 entries_of Refused = []
 
--- a table's entries by their number; whether it is absent (0), read (1) or refused (2)
+-- the number of a state
+abbrev pub state_number : State → ℕ
+state_number state.Absent = 0
+state_number state.Read = 1
+state_number state.Refused = 2
+
+-- a table's entries by their number, and how it stands
 abbrev pub table_of : {A : Type 0} → Part (List A) → PeTable
-table_of Absent = record { count = 0; state = 0 }
-table_of (part.Read entries) = record { count = length entries; state = 1 }
-table_of Refused = record { count = 0; state = 2 }
+table_of Absent = record { count = 0; state = state_number state.Absent }
+table_of (part.Read entries) = record { count = length entries; state = state_number state.Read }
+table_of Refused = record { count = 0; state = state_number state.Refused }
 
 -- what is said of a file with this header, so many sections, these tables and these relocations
 abbrev pub summary : PeHeader → ℕ → PeTable → PeTable → Part (List ℕ) → PeFile
@@ -34,8 +42,8 @@ summary header sections imports exports relocations = record {
   exports = exports;
   relocations = relocations_of relocations;
   rich_header = rich_of header.rich_header;
-  dos_header = dos_record header.dos_header;
-  coff_header = coff_record header.coff_header;
+  dos_header = header.dos_header;
+  coff_header = header.coff_header;
 }
 
 abbrev pub file_of : WholeFile → PeFile

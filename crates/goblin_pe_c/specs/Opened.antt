@@ -1,6 +1,5 @@
 -- The tables of a whole file, which are in memory of their own.
-use Rattle.std.specs.Prelude.{◌≡◌, ℕ, List, Vec, map}
-use Rattle.std.specs.Global.{Global}
+use Rattle.std.specs.Prelude.{◌≡◌, ℕ, List, map}
 use Rattle.goblin_pe.specs.Imports.{ImportValue}
 use Rattle.goblin_pe.specs.Whole.{CollectedFileValue, CollectedParts, WholeFile, collected_file, part_map}
 use Rattle.goblin_pe.specs.declared.whole.layout.Layout.{Layout}
@@ -11,14 +10,12 @@ use Rattle.goblin_pe_c.specs.declared.file.PeFile.{PeFile}
 use Rattle.goblin_pe_c.specs.declared.open.PeTables.{PeTables}
 use Rattle.goblin_pe_c.specs.Blocks.{block_view, blocks_in}
 use Rattle.goblin_pe_c.specs.Directories.{directories_of, directory_record}
-use Rattle.goblin_pe_c.specs.declared.export.PeExport.{PeExport}
-use Rattle.goblin_pe_c.specs.declared.import.PeImport.{PeImport}
 use Rattle.goblin_pe_c.specs.declared.records.FileRecords.{FileRecords}
 use Rattle.goblin_pe_c.specs.Exports.{ExportSaid, export_said, export_view, export_views}
 use Rattle.goblin_pe_c.specs.Files.{entries_of, file_of}
 use Rattle.goblin_pe_c.specs.Filled.{Filled, alone}
 use Rattle.goblin_pe_c.specs.Imports.{import_view, import_views}
-use Rattle.goblin_pe_c.specs.RichHeaders.{entries_in, entry_view}
+use Rattle.goblin_pe_c.specs.RichHeaders.{entries_in}
 use Rattle.goblin_pe_c.specs.Sections.{section_said}
 
 -- what a caller passes in to be filled
@@ -30,7 +27,7 @@ pub record Opened : Type 0 where
 -- the tables are those of a file, each whole
 abbrev pub AreTablesOf : WholeFile → PeTables → Type 0
 AreTablesOf w t =
-    (map entry_view t.rich_entries.now ≡ entries_in w.header.rich_header)
+    (t.rich_entries.now ≡ entries_in w.header.rich_header)
     × (map section_said t.sections.now ≡ map alone w.sections)
     × (map import_view t.imports.now ≡ map alone (entries_of w.imports))
     × (map export_view t.exports.now ≡ map export_said (entries_of w.exports))

@@ -4,14 +4,9 @@ use Rattle.goblin_base.specs.declared.error.ErrorOf.{ErrorOf}
 use Rattle.goblin_pe_head.specs.declared.header.rich.RichMetadata.{RichMetadata}
 use Rattle.goblin_pe_head.specs.RichHeader.{Rich}
 use Rattle.goblin_pe_head.specs.RichMetadata.{metadata_items}
-use Rattle.goblin_pe_c.specs.declared.rich.PeRichEntry.{PeRichEntry}
 use Rattle.goblin_pe_c.specs.declared.rich.PeRichHeader.{PeRichHeader}
 use Rattle.goblin_pe_c.specs.Faults.{no_fault}
 use Rattle.goblin_pe_c.specs.Items.{rest_of, values_of}
-
--- what a record holds of an entry
-abbrev pub entry_view : PeRichEntry → RichMetadata
-entry_view e = record { build = e.build; product = e.product; use_count = e.use_count }
 
 -- the entries of a Rich header, which follow the padding
 abbrev pub entry_items : Rich → List (Result RichMetadata ErrorOf)

@@ -7,7 +7,6 @@ use Rattle.goblin_pe_head.specs.declared.header.te.TeHeader.{TeHeader}
 use Rattle.goblin_pe_head.specs.TeReadings.{te_image}
 use Rattle.goblin_pe.specs.SectionRoom.{TakesSections}
 use Rattle.goblin_pe_c.specs.declared.section.PeSection.{PeSection}
-use Rattle.goblin_pe_c.specs.declared.te.PeTeHeader.{PeTeHeader}
 use Rattle.goblin_pe_c.specs.Filled.{Filled, alone}
 use Rattle.goblin_pe_c.specs.Sections.{section_said}
 
@@ -24,27 +23,13 @@ te_file = mapped (λ both. record { header = both.0; sections = both.1 }) (te_im
 abbrev pub TakesMemory : List ℕ → TeHeader → Type 0
 TakesMemory bytes h = TakesSections h.number_of_sections bytes
 
-abbrev pub te_header_record : TeHeader → PeTeHeader
-te_header_record h = record {
-  image_base = h.image_base;
-  entry_point = h.entry_point;
-  base_of_code = h.base_of_code;
-  reloc_dir = record { virtual_address = h.reloc_dir.virtual_address; size = h.reloc_dir.size };
-  debug_dir = record { virtual_address = h.debug_dir.virtual_address; size = h.debug_dir.size };
-  signature = h.signature;
-  machine = h.machine;
-  stripped_size = h.stripped_size;
-  number_of_sections = h.number_of_sections;
-  subsystem = h.subsystem;
-}
-
 -- what a caller passes in to be filled
 pub record TeRecords : Type 0 where
-  pub header : PeTeHeader
+  pub header : TeHeader
   pub sections : List PeSection
 
 -- the records hold what an image has, the sections as far as there is room
 abbrev pub SaysImage : TeImage → TeRecords → TeRecords → Type 0
 SaysImage x old new =
-    (new.header ≡ te_header_record x.header)
+    (new.header ≡ x.header)
     × (Filled section_said (map alone x.sections) old.sections new.sections)

@@ -9,7 +9,7 @@ ghost use Rattle.goblin_pe_c.specs.Items.{rest_of, values_of};
 ghost use Rattle.goblin_pe_c.specs.Blocks.{block_view, blocks_in, relocations_of};
 
 use crate::fault::{PeFault, fault_of, no_fault};
-use crate::file::PeTable;
+use crate::file::{PeTable, State};
 use goblin_pe::relocation::{RelocationBlock, RelocationData};
 use goblin_pe::{Part, Result};
 use std::alloc::Global;
@@ -30,7 +30,7 @@ pub struct PeBlock<'a> {
 /// The base relocations.
 #[repr(C)]
 #[derive(Copy, Clone)]
-pub struct PeRelocations {
+pub struct PeBaseRelocations {
     /// The blocks.
     pub blocks: PeTable,
     /// Why the rest that follows the blocks is no block; its status is 0 where there is no rest.
@@ -78,7 +78,7 @@ fn item_records<'a>(
 pub fn block_records<'a>(
     alloc: Global,
     relocations: &Part<RelocationData<'a>>,
-) -> Result<(Vec<PeBlock<'a>>, PeRelocations)>
+) -> Result<(Vec<PeBlock<'a>>, PeBaseRelocations)>
     ensures refused { IfErr result IsMemory }
     ensures values { IfOk result
         (λ made.
@@ -88,16 +88,13 @@ pub fn block_records<'a>(
     ensures none { IfOk result (λ made. HasNoIdleBlock made.0) }
 {
     let (records, state, rest) = match relocations {
-        Part::Absent => (Vec::new(alloc), 0, no_fault()),
+        Part::Absent => (Vec::new(alloc), State::Absent, no_fault()),
         Part::Read(relocations) => {
             let (records, rest) = item_records(alloc, relocations)?;
-            (records, 1, rest)
+            (records, State::Read, rest)
         }
-        Part::Refused => (Vec::new(alloc), 2, no_fault()),
+        Part::Refused => (Vec::new(alloc), State::Refused, no_fault()),
     };
-    let blocks = PeTable {
-        count: records.len(),
-        state,
-    };
-    Ok((records, PeRelocations { blocks, rest }))
+    let blocks = PeTable::new(records.len(), state);
+    Ok((records, PeBaseRelocations { blocks, rest }))
 }

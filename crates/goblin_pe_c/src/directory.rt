@@ -14,12 +14,9 @@ pub struct PeDirectory {
     /// Where the entry's record ends, in bytes from the front of the optional header; 0 where there
     /// is no entry.
     pub end: usize,
-    /// The address of what it leads to, relative to the image's base. That of the attribute
-    /// certificates is a file offset, since they are not loaded.
-    pub virtual_address: u32,
-    /// The size of what it leads to, in bytes. An import directory ends at its own last record,
-    /// whatever the size.
-    pub size: u32,
+    /// Where what it leads to lies; zeros where there is no entry. An import directory ends at its
+    /// own last record, whatever the size.
+    pub directory: DataDirectory,
     /// Whether there is such an entry, and not all of it is 0.
     pub is_present: bool,
 }
@@ -31,14 +28,12 @@ fn directory_record(directory: &Option<(usize, DataDirectory)>) -> PeDirectory
     match directory {
         None => PeDirectory {
             end: 0,
-            virtual_address: 0,
-            size: 0,
+            directory: DataDirectory::default(),
             is_present: false,
         },
         Some((end, directory)) => PeDirectory {
             end: *end,
-            virtual_address: directory.virtual_address,
-            size: directory.size,
+            directory: *directory,
             is_present: true,
         },
     }

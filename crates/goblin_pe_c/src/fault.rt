@@ -298,7 +298,7 @@ fn put_text(text: &mut [u8], whole: &[u8]) -> usize
 /// Writes the text of the refusal with these numbers, as far as there is room, and answers how long
 /// the whole text is; 0 where the numbers are of no refusal. It takes no memory.
 #[unsafe(no_mangle)]
-pub extern "C" fn goblin_pe_fault_text(fault: &PeFault, text: &mut [u8]) -> usize
+pub extern "C" fn goblin_pe_raw_fault_text(fault: &PeFault, text: &mut [u8]) -> usize
     ensures { (whole : List ℕ) × IsTextOf fault.now whole × (result ≡ length whole)
         × Filled (λ b. b) whole text.old text.new }
 {

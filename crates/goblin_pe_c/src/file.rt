@@ -6,20 +6,30 @@ ghost use Rattle.goblin_pe.specs.Whole.{part_map};
 ghost use Rattle.goblin_pe_c.specs.Blocks.{relocations_of};
 ghost use Rattle.goblin_pe_c.specs.Exports.{export_views};
 ghost use Rattle.goblin_pe_c.specs.Imports.{import_views};
-ghost use Rattle.goblin_pe_c.specs.Files.{summary, table_of};
+ghost use Rattle.goblin_pe_c.specs.Files.{state_number, summary, table_of};
 ghost use Rattle.goblin_pe_c.specs.Opened.{records_view};
 ghost use Rattle.goblin_pe_c.specs.RichHeaders.{rich_of};
 
-use crate::block::PeRelocations;
+use crate::block::PeBaseRelocations;
 use crate::directory::directories_of;
 use crate::export::PeExport;
-use crate::headers::{
-    PeCoffHeader, PeDosHeader, PeOptionalHeader, coff_record, dos_record, optional_record,
-};
+use crate::headers::{PeOptionalHeader, optional_record};
 use crate::import::PeImport;
 use crate::records::FileRecords;
 use crate::rich::PeRichHeader;
+use goblin_pe::header::{CoffHeader, DosHeader};
 use goblin_pe::{Layout, Part};
+
+/// How a table of the file stands.
+#[derive(Copy, Clone)]
+pub enum State {
+    /// The file has no such table, or it was not asked for.
+    Absent = 0,
+    /// It was read.
+    Read = 1,
+    /// It is refused and was passed over, as permissive mode does.
+    Refused = 2,
+}
 
 /// A table of the file.
 #[repr(C)]
@@ -27,8 +37,21 @@ use goblin_pe::{Layout, Part};
 pub struct PeTable {
     /// How many entries it has, whatever the room.
     pub count: usize,
-    /// 0 the file has no such table, 1 it was read, 2 it is refused and was passed over.
+    /// How it stands, as a [`State`]: 0 the file has no such table, 1 it was read, 2 it is refused
+    /// and was passed over.
     pub state: u32,
+}
+
+impl PeTable {
+    /// A table of so many entries that stands so.
+    pub fn new(count: usize, state: State) -> PeTable
+        ensures { result ≡ record { count = count; state = state_number state } }
+    {
+        PeTable {
+            count,
+            state: state as u32,
+        }
+    }
 }
 
 /// The file as a whole.
@@ -47,42 +70,24 @@ pub struct PeFile {
     /// The exports.
     pub exports: PeTable,
     /// The base relocations.
-    pub relocations: PeRelocations,
+    pub relocations: PeBaseRelocations,
     /// The Rich header.
     pub rich_header: PeRichHeader,
     /// The DOS header.
-    pub dos_header: PeDosHeader,
+    pub dos_header: DosHeader,
     /// The COFF header.
-    pub coff_header: PeCoffHeader,
+    pub coff_header: CoffHeader,
 }
 
-// How the imports stand.
+// How a table of records stands.
 #[tactic(auto, unfolding(goblin_pe::specs::Whole::part_map))]
-fn imports_table(imports: &Part<Vec<PeImport>>) -> PeTable
-    ensures { result ≡ table_of (part_map import_views imports.now) }
+fn table_of<T>(table: &Part<Vec<T>>) -> PeTable
+    ensures { result ≡ table_of (part_map (λ v. v.items) table.now) }
 {
-    match imports {
-        Part::Absent => PeTable { count: 0, state: 0 },
-        Part::Read(imports) => PeTable {
-            count: imports.len(),
-            state: 1,
-        },
-        Part::Refused => PeTable { count: 0, state: 2 },
-    }
-}
-
-// How the exports stand.
-#[tactic(auto, unfolding(goblin_pe::specs::Whole::part_map))]
-fn exports_table(exports: &Part<Vec<PeExport>>) -> PeTable
-    ensures { result ≡ table_of (part_map export_views exports.now) }
-{
-    match exports {
-        Part::Absent => PeTable { count: 0, state: 0 },
-        Part::Read(exports) => PeTable {
-            count: exports.len(),
-            state: 1,
-        },
-        Part::Refused => PeTable { count: 0, state: 2 },
+    match table {
+        Part::Absent => PeTable::new(0, State::Absent),
+        Part::Read(records) => PeTable::new(records.len(), State::Read),
+        Part::Refused => PeTable::new(0, State::Refused),
     }
 }
 
@@ -91,7 +96,7 @@ fn exports_table(exports: &Part<Vec<PeExport>>) -> PeTable
 pub fn file_of<'a>(
     layout: &Layout<'a, '_>,
     records: &FileRecords<'a>,
-    relocations: PeRelocations,
+    relocations: PeBaseRelocations,
     rich_header: PeRichHeader,
 ) -> PeFile
     requires relocations { let v = records_view layout.now records.now in
@@ -107,11 +112,11 @@ pub fn file_of<'a>(
         optional_header: optional_record(&header.optional_header),
         directories: directories_of(&header.optional_header).len(),
         sections: layout.sections().len(),
-        imports: imports_table(&records.imports),
-        exports: exports_table(&records.exports),
+        imports: table_of(&records.imports),
+        exports: table_of(&records.exports),
         relocations,
         rich_header,
-        dos_header: dos_record(&header.dos_header),
-        coff_header: coff_record(&header.coff_header),
+        dos_header: header.dos_header,
+        coff_header: header.coff_header,
     }
 }

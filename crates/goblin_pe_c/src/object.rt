@@ -1,31 +1,23 @@
 //! The call that reads an object.
 
-ghost use Rattle.std.specs.Prelude.{◌+◌, ◌≡◌, IfErr, IsSomeAnd, Some, map, option_map};
+ghost use Rattle.std.specs.Prelude.{◌+◌, ◌≡◌, IfErr, IsSomeAnd, Some, map};
 ghost use Rattle.goblin_base.specs.Answers.{IsMemory};
 ghost use Rattle.goblin_base.specs.Reading.{ReadsOrMemory};
 ghost use Rattle.goblin_pe_sect.specs.Options.{is_strict};
-ghost use Rattle.goblin_pe_sect.specs.Symbols.{table_bytes};
 ghost use Rattle.goblin_pe_c.specs.Calls.{ReadsInto, Reported};
 ghost use Rattle.goblin_pe_c.specs.Filled.{Filled, alone};
 ghost use Rattle.goblin_pe_c.specs.Objects.{ObjectRecords, SaysObject, TakesMemory, object_file};
-ghost use Rattle.goblin_pe_c.specs.Objects.{object_header};
-ghost use Rattle.goblin_pe_c.specs.Objects.{object_record, object_sections, symbols_table};
-ghost use Rattle.goblin_pe_c.specs.Objects.{symbol_rows};
+ghost use Rattle.goblin_pe_c.specs.Objects.{object_header, object_record, object_sections};
 ghost use Rattle.goblin_pe_c.specs.Options.{options_of};
 ghost use Rattle.goblin_pe_c.specs.Sections.{section_said};
-ghost use Rattle.goblin_pe_c.specs.Symbols.{symbol_view};
 
 use crate::fault::{PeFault, fault_of, no_fault};
-use crate::file::PeTable;
-use crate::headers::{PeCoffHeader, coff_record};
 use crate::options::{PeOptions, options_of};
 use crate::section::{PeSection, fill_sections};
-use crate::symbol::{PeSymbol, fill_symbols};
+use goblin_pe::Result;
 use goblin_pe::header::{CoffHeader, SIZEOF_COFF_HEADER};
 use goblin_pe::options::ParseOptions;
 use goblin_pe::section_table::SectionTable;
-use goblin_pe::symbol::SymbolTable;
-use goblin_pe::{Result, Strtab};
 use std::alloc::Global;
 use std::marker::Model;
 
@@ -35,34 +27,23 @@ use std::marker::Model;
 pub struct PeObject {
     /// How many sections there are, whatever the room.
     pub sections: usize,
-    /// The symbols.
-    pub symbols: PeTable,
     /// The COFF header.
-    pub coff_header: PeCoffHeader,
+    pub coff_header: CoffHeader,
 }
 
 // An object.
 #[derive(Drop)]
-struct Object<'a> {
+struct Object {
     header: CoffHeader,
     sections: Vec<SectionTable>,
-    symbols: Option<SymbolTable<'a>>,
-    strings: Option<Strtab<'a>>,
 }
 
-impl<'a> Model for Object<'a> {
-    ghost use Rattle.std.specs.Prelude.{option_map};
-    ghost use Rattle.goblin_pe_sect.specs.Symbols.{table_bytes};
+impl Model for Object {
     ghost use Rattle.goblin_pe_c.specs.Objects.{ObjectFile};
 
     ghost Value = { ObjectFile };
 
-    ghost view = { λ x. record {
-      header = x.header;
-      sections = x.sections.items;
-      symbols = option_map table_bytes x.symbols;
-      strings = x.strings;
-    } };
+    ghost view = { λ x. record { header = x.header; sections = x.sections.items } };
 }
 
 // The sections of an object with this header, whose records follow the optional header.
@@ -88,10 +69,10 @@ fn after_optional_header(size_of_optional_header: u16) -> usize
     SIZEOF_COFF_HEADER + size_of_optional_header as usize
 }
 
-impl<'a> Object<'a> {
-    // Reads the COFF header at the front of a file, and what it leads to.
+impl Object {
+    // Reads the COFF header at the front of a file, and the sections that it leads to.
     #[tactic(auto, unfolding(crate::specs::Objects::object_file), using(crate::proofs::Refusals::header_there))]
-    fn read(alloc: Global, bytes: &'a [u8], opts: &ParseOptions) -> Result<Object<'a>>
+    fn read(alloc: Global, bytes: &[u8], opts: &ParseOptions) -> Result<Object>
         ensures value { let strict = is_strict opts.now.parse_mode in
             ReadsOrMemory (λ x. x) result (object_file strict) bytes.now }
         ensures grown { IfErr result
@@ -99,60 +80,28 @@ impl<'a> Object<'a> {
     {
         let header = CoffHeader::parse(bytes, &mut 0)?;
         let sections = sections_of(alloc, bytes, &header, opts)?;
-        let symbols = header.symbols(bytes)?;
-        let strings = header.strings(alloc, bytes)?;
-        Ok(Object {
-            header,
-            sections,
-            symbols,
-            strings,
-        })
-    }
-}
-
-// Fills the records of symbols, as far as there is room, and answers how the table stands.
-fn fill_table<'a>(
-    records: &mut [PeSymbol<'a>],
-    bytes: &'a [u8],
-    symbols: &Option<SymbolTable<'a>>,
-    strings: &Option<Strtab<'a>>,
-) -> PeTable
-    ensures filled { Filled symbol_view
-        (symbol_rows (option_map table_bytes symbols.now) strings.now) records.old records.new }
-    ensures value { result ≡ symbols_table (option_map table_bytes symbols.now) strings.now }
-{
-    match (symbols, strings) {
-        (Some(symbols), Some(strings)) => PeTable {
-            count: fill_symbols(records, bytes, symbols, strings),
-            state: 1,
-        },
-        _ => PeTable { count: 0, state: 0 },
+        Ok(Object { header, sections })
     }
 }
 
 // Fills what is asked for of an object that was read.
 fn fill<'a>(
-    whole: &Object<'a>,
+    whole: &Object,
     bytes: &'a [u8],
     opts: &ParseOptions,
     object: &mut PeObject,
     sections: &mut [PeSection<'a>],
-    symbols: &mut [PeSymbol<'a>],
 )
     requires { (object_file (is_strict opts.now.parse_mode)).value bytes.now ≡ Some whole.now }
     ensures object { object.new ≡ object_record whole.now }
     ensures sections { Filled section_said (map alone whole.now.sections) sections.old
         sections.new }
-    ensures symbols { Filled symbol_view (symbol_rows whole.now.symbols whole.now.strings)
-        symbols.old symbols.new }
 {
     let table = whole.header.symbols_end();
     fill_sections(sections, bytes, &whole.sections, table, opts);
-    let symbols = fill_table(symbols, bytes, &whole.symbols, &whole.strings);
     *object = PeObject {
         sections: whole.sections.len(),
-        symbols,
-        coff_header: coff_record(&whole.header),
+        coff_header: whole.header,
     };
 }
 
@@ -163,45 +112,43 @@ fn read<'a>(
     opts: &ParseOptions,
     object: &mut PeObject,
     sections: &mut [PeSection<'a>],
-    symbols: &mut [PeSymbol<'a>],
 ) -> Result<()>
     ensures { let old : ObjectRecords =
-        record { object = object.old; sections = sections.old; symbols = symbols.old } in
+        record { object = object.old; sections = sections.old } in
         let new : ObjectRecords =
-        record { object = object.new; sections = sections.new; symbols = symbols.new } in
+        record { object = object.new; sections = sections.new } in
         let strict = is_strict opts.now.parse_mode in
         ReadsInto object_header (TakesMemory bytes.now) (object_file strict) bytes.now
         (λ x. SaysObject x old new) (new ≡ old) result }
 {
     let whole = Object::read(alloc, bytes, opts)?;
-    fill(&whole, bytes, opts, object, sections, symbols);
+    fill(&whole, bytes, opts, object, sections);
     Ok(())
 }
 
 /// Reads an object, which begins with a COFF header: says in `object` what it is, and fills the
-/// records of its sections and symbols as far as there is room. After a refusal nothing is changed;
-/// memory is refused (the status 5) only where the header says that there are sections, and the
-/// file has room for as many.
+/// records of its sections as far as there is room. Its symbols are a call of their own. After a
+/// refusal nothing is changed; memory is refused (the status 5) only where the header says that
+/// there are sections, and the file has room for as many.
 #[unsafe(no_mangle)]
-pub extern "C" fn goblin_pe_read_object<'a>(
+pub extern "C" fn goblin_pe_raw_read_object<'a>(
     alloc: Global,
     bytes: &'a [u8],
     options: &PeOptions,
     object: &mut PeObject,
     sections: &mut [PeSection<'a>],
-    symbols: &mut [PeSymbol<'a>],
 ) -> PeFault
     ensures { let old : ObjectRecords =
-        record { object = object.old; sections = sections.old; symbols = symbols.old } in
+        record { object = object.old; sections = sections.old } in
         let new : ObjectRecords =
-        record { object = object.new; sections = sections.new; symbols = symbols.new } in
+        record { object = object.new; sections = sections.new } in
         let strict = is_strict (options_of options.now).parse_mode in
         Reported result
         (ReadsInto object_header (TakesMemory bytes.now) (object_file strict) bytes.now
         (λ x. SaysObject x old new) (new ≡ old)) }
 {
     let opts = options_of(options);
-    match read(alloc, bytes, &opts, object, sections, symbols) {
+    match read(alloc, bytes, &opts, object, sections) {
         Ok(()) => no_fault(),
         Err(error) => fault_of(&error),
     }

@@ -16,10 +16,10 @@ ghost use Rattle.goblin_pe_c.specs.Imports.{import_view, import_views};
 ghost use Rattle.goblin_pe_c.specs.Opened.{Opened, Opens};
 ghost use Rattle.goblin_pe_c.specs.Opened.{records_of_file, records_view};
 ghost use Rattle.goblin_pe_c.specs.Options.{options_of};
-ghost use Rattle.goblin_pe_c.specs.RichHeaders.{entries_in, entry_view, rich_of};
+ghost use Rattle.goblin_pe_c.specs.RichHeaders.{entries_in, rich_of};
 ghost use Rattle.goblin_pe_c.specs.Sections.{section_said};
 
-use crate::block::{PeBlock, PeRelocations, block_records};
+use crate::block::{PeBaseRelocations, PeBlock, block_records};
 use crate::directory::{PeDirectory, directories_of, fill_directories};
 use crate::export::PeExport;
 use crate::fault::{PeFault, fault_of, no_fault};
@@ -27,9 +27,9 @@ use crate::file::{PeFile, file_of};
 use crate::import::PeImport;
 use crate::options::{PeOptions, options_of};
 use crate::records::{FileRecords, file_records};
-use crate::rich::{PeRichEntry, PeRichHeader, entry_records};
+use crate::rich::{PeRichHeader, entry_records};
 use crate::section::{PeSection, section_records};
-use goblin_pe::header::Header;
+use goblin_pe::header::{Header, RichMetadata};
 use goblin_pe::options::ParseOptions;
 use goblin_pe::{Layout, Part, Result};
 use std::alloc::Global;
@@ -39,7 +39,7 @@ use std::alloc::Global;
 #[derive(Copy, Clone)]
 pub struct PeTables<'a> {
     /// The entries of the Rich header.
-    pub rich_entries: &'a [PeRichEntry],
+    pub rich_entries: &'a [RichMetadata],
     /// The sections.
     pub sections: &'a [PeSection<'a>],
     /// The imports.
@@ -53,11 +53,11 @@ pub struct PeTables<'a> {
 // What is made of a file beside the records of its imports and exports.
 #[derive(Drop)]
 struct Made<'a> {
-    rich_entries: Vec<PeRichEntry>,
+    rich_entries: Vec<RichMetadata>,
     rich_header: PeRichHeader,
     sections: Vec<PeSection<'a>>,
     blocks: Vec<PeBlock<'a>>,
-    relocations: PeRelocations,
+    relocations: PeBaseRelocations,
 }
 
 // What is made of a file that was read.
@@ -76,7 +76,7 @@ fn made_of<'a>(
     ensures relocations { let v = records_view layout.now records.now in
         IfOk result (λ m. m.relocations ≡ relocations_of v.relocations) }
     ensures rich_entries { let v = records_view layout.now records.now in
-        IfOk result (λ m. map entry_view m.rich_entries.items ≡ entries_in v.header.rich_header) }
+        IfOk result (λ m. m.rich_entries.items ≡ entries_in v.header.rich_header) }
     ensures sections { let v = records_view layout.now records.now in
         IfOk result (λ m. map section_said m.sections.items ≡ map alone v.sections) }
     ensures blocks { let v = records_view layout.now records.now in
@@ -181,7 +181,7 @@ fn open<'a>(
 /// memory is refused (the status 5) only where the file has a header, and room for as many sections
 /// as that says.
 #[unsafe(no_mangle)]
-pub extern "C" fn goblin_pe_open<'a>(
+pub extern "C" fn goblin_pe_raw_open<'a>(
     alloc: Global,
     bytes: &'a [u8],
     options: &PeOptions,
@@ -208,7 +208,7 @@ pub extern "C" fn goblin_pe_open<'a>(
 /// The version of this interface. It is raised where a record or a call changes.
 #[unsafe(no_mangle)]
 pub extern "C" fn goblin_pe_interface() -> u32
-    ensures { result ≡ 2 }
+    ensures { result ≡ 3 }
 {
-    2
+    3
 }

@@ -6,24 +6,12 @@ ghost use Rattle.goblin_pe_head.specs.RichHeader.{rich_value};
 ghost use Rattle.goblin_pe_head.specs.RichMetadata.{metadata_items};
 ghost use Rattle.goblin_pe_c.specs.Blocked.{HasNoIdleBlock};
 ghost use Rattle.goblin_pe_c.specs.Items.{rest_of, values_of};
-ghost use Rattle.goblin_pe_c.specs.RichHeaders.{entries_in, entry_items, entry_view, rich_of};
+ghost use Rattle.goblin_pe_c.specs.RichHeaders.{entries_in, entry_items, rich_of};
 
 use crate::fault::{PeFault, fault_of, no_fault};
 use goblin_pe::Result;
 use goblin_pe::header::{RichHeader, RichMetadata};
 use std::alloc::Global;
-
-/// An entry of the Rich header: a tool, and how often it was used.
-#[repr(C)]
-#[derive(Copy, Clone)]
-pub struct PeRichEntry {
-    /// How many files the tool made.
-    pub use_count: u32,
-    /// The build of the tool.
-    pub build: u16,
-    /// Which tool it is.
-    pub product: u16,
-}
 
 /// The Rich header; zeros where there is none.
 #[repr(C)]
@@ -45,22 +33,11 @@ pub struct PeRichHeader {
     pub is_present: bool,
 }
 
-// The record of an entry.
-fn entry_record(entry: &RichMetadata) -> PeRichEntry
-    ensures { entry_view result ≡ entry.now }
-{
-    PeRichEntry {
-        use_count: entry.use_count,
-        build: entry.build,
-        product: entry.product,
-    }
-}
-
 // The records of the entries, and why a rest is none.
-fn item_records(alloc: Global, rich: &RichHeader) -> Result<(Vec<PeRichEntry>, PeFault)>
+fn item_records(alloc: Global, rich: &RichHeader) -> Result<(Vec<RichMetadata>, PeFault)>
     ensures refused { IfErr result IsMemory }
     ensures values { IfOk result
-        (λ made. map entry_view made.0.items ≡ values_of (entry_items (rich_value rich.now))) }
+        (λ made. made.0.items ≡ values_of (entry_items (rich_value rich.now))) }
     ensures rest { IfOk result (λ made. made.1 ≡ rest_of (entry_items (rich_value rich.now))) }
     ensures none { IfOk result (λ made. HasNoIdleBlock made.0) }
 {
@@ -71,7 +48,7 @@ fn item_records(alloc: Global, rich: &RichHeader) -> Result<(Vec<PeRichEntry>, P
     }
     'entries: for entry in rich.metadatas() {
         match entry {
-            Ok(entry) => records.push(entry_record(&entry))?,
+            Ok(entry) => records.push(entry)?,
             Err(error) => return Ok((records, fault_of(&error))),
         }
     }
@@ -83,10 +60,10 @@ fn item_records(alloc: Global, rich: &RichHeader) -> Result<(Vec<PeRichEntry>, P
 pub fn entry_records(
     alloc: Global,
     rich: &Option<RichHeader>,
-) -> Result<(Vec<PeRichEntry>, PeRichHeader)>
+) -> Result<(Vec<RichMetadata>, PeRichHeader)>
     ensures refused { IfErr result IsMemory }
     ensures values { IfOk result
-        (λ made. map entry_view made.0.items ≡ entries_in (option_map rich_value rich.now)) }
+        (λ made. made.0.items ≡ entries_in (option_map rich_value rich.now)) }
     ensures said { IfOk result (λ made. made.1 ≡ rich_of (option_map rich_value rich.now)) }
     ensures none { IfOk result (λ made. HasNoIdleBlock made.0) }
 {

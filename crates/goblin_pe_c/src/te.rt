@@ -8,53 +8,15 @@ ghost use Rattle.goblin_pe_c.specs.Calls.{ReadsInto, Reported};
 ghost use Rattle.goblin_pe_c.specs.Filled.{Filled, alone};
 ghost use Rattle.goblin_pe_c.specs.Sections.{section_said};
 ghost use Rattle.goblin_pe_c.specs.Te.{SaysImage, TakesMemory, TeRecords, te_file};
-ghost use Rattle.goblin_pe_c.specs.Te.{te_header_record};
 
 use crate::fault::{PeFault, fault_of, no_fault};
 use crate::section::{PeSection, fill_sections};
 use goblin_pe::Result;
-use goblin_pe::data_directories::DataDirectory;
 use goblin_pe::header::TeHeader;
 use goblin_pe::options::ParseOptions;
 use goblin_pe::section_table::SectionTable;
 use std::alloc::Global;
 use std::marker::Model;
-
-/// Where a table of an image lies.
-#[repr(C)]
-#[derive(Copy, Clone)]
-pub struct PeDataDirectory {
-    /// The table's address, relative to the image's base.
-    pub virtual_address: u32,
-    /// The table's size, in bytes.
-    pub size: u32,
-}
-
-/// The header of a Terse Executable, its addresses as they are in the stripped file.
-#[repr(C)]
-#[derive(Copy, Clone)]
-pub struct PeTeHeader {
-    /// The address at which the image is best loaded.
-    pub image_base: u64,
-    /// The address of the entry point, relative to the image's base.
-    pub entry_point: u32,
-    /// The address at which the code begins, relative to the image's base.
-    pub base_of_code: u32,
-    /// Where the base relocations lie.
-    pub reloc_dir: PeDataDirectory,
-    /// Where the debug data lies.
-    pub debug_dir: PeDataDirectory,
-    /// The first two bytes, `VZ` in a Terse Executable.
-    pub signature: u16,
-    /// The machine that the file is for.
-    pub machine: u16,
-    /// How many bytes were stripped from the front of the PE file; this header's 40 stand for them.
-    pub stripped_size: u16,
-    /// How many sections there are.
-    pub number_of_sections: u8,
-    /// The subsystem that runs the image.
-    pub subsystem: u8,
-}
 
 // A Terse Executable.
 #[derive(Drop)]
@@ -86,43 +48,14 @@ impl Image {
     }
 }
 
-// The record of a directory.
-fn directory_record(directory: &DataDirectory) -> PeDataDirectory
-    ensures { result
-        ≡ record { virtual_address = directory.now.virtual_address; size = directory.now.size } }
-{
-    PeDataDirectory {
-        virtual_address: directory.virtual_address,
-        size: directory.size,
-    }
-}
-
-// The record of a header.
-fn te_header_record(header: &TeHeader) -> PeTeHeader
-    ensures { result ≡ te_header_record header.now }
-{
-    PeTeHeader {
-        image_base: header.image_base,
-        entry_point: header.entry_point,
-        base_of_code: header.base_of_code,
-        reloc_dir: directory_record(&header.reloc_dir),
-        debug_dir: directory_record(&header.debug_dir),
-        signature: header.signature,
-        machine: header.machine,
-        stripped_size: header.stripped_size,
-        number_of_sections: header.number_of_sections,
-        subsystem: header.subsystem,
-    }
-}
-
 // Fills what is asked for of an image that was read.
-fn fill<'a>(image: &Image, bytes: &'a [u8], header: &mut PeTeHeader, sections: &mut [PeSection<'a>])
+fn fill<'a>(image: &Image, bytes: &'a [u8], header: &mut TeHeader, sections: &mut [PeSection<'a>])
     requires { te_file.value bytes.now ≡ Some image.now }
-    ensures header { header.new ≡ te_header_record image.now.header }
+    ensures header { header.new ≡ image.now.header }
     ensures sections { Filled section_said (map alone image.now.sections) sections.old
         sections.new }
 {
-    *header = te_header_record(&image.header);
+    *header = image.header;
     fill_sections(
         sections,
         bytes,
@@ -136,7 +69,7 @@ fn fill<'a>(image: &Image, bytes: &'a [u8], header: &mut PeTeHeader, sections: &
 fn read<'a>(
     alloc: Global,
     bytes: &'a [u8],
-    header: &mut PeTeHeader,
+    header: &mut TeHeader,
     sections: &mut [PeSection<'a>],
 ) -> Result<()>
     ensures { let old : TeRecords = record { header = header.old; sections = sections.old } in
@@ -154,10 +87,10 @@ fn read<'a>(
 /// is not looked at. After a refusal nothing is changed; memory is refused (the status 5) only
 /// where the header says that there are sections, and the file has room for as many.
 #[unsafe(no_mangle)]
-pub extern "C" fn goblin_pe_read_te<'a>(
+pub extern "C" fn goblin_pe_raw_read_te<'a>(
     alloc: Global,
     bytes: &'a [u8],
-    header: &mut PeTeHeader,
+    header: &mut TeHeader,
     sections: &mut [PeSection<'a>],
 ) -> PeFault
     ensures { let old : TeRecords = record { header = header.old; sections = sections.old } in

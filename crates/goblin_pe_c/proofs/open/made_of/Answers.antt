@@ -3,7 +3,7 @@ use Rattle.goblin_pe_sect.specs.Options.{is_strict}
 use Rattle.goblin_pe_sect.specs.SectionTable.{Section}
 use Rattle.goblin_pe_head.specs.CoffHeader.{symbols_end}
 use Rattle.goblin_pe_head.specs.declared.header.pe_header.Header.{Header}
-use Rattle.goblin_pe_head.specs.PeHeader.{PeHeader, header_value}
+use Rattle.goblin_pe_head.specs.PeHeader.{PeHeader}
 use Rattle.goblin_pe_c.specs.Filled.{alone}
 use Rattle.goblin_pe_c.specs.Opened.{records_view}
 use Rattle.goblin_pe_c.specs.Sections.{named_in}

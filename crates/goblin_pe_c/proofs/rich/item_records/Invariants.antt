@@ -2,9 +2,9 @@
 use Rattle.goblin_pe_head.specs.RichHeader.{rich_value}
 use Rattle.goblin_pe_head.specs.RichMetadata.{metadata_left}
 use Rattle.goblin_pe_c.specs.Blocked.{HasNoIdleBlock}
-use Rattle.goblin_pe_c.specs.RichHeaders.{entry_items, entry_view}
+use Rattle.goblin_pe_c.specs.RichHeaders.{entry_items}
 use Rattle.goblin_pe_c.proofs.Making.{IsMakingItems}
 use Rattle.goblin_pe_c.proofs.rich.item_records.Given as goal
 
 abbrev pub invariant-entries : goal.invariant-entries
-invariant-entries l = (IsMakingItems entry_view (entry_items (rich_value l.rich)) (metadata_left l.entry-iterator) l.records.items) × HasNoIdleBlock l.records
+invariant-entries l = (IsMakingItems (λ e. e) (entry_items (rich_value l.rich)) (metadata_left l.entry-iterator) l.records.items) × HasNoIdleBlock l.records
