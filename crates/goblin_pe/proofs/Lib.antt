@@ -1,5 +1,6 @@
 pub mod Collected
 pub mod ImportParts
+pub mod ImportStarts
 pub mod KeptImports
 pub mod Layouts
 pub mod ListedImports
