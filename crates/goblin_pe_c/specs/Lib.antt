@@ -11,6 +11,7 @@ pub mod Footprints
 pub mod Headers
 pub mod Imports
 pub mod Items
+pub mod Kinds
 pub mod Objects
 pub mod Opened
 pub mod Options

@@ -15,6 +15,7 @@ mod filled;
 mod footprint;
 mod headers;
 mod import;
+mod kind;
 mod mapping;
 mod object;
 mod open;
