@@ -19,3 +19,4 @@ pub mod RichHeaders
 pub mod Sections
 pub mod Symbols
 pub mod Te
+pub mod Written

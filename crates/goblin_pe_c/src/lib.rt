@@ -26,3 +26,4 @@ mod room;
 mod section;
 mod symbol;
 mod te;
+mod write;
