@@ -13,6 +13,7 @@ pub mod Headers
 pub mod Images
 pub mod Imports
 pub mod Items
+pub mod Kinds
 pub mod Objects
 pub mod Opened
 pub mod Options
@@ -22,3 +23,4 @@ pub mod SectionData
 pub mod Sections
 pub mod Symbols
 pub mod Te
+pub mod Written
