@@ -1,8 +1,10 @@
 pub mod Collected
 pub mod ImportParts
+pub mod ImportStarts
 pub mod KeptImports
 pub mod Layouts
 pub mod ListedImports
+pub mod NumberedExports
 pub mod Parts
 pub mod PermissiveReads
 pub mod SectionRoom

@@ -1,4 +1,5 @@
 pub mod Damages
+pub mod LayoutPositions
 pub mod Layouts
 pub mod Modes
 pub mod SectionRoom
@@ -61,6 +62,7 @@ pub use Rattle.goblin_pe_tables.specs.ImportBound
 pub use Rattle.goblin_pe_tables.specs.ImportDirectory
 pub use Rattle.goblin_pe_tables.specs.ImportEntries
 pub use Rattle.goblin_pe_tables.specs.ImportLookup
+pub use Rattle.goblin_pe_tables.specs.ImportPositions
 pub use Rattle.goblin_pe_tables.specs.ImportReadings
 pub use Rattle.goblin_pe_tables.specs.ImportRecords
 pub use Rattle.goblin_pe_tables.specs.ImportWalks

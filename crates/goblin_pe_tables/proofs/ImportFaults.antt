@@ -17,6 +17,7 @@ use Rattle.goblin_pe_tables.specs.ImportReadings.{libraries_at, record_here}
 use Rattle.goblin_pe_tables.specs.ImportRecords.{lookup_offset}
 use Rattle.goblin_pe_tables.specs.LookupReadings.{lookup_table}
 use Rattle.goblin_pe_tables.specs.ImportWalks.{GivesImport, IsCauseAt, IsCauseBy, IsEntriesCause, IsLaterCause, IsOver}
+use Rattle.goblin_pe_tables.specs.ImportWalks.{IsAfterImport}
 use Rattle.goblin_pe_tables.specs.ImportWalks.{IsNamedCause, IsPlaced, IsRecordCause, IsRecordsCause, IsWalkCause}
 use Rattle.goblin_pe_tables.specs.ImportWalks.{IsWalkFault, addresses_of, begin_at, entries_from, library_name}
 use Rattle.goblin_pe_tables.specs.ImportWalks.{untested_table, walk_left, walked_value}
@@ -93,7 +94,7 @@ walk-fault format s e fault = (fault.0, walk-not_memory format s e fault)
 pub import-given : {T : Type 0} (format : Format EntryValue) (s t : Imports T)
     (result : Option (Result WalkedImport ErrorOf))
     → GivesNext walked_value (walk_left format) (IsWalkCause format) s.walk result t.walk
-    → (IsPlaced format s.walk → IsPlaced format t.walk)
+    → (IsPlaced format s.walk → IsPlaced format t.walk × IsAfterImport result t)
     → IsOver s.walk.bytes.now (map_of s.walk.address_map.now) t → GivesImport format s result t
 import-given format s t None given placed over = (given, placed, tt, over)
 import-given format s t (Some (Ok import)) given placed over = (given, placed, tt, over)

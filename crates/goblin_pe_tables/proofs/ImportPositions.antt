@@ -2,20 +2,30 @@
 -- position.
 use Rattle.std.proofs.Common.{◌≡◌, ◌+◌, ◌-◌, ℕ, Bool, true, List, ◌++◌, Option, Some, None}
 use Rattle.std.proofs.Common.{refl, sym, ap, subst, ◌∙◌, arith}
-use Rattle.std.specs.Prelude.{unwrap_or}
+use Rattle.std.specs.Prelude.{◌<◌, ◌&&◌, ◌==◌, not, false, IfOk, IfSome, IsSomeAnd, Result, Ok, Err, unwrap_or}
+use Rattle.goblin_base.specs.declared.endian.Endian.TheVariants.{Little}
 use Rattle.goblin_base.specs.declared.error.ErrorOf.{ErrorOf}
 use Rattle.goblin_base.specs.Answers.{FirstFault, all_of}
+use Rattle.goblin_base.specs.declared.error.CauseOf.TheVariants.{Unmapped}
+use Rattle.goblin_base.specs.declared.error.ErrorOf.TheVariants.{Malformed}
+use Rattle.goblin_base.specs.Reading.{Reading}
 use Rattle.goblin_base.specs.Tables.{Format}
+use Rattle.goblin_base.proofs.Records.{record_at-some}
+use Rattle.readings.specs.Reads.{in_its_place}
 use Rattle.readings.specs.Walks.{until_refused}
 use Rattle.readings.proofs.Walks.{slot-going}
 use Rattle.goblin_pe_tables.specs.declared.import.directory_entry.ImportDirectoryEntry.{ImportDirectoryEntry}
 use Rattle.goblin_pe_tables.specs.declared.import.imports.ImportPosition.{ImportPosition}
 use Rattle.goblin_pe_tables.specs.declared.import.imports.Walk.{Walk}
-use Rattle.goblin_pe_tables.specs.Addresses.{map_of, offset_of, reads_strictly}
+use Rattle.goblin_pe_tables.specs.declared.import.imports.Imports.{Imports}
+use Rattle.goblin_pe_tables.specs.declared.import.imports.WalkedImport.{WalkedImport}
+use Rattle.goblin_pe_tables.specs.Addresses.{MapOfAddresses, map_of, offset_of, reads_strictly}
+use Rattle.goblin_pe_tables.specs.ImportPositions.{BeginsAt, GoesOnAt}
+use Rattle.goblin_pe_tables.specs.ImportPositions.{first_import, first_position}
 use Rattle.goblin_pe_tables.specs.ImportEntries.{EntryValue}
-use Rattle.goblin_pe_tables.specs.ImportRecords.{address_table_rva, is_last_record}
+use Rattle.goblin_pe_tables.specs.ImportRecords.{address_table_rva, import_record, is_last_record}
 use Rattle.goblin_pe_tables.specs.Imports.{ImportValue}
-use Rattle.goblin_pe_tables.specs.ImportWalks.{IsCauseAt, IsEntriesCause, IsLaterCause}
+use Rattle.goblin_pe_tables.specs.ImportWalks.{IsCauseAt, IsEntriesCause, IsInTable, IsLaterCause}
 use Rattle.goblin_pe_tables.specs.ImportWalks.{IsLibraryBy, IsPlaced, IsWalkCause, entries_from}
 use Rattle.goblin_pe_tables.specs.ImportWalks.{IsRecordCause, imports_at, imports_from}
 use Rattle.goblin_pe_tables.specs.ImportWalks.{imports_in, later_items, library_items}
@@ -206,3 +216,60 @@ module _ (format : Format EntryValue) (w : Walk) where
     begun-cause e fault =
         subst (λ (position : Option ImportPosition). IsCauseOf position e) begun
         ((causes-by w.place w.next begun-placed.0 begun-placed.1 e).there fault)
+
+  -- among the entries of a library, its record is in the file
+  in-table-by : (place : Option ℕ) (next : Option ImportPosition) → IsLibraryBy format w place next
+      → IsSomeAnd place (λ place. 0 < place) → IsInTable file (position_by place next)
+  in-table-by None next l inside = absurd inside
+  in-table-by (Some place) None l inside = absurd l
+  in-table-by (Some place) (Some at) l inside =
+      let there = record_at-some 20 (import_record Little) file (at.«record» - 20) l.entry l.is in
+      (there.start, inside)
+
+  pub in-table : IsPlaced format w → IsSomeAnd w.place (λ place. 0 < place)
+      → IsInTable file (position_by w.place w.next)
+  in-table h inside = in-table-by w.place w.next h.0 inside
+
+-- a walk that has just given an import is in the file
+pub after-import : (format : Format EntryValue) (w : Walk)
+    (result : Option (Result WalkedImport ErrorOf)) → IsPlaced format w
+    → IfSome result (λ r. IfOk r (λ import. IsSomeAnd w.place (λ place. 0 < place)))
+    → IfSome result (λ r. IfOk r (λ import. IsInTable w.bytes.now (position_by w.place w.next)))
+after-import format w None placed inside = tt
+after-import format w (Some (Ok import)) placed inside = in-table format w placed inside
+after-import format w (Some (Err e)) placed inside = tt
+
+-- ---- where a directory begins
+
+module _ (m : MapOfAddresses) (format : Format EntryValue) (bytes : List ℕ) (rva : ℕ) where
+  abbrev found : Option ℕ
+  found = in_its_place (reads_strictly m) 0 (offset_of m rva)
+
+  abbrev first : Reading (Option ImportPosition)
+  first = first_import (reads_strictly m) (offset_of m) rva
+
+  pub begins-nowhere : found ≡ None → (e : ErrorOf) → e ≡ Malformed (Unmapped rva)
+      → (first.value bytes ≡ None) × first.IsCause bytes e
+  begins-nowhere none e is = (rw none refl, is)
+
+  begins-at : {T : Type 0} (o : ℕ) → found ≡ Some o → (it : Imports T)
+      → GoesOnAt m format bytes (first_position (reads_strictly m) o) it
+      → BeginsAt m format bytes first (Ok it)
+  begins-at o at it goes = rw at goes
+
+  pub begins-front : {T : Type 0} → found ≡ Some 0 → reads_strictly m ≡ false → (it : Imports T)
+      → GoesOnAt m format bytes None it → BeginsAt m format bytes first (Ok it)
+  begins-front at permissive it goes =
+      let none : first_position (reads_strictly m) 0 ≡ None = rw permissive refl in
+      begins-at 0 at it
+      (subst (λ (p : Option ImportPosition). GoesOnAt m format bytes p it) (sym none) goes)
+
+  pub begins-past : {T : Type 0} (o : ℕ) → found ≡ Some o
+      → (not (reads_strictly m) && o == 0) ≡ false → (it : Imports T)
+      → GoesOnAt m format bytes (Some (record { «record» = o; slot = None })) it
+      → BeginsAt m format bytes first (Ok it)
+  begins-past o at past it goes =
+      let here : first_position (reads_strictly m) o ≡ Some (record { «record» = o; slot = None }) =
+      rw past refl in
+      begins-at o at it
+      (subst (λ (p : Option ImportPosition). GoesOnAt m format bytes p it) (sym here) goes)

@@ -1,7 +1,8 @@
 -- The walk over all imports: what is still to come.
-use Rattle.std.specs.Prelude.{◌≡◌, ℕ, ◌+◌, ◌-◌, ◌*◌, ◌/◌, ◌≤◌, Bool, ◌&&◌, not, true, false}
+use Rattle.std.specs.Prelude.{◌≡◌, ℕ, ◌+◌, ◌-◌, ◌*◌, ◌/◌, ◌≤◌, ◌<◌, Bool, ◌&&◌, not, true, false}
 use Rattle.std.specs.Prelude.{if◌then◌else◌, List, [], ◌∷◌, ◌++◌, map, length, Option, Some, None}
-use Rattle.std.specs.Prelude.{option_map, unwrap_or, is_none, Result, Ok, Err, IfErr, IfSome}
+use Rattle.std.specs.Prelude.{option_map, unwrap_or, is_none, Result, Ok, Err, IfErr, IfOk, IfSome}
+use Rattle.std.specs.Prelude.{IsSomeAnd}
 use Rattle.goblin_base.specs.declared.error.ErrorOf.{ErrorOf}
 use Rattle.goblin_base.specs.Answers.{FirstFault, IsMemory, all_of}
 use Rattle.goblin_base.specs.Reading.{Reading}
@@ -337,6 +338,20 @@ HasPosition format it = IsPlaced format it.walk
 abbrev pub IsOver : {T : Type 0} → List ℕ → MapOfAddresses → Imports T → Type 0
 IsOver bytes m it = (it.walk.bytes.now ≡ bytes) × (map_of it.walk.address_map.now ≡ m)
 
+-- where a walk is
+abbrev pub position_of : {T : Type 0} → Imports T → Option ImportPosition
+position_of it = position_by it.walk.place it.walk.next
+
+-- a position between two entries of a library, whose record is in the file
+abbrev pub IsInTable : List ℕ → Option ImportPosition → Type 0
+IsInTable bytes position =
+    IsSomeAnd position (λ at. (at.«record» < length bytes) × IsSomeAnd at.slot (λ slot. 0 < slot))
+
+-- a walk that has just given an import is at such a position
+abbrev pub IsAfterImport : {T : Type 0} → Option (Result WalkedImport ErrorOf) → Imports T → Type 0
+IsAfterImport result it =
+    IfSome result (λ r. IfOk r (λ import. IsInTable it.walk.bytes.now (position_of it)))
+
 -- no more than this comes
 abbrev pub imports_bound : {T : Type 0} → Imports T → ℕ
 imports_bound it = walk_bound it.walk
@@ -351,6 +366,6 @@ abbrev pub GivesImport : {T : Type 0} → Format EntryValue → Imports T
     → Option (Result WalkedImport ErrorOf) → Imports T → Type 0
 GivesImport format s result t =
     GivesNext walked_value (imports_left format) (IsImportsCause format) s result t
-    × (HasPosition format s → HasPosition format t)
+    × (HasPosition format s → HasPosition format t × IsAfterImport result t)
     × IfSome result (λ r. IfErr r (IsWalkFault s.walk))
     × IsOver s.walk.bytes.now (map_of s.walk.address_map.now) t

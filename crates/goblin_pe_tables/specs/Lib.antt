@@ -9,6 +9,7 @@ pub mod ImportBound
 pub mod ImportDirectory
 pub mod ImportEntries
 pub mod ImportLookup
+pub mod ImportPositions
 pub mod ImportReadings
 pub mod ImportRecords
 pub mod ImportWalks

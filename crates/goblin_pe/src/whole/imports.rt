@@ -1,11 +1,16 @@
 //! The imports of a file, one by one.
 
-ghost use Rattle.std.specs.Prelude.{IfSome};
+ghost use Rattle.std.specs.Prelude.{◌≡◌, ℕ, IfSome, List};
 ghost use Rattle.std.specs.Iterator.{UpTo, at_most};
 ghost use Rattle.std.specs.Iterator.SizeHint.{IsWithinCount};
-ghost use Rattle.goblin_pe.specs.Layouts.{GivesFileImport, file_imports_bound};
+ghost use Rattle.goblin_base.specs.declared.error.ErrorOf.{ErrorOf};
+ghost use Rattle.goblin_pe_tables.specs.Addresses.{MapOfAddresses};
+ghost use Rattle.goblin_pe.specs.LayoutPositions.{IsFileFaultAt, IsImportWalk, file_imports_at};
+ghost use Rattle.goblin_pe.specs.LayoutPositions.{file_position};
+ghost use Rattle.goblin_pe.specs.Layouts.{GivesFileImport, IsFileImportsCause, file_imports_bound};
+ghost use Rattle.goblin_pe.specs.Layouts.{file_imports_left};
 
-use crate::import::{Imports, WalkedImport};
+use crate::import::{ImportPosition, Imports, WalkedImport};
 use goblin_base::ResultOf;
 use std::iter::FusedIterator;
 
@@ -20,6 +25,26 @@ pub enum FileImports<'a, 'm, 'e> {
     Narrow(Imports<'a, 'm, 'e, u32>),
     /// By entries of eight bytes.
     Wide(Imports<'a, 'm, 'e, u64>),
+}
+
+impl<'a, 'm, 'e> FileImports<'a, 'm, 'e> {
+    /// Where the walk is: what is still to come is what
+    /// [`Layout::imports_from`](crate::Layout::imports_from) gives from this position on. `None`
+    /// once the walk has ended.
+    pub fn position(&self) -> Option<ImportPosition>
+        ensures left { (m : MapOfAddresses) (magic : ℕ) (bytes : List ℕ)
+            → IsImportWalk m magic bytes self.now
+            → file_imports_left self.now ≡ file_imports_at m magic bytes result }
+        ensures cause { (m : MapOfAddresses) (magic : ℕ) (bytes : List ℕ) (e : ErrorOf)
+            → IsImportWalk m magic bytes self.now → IsFileFaultAt m magic bytes result e
+            → IsFileImportsCause self.now e }
+        ensures is { result ≡ file_position self.now }
+    {
+        match self {
+            FileImports::Narrow(imports) => imports.position(),
+            FileImports::Wide(imports) => imports.position(),
+        }
+    }
 }
 
 impl<'a, 'm, 'e> Iterator for FileImports<'a, 'm, 'e> {

@@ -1,6 +1,6 @@
 //! What all tables of a file are read by.
 
-ghost use Rattle.std.specs.Prelude.{◌+◌, ◌≡◌, ◌<◌, ◌/◌, IfErr, IfOk, IsErrAnd, length};
+ghost use Rattle.std.specs.Prelude.{◌+◌, ◌≡◌, ◌<◌, ◌/◌, IfErr, IfOk, IsErrAnd, None, Ok, Some, length};
 ghost use Rattle.goblin_base.specs.Answers.{IsMemory};
 ghost use Rattle.goblin_base.specs.Reading.{Reads, ReadsOrMemory};
 ghost use Rattle.goblin_pe_sect.specs.BaseRelocations.{relocation_bytes};
@@ -9,15 +9,16 @@ ghost use Rattle.goblin_pe_head.specs.PeHeader.{header_value};
 ghost use Rattle.goblin_pe_head.specs.CoffHeader.{IsTooManySections};
 ghost use Rattle.goblin_pe_tables.specs.Addresses.{offset_of, strict_map};
 ghost use Rattle.goblin_pe.specs.Damages.{left_out_of};
-ghost use Rattle.goblin_pe.specs.Layouts.{IsFileImportsCause, IsLayoutOf, PartWalks};
+ghost use Rattle.goblin_pe.specs.LayoutPositions.{StartsAt, import_start};
+ghost use Rattle.goblin_pe.specs.Layouts.{IsExportWalk, IsFileImportsCause, IsLayoutOf, PartWalks};
 ghost use Rattle.goblin_pe.specs.Layouts.{file_imports_left, layout_map, layout_places};
 ghost use Rattle.goblin_pe.specs.Layouts.{walked_exports};
 ghost use Rattle.goblin_pe.specs.SectionRoom.{TakesSections};
-ghost use Rattle.goblin_pe.specs.Whole.{AreListed, export_part, import_list, listed_view, part_map};
-ghost use Rattle.goblin_pe.specs.Whole.{relocation_part, sections_after, table_parts};
+ghost use Rattle.goblin_pe.specs.Whole.{AreListed, IfRead, export_part, import_list, listed_view};
+ghost use Rattle.goblin_pe.specs.Whole.{part_map, relocation_part, sections_after, table_parts};
 
 use crate::export::Exports;
-use crate::import::LeftOut;
+use crate::import::{ImportPosition, LeftOut};
 use crate::whole::listed::ListedTables;
 use crate::whole::places::Places;
 use crate::whole::{FileImports, Part};
@@ -154,18 +155,40 @@ impl<'a, 'h> Layout<'a, 'h> {
             (import_list m.opts (offset_of m) (layout_places self.now)) self.now.bytes.now }
         ensures listed { let m = layout_map self.now in
             AreListed m.opts (offset_of m) (layout_places self.now) self.now.bytes.now }
+        ensures starts { let m = layout_map self.now in
+            let places = layout_places self.now in
+            StartsAt m places.magic self.now.bytes.now
+            (import_start m.opts (offset_of m) places None) result }
     {
         self.places.import_walk(self.bytes, &self.address_map)
     }
 
-    /// The exports that the export directory lists, one by one.
+    /// The imports from a position on, as [`FileImports::position`] gave it, where the file has an
+    /// import directory and they are asked for: what was still to come there. There are none
+    /// without a position.
+    pub fn imports_from<'m, 'e>(
+        &'m self,
+        position: Option<ImportPosition>,
+    ) -> Part<FileImports<'a, 'm, 'e>>
+        ensures { let m = layout_map self.now in
+            let places = layout_places self.now in
+            StartsAt m places.magic self.now.bytes.now
+            (import_start m.opts (offset_of m) places (Some position)) (Ok result) }
+    {
+        self.places
+            .import_walk_from(self.bytes, position, &self.address_map)
+    }
+
+    /// The exports that the export directory lists, one by one, each with its numbers.
     ///
     /// # Errors
     /// In strict mode as [`Exports::of`](crate::export::Exports::of).
     pub fn exports<'m>(&'m self) -> Result<Part<Exports<'a, 'm>>>
-        ensures { let m = layout_map self.now in
+        ensures value { let m = layout_map self.now in
             Reads (part_map walked_exports) result
             (export_part m.opts (offset_of m) (layout_places self.now)) self.now.bytes.now }
+        ensures walk { IfOk result
+            (IfRead (IsExportWalk (layout_map self.now) self.now.bytes.now)) }
     {
         self.places.export_walk(self.bytes, &self.address_map)
     }

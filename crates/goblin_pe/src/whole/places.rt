@@ -1,6 +1,6 @@
 //! Where the tables of a file lie, and each as a walk or as its bytes.
 
-ghost use Rattle.std.specs.Prelude.{◌≡◌, ◌==◌, Some};
+ghost use Rattle.std.specs.Prelude.{◌≡◌, ◌==◌, IfOk, None, Ok, Some};
 ghost use Rattle.std.specs.List.{flat_map};
 ghost use Rattle.goblin_base.specs.Reading.{Reads};
 ghost use Rattle.readings.specs.Reads.{mapped};
@@ -8,16 +8,18 @@ ghost use Rattle.readings.specs.Walks.{Walks};
 ghost use Rattle.goblin_pe_sect.specs.BaseRelocations.{relocation_bytes};
 ghost use Rattle.goblin_pe_sect.specs.Options.{is_strict};
 ghost use Rattle.goblin_pe_tables.specs.Addresses.{map_of, offset_of, reads_strictly};
+ghost use Rattle.goblin_pe_tables.specs.ImportPositions.{first_import};
 ghost use Rattle.goblin_pe_tables.specs.ImportReadings.{import_data};
 ghost use Rattle.goblin_pe_tables.specs.Imports.{kept_imports};
 ghost use Rattle.goblin_pe.specs.Damages.{left_out_at, left_out_of};
-ghost use Rattle.goblin_pe.specs.Layouts.{IsFileImportsCause, PartWalks, file_imports_left};
-ghost use Rattle.goblin_pe.specs.Layouts.{walked_exports};
-ghost use Rattle.goblin_pe.specs.Whole.{AreListed, BecomesPart, entry_format, export_part, import_list, part_map};
-ghost use Rattle.goblin_pe.specs.Whole.{places_in, relocation_part, table_places};
+ghost use Rattle.goblin_pe.specs.LayoutPositions.{GivesFirst, GivesFrom, StartsAt, import_start};
+ghost use Rattle.goblin_pe.specs.Layouts.{IsExportWalk, IsFileImportsCause, PartWalks};
+ghost use Rattle.goblin_pe.specs.Layouts.{file_imports_left, walked_exports};
+ghost use Rattle.goblin_pe.specs.Whole.{AreListed, BecomesPart, IfRead, entry_format, export_part};
+ghost use Rattle.goblin_pe.specs.Whole.{import_list, part_map, places_in, relocation_part, table_places};
 
 use crate::export::Exports;
-use crate::import::{Imports, LeftOut};
+use crate::import::{ImportPosition, Imports, LeftOut};
 use crate::whole::{FileImports, Part};
 use goblin_base::{Result, ResultOf, is_passed_over};
 use goblin_pe_head::optional_header::{MAGIC_32, OptionalHeader};
@@ -89,13 +91,17 @@ impl Places {
         directory: DataDirectory,
         address_map: &'m AddressMap,
     ) -> ResultOf<'e, FileImports<'a, 'm, 'e>>
-        ensures { let m = map_of address_map.now in
+        ensures walks { let m = map_of address_map.now in
             let format = entry_format self.now.magic in
             let rva = directory.virtual_address in
             Walks file_imports_left IsFileImportsCause (λ xs. xs) result
             (mapped (flat_map (kept_imports (λ x. x) format.width))
             (import_data (reads_strictly m) format (offset_of m) rva))
             bytes.now }
+        ensures first { let m = map_of address_map.now in
+            let rva = directory.virtual_address in
+            GivesFirst m self.now.magic bytes.now
+            (first_import (reads_strictly m) (offset_of m) rva) result }
     {
         if self.has_narrow_entries() {
             let imports = Imports::<u32>::of(bytes, directory, address_map)?;
@@ -107,7 +113,7 @@ impl Places {
     }
 
     // The imports as a walk, if they were asked for.
-    #[tactic(auto, using(crate::proofs::ImportParts::are_listed))]
+    #[tactic(auto, unfolding(crate::specs::LayoutPositions::import_start), using(crate::proofs::ImportParts::are_listed))]
     pub(super) fn import_walk<'a, 'm, 'e>(
         &self,
         bytes: &'a [u8],
@@ -119,6 +125,9 @@ impl Places {
             (import_list m.opts (offset_of m) places) bytes.now }
         ensures listed { let m = map_of address_map.now in
             AreListed m.opts (offset_of m) (table_places self.now) bytes.now }
+        ensures starts { let m = map_of address_map.now in
+            StartsAt m self.now.magic bytes.now
+            (import_start m.opts (offset_of m) (table_places self.now) None) result }
     {
         let opts = address_map.opts();
         match self.imports {
@@ -127,6 +136,43 @@ impl Places {
                 Ok(Part::Read(imports))
             }
             _ => Ok(Part::Absent),
+        }
+    }
+
+    // The imports from a position on.
+    #[tactic(auto, unfolding(crate::specs::Whole::entry_format))]
+    fn imports_from<'a, 'm, 'e>(
+        &self,
+        bytes: &'a [u8],
+        position: Option<ImportPosition>,
+        address_map: &'m AddressMap,
+    ) -> FileImports<'a, 'm, 'e>
+        ensures { GivesFrom (map_of address_map.now) self.now.magic bytes.now position result }
+    {
+        if self.has_narrow_entries() {
+            FileImports::Narrow(Imports::from_position(bytes, position, address_map))
+        } else {
+            FileImports::Wide(Imports::from_position(bytes, position, address_map))
+        }
+    }
+
+    // The imports from a position on, if they were asked for.
+    #[tactic(auto, unfolding(crate::specs::LayoutPositions::import_start))]
+    pub(super) fn import_walk_from<'a, 'm, 'e>(
+        &self,
+        bytes: &'a [u8],
+        position: Option<ImportPosition>,
+        address_map: &'m AddressMap,
+    ) -> Part<FileImports<'a, 'm, 'e>>
+        ensures { let m = map_of address_map.now in
+            StartsAt m self.now.magic bytes.now
+            (import_start m.opts (offset_of m) (table_places self.now) (Some position)) (Ok result) }
+    {
+        match self.imports {
+            Some(_) if address_map.opts().parse_imports => {
+                Part::Read(self.imports_from(bytes, position, address_map))
+            }
+            _ => Part::Absent,
         }
     }
 
@@ -171,10 +217,11 @@ impl Places {
         bytes: &'a [u8],
         address_map: &'m AddressMap,
     ) -> Result<Part<Exports<'a, 'm>>>
-        ensures { let m = map_of address_map.now in
+        ensures value { let m = map_of address_map.now in
             let places = table_places self.now in
             Reads (part_map walked_exports) result (export_part m.opts (offset_of m) places)
             bytes.now }
+        ensures walk { IfOk result (IfRead (IsExportWalk (map_of address_map.now) bytes.now)) }
     {
         let Some(directory) = self.exports else {
             return Ok(Part::Absent);

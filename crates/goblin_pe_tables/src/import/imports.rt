@@ -2,7 +2,7 @@
 
 ghost use Rattle.std.specs.Prelude.{◌≡◌, ◌&&◌, ◌+◌, ◌-◌, ◌<◌, ◌≤◌, ◌^◌, ◌∷◌, ◌++◌, [], IfErr, IfOk, IfSome};
 ghost use Rattle.std.specs.Prelude.{MatchResult, None, Some, false, is_none, length, not, true};
-ghost use Rattle.std.specs.Prelude.{if◌then◌else◌, IsErr, IsSome, IsOk};
+ghost use Rattle.std.specs.Prelude.{if◌then◌else◌, IsErr, IsSome, IsSomeAnd, IsOk};
 ghost use Rattle.std.specs.Iterator.{UpTo, at_most};
 ghost use Rattle.std.specs.Iterator.SizeHint.{IsWithinCount};
 ghost use Rattle.std.specs.List.{flat_map};
@@ -12,11 +12,12 @@ ghost use Rattle.goblin_base.specs.Reading.{Reads};
 ghost use Rattle.readings.specs.Reads.{mapped};
 ghost use Rattle.readings.specs.Walks.{GivesNext, IsWalkOf, Walks, until_refused};
 ghost use Rattle.goblin_pe_tables.specs.Addresses.{map_of, offset_of, reads_strictly};
+ghost use Rattle.goblin_pe_tables.specs.ImportPositions.{BeginsAt, GoesOnAt, first_import};
 ghost use Rattle.goblin_pe_tables.specs.ImportReadings.{import_data, libraries_at, record_here};
 ghost use Rattle.goblin_pe_tables.specs.ImportRecords.{is_last_record};
 ghost use Rattle.goblin_pe_tables.specs.Imports.{kept_imports};
 ghost use Rattle.goblin_pe_tables.specs.ImportWalks.{GivesImport, GivesLibrary, HasPosition, IsCauseAt};
-ghost use Rattle.goblin_pe_tables.specs.ImportWalks.{IsImportsCause, IsInLibrary, IsOver, imports_at, position_by};
+ghost use Rattle.goblin_pe_tables.specs.ImportWalks.{IsImportsCause, IsInLibrary, IsOver, imports_at, position_by, position_of};
 ghost use Rattle.goblin_pe_tables.specs.ImportWalks.{slots_bound};
 ghost use Rattle.goblin_pe_tables.specs.ImportWalks.{IsLaterCause, IsNamedCause, IsPlaced};
 ghost use Rattle.goblin_pe_tables.specs.ImportWalks.{IsRecordsCause, IsWalkCause, addresses_of};
@@ -352,6 +353,7 @@ impl<'a, 'm> Walk<'a, 'm> {
         ensures steps { GivesNext walked_value (walk_left T.format) (IsWalkCause T.format)
             self.old result self.new }
         ensures placed { IsPlaced T.format self.old → IsPlaced T.format self.new }
+        ensures inside { IfSome result (λ r. IfOk r (λ _. IsSomeAnd self.new.place (λ place. 0 < place))) }
         ensures bytes { self.new.bytes.now ≡ self.old.bytes.now }
         ensures address_map { self.new.address_map.now ≡ self.old.address_map.now }
         ensures fewer { IfSome result (λ r. walk_bound self.new < walk_bound self.old) }
@@ -413,6 +415,9 @@ impl<'a, 'm, 'e, T: Bitfield<'a>> Imports<'a, 'm, 'e, T> {
             (mapped (flat_map (kept_imports (λ x. x) T.format.width))
             (import_data (reads_strictly m) T.format (offset_of m) rva))
             bytes.now }
+        ensures begins { let m = map_of address_map.now in
+            let rva = directory.virtual_address in
+            BeginsAt m T.format bytes.now (first_import (reads_strictly m) (offset_of m) rva) result }
         ensures permissive { reads_strictly (map_of address_map.now) ≡ false → IsOk result }
         ensures over { IfOk result (IsOver bytes.now (map_of address_map.now)) }
         ensures position { IfOk result (HasPosition T.format) }
@@ -434,6 +439,8 @@ impl<'a, 'm, 'e, T: Bitfield<'a>> Imports<'a, 'm, 'e, T> {
             IsWalkOf (λ xs. xs)
             (mapped (flat_map (kept_imports (λ x. x) T.format.width)) libraries) bytes.now
             (imports_left T.format result) (IsImportsCause T.format result) }
+        ensures begins { GoesOnAt (map_of address_map.now) T.format bytes.now
+            (Some (record { «record» = offset; slot = None })) result }
         ensures over { IsOver bytes.now (map_of address_map.now) result }
         ensures position { HasPosition T.format result }
     {
@@ -480,6 +487,7 @@ impl<'a, 'm, 'e, T: Bitfield<'a>> Imports<'a, 'm, 'e, T> {
             (e : ErrorOf) → HasPosition T.format self.now → reads_strictly m ≡ true
             → IsCauseAt (reads_strictly m) T.format (offset_of m) w.bytes.now result e
             → IsImportsCause T.format self.now e }
+        ensures is { result ≡ position_of self.now }
     {
         self.walk.position()
     }

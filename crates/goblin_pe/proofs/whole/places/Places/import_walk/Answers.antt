@@ -9,6 +9,7 @@ use Rattle.goblin_pe_tables.specs.Imports.{kept_imports}
 use Rattle.goblin_pe.specs.Whole.{entry_format, import_list, import_part, part_map, table_places}
 use Rattle.goblin_pe.proofs.Collected.{unasked_mapped}
 use Rattle.goblin_pe.proofs.ImportParts.{list-refused, list-walked}
+use Rattle.goblin_pe.proofs.ImportStarts.{start-refused, start-read}
 use Rattle.goblin_pe.proofs.whole.places.Places.import_walk.Goals as goal
 use Rattle.goblin_pe.proofs.whole.places.Places.import_walk.Goals.{in_default-via-in-Some+else-opts, in_default-via-in_default}
 
@@ -17,13 +18,13 @@ returns-in_err-imports-in-Some-clause-walks c =
     let m = map_of c.args.address_map.now in
     let asked : m.opts.parse_imports ≡ true = sym (ap (λ (o : ParseOptions). o.parse_imports) c.opts-opts.ensures) ∙ c.if-opts.true in
     let e = err_from_is_err_and c.from_residual.result c.from_residual.ensures.1 in
-    rw (e.1, e.2) (list-refused m.opts (offset_of m) (table_places c.args.self.now) c.in-Some.directory asked c.in-Some.is c.args.bytes.now _ _ c.imports_at.ensures c.in_err-imports-in-Some.was)
+    rw (e.1, e.2) (list-refused m.opts (offset_of m) (table_places c.args.self.now) c.in-Some.directory asked c.in-Some.is c.args.bytes.now _ _ c.imports_at.ensures.walks c.in_err-imports-in-Some.was)
 
 pub returns-in_ok-imports-in-Some-clause-walks : goal.returns-in_ok-imports-in-Some-clause-walks
 returns-in_ok-imports-in-Some-clause-walks c =
     let m = map_of c.args.address_map.now in
     let asked : m.opts.parse_imports ≡ true = sym (ap (λ (o : ParseOptions). o.parse_imports) c.opts-opts.ensures) ∙ c.if-opts.true in
-    list-walked m.opts (offset_of m) (table_places c.args.self.now) c.in-Some.directory asked c.in-Some.is c.args.bytes.now _ _ c.imports_at.ensures c.in_ok-imports-in-Some.was
+    list-walked m.opts (offset_of m) (table_places c.args.self.now) c.in-Some.directory asked c.in-Some.is c.args.bytes.now _ _ c.imports_at.ensures.walks c.in_ok-imports-in-Some.was
 
 pub returns-in_default-clause-walks : goal.returns-in_default-clause-walks
 unfolding import_list import_part part_map
@@ -39,3 +40,16 @@ returns-in_default-clause-walks c =
     unasked_mapped (λ x. x) (flat_map (kept_imports (λ x. x) format.width)) (reads_strictly m) m.opts.parse_imports
     (λ d. import_data (reads_strictly m) format (offset_of m) d.virtual_address)
     c.args.self.now.imports c.args.bytes.now none
+
+pub returns-in_err-imports-in-Some-clause-starts : goal.returns-in_err-imports-in-Some-clause-starts
+returns-in_err-imports-in-Some-clause-starts c =
+    let m = map_of c.args.address_map.now in
+    let asked : m.opts.parse_imports ≡ true = sym (ap (λ (o : ParseOptions). o.parse_imports) c.opts-opts.ensures) ∙ c.if-opts.true in
+    let e = err_from_is_err_and c.from_residual.result c.from_residual.ensures.1 in
+    rw (e.1, e.2) (start-refused m (table_places c.args.self.now) c.args.bytes.now c.in-Some.directory asked c.in-Some.is c.imports_at.result c.imports_at.ensures.first _ c.in_err-imports-in-Some.was)
+
+pub returns-in_ok-imports-in-Some-clause-starts : goal.returns-in_ok-imports-in-Some-clause-starts
+returns-in_ok-imports-in-Some-clause-starts c =
+    let m = map_of c.args.address_map.now in
+    let asked : m.opts.parse_imports ≡ true = sym (ap (λ (o : ParseOptions). o.parse_imports) c.opts-opts.ensures) ∙ c.if-opts.true in
+    start-read m (table_places c.args.self.now) c.args.bytes.now c.in-Some.directory asked c.in-Some.is c.imports_at.result c.imports_at.ensures.first _ c.in_ok-imports-in-Some.was
