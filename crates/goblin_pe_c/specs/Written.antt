@@ -1,14 +1,22 @@
 -- What is written of the records of a caller.
 use Rattle.std.specs.Prelude.{◌≡◌, ◌++◌, ◌-◌, ◌==◌, if◌then◌else◌, ℕ, List, length, map}
-use Rattle.std.specs.Prelude.{Option, None, Some, Result, Ok, Err, replicate, take}
+use Rattle.std.specs.Prelude.{Option, None, Some, Result, Ok, Err, replicate, take, true}
+use Rattle.goblin_base.specs.declared.endian.Endian.TheVariants.{Little}
 use Rattle.goblin_base.specs.declared.error.ErrorOf.{ErrorOf}
+use Rattle.goblin_base.specs.Bytes.{IsBytes}
 use Rattle.goblin_pe_sect.specs.declared.data_directories.DataDirectory.{DataDirectory}
+use Rattle.goblin_pe_sect.specs.declared.options.ParseOptions.{ParseOptions}
+use Rattle.goblin_pe_sect.specs.Options.{is_strict}
 use Rattle.goblin_pe_sect.specs.SectionName.{IsNameOffsetFault, indirect_name}
 use Rattle.goblin_pe_head.specs.declared.optional_header.OptionalHeader.{OptionalHeader}
-use Rattle.goblin_pe_head.specs.PeHeader.{PeHeader}
+use Rattle.goblin_pe_head.specs.HeaderLaws.{filling_after, header_end}
+use Rattle.goblin_pe_head.specs.PeHeader.{PeHeader, header_bytes}
+use Rattle.goblin_pe.specs.Whole.{WholeFile, whole_file}
 use Rattle.goblin_pe_c.specs.declared.directory.PeDirectory.{PeDirectory}
 use Rattle.goblin_pe_c.specs.declared.file.PeFile.{PeFile}
 use Rattle.goblin_pe_c.specs.declared.section.PeSection.{PeSection}
+use Rattle.goblin_pe_c.specs.Directories.{directories_of, directory_record}
+use Rattle.goblin_pe_c.specs.Files.{file_of}
 
 -- ---- what records say
 
@@ -64,3 +72,14 @@ SetsName offset old new (Ok x) =
     (indirect_name offset ≡ Some new.name) × (new ≡ record old { name = new.name })
 SetsName offset old new (Err e) =
     (indirect_name offset ≡ None) × IsNameOffsetFault offset e × (new ≡ old)
+
+-- A header that strict mode read is written from a file's records as the file's bytes up to its end,
+-- with zeros for the missing directories after them.
+unfoldable pub OpenedWritesBack : Type 0
+OpenedWritesBack =
+    (opts : ParseOptions) (bytes : List ℕ) (w : WholeFile) → IsBytes bytes
+    → is_strict opts.parse_mode ≡ true → (whole_file opts).value bytes ≡ Some w
+    → header_bytes Little
+    (header_said (file_of w) (map directory_record (directories_of w.header.optional_header))
+    w.header.dos_stub)
+    ≡ Some (take (header_end w.header) bytes ++ filling_after w.header.optional_header)

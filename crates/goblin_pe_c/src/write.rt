@@ -10,7 +10,7 @@ ghost use Rattle.goblin_pe_head.specs.PeHeader.{IsUnwrittenPart, header_bytes, h
 ghost use Rattle.goblin_pe_c.specs.Calls.{Reported};
 ghost use Rattle.goblin_pe_c.specs.Sections.{section_view};
 ghost use Rattle.goblin_pe_c.specs.Written.{Output, SetsName, WritesOut, entries_said, entry_said};
-ghost use Rattle.goblin_pe_c.specs.Written.{header_said, optional_said};
+ghost use Rattle.goblin_pe_c.specs.Written.{OpenedWritesBack, header_said, optional_said};
 
 use crate::directory::PeDirectory;
 use crate::fault::{PeFault, fault_of, no_fault};
@@ -110,9 +110,13 @@ fn write_header(
 /// are not looked at. Numbers are little-endian. The Rich header is part of the stub, and no other
 /// field of `file` is looked at.
 ///
+/// What strict mode read is written as the bytes of the file up to the header's end, and zeros for
+/// the directories that it lacks.
+///
 /// Refused are, in this order, an optional header of unknown magic, one for 32 bits with a Windows
 /// field that does not fit, and where there is no room; nothing is changed then.
 #[unsafe(no_mangle)]
+#[tactic(auto, using(crate::proofs::WrittenBack::opened_back))]
 pub extern "C" fn goblin_pe_raw_write_header(
     file: &PeFile,
     directories: &[PeDirectory],
@@ -120,7 +124,7 @@ pub extern "C" fn goblin_pe_raw_write_header(
     out: &mut [u8],
     written: &mut usize,
 ) -> PeFault
-    ensures { let old : Output = record { out = out.old; written = written.old } in
+    ensures written { let old : Output = record { out = out.old; written = written.old } in
         let new : Output = record { out = out.new; written = written.new } in
         let made = header_bytes Little (header_said file.now directories.now stub.now) in
         Reported result
@@ -129,6 +133,7 @@ pub extern "C" fn goblin_pe_raw_write_header(
         (FirstFault made (IsUnwrittenPart (optional_said file.now directories.now))
         (λ bytes. IsSliceFault out.old 0 (length bytes)))
         old new) }
+    ensures back { OpenedWritesBack }
 {
     match write_header(file, directories, stub, out, written) {
         Ok(()) => no_fault(),
