@@ -172,7 +172,8 @@ fn read_symbols<'a>(
 /// record at the index `position` on: as many as there are and as there is room for. `count` says
 /// how many these are, and `position` is then the index of the record that is read next. The first
 /// record is read as a symbol, even where it is an auxiliary one of a symbol before it. After the
-/// last symbol, and where the header's pointer to the table is 0, `count` is 0.
+/// last symbol, and where the header's pointer to the table is 0, `count` is 0, as it is without
+/// room; the position then stays.
 ///
 /// It takes no memory. It is refused where the records of the table run past the end of the file or
 /// begin at it (the status 4), where the string table after them has no length of four bytes (4) or
