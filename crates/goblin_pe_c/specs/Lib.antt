@@ -3,6 +3,7 @@ pub mod Blocks
 pub mod Calls
 pub mod Damages
 pub mod Directories
+pub mod ExportDirectories
 pub mod Exports
 pub mod Faults
 pub mod Files

@@ -10,6 +10,7 @@ mod block;
 mod damage;
 mod directory;
 mod export;
+mod export_directory;
 mod fault;
 mod file;
 mod filled;
