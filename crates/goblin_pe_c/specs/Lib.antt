@@ -15,6 +15,7 @@ pub mod Headers
 pub mod Images
 pub mod Imports
 pub mod Items
+pub mod Kinds
 pub mod Objects
 pub mod Opened
 pub mod Options
@@ -24,3 +25,4 @@ pub mod SectionData
 pub mod Sections
 pub mod Symbols
 pub mod Te
+pub mod Written
