@@ -10,6 +10,7 @@ pub mod Files
 pub mod Filled
 pub mod Footprints
 pub mod Found
+pub mod Growth
 pub mod Headers
 pub mod Images
 pub mod Imports
