@@ -1,5 +1,5 @@
 -- What is written of the records of a caller.
-use Rattle.std.specs.Prelude.{◌≡◌, ◌++◌, ◌-◌, ◌==◌, if◌then◌else◌, ℕ, List, length, map}
+use Rattle.std.specs.Prelude.{◌≡◌, ◌++◌, ◌-◌, ◌==◌, if◌then◌else◌, ℕ, Bool, List, length, map}
 use Rattle.std.specs.Prelude.{Option, None, Some, Result, Ok, Err, replicate, take, true}
 use Rattle.goblin_base.specs.declared.endian.Endian.TheVariants.{Little}
 use Rattle.goblin_base.specs.declared.error.ErrorOf.{ErrorOf}
@@ -7,7 +7,7 @@ use Rattle.goblin_base.specs.Bytes.{IsBytes}
 use Rattle.goblin_pe_sect.specs.declared.data_directories.DataDirectory.{DataDirectory}
 use Rattle.goblin_pe_sect.specs.declared.options.ParseOptions.{ParseOptions}
 use Rattle.goblin_pe_sect.specs.Options.{is_strict}
-use Rattle.goblin_pe_sect.specs.SectionName.{IsNameOffsetFault, indirect_name}
+use Rattle.goblin_pe_sect.specs.SectionName.{IsNameOffsetFault, indirect_name, name_value}
 use Rattle.goblin_pe_head.specs.declared.optional_header.OptionalHeader.{OptionalHeader}
 use Rattle.goblin_pe_head.specs.HeaderLaws.{filling_after, header_end}
 use Rattle.goblin_pe_head.specs.PeHeader.{PeHeader, header_bytes}
@@ -65,11 +65,13 @@ abbrev pub WritesOut : Option (List ℕ) → (ℕ → Type 0) → (ErrorOf → T
 WritesOut change IsSize IsCause old new (Ok x) = (change ≡ Some new.out) × IsSize new.written
 WritesOut change IsSize IsCause old new (Err e) = (change ≡ None) × IsCause e × (new ≡ old)
 
--- A call has set the eight bytes of a section's name to those that hold a number; or none hold it,
--- the cause is true, and everything is unchanged.
+-- A call has set the eight bytes of a section's name to those that hold a number, which readers find
+-- there; or none hold it, the cause is true, and everything is unchanged.
 abbrev pub SetsName : ℕ → PeSection → PeSection → Result Unit ErrorOf → Type 0
 SetsName offset old new (Ok x) =
-    (indirect_name offset ≡ Some new.name) × (new ≡ record old { name = new.name })
+    (indirect_name offset ≡ Some new.name)
+    × ((strict : Bool) → name_value strict new.name ≡ Some (Some offset))
+    × (new ≡ record old { name = new.name })
 SetsName offset old new (Err e) =
     (indirect_name offset ≡ None) × IsNameOffsetFault offset e × (new ≡ old)
 

@@ -1,8 +1,9 @@
 //! PE files for callers that are not written in Rattle: a static library with a flat interface.
 //!
 //! A call borrows the caller's bytes. Each text in a record is a slice of those bytes, so no text
-//! is copied. The tables of a whole file, and the bytes on which its imports depend, are handed
-//! over as memory that the caller frees; the other calls fill the caller's records.
+//! is copied. The tables of a whole file, and the ranges of the bytes on which it depends, are
+//! handed over as memory that the caller frees; the other calls fill the caller's records, or write
+//! to its bytes. Headers and tables have the libraries' own records where these are plain.
 #![tactic(auto)]
 
 mod auxiliary;

@@ -5,6 +5,7 @@ ghost use Rattle.goblin_base.specs.declared.endian.Endian.TheVariants.{Little};
 ghost use Rattle.goblin_base.specs.Answers.{FirstFault, IsSliceFault};
 ghost use Rattle.goblin_base.specs.Bytes.{overwritten};
 ghost use Rattle.goblin_base.specs.Record.{encoding};
+ghost use Rattle.goblin_pe_sect.specs.SectionReadings.{SectionWritesBack};
 ghost use Rattle.goblin_pe_sect.specs.SectionTable.{section_fields};
 ghost use Rattle.goblin_pe_head.specs.PeHeader.{IsUnwrittenPart, header_bytes, header_value};
 ghost use Rattle.goblin_pe_c.specs.Calls.{Reported};
@@ -143,10 +144,11 @@ pub extern "C" fn goblin_pe_raw_write_header(
 
 // Writes the record of a section, and says how many bytes it takes.
 fn write_record(section: &SectionTable, out: &mut [u8], written: &mut usize) -> Result<()>
-    ensures { let old : Output = record { out = out.old; written = written.old } in
+    ensures written { let old : Output = record { out = out.old; written = written.old } in
         let new : Output = record { out = out.new; written = written.new } in
         WritesOut (overwritten out.old 0 (encoding Little (section_fields section.now)))
         (λ size. size ≡ 40) (IsSliceFault out.old 0 40) old new result }
+    ensures back { SectionWritesBack }
 {
     *written = section.try_into_ctx(out, Endian::Little)?;
     Ok(())
@@ -154,7 +156,7 @@ fn write_record(section: &SectionTable, out: &mut [u8], written: &mut usize) -> 
 
 /// Writes the record of a section, with the eight bytes of its name, to the front of `out`, and
 /// puts its size, 40, into `written`. Numbers are little-endian. The name from the string table is
-/// not part of the record.
+/// not part of the record. A section that was read is written as its record stands in the file.
 ///
 /// Refused is where there is no room; nothing is changed then.
 #[unsafe(no_mangle)]
@@ -164,11 +166,12 @@ pub extern "C" fn goblin_pe_raw_write_section(
     out: &mut [u8],
     written: &mut usize,
 ) -> PeFault
-    ensures { let old : Output = record { out = out.old; written = written.old } in
+    ensures written { let old : Output = record { out = out.old; written = written.old } in
         let new : Output = record { out = out.new; written = written.new } in
         Reported result
         (WritesOut (overwritten out.old 0 (encoding Little (section_fields (section_view section.now))))
         (λ size. size ≡ 40) (IsSliceFault out.old 0 40) old new) }
+    ensures back { SectionWritesBack }
 {
     match write_record(&section_of(section), out, written) {
         Ok(()) => no_fault(),
