@@ -1,4 +1,4 @@
--- What is made of a file's imports and exports, one by one, is made of the file's own value.
+-- What is made of a file's imports, one by one, and of its export tables is made of the file's own value.
 use Rattle.std.proofs.Common.{◌≡◌, ◌∙◌, ℕ, List, map, Bool, true, false}
 use Rattle.std.proofs.Common.{Option, Some, None, refl, ap, inl, inr}
 use Rattle.std.specs.Prelude.{◌⊎◌, option_map}
@@ -78,14 +78,14 @@ module _ {A B C X Y : Type 0} (a : Reading A) (b : Reading B) (c : Reading C) (f
 
 -- ---- the tables of a file
 
-module _ {X Y : Type 0} (import_of : ImportValue → X) (export_of : ExportRow → Y) where
-  export-rows : (p : Part (ExportTables × List ExportRow))
-      → part_map (collected_exports export_of) p
-      ≡ part_map (map export_of) (part_map (λ read. read.1) p)
+module _ {X Y : Type 0} (import_of : ImportValue → X) (exports_of : ExportTables → Y) where
+  export-tables : (p : Part (ExportTables × List ExportRow))
+      → part_map (collected_exports exports_of) p
+      ≡ part_map exports_of (part_map (λ read. read.0) p)
   unfolding part_map
-  export-rows Absent = refl
-  export-rows (part.Read read) = refl
-  export-rows Refused = refl
+  export-tables Absent = refl
+  export-tables (part.Read read) = refl
+  export-tables Refused = refl
 
   -- what is kept of a file with this header and these sections, and of whose tables this is kept
   abbrev file_with : PeHeader → List Section → CollectedParts X Y → CollectedFileValue X Y
@@ -98,11 +98,11 @@ module _ {X Y : Type 0} (import_of : ImportValue → X) (export_of : ExportRow �
   }
 
   file-collected : (h : PeHeader) (sections : List Section) (parts : TableParts)
-      → collected_file import_of export_of (whole_of h sections parts)
+      → collected_file import_of exports_of (whole_of h sections parts)
       ≡ file_with h sections
-      (collected_tables import_of export_of parts)
+      (collected_tables import_of exports_of parts)
   file-collected h sections parts =
-      rw (export-rows parts.0.1) refl
+      rw (export-tables parts.0.1) refl
 
   module _ (opts : ParseOptions) (h : PeHeader) (sections : List Section) (bytes : List ℕ) where
     abbrev tables_of : Option TableParts
@@ -111,9 +111,9 @@ module _ {X Y : Type 0} (import_of : ImportValue → X) (export_of : ExportRow �
         (table_parts opts (offset_by opts sections places) places).value bytes
 
     pub file_read : (t : CollectedParts X Y)
-        → option_map (collected_tables import_of export_of)
+        → option_map (collected_tables import_of exports_of)
         tables_of ≡ Some t
-        → option_map (collected_file import_of export_of) (option_map (whole_of h sections) tables_of)
+        → option_map (collected_file import_of exports_of) (option_map (whole_of h sections) tables_of)
         ≡ Some (file_with h sections t)
     file_read t e =
         let m = steps.mapped tables_of _ t e in
@@ -122,8 +122,8 @@ module _ {X Y : Type 0} (import_of : ImportValue → X) (export_of : ExportRow �
         ∙ ap (λ (x : CollectedParts X Y). Some (file_with h sections x)) m.made)
 
     pub file_refused :
-        option_map (collected_tables import_of export_of)
+        option_map (collected_tables import_of exports_of)
         tables_of ≡ None
-        → option_map (collected_file import_of export_of) (option_map (whole_of h sections) tables_of)
+        → option_map (collected_file import_of exports_of) (option_map (whole_of h sections) tables_of)
         ≡ None
     file_refused e = rw (unmapped _ tables_of e) refl

@@ -4,6 +4,7 @@ pub mod ImportStarts
 pub mod KeptImports
 pub mod Layouts
 pub mod ListedImports
+pub mod NumberedExports
 pub mod Parts
 pub mod PermissiveReads
 pub mod SectionRoom

@@ -1,6 +1,6 @@
 -- What becomes of a table that was asked for, as a part of a file.
 use Rattle.std.proofs.Common.{◌≡◌, ℕ, List, Bool, true, false, Option, Some, None, refl, ap, ◌∙◌}
-use Rattle.std.specs.Prelude.{Result, Ok, Err}
+use Rattle.std.specs.Prelude.{IfOk, Result, Ok, Err}
 use Rattle.goblin_base.specs.declared.error.ErrorOf.{ErrorOf}
 use Rattle.goblin_base.specs.declared.error.ErrorOf.TheVariants.{BadMagic, BufferTooShort}
 use Rattle.goblin_base.specs.declared.error.ErrorOf.TheVariants.{Malformed, Memory, Read}
@@ -10,7 +10,7 @@ use Rattle.readings.specs.Reads.{pick, turned}
 use Rattle.goblin_pe.specs.declared.whole.Part.{Part}
 use Rattle.goblin_pe.specs.declared.whole.Part.TheVariants.{Absent, Refused}
 use Rattle.goblin_pe.specs.declared.whole.Part.TheVariants as part
-use Rattle.goblin_pe.specs.Whole.{BecomesPart, part_map, part_of}
+use Rattle.goblin_pe.specs.Whole.{BecomesPart, IfRead, part_map, part_of}
 
 abbrev IsNoMemory : {X : Type 0} → Result X ErrorOf → Type 0
 IsNoMemory (Ok x) = Unit {0}
@@ -99,6 +99,13 @@ part_map-same Absent = refl
 part_map-same (part.Read x) = refl
 part_map-same Refused = refl
 
+pub part_map-twice : {A B C : Type 0} (f : A → B) (g : B → C) (p : Part A)
+    → part_map (λ x. g (f x)) p ≡ part_map g (part_map f p)
+unfolding part_map
+part_map-twice f g Absent = refl
+part_map-twice f g (part.Read x) = refl
+part_map-twice f g Refused = refl
+
 same_part : {X : Type 0} (made : Result (Part X) ErrorOf) (r : Reading (Part X)) (bytes : List ℕ)
     → ReadsOrMemory (part_map (λ x. x)) made r bytes → ReadsOrMemory (λ x. x) made r bytes
 same_part {X} (Ok p) r bytes h = h ∙ ap (λ (q : Part X). Some q) (part_map-same p)
@@ -119,3 +126,25 @@ pub picked : {X Y : Type 0} (view : X → Y) (result : Result X ErrorOf) (bytes 
     → ReadsOrMemory view result (pick test r s) bytes
 picked view result bytes true r s is h = h
 picked view result bytes false r s is h = absurd cc
+
+-- ---- what holds of a table
+
+pub kept_both : {X : Type 0} (P Q : X → Type 0) (asked : Result X ErrorOf) → IfOk asked P
+    → IfOk asked Q → IfOk asked (λ x. P x × Q x)
+kept_both P Q (Ok x) h k = (h, k)
+kept_both P Q (Err e) h k = tt
+
+-- it holds of the part that the table becomes
+pub becomes_kept : {X : Type 0} (P : X → Type 0) (strict : Bool) (asked : Result X ErrorOf)
+    (made : Result (Part X) ErrorOf) → IfOk asked P → BecomesPart strict asked made
+    → IfOk made (IfRead P)
+becomes_kept P strict (Ok x) made h is = rw is h
+becomes_kept P strict (Err (Memory m)) made h is = rw is tt
+becomes_kept P true (Err (Malformed c)) made h is = rw is tt
+becomes_kept P false (Err (Malformed c)) made h is = rw is tt
+becomes_kept P true (Err (BadMagic n)) made h is = rw is tt
+becomes_kept P false (Err (BadMagic n)) made h is = rw is tt
+becomes_kept P true (Err (BufferTooShort n w)) made h is = rw is tt
+becomes_kept P false (Err (BufferTooShort n w)) made h is = rw is tt
+becomes_kept P true (Err (Read f)) made h is = rw is tt
+becomes_kept P false (Err (Read f)) made h is = rw is tt

@@ -5,10 +5,10 @@ use Rattle.goblin_base.specs.Reading.{Reading}
 use Rattle.readings.specs.Walks.{IsWalkOf}
 use Rattle.goblin_pe_sect.specs.declared.options.ParseOptions.{ParseOptions}
 use Rattle.goblin_pe_head.specs.declared.header.pe_header.Header.{Header}
-use Rattle.goblin_pe_tables.specs.Addresses.{MapOfAddresses, map_by, map_of}
+use Rattle.goblin_pe_tables.specs.Addresses.{MapOfAddresses, map_by, map_of, offset_of}
 use Rattle.goblin_pe_tables.specs.declared.export.exports.Exports.{Exports}
 use Rattle.goblin_pe_tables.specs.ExportRecords.{ExportRow, ExportTables}
-use Rattle.goblin_pe_tables.specs.ExportWalks.{exports_left, walked_tables}
+use Rattle.goblin_pe_tables.specs.ExportWalks.{IsOver, exports_left, numbered_from, walked_tables}
 use Rattle.goblin_pe_tables.specs.ImportLookup.{entries_32, entries_64}
 use Rattle.goblin_pe_tables.specs.Imports.{ImportValue}
 use Rattle.goblin_pe_tables.specs.ImportWalks.{GivesImport, IsImportsCause, imports_bound, imports_left}
@@ -83,3 +83,10 @@ GivesFileImport s result t = ⊥
 -- what an export directory leads to, and the exports that are still to come
 abbrev pub walked_exports : Exports → ExportTables × List ExportRow
 walked_exports walk = (walked_tables walk, map (λ x. x.row) (exports_left walk))
+
+-- A walk over these bytes, whose addresses are mapped so: all exports are still to come, with their
+-- numbers.
+abbrev pub IsExportWalk : MapOfAddresses → List ℕ → Exports → Type 0
+IsExportWalk m bytes walk =
+    IsOver bytes m walk
+    × (exports_left walk ≡ numbered_from (offset_of m) bytes (walked_tables walk) 0)

@@ -33,6 +33,7 @@ use Rattle.goblin_pe.specs.declared.whole.listed.ListedTables.{ListedTables}
 use Rattle.goblin_pe.specs.declared.whole.places.Places.{Places}
 use Rattle.goblin_pe_tables.specs.ExportReadings.{export_read}
 use Rattle.goblin_pe_tables.specs.ExportRecords.{ExportRow, ExportTables, export_read_view}
+use Rattle.goblin_pe_tables.specs.ExportWalks.{NumberedExport, numbered_from}
 use Rattle.goblin_pe_tables.specs.ImportEntries.{EntryValue}
 use Rattle.goblin_pe_tables.specs.ImportLookup.{entries_32, entries_64}
 use Rattle.goblin_pe_tables.specs.ImportReadings.{import_data}
@@ -65,6 +66,12 @@ unfoldable pub part_map : {A B : Type 0} → (A → B) → Part A → Part B
 part_map table Absent = Absent
 part_map table (part.Read from) = part.Read (table from)
 part_map table Refused = Refused
+
+-- it holds of a table that was read
+abbrev pub IfRead : {A : Type 0} → (A → Type 0) → Part A → Type 0
+IfRead Holds Absent = Unit {0}
+IfRead Holds (part.Read table) = Holds table
+IfRead Holds Refused = Unit {0}
 
 -- What becomes of a table that was asked for: it is read; if it is refused, strict mode refuses the
 -- file and permissive mode marks it refused; refused memory refuses the file in both.
@@ -259,44 +266,49 @@ whole_after opts h =
 unfoldable pub whole_file : ParseOptions → Reading WholeFile
 whole_file opts = pe_header (is_strict opts.parse_mode) >>= λ h. whole_after opts h
 
--- ---- what a caller makes of a file, import by import and export by export
+-- the exports of a file, each with its numbers: those of the tables that its export directory leads to
+abbrev pub numbered_exports : ParseOptions → List ℕ → WholeFile → Part (List NumberedExport)
+numbered_exports opts bytes w =
+    let offset_of = offset_by opts w.sections (places_in w.header.optional_header) in
+    part_map (λ tables. numbered_from offset_of bytes tables 0) w.export_data
+
+-- ---- what a caller makes of a file, of each import and of the export tables
 
 -- what is made of the imports that were read with their libraries
 abbrev pub collected_imports : {X : Type 0} → (ImportValue → X)
     → Part (List ImportedLibrary) × Part (List ImportValue) → Part (List X)
 collected_imports import_of read = part_map (map import_of) read.1
 
--- what is made of the exports that were read with their tables
-abbrev pub collected_exports : {Y : Type 0} → (ExportRow → Y) → ExportTables × List ExportRow
-    → List Y
-collected_exports export_of read = map export_of read.1
+-- what is made of the export tables that were read with their rows
+abbrev pub collected_exports : {Y : Type 0} → (ExportTables → Y) → ExportTables × List ExportRow → Y
+collected_exports exports_of read = exports_of read.0
 
 -- what is made of the tables of a file
 abbrev pub CollectedParts : Type 0 → Type 0 → Type 0
-CollectedParts X Y = (Part (List X) × Part (List Y)) × Part (List ℕ)
+CollectedParts X Y = (Part (List X) × Part Y) × Part (List ℕ)
 
-abbrev pub collected_tables : {X Y : Type 0} → (ImportValue → X) → (ExportRow → Y) → TableParts
+abbrev pub collected_tables : {X Y : Type 0} → (ImportValue → X) → (ExportTables → Y) → TableParts
     → CollectedParts X Y
-collected_tables import_of export_of parts = (
-  (collected_imports import_of parts.0.0, part_map (collected_exports export_of) parts.0.1),
+collected_tables import_of exports_of parts = (
+  (collected_imports import_of parts.0.0, part_map (collected_exports exports_of) parts.0.1),
   parts.1,
 )
 
--- a whole file with X made of each of its imports, and Y of each of its exports
+-- a whole file with X made of each of its imports, and Y of its export tables
 pub record CollectedFileValue (X Y : Type 0) : Type 0 where
   pub header : PeHeader
   pub sections : List Section
   pub imports : Part (List X)
-  pub exports : Part (List Y)
+  pub exports : Part Y
   pub relocations : Part (List ℕ)
 
-abbrev pub collected_file : {X Y : Type 0} → (ImportValue → X) → (ExportRow → Y) → WholeFile
+abbrev pub collected_file : {X Y : Type 0} → (ImportValue → X) → (ExportTables → Y) → WholeFile
     → CollectedFileValue X Y
-collected_file import_of export_of w = record {
+collected_file import_of exports_of w = record {
   header = w.header;
   sections = w.sections;
   imports = part_map (map import_of) w.imports;
-  exports = part_map (map export_of) w.exports;
+  exports = part_map exports_of w.export_data;
   relocations = w.relocations;
 }
 

@@ -1,5 +1,5 @@
 -- The records that were collected of a file are those of its imports and its exports.
-use Rattle.std.proofs.Common.{◌≡◌, ◌∙◌, ℕ, List, map, Some, None, refl, sym, ap, subst}
+use Rattle.std.proofs.Common.{◌≡◌, ◌∙◌, ℕ, List, map, Option, Some, None, refl, sym, ap, subst}
 use Rattle.std.specs.Global.{Global}
 use Rattle.std.specs.Prelude.{option_map, Result, Ok, Err, Vec}
 use Rattle.std.proofs.lemmas.List.{length-map}
@@ -11,24 +11,28 @@ use Rattle.readings.specs.Reads.{mapped}
 use Rattle.goblin_pe_sect.specs.declared.options.ParseOptions.{ParseOptions}
 use Rattle.goblin_pe_sect.specs.BaseRelocations.{relocation_bytes}
 use Rattle.goblin_pe_sect.specs.Options.{is_strict}
+use Rattle.goblin_pe_sect.specs.SectionTable.{Section}
 use Rattle.goblin_pe_head.specs.declared.header.pe_header.Header.{Header}
 use Rattle.goblin_pe_head.specs.HeaderReadings.{pe_header}
-use Rattle.goblin_pe_head.specs.PeHeader.{header_value}
+use Rattle.goblin_pe_head.specs.PeHeader.{PeHeader, header_value}
 use Rattle.goblin_pe_tables.specs.Addresses.{MapOfAddresses, map_by, offset_of}
 use Rattle.goblin_pe.specs.declared.whole.Part.{Part}
 use Rattle.goblin_pe.specs.declared.whole.Part.TheVariants.{Absent, Refused}
 use Rattle.goblin_pe.specs.declared.whole.Part.TheVariants as part
 use Rattle.goblin_pe.specs.declared.whole.layout.Layout.{Layout}
 use Rattle.goblin_pe.specs.Layouts.{IsLayoutOf, layout_map, layout_places}
-use Rattle.goblin_pe.specs.Whole.{TablePlaces, WholeFile, collected_tables, part_map, places_in, sections_after}
-use Rattle.goblin_pe.specs.Whole.{table_parts, whole_file, whole_of, whole_with}
+use Rattle.goblin_pe.specs.Whole.{TableParts, TablePlaces, WholeFile, collected_file, collected_tables}
+use Rattle.goblin_pe.specs.Whole.{numbered_exports, offset_by}
+use Rattle.goblin_pe.specs.Whole.{part_map, places_in, sections_after, table_parts, whole_file}
+use Rattle.goblin_pe.specs.Whole.{whole_of, whole_with}
 use Rattle.goblin_pe.proofs.Collected.{file_read, unmapped}
 use Rattle.goblin_pe.proofs.Layouts.{tables-cause, tables-value}
+use Rattle.goblin_pe.proofs.NumberedExports.{rows_of_file}
+use Rattle.goblin_pe.proofs.Parts.{part_map-twice}
 use Rattle.goblin_pe_c.specs.declared.records.FileRecords.{FileRecords}
-use Rattle.goblin_pe_c.specs.Exports.{export_said, export_views}
+use Rattle.goblin_pe_c.specs.Exports.{export_said, export_views, exports_said}
 use Rattle.goblin_pe_c.specs.Files.{entries_of, table_of}
-use Rattle.goblin_pe_c.specs.Filled.{alone}
-use Rattle.goblin_pe_c.specs.Imports.{import_views}
+use Rattle.goblin_pe_c.specs.Imports.{import_said, import_views}
 use Rattle.goblin_pe_c.specs.Opened.{RecordsOfFile, records_of_file, records_view, tables_view}
 
 -- ---- tables by what is made of each entry
@@ -65,33 +69,47 @@ pub record IsOf (opts : ParseOptions) (bytes : List ℕ) (v : RecordsOfFile) : T
   pub header : whole.header ≡ v.header
   pub sections : whole.sections ≡ v.sections
   pub relocations : whole.relocations ≡ v.relocations
-  pub imports : map alone (entries_of whole.imports) ≡ entries_of v.imports
-  pub exports : map export_said (entries_of whole.exports) ≡ entries_of v.exports
+  pub imports : map import_said (entries_of whole.imports) ≡ entries_of v.imports
+  pub exports : map export_said (entries_of (numbered_exports opts bytes whole))
+      ≡ entries_of v.exports
   pub imports_table : table_of whole.imports ≡ table_of v.imports
   pub exports_table : table_of whole.exports ≡ table_of v.exports
 
 pub file-of-records : (opts : ParseOptions) (bytes : List ℕ) (v : RecordsOfFile)
-    → option_map records_of_file ((whole_file opts).value bytes) ≡ Some v → IsOf opts bytes v
+    → option_map (records_of_file opts bytes) ((whole_file opts).value bytes) ≡ Some v
+    → IsOf opts bytes v
 file-of-records opts bytes v is =
-    let m = steps.mapped ((whole_file opts).value bytes) records_of_file v is in
+    let m = steps.mapped ((whole_file opts).value bytes) (records_of_file opts bytes) v is in
     let w = m.value in
-    let imports : part_map (map alone) w.imports ≡ v.imports =
+    let imports : part_map (map import_said) w.imports ≡ v.imports =
     ap (λ (x : RecordsOfFile). x.imports) m.made in
-    let exports : part_map (map export_said) w.exports ≡ v.exports =
-    ap (λ (x : RecordsOfFile). x.exports) m.made in
+    let exports : part_map (map export_said) (numbered_exports opts bytes w) ≡ v.exports =
+    sym (part_map-twice _ (map export_said) w.export_data) ∙ ap (λ (x : RecordsOfFile). x.exports) m.made in
+    let rows = rows_of_file opts bytes w m.is in
     record {
       whole = w;
       read = m.is;
       header = ap (λ (x : RecordsOfFile). x.header) m.made;
       sections = ap (λ (x : RecordsOfFile). x.sections) m.made;
       relocations = ap (λ (x : RecordsOfFile). x.relocations) m.made;
-      imports = entries-same w.imports v.imports alone imports;
-      exports = entries-same w.exports v.exports export_said exports;
-      imports_table = table-same w.imports v.imports alone imports;
-      exports_table = table-same w.exports v.exports export_said exports;
+      imports = entries-same w.imports v.imports import_said imports;
+      exports = entries-same (numbered_exports opts bytes w) v.exports export_said exports;
+      imports_table = table-same w.imports v.imports import_said imports;
+      exports_table =
+          sym (table-same (numbered_exports opts bytes w) w.exports (λ x. x.row) (sym rows))
+          ∙ table-same (numbered_exports opts bytes w) v.exports export_said exports;
     }
 
 -- ---- the records of a file's tables
+
+-- what is collected of a file with these sections
+collected-whole : (opts : ParseOptions) (bytes : List ℕ) (h : PeHeader) (s : List Section)
+    (tables : Option TableParts)
+    → option_map (records_of_file opts bytes) (option_map (whole_of h s) tables)
+    ≡ option_map (collected_file import_said (exports_said (offset_by opts s (places_in h.optional_header)) bytes))
+    (option_map (whole_of h s) tables)
+collected-whole opts bytes h s None = refl
+collected-whole opts bytes h s (Some tables) = refl
 
 module _ (opts : ParseOptions) (bytes : List ℕ) (h : Header)
     (header : (pe_header (is_strict opts.parse_mode)).value bytes ≡ Some (header_value h))
@@ -103,7 +121,8 @@ module _ (opts : ParseOptions) (bytes : List ℕ) (h : Header)
   abbrev MakesTables : Result FileRecords ErrorOf → MapOfAddresses → TablePlaces → List ℕ → Type 0
   MakesTables result m at file =
       ReadsOrMemory tables_view result
-      (mapped (collected_tables alone export_said) (table_parts m.opts (offset_of m) at)) file
+      (mapped (collected_tables import_said (exports_said (offset_of m) file))
+      (table_parts m.opts (offset_of m) at)) file
 
   makes : (result : Result FileRecords ErrorOf)
       → MakesTables result (layout_map l) (layout_places l) l.bytes.now
@@ -117,11 +136,13 @@ module _ (opts : ParseOptions) (bytes : List ℕ) (h : Header)
   -- they are those of the file
   pub records-read : (r : FileRecords)
       → MakesTables (Ok r) (layout_map l) (layout_places l) l.bytes.now
-      → option_map records_of_file ((whole_file opts).value bytes) ≡ Some (records_view l r)
+      → option_map (records_of_file opts bytes) ((whole_file opts).value bytes)
+      ≡ Some (records_view l r)
   unfolding whole_with
   records-read r made =
-      ap (option_map records_of_file) (tables-value opts bytes (header_value h) header l.sections.items sections)
-      ∙ file_read alone export_said opts (header_value h) l.sections.items bytes (tables_view r) (makes (Ok r) made)
+      ap (option_map (records_of_file opts bytes)) (tables-value opts bytes (header_value h) header l.sections.items sections)
+      ∙ collected-whole opts bytes (header_value h) l.sections.items _
+      ∙ file_read import_said (exports_said (offset_by opts l.sections.items places) bytes) opts (header_value h) l.sections.items bytes (tables_view r) (makes (Ok r) made)
       ∙ ap (λ (x : Header). Some (record {
         header = header_value x;
         sections = l.sections.items;

@@ -1,7 +1,8 @@
 -- The tables of a whole file, which are in memory of their own.
 use Rattle.std.specs.Prelude.{◌≡◌, ℕ, List, map}
-use Rattle.goblin_pe.specs.Imports.{ImportValue}
-use Rattle.goblin_pe.specs.Whole.{CollectedFileValue, CollectedParts, WholeFile, collected_file, part_map}
+use Rattle.goblin_pe_sect.specs.declared.options.ParseOptions.{ParseOptions}
+use Rattle.goblin_pe.specs.Whole.{CollectedFileValue, CollectedParts, WholeFile, collected_file}
+use Rattle.goblin_pe.specs.Whole.{numbered_exports, offset_by, part_map, places_in}
 use Rattle.goblin_pe.specs.declared.whole.layout.Layout.{Layout}
 use Rattle.goblin_pe.specs.BaseRelocations.{relocation_bytes}
 use Rattle.goblin_pe.specs.PeHeader.{header_value}
@@ -11,10 +12,10 @@ use Rattle.goblin_pe_c.specs.declared.open.PeTables.{PeTables}
 use Rattle.goblin_pe_c.specs.Blocks.{block_view, blocks_in}
 use Rattle.goblin_pe_c.specs.Directories.{directories_of, directory_record}
 use Rattle.goblin_pe_c.specs.declared.records.FileRecords.{FileRecords}
-use Rattle.goblin_pe_c.specs.Exports.{ExportSaid, export_said, export_view, export_views}
+use Rattle.goblin_pe_c.specs.Exports.{ExportSaid, export_said, export_view, export_views, exports_said}
 use Rattle.goblin_pe_c.specs.Files.{entries_of, file_of}
 use Rattle.goblin_pe_c.specs.Filled.{Filled, alone}
-use Rattle.goblin_pe_c.specs.Imports.{import_view, import_views}
+use Rattle.goblin_pe_c.specs.Imports.{ImportSaid, import_said, import_view, import_views}
 use Rattle.goblin_pe_c.specs.RichHeaders.{entries_in}
 use Rattle.goblin_pe_c.specs.Sections.{section_said}
 
@@ -25,34 +26,37 @@ pub record Opened : Type 0 where
   pub tables : PeTables
 
 -- the tables are those of a file, each whole
-abbrev pub AreTablesOf : WholeFile → PeTables → Type 0
-AreTablesOf w t =
+abbrev pub AreTablesOf : ParseOptions → List ℕ → WholeFile → PeTables → Type 0
+AreTablesOf opts bytes w t =
     (t.rich_entries.now ≡ entries_in w.header.rich_header)
     × (map section_said t.sections.now ≡ map alone w.sections)
-    × (map import_view t.imports.now ≡ map alone (entries_of w.imports))
-    × (map export_view t.exports.now ≡ map export_said (entries_of w.exports))
+    × (map import_view t.imports.now ≡ map import_said (entries_of w.imports))
+    × (map export_view t.exports.now
+    ≡ map export_said (entries_of (numbered_exports opts bytes w)))
     × (map block_view t.blocks.now ≡ blocks_in w.relocations)
 
 -- what a call reports of a file whose tables it keeps: the directories as far as there is room, all
 -- else whole
-abbrev pub Opens : WholeFile → Opened → Opened → Type 0
-Opens w old new =
+abbrev pub Opens : ParseOptions → List ℕ → WholeFile → Opened → Opened → Type 0
+Opens opts bytes w old new =
     (new.file ≡ file_of w)
     × (Filled (λ d. d) (map directory_record (directories_of w.header.optional_header))
     old.directories new.directories)
-    × AreTablesOf w new.tables
+    × AreTablesOf opts bytes w new.tables
 
 -- ---- the records while they are made
 
 -- A file whose imports and exports are records.
 abbrev pub RecordsOfFile : Type 0
-RecordsOfFile = CollectedFileValue (ImportValue × List ℕ) ExportSaid
+RecordsOfFile = CollectedFileValue ImportSaid (List ExportSaid)
 
-abbrev pub records_of_file : WholeFile → RecordsOfFile
-records_of_file w = collected_file alone export_said w
+abbrev pub records_of_file : ParseOptions → List ℕ → WholeFile → RecordsOfFile
+records_of_file opts bytes w =
+    let offset_of = offset_by opts w.sections (places_in w.header.optional_header) in
+    collected_file import_said (exports_said offset_of bytes) w
 
 -- the tables as records
-abbrev pub tables_view : FileRecords → CollectedParts (ImportValue × List ℕ) ExportSaid
+abbrev pub tables_view : FileRecords → CollectedParts ImportSaid (List ExportSaid)
 tables_view x = (
   (part_map import_views x.imports, part_map export_views x.exports),
   part_map relocation_bytes x.relocations,

@@ -5,16 +5,25 @@ ghost use Rattle.goblin_base.specs.Answers.{GivesOrMemory};
 ghost use Rattle.goblin_base.specs.Reading.{ReadsOrMemory};
 ghost use Rattle.goblin_pe.specs.Reads.{mapped};
 ghost use Rattle.goblin_pe_tables.specs.Addresses.{offset_of};
-ghost use Rattle.goblin_pe_tables.specs.ExportWalks.{exports_left};
+ghost use Rattle.goblin_pe_tables.specs.ExportWalks.{exports_left, walked_export};
 ghost use Rattle.goblin_pe.specs.Layouts.{layout_map, layout_places};
 ghost use Rattle.goblin_pe.specs.Whole.{collected_exports, export_part, part_map};
 ghost use Rattle.goblin_pe_c.specs.Blocked.{HasNoIdleBlock, HasNoIdleBlockIn};
-ghost use Rattle.goblin_pe_c.specs.Exports.{export_said, export_view, export_views};
+ghost use Rattle.goblin_pe_c.specs.Exports.{export_said, export_view, export_views, exports_said};
 
 use crate::room::make_room;
-use goblin_pe::export::{Export, Exports, Reexport};
+use goblin_pe::export::{Exports, Reexport, WalkedExport};
 use goblin_pe::{Layout, Part, Result};
 use std::alloc::Global;
+
+// How an export names what it stands for in another library.
+#[derive(Copy, Clone)]
+enum Forwards {
+    // It stands for nothing there.
+    None = 0,
+    Name = 1,
+    Ordinal = 2,
+}
 
 /// An export.
 #[repr(C)]
@@ -23,18 +32,20 @@ pub struct PeExport<'a> {
     /// The export's name, where it can be read.
     pub name: &'a [u8],
     /// Of a forwarder the library, without its ending.
-    pub lib: &'a [u8],
+    pub forward_lib: &'a [u8],
     /// Of a forwarder by name the name in that library.
-    pub export_name: &'a [u8],
+    pub forward_name: &'a [u8],
     /// Of a forwarder by ordinal the ordinal in that library.
+    pub forward_ordinal: usize,
+    /// Its own ordinal: the index of its address, and the ordinal base added.
     pub ordinal: usize,
+    /// The index of its name pointer: what imports by name give as a hint.
+    pub hint: usize,
     /// The file offset of `rva`, where it has one; else 0. Where the options say that addresses are
     /// offsets, `rva` itself.
     pub offset: usize,
     /// The export's address, relative to the image's base; of a forwarder that of its text.
     pub rva: usize,
-    /// How many bytes it has: the tables don't say it, so 0.
-    pub size: usize,
     /// Whether the name can be read.
     pub has_name: bool,
     /// Whether `rva` has a file offset: a section maps it and the file alignment is a power of two,
@@ -44,30 +55,38 @@ pub struct PeExport<'a> {
     pub forwards: u8,
 }
 
-// The record of an export.
-fn export_record<'a>(bytes: &'a [u8], export: &Export<'a>) -> PeExport<'a>
-    ensures { export_view result ≡ export_said export.now }
+/// The record of an export of these bytes.
+#[inline(always)]
+pub fn export_record<'a>(bytes: &'a [u8], walked: &WalkedExport<'a>) -> PeExport<'a>
+    ensures { export_view result ≡ export_said (walked_export walked.now) }
 {
     let none = &bytes[..0];
-    let (forwards, name, ordinal, lib): (u8, &'a [u8], usize, &'a [u8]) = match &export.reexport {
-        None => (0, none, 0, none),
-        Some(Reexport::DLLName { export, lib }) => (1, export.as_bytes(), 0, lib.as_bytes()),
-        Some(Reexport::DLLOrdinal { ordinal, lib }) => (2, none, *ordinal, lib.as_bytes()),
-    };
+    let export = &walked.export;
+    let (forwards, lib, name, ordinal): (Forwards, &'a [u8], &'a [u8], usize) =
+        match &export.reexport {
+            None => (Forwards::None, none, none, 0),
+            Some(Reexport::DLLName { export, lib }) => {
+                (Forwards::Name, lib.as_bytes(), export.as_bytes(), 0)
+            }
+            Some(Reexport::DLLOrdinal { ordinal, lib }) => {
+                (Forwards::Ordinal, lib.as_bytes(), none, *ordinal)
+            }
+        };
     PeExport {
         name: match export.name {
             Some(name) => name.as_bytes(),
             None => none,
         },
-        lib,
-        export_name: name,
-        ordinal,
+        forward_lib: lib,
+        forward_name: name,
+        forward_ordinal: ordinal,
+        ordinal: walked.ordinal,
+        hint: walked.hint,
         offset: export.offset.unwrap_or(0),
         rva: export.rva,
-        size: export.size,
         has_name: export.name.is_some(),
         has_offset: export.offset.is_some(),
-        forwards,
+        forwards: forwards as u8,
     }
 }
 
@@ -78,11 +97,11 @@ const MOST_FIRST: usize = 32;
 fn push_export<'a>(
     records: &mut Vec<PeExport<'a>>,
     bytes: &'a [u8],
-    export: &Export<'a>,
+    export: &WalkedExport<'a>,
     expected: usize,
 ) -> Result<()>
     requires few { expected ≤ 32 }
-    ensures value { let made = export_said export.now ∷ [] in
+    ensures value { let made = export_said (walked_export export.now) ∷ [] in
         GivesOrMemory (λ _. map export_view records.new.items) result
         (map export_view records.old.items ++ made) }
     ensures kept { OnOk result (HasNoIdleBlock records.new) }
@@ -99,13 +118,13 @@ fn records_of<'a, 'm>(
     exports: Exports<'a, 'm>,
 ) -> Result<Vec<PeExport<'a>>>
     ensures value { GivesOrMemory export_views result
-        (map export_said (map (λ x. x.row) (exports_left exports.entry))) }
+        (map export_said (exports_left exports.entry)) }
     ensures none { IfOk result HasNoIdleBlock }
 {
     let expected = exports.size_hint().1.unwrap_or(MOST_FIRST).min(MOST_FIRST);
     let mut records = Vec::new(alloc);
-    'exports: for walked in exports {
-        push_export(&mut records, bytes, &walked.export, expected)?;
+    'exports: for export in exports {
+        push_export(&mut records, bytes, &export, expected)?;
     }
     Ok(records)
 }
@@ -115,7 +134,7 @@ fn records_of<'a, 'm>(
 pub fn export_records<'a>(alloc: Global, layout: &Layout<'a, '_>) -> Result<Part<Vec<PeExport<'a>>>>
     ensures value { let m = layout_map layout.now in
         ReadsOrMemory (part_map export_views) result
-        (mapped (part_map (collected_exports export_said))
+        (mapped (part_map (collected_exports (exports_said (offset_of m) layout.now.bytes.now)))
         (export_part m.opts (offset_of m) (layout_places layout.now)))
         layout.now.bytes.now }
     ensures none { IfOk result HasNoIdleBlockIn }

@@ -11,8 +11,7 @@ ghost use Rattle.goblin_pe.specs.Layouts.{layout_places};
 ghost use Rattle.goblin_pe.specs.Whole.{AreListed, collected_imports, import_list, import_parts};
 ghost use Rattle.goblin_pe.specs.Whole.{part_map};
 ghost use Rattle.goblin_pe_c.specs.Blocked.{HasNoIdleBlock, HasNoIdleBlockIn};
-ghost use Rattle.goblin_pe_c.specs.Filled.{alone};
-ghost use Rattle.goblin_pe_c.specs.Imports.{import_view, import_views};
+ghost use Rattle.goblin_pe_c.specs.Imports.{import_said, import_view, import_views};
 
 use crate::room::make_room;
 use goblin_pe::import::{Bitfield, Imports, SyntheticImportLookupTableEntry, WalkedImport};
@@ -29,11 +28,9 @@ pub struct PeImport<'a> {
     pub dll: &'a [u8],
     /// The address (not the file offset) of its own entry in the address table, where the loader
     /// puts the address of what is imported.
-    pub offset: usize,
+    pub slot_rva: usize,
     /// The address of the hint and the name; 0 of an import by ordinal.
     pub rva: usize,
-    /// The size of an entry of the address table, in bytes: 4 in an image for 32 bits, else 8.
-    pub size: usize,
     /// The index of its entry, in the file, in the lookup table and in the address table. Entries
     /// that are left out count.
     pub slot: usize,
@@ -44,23 +41,25 @@ pub struct PeImport<'a> {
     pub is_by_name: bool,
 }
 
-// The record of an import.
+/// The record of an import of these bytes.
+#[inline(always)]
 #[tactic(auto, unfolding(goblin_pe_tables::specs::Imports::import_of))]
-fn import_record<'a>(bytes: &'a [u8], import: WalkedImport<'a>) -> PeImport<'a>
-    ensures { import_view result ≡ alone (walked_value import.entry) }
+pub fn import_record<'a>(bytes: &'a [u8], import: &WalkedImport<'a>) -> PeImport<'a>
+    ensures { import_view result ≡ import_said (walked_value import.now) }
 {
-    let (name, rva, ordinal, is_by_name): (&'a [u8], usize, u16, bool) = match import.entry {
-        SyntheticImportLookupTableEntry::OrdinalNumber(ordinal) => (&bytes[..0], 0, ordinal, false),
+    let (name, rva, ordinal, is_by_name): (&'a [u8], usize, u16, bool) = match &import.entry {
+        SyntheticImportLookupTableEntry::OrdinalNumber(ordinal) => {
+            (&bytes[..0], 0, *ordinal, false)
+        }
         SyntheticImportLookupTableEntry::HintNameTableRVA((rva, named)) => {
-            (named.name.as_bytes(), rva as usize, named.hint, true)
+            (named.name.as_bytes(), *rva as usize, named.hint, true)
         }
     };
     PeImport {
         name,
         dll: import.dll.as_bytes(),
-        offset: import.offset,
+        slot_rva: import.offset,
         rva,
-        size: import.size,
         slot: import.slot,
         ordinal,
         is_by_name,
@@ -75,9 +74,9 @@ const FIRST_ROOM: usize = 4;
 fn push_import<'a>(
     records: &mut Vec<PeImport<'a>>,
     bytes: &'a [u8],
-    import: WalkedImport<'a>,
+    import: &WalkedImport<'a>,
 ) -> Result<()>
-    ensures value { let made = alone (walked_value import.entry) ∷ [] in
+    ensures value { let made = import_said (walked_value import.now) ∷ [] in
         GivesOrMemory (λ _. map import_view records.new.items) result
         (map import_view records.old.items ++ made) }
     ensures kept { OnOk result (HasNoIdleBlock records.new) }
@@ -94,13 +93,13 @@ fn records_of<'a, 'm, 'e, T: Bitfield<'a>>(
     imports: Imports<'a, 'm, 'e, T>,
 ) -> ResultOf<'e, Vec<PeImport<'a>>>
     ensures value { let items = all_of (imports_left T.format imports.entry) in
-        AnswersOrMemory import_views result (option_map (map alone) items)
+        AnswersOrMemory import_views result (option_map (map import_said) items)
         (IsImportsCause T.format imports.entry) }
     ensures none { IfOk result HasNoIdleBlock }
 {
     let mut records = Vec::new(alloc);
     'imports: for import in imports {
-        push_import(&mut records, bytes, import?)?;
+        push_import(&mut records, bytes, &import?)?;
     }
     Ok(records)
 }
@@ -112,7 +111,7 @@ fn file_records_of<'a, 'm, 'e>(
     imports: FileImports<'a, 'm, 'e>,
 ) -> ResultOf<'e, Vec<PeImport<'a>>>
     ensures value { let items = all_of (file_imports_left imports.entry) in
-        AnswersOrMemory import_views result (option_map (map alone) items)
+        AnswersOrMemory import_views result (option_map (map import_said) items)
         (IsFileImportsCause imports.entry) }
     ensures none { IfOk result HasNoIdleBlock }
 {
@@ -127,7 +126,7 @@ fn file_records_of<'a, 'm, 'e>(
 fn listed_records<'a>(alloc: Global, layout: &Layout<'a, '_>) -> Result<Part<Vec<PeImport<'a>>>>
     ensures value { let m = layout_map layout.now in
         ReadsOrMemory (part_map import_views) result
-        (mapped (part_map (map alone)) (import_list m.opts (offset_of m) (layout_places layout.now)))
+        (mapped (part_map (map import_said)) (import_list m.opts (offset_of m) (layout_places layout.now)))
         layout.now.bytes.now }
     ensures listed { let m = layout_map layout.now in
         AreListed m.opts (offset_of m) (layout_places layout.now) layout.now.bytes.now }
@@ -148,7 +147,7 @@ fn listed_records<'a>(alloc: Global, layout: &Layout<'a, '_>) -> Result<Part<Vec
 pub fn import_records<'a>(alloc: Global, layout: &Layout<'a, '_>) -> Result<Part<Vec<PeImport<'a>>>>
     ensures value { let m = layout_map layout.now in
         ReadsOrMemory (part_map import_views) result
-        (mapped (collected_imports alone)
+        (mapped (collected_imports import_said)
         (import_parts m.opts (offset_of m) (layout_places layout.now)))
         layout.now.bytes.now }
     ensures none { IfOk result HasNoIdleBlockIn }

@@ -68,7 +68,8 @@ fn made_of<'a>(
     bytes: &'a [u8],
     opts: &ParseOptions,
 ) -> Result<Made<'a>>
-    requires { option_map records_of_file ((whole_file opts.now).value bytes.now)
+    requires { let records_of = records_of_file opts.now bytes.now in
+        option_map records_of ((whole_file opts.now).value bytes.now)
         ≡ Some (records_view layout.now records.now) }
     ensures refused { IfErr result IsMemory }
     ensures rich_header { let v = records_view layout.now records.now in
@@ -162,7 +163,7 @@ fn open<'a>(
         let new : Opened =
         record { file = file.new; directories = directories.new; tables = tables.new } in
         ReadsInto (pe_header (is_strict opts.now.parse_mode)) (HasRoom bytes.now)
-        (whole_file opts.now) bytes.now (λ w. Opens w old new) (new ≡ old) result }
+        (whole_file opts.now) bytes.now (λ w. Opens opts.now bytes.now w old new) (new ≡ old) result }
 {
     let header = Header::parse_with_opts(bytes, opts)?;
     let layout = Layout::of(alloc, bytes, &header, opts)?;
@@ -196,7 +197,7 @@ pub extern "C" fn goblin_pe_raw_open<'a>(
         let opts = options_of options.now in
         Reported result
         (ReadsInto (pe_header (is_strict opts.parse_mode)) (HasRoom bytes.now) (whole_file opts)
-        bytes.now (λ w. Opens w old new) (new ≡ old)) }
+        bytes.now (λ w. Opens opts bytes.now w old new) (new ≡ old)) }
 {
     let opts = options_of(options);
     match open(alloc, bytes, &opts, file, directories, tables) {

@@ -7,8 +7,8 @@ ghost use Rattle.goblin_pe_tables.specs.Addresses.{offset_of};
 ghost use Rattle.goblin_pe.specs.Layouts.{layout_map, layout_places};
 ghost use Rattle.goblin_pe.specs.Whole.{collected_tables, table_parts};
 ghost use Rattle.goblin_pe_c.specs.Blocked.{HasNoIdleBlockIn};
-ghost use Rattle.goblin_pe_c.specs.Exports.{export_said};
-ghost use Rattle.goblin_pe_c.specs.Filled.{alone};
+ghost use Rattle.goblin_pe_c.specs.Exports.{exports_said};
+ghost use Rattle.goblin_pe_c.specs.Imports.{import_said};
 ghost use Rattle.goblin_pe_c.specs.Opened.{tables_view};
 
 use crate::export::{PeExport, export_records};
@@ -32,7 +32,7 @@ pub struct FileRecords<'a> {
 pub fn file_records<'a>(alloc: Global, layout: &Layout<'a, '_>) -> Result<FileRecords<'a>>
     ensures value { let m = layout_map layout.now in
         ReadsOrMemory tables_view result
-        (mapped (collected_tables alone export_said)
+        (mapped (collected_tables import_said (exports_said (offset_of m) layout.now.bytes.now))
         (table_parts m.opts (offset_of m) (layout_places layout.now)))
         layout.now.bytes.now }
     ensures none { IfOk result

@@ -3,7 +3,7 @@ pub mod ExportDirectoryRoundTrip
 mod ExportGrowths
 mod ExportRanges
 mod ExportRows
-mod ExportWalk
+pub mod ExportWalk
 mod Grammar
 pub mod ImportBound
 pub mod ImportDirectoryRoundTrip

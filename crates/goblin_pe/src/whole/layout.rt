@@ -10,12 +10,12 @@ ghost use Rattle.goblin_pe_head.specs.CoffHeader.{IsTooManySections};
 ghost use Rattle.goblin_pe_tables.specs.Addresses.{offset_of, strict_map};
 ghost use Rattle.goblin_pe.specs.Damages.{left_out_of};
 ghost use Rattle.goblin_pe.specs.LayoutPositions.{StartsAt, import_start};
-ghost use Rattle.goblin_pe.specs.Layouts.{IsFileImportsCause, IsLayoutOf, PartWalks};
+ghost use Rattle.goblin_pe.specs.Layouts.{IsExportWalk, IsFileImportsCause, IsLayoutOf, PartWalks};
 ghost use Rattle.goblin_pe.specs.Layouts.{file_imports_left, layout_map, layout_places};
 ghost use Rattle.goblin_pe.specs.Layouts.{walked_exports};
 ghost use Rattle.goblin_pe.specs.SectionRoom.{TakesSections};
-ghost use Rattle.goblin_pe.specs.Whole.{AreListed, export_part, import_list, listed_view, part_map};
-ghost use Rattle.goblin_pe.specs.Whole.{relocation_part, sections_after, table_parts};
+ghost use Rattle.goblin_pe.specs.Whole.{AreListed, IfRead, export_part, import_list, listed_view};
+ghost use Rattle.goblin_pe.specs.Whole.{part_map, relocation_part, sections_after, table_parts};
 
 use crate::export::Exports;
 use crate::import::{ImportPosition, LeftOut};
@@ -179,14 +179,16 @@ impl<'a, 'h> Layout<'a, 'h> {
             .import_walk_from(self.bytes, position, &self.address_map)
     }
 
-    /// The exports that the export directory lists, one by one.
+    /// The exports that the export directory lists, one by one, each with its numbers.
     ///
     /// # Errors
     /// In strict mode as [`Exports::of`](crate::export::Exports::of).
     pub fn exports<'m>(&'m self) -> Result<Part<Exports<'a, 'm>>>
-        ensures { let m = layout_map self.now in
+        ensures value { let m = layout_map self.now in
             Reads (part_map walked_exports) result
             (export_part m.opts (offset_of m) (layout_places self.now)) self.now.bytes.now }
+        ensures walk { IfOk result
+            (IfRead (IsExportWalk (layout_map self.now) self.now.bytes.now)) }
     {
         self.places.export_walk(self.bytes, &self.address_map)
     }

@@ -1,6 +1,6 @@
 //! Where the tables of a file lie, and each as a walk or as its bytes.
 
-ghost use Rattle.std.specs.Prelude.{◌≡◌, ◌==◌, None, Ok, Some};
+ghost use Rattle.std.specs.Prelude.{◌≡◌, ◌==◌, IfOk, None, Ok, Some};
 ghost use Rattle.std.specs.List.{flat_map};
 ghost use Rattle.goblin_base.specs.Reading.{Reads};
 ghost use Rattle.readings.specs.Reads.{mapped};
@@ -13,10 +13,10 @@ ghost use Rattle.goblin_pe_tables.specs.ImportReadings.{import_data};
 ghost use Rattle.goblin_pe_tables.specs.Imports.{kept_imports};
 ghost use Rattle.goblin_pe.specs.Damages.{left_out_at, left_out_of};
 ghost use Rattle.goblin_pe.specs.LayoutPositions.{GivesFirst, GivesFrom, StartsAt, import_start};
-ghost use Rattle.goblin_pe.specs.Layouts.{IsFileImportsCause, PartWalks, file_imports_left};
-ghost use Rattle.goblin_pe.specs.Layouts.{walked_exports};
-ghost use Rattle.goblin_pe.specs.Whole.{AreListed, BecomesPart, entry_format, export_part, import_list, part_map};
-ghost use Rattle.goblin_pe.specs.Whole.{places_in, relocation_part, table_places};
+ghost use Rattle.goblin_pe.specs.Layouts.{IsExportWalk, IsFileImportsCause, PartWalks};
+ghost use Rattle.goblin_pe.specs.Layouts.{file_imports_left, walked_exports};
+ghost use Rattle.goblin_pe.specs.Whole.{AreListed, BecomesPart, IfRead, entry_format, export_part};
+ghost use Rattle.goblin_pe.specs.Whole.{import_list, part_map, places_in, relocation_part, table_places};
 
 use crate::export::Exports;
 use crate::import::{ImportPosition, Imports, LeftOut};
@@ -217,10 +217,11 @@ impl Places {
         bytes: &'a [u8],
         address_map: &'m AddressMap,
     ) -> Result<Part<Exports<'a, 'm>>>
-        ensures { let m = map_of address_map.now in
+        ensures value { let m = map_of address_map.now in
             let places = table_places self.now in
             Reads (part_map walked_exports) result (export_part m.opts (offset_of m) places)
             bytes.now }
+        ensures walk { IfOk result (IfRead (IsExportWalk (map_of address_map.now) bytes.now)) }
     {
         let Some(directory) = self.exports else {
             return Ok(Part::Absent);

@@ -6,9 +6,9 @@ use Rattle.goblin_pe_c.proofs.export.records_of.Given as goal
 
 abbrev pub invariant-exports : goal.invariant-exports
 invariant-exports l =
-    (map export_view l.records.items ++ map export_said (map (λ x. x.row) (exports_left l.walked-iterator))
-    ≡ map export_said (map (λ x. x.row) (exports_left l.fn.exports)))
+    (map export_view l.records.items ++ map export_said (exports_left l.export-iterator)
+    ≡ map export_said (exports_left l.fn.exports))
     × HasNoIdleBlock l.records
 
 abbrev pub decreases-exports : goal.decreases-exports
-decreases-exports l = length (exports_left l.walked-iterator)
+decreases-exports l = length (exports_left l.export-iterator)

@@ -67,4 +67,4 @@ returns c =
     let v = records_view c.in_ok-layout.layout c.in_ok-records.records in
     let read = records-read opts bytes c.in_ok-header.header c.in_ok-header.ensures.value c.in_ok-layout.layout c.in_ok-layout.ensures.value c.in_ok-layout.ensures.over c.in_ok-records.records c.in_ok-records.ensures.value in
     let of = file-of-records opts bytes v read in
-    rw (of.read, of.header, of.sections, of.relocations, of.imports, of.exports, of.imports_table, of.exports_table) (search rules)
+    rw (of.read, of.exports, of.header, of.sections, of.relocations, of.imports, of.imports_table, of.exports_table) (search rules)
