@@ -3,11 +3,12 @@ use Rattle.std.proofs.Common.{◌≡◌, ℕ, suc, ◌+◌, ◌/◌, ◌<◌, �
 use Rattle.std.specs.Prelude.{Result, Ok, Err}
 use Rattle.std.proofs.lemmas.Bool.{cases_lt}
 use Rattle.std.proofs.Math.ListN.{drop_of_length-le}
-use Rattle.std.proofs.lemmas.List.{append_assoc, append-nil, drop-set-lt, length-append, length-map, length-set, map-append, set_past, take-append-le, take_all, take_more_set}
+use Rattle.std.proofs.lemmas.List.{append_assoc, append-nil, drop-set-lt, length-append, length-map, length-set, map-append, map-id, set_past, take-append-le, take_all, take_more_set}
 use Rattle.std.proofs.lemmas.Grind.{drop_more_same}
 use Rattle.goblin_base.specs.declared.error.ErrorOf.{ErrorOf}
-use Rattle.goblin_pe_sect.specs.Symbols.{SymbolItem, symbols_in}
-use Rattle.goblin_pe_sect.proofs.SymbolHeads.{symbols_most}
+use Rattle.goblin_pe_sect.specs.declared.relocation.Relocation.{Relocation}
+use Rattle.goblin_pe_sect.specs.Relocations.{relocations_in}
+use Rattle.goblin_pe_sect.proofs.RelocationRecords.{length_relocations}
 use Rattle.goblin_base.proofs.RecordItems.{record_items-none}
 use Rattle.goblin_pe_head.specs.RichMetadata.{metadata_at, metadata_items}
 use Rattle.goblin_pe_c.specs.declared.fault.PeFault.{PeFault}
@@ -144,10 +145,17 @@ all-filled {R} {A} {B} view row xs old records count fault h =
     let same = values-all row xs in
     (subst (λ (ys : List B). Filled view ys old records) same h.filled, h.counted ∙ ap (λ (ys : List B). length ys) same)
 
--- there are no more symbols than bytes
-pub symbols_below : {B : Type 0} (row : SymbolItem → B) (table : List ℕ) → length (as_items row (symbols_in table)) ≤ length table + 1
-symbols_below {B} row table =
-    let ok : SymbolItem → Result B ErrorOf = λ x. Ok (row x) in
-    let most = symbols_most (length table / 18) 0 table 0 in
-    let same = length-map (symbols_in table) ok in
-    omega (arith, most, same)
+-- the same of values that are their own rows
+pub unmapped-filled : {R A : Type 0} (view : R → A) (xs : List A) (old records : List R) (count : ℕ) (fault : PeFault) → AreFilledItems view (as_items (λ (x : A). x) xs) old records count fault → (Filled view xs old records) × (count ≡ length xs)
+unmapped-filled {R} {A} view xs old records count fault h =
+    let made = all-filled view (λ (x : A). x) xs old records count fault h in
+    let same = map-id xs in
+    (subst (λ (ys : List A). Filled view ys old records) same made.0, made.1 ∙ ap (λ (ys : List A). length ys) same)
+
+-- there are no more relocations than bytes
+pub relocations_below : (bytes : List ℕ) → length (as_items (λ (r : Relocation). r) (relocations_in bytes)) ≤ length bytes
+relocations_below bytes =
+    let ok : Relocation → Result Relocation ErrorOf = λ r. Ok r in
+    let count = length_relocations bytes in
+    let same = length-map (relocations_in bytes) ok in
+    omega (arith, count, same)

@@ -53,31 +53,3 @@ pub loop-next : (opts : ParseOptions) (alignment rva i : ℕ) (sections : List P
 loop-next opts alignment rva i sections d r whole h is alone so_far =
     let here : file_offset opts (unnamed (section_view (slice_index_or sections i d)) ∷ []) alignment rva ≡ None = ap (λ (s : Section). file_offset opts (s ∷ []) alignment rva) (sym is) ∙ alone in
     so_far ∙ first-left opts alignment rva i sections d h ∙ maps-not opts alignment rva (section_view (slice_index_or sections i d)) (map section_view (drop (i + 1) sections)) here
-
--- ---- no name of a section maps an address
-
-picked : (here : Bool) (s : Section) (others : Option Section) → cond here (Some (unnamed s)) (option_map unnamed others) ≡ option_map unnamed (cond here (Some s) others)
-picked true s others = refl
-picked false s others = refl
-
-find-unnamed : (alignment rva : ℕ) (sections : List PeSection) → find (is_in_window alignment rva) (map (λ s. unnamed (section_view s)) sections) ≡ option_map unnamed (find (is_in_window alignment rva) (map section_view sections))
-unfolding read_size
-find-unnamed alignment rva [] = refl
-find-unnamed alignment rva (s ∷ sections) =
-    ap (λ (others : Option Section). cond (is_in_window alignment rva (section_view s)) (Some (unnamed (section_view s))) others) (find-unnamed alignment rva sections)
-    ∙ picked (is_in_window alignment rva (section_view s)) (section_view s) (find (is_in_window alignment rva) (map section_view sections))
-
-offset-unnamed : (opts : ParseOptions) (rva : ℕ) (found : Option Section) → option_map (λ s. offset_in opts s rva) (option_map unnamed found) ≡ option_map (λ s. offset_in opts s rva) found
-offset-unnamed opts rva None = refl
-offset-unnamed opts rva (Some s) = refl
-
-maps-unnamed : (opts : ParseOptions) (alignment rva : ℕ) (sections : List PeSection) → file_offset opts (map (λ s. unnamed (section_view s)) sections) alignment rva ≡ file_offset opts (map section_view sections) alignment rva
-unfolding file_offset
-maps-unnamed opts alignment rva sections =
-    let found : option_map (λ s. offset_in opts s rva) (find (is_in_window alignment rva) (map (λ s. unnamed (section_view s)) sections)) ≡ option_map (λ s. offset_in opts s rva) (find (is_in_window alignment rva) (map section_view sections)) =
-    ap (option_map (λ s. offset_in opts s rva)) (find-unnamed alignment rva sections) ∙ offset-unnamed opts rva (find (is_in_window alignment rva) (map section_view sections)) in
-    ap (λ (offset : Option ℕ). if opts.resolve_rva then (if is_power_of_two alignment then offset else None) else Some rva) found
-
--- the same of the whole map
-pub map-unnamed : (opts : ParseOptions) (alignment : ℕ) (sections : List PeSection) → file_offset opts (map (λ s. unnamed (section_view s)) sections) alignment ≡ file_offset opts (map section_view sections) alignment
-map-unnamed opts alignment sections = λ i rva. maps-unnamed opts alignment rva sections i

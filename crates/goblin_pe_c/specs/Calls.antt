@@ -17,6 +17,13 @@ ReadsInto header MayGrow reading bytes Says Left (Err e) =
     × (IsMemory e → IsSomeAnd (header.value bytes) MayGrow)
     × Left
 
+-- The same of a call that takes no memory.
+abbrev pub ReadsWithout : {A : Type 0} → Reading A → List ℕ → (A → Type 0) → Type 0
+    → Result Unit ErrorOf → Type 0
+ReadsWithout reading bytes Says Left (Ok x) = IsSomeAnd (reading.value bytes) Says
+ReadsWithout reading bytes Says Left (Err e) =
+    (reading.value bytes ≡ None) × reading.IsCause bytes e × Left
+
 -- the numbers are those of an answer for which it holds
 abbrev pub Reported : PeFault → (Result Unit ErrorOf → Type 0) → Type 0
 Reported status Holds = (r : Result Unit ErrorOf) × (status ≡ status_of r) × Holds r

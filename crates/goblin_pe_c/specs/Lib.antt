@@ -8,13 +8,17 @@ pub mod Faults
 pub mod Files
 pub mod Filled
 pub mod Footprints
+pub mod Found
 pub mod Headers
+pub mod Images
 pub mod Imports
 pub mod Items
 pub mod Objects
 pub mod Opened
 pub mod Options
+pub mod Relocations
 pub mod RichHeaders
+pub mod SectionData
 pub mod Sections
 pub mod Symbols
 pub mod Te

@@ -5,6 +5,7 @@
 //! over as memory that the caller frees; the other calls fill the caller's records.
 #![tactic(auto)]
 
+mod auxiliary;
 mod block;
 mod damage;
 mod directory;
@@ -13,15 +14,19 @@ mod fault;
 mod file;
 mod filled;
 mod footprint;
+mod found;
 mod headers;
+mod image;
 mod import;
 mod mapping;
 mod object;
 mod open;
 mod options;
 mod records;
+mod relocation;
 mod rich;
 mod room;
 mod section;
+mod section_data;
 mod symbol;
 mod te;

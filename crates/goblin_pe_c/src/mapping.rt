@@ -1,11 +1,9 @@
-//! The call that maps an address.
+//! How an address is mapped by the records of sections.
 
-ghost use Rattle.std.specs.Prelude.{◌≡◌, None, Some, if◌then◌else◌, map, option_map};
+ghost use Rattle.std.specs.Prelude.{◌≡◌, map};
 ghost use Rattle.goblin_pe_sect.specs.Mapping.{file_offset};
-ghost use Rattle.goblin_pe_c.specs.Options.{options_of};
 ghost use Rattle.goblin_pe_c.specs.Sections.{section_view, unnamed};
 
-use crate::options::{PeOptions, options_of};
 use crate::section::PeSection;
 use goblin_pe::options::ParseOptions;
 use goblin_pe::section_table::SectionTable;
@@ -30,8 +28,8 @@ pub fn section_of(section: &PeSection) -> SectionTable
     }
 }
 
-// The file offset of an address by the first record whose section maps it.
-fn offset_by(
+/// The file offset of an address, by the first record whose section maps it.
+pub fn offset_by(
     rva: usize,
     sections: &[PeSection],
     file_alignment: u32,
@@ -46,29 +44,4 @@ fn offset_by(
         }
     }
     find_offset(rva, &[], file_alignment, opts)
-}
-
-/// The file offset of the address `rva`, by the records of a file's sections and its file
-/// alignment, as the file's readers map it: there is none where no section maps it or the alignment
-/// is no power of two; where the options say that addresses are offsets, it is `rva` itself. It is
-/// put into `offset`, and whether there is one is the answer; where there is none, `offset` stays.
-#[unsafe(no_mangle)]
-pub extern "C" fn goblin_pe_find_offset(
-    rva: usize,
-    sections: &[PeSection],
-    file_alignment: u32,
-    options: &PeOptions,
-    offset: &mut usize,
-) -> bool
-    ensures answer { (if result then Some offset.new else None)
-        ≡ file_offset (options_of options.now) (map section_view sections.now) file_alignment rva }
-    ensures left { (if result then offset.old else offset.new) ≡ offset.old }
-{
-    match offset_by(rva, sections, file_alignment, &options_of(options)) {
-        Some(found) => {
-            *offset = found;
-            true
-        }
-        None => false,
-    }
 }

@@ -1,35 +1,34 @@
-//! The records of symbols.
+//! The call that reads the symbols of an image or an object.
 
-ghost use Rattle.std.specs.Prelude.{◌≡◌, length, map, option_map};
-ghost use Rattle.goblin_pe_sect.specs.Symbols.{symbol_item, symbols_in, table_bytes};
-ghost use Rattle.goblin_pe_c.specs.Filled.{Filled};
-ghost use Rattle.goblin_pe_c.specs.Symbols.{name_in, symbol_row, symbol_view};
+ghost use Rattle.std.specs.Prelude.{◌≡◌, ◌/◌, ◌<◌, ◌≤◌, IfSome, None, length, option_map};
+ghost use Rattle.goblin_base.specs.Reading.{Reads};
+ghost use Rattle.goblin_pe_sect.specs.Symbols.{symbol_item, symbol_of};
+ghost use Rattle.goblin_pe_head.specs.CoffReadings.{symbols_of};
+ghost use Rattle.goblin_pe_c.specs.Calls.{ReadsWithout, Reported};
+ghost use Rattle.goblin_pe_c.specs.Symbols.{GivesSymbols, SaysSymbols, SymbolRecords};
+ghost use Rattle.goblin_pe_c.specs.Symbols.{auxiliary_of, name_in, named_symbol};
+ghost use Rattle.goblin_pe_c.specs.Symbols.{named_symbol_view, symbol_tables};
 
-use crate::filled::put;
-use goblin_pe::Strtab;
-use goblin_pe::symbol::{Symbol, SymbolTable};
+use crate::fault::{PeFault, fault_of, no_fault};
+use goblin_pe::header::CoffHeader;
+use goblin_pe::read::pread_slice;
+use goblin_pe::symbol::{COFF_SYMBOL_SIZE, Symbol};
+use goblin_pe::{Result, Strtab};
+use std::alloc::Global;
 
-/// A symbol.
+/// A symbol with its name and the bytes of its auxiliary records.
 #[repr(C)]
 #[derive(Copy, Clone)]
-pub struct PeSymbol<'a> {
+pub struct PeNamedSymbol<'a> {
     /// The name, from the record or the string table, where it can be read.
     pub name: &'a [u8],
+    /// The records that follow it and say more, 18 bytes each: as many as it says, or fewer where
+    /// the table ends before.
+    pub auxiliary: &'a [u8],
     /// The index of its record in the symbol table, which also counts auxiliary records.
     pub index: usize,
-    /// The eight bytes of the name in the record.
-    pub record_name: [u8; 8],
-    /// What the symbol stands for, by its section and class: mostly an offset in its section.
-    pub value: u32,
-    /// The number of its section, counted from 1; or 0 undefined, -1 absolute, -2 for a debugger.
-    pub section_number: i16,
-    /// Its type: the base type in the low four bits, the derived type above them; 0x20 is a
-    /// function.
-    pub typ: u16,
-    /// Its class: 2 external, 3 static, 103 a source file, 105 weak external.
-    pub storage_class: u8,
-    /// How many auxiliary records follow it.
-    pub number_of_aux_symbols: u8,
+    /// The symbol, as its record describes it.
+    pub symbol: Symbol,
     /// Whether the name can be read.
     pub has_name: bool,
 }
@@ -51,56 +50,153 @@ fn name_in<'a>(
     }
 }
 
-// The record of a symbol.
-fn symbol_record<'a>(
-    bytes: &'a [u8],
+// The bytes of the auxiliary records of the symbol at an index.
+#[tactic(auto, using(crate::proofs::Symbols::all_left))]
+fn auxiliary_of<'a>(table: &'a [u8], index: usize, symbol: &Symbol) -> &'a [u8]
+    requires { index < length table.now / 18 }
+    ensures { result.now ≡ auxiliary_of table.now index symbol.now }
+{
+    let rest = &table[COFF_SYMBOL_SIZE * (index + 1)..];
+    let size = COFF_SYMBOL_SIZE * symbol.number_of_aux_symbols as usize;
+    if size <= rest.len() {
+        &rest[..size]
+    } else {
+        rest
+    }
+}
+
+// The record of a symbol at an index of a table.
+fn named_record<'a>(
+    table: &'a [u8],
+    strings: &Strtab<'a>,
     index: usize,
     inline_name: Option<&'a str>,
-    symbol: &Symbol,
-    strings: &Strtab<'a>,
-) -> PeSymbol<'a>
-    ensures { symbol_view result
-        ≡ symbol_row strings.now (symbol_item (index, inline_name.entry, symbol.now)) }
+    symbol: Symbol,
+) -> PeNamedSymbol<'a>
+    requires { index < length table.now / 18 }
+    ensures { named_symbol_view result
+        ≡ named_symbol table.now strings.now (symbol_item (index, inline_name.entry, symbol)) }
 {
-    let name = name_in(inline_name, symbol, strings);
-    PeSymbol {
+    let name = name_in(inline_name, &symbol, strings);
+    PeNamedSymbol {
         name: match name {
             Some(name) => name.as_bytes(),
-            None => &bytes[..0],
+            None => &table[..0],
         },
+        auxiliary: auxiliary_of(table, index, &symbol),
         index,
-        record_name: symbol.name,
-        value: symbol.value,
-        section_number: symbol.section_number,
-        typ: symbol.typ,
-        storage_class: symbol.storage_class,
-        number_of_aux_symbols: symbol.number_of_aux_symbols,
+        symbol,
         has_name: name.is_some(),
     }
 }
 
-/// Fills the records of the symbols of a table, whose longer names stand in a string table, as far
-/// as there is room, and answers how many there are.
-pub fn fill_symbols<'a>(
-    records: &mut [PeSymbol<'a>],
-    bytes: &'a [u8],
-    symbols: &SymbolTable<'a>,
-    strings: &Strtab<'a>,
-) -> usize
-    ensures filled { Filled symbol_view
-        (map (symbol_row strings.now) (symbols_in (table_bytes symbols.now))) records.old
-        records.new }
-    ensures count { result
-        ≡ length (map (symbol_row strings.now) (symbols_in (table_bytes symbols.now))) }
+// The symbol of the record at an index of a table.
+#[tactic(auto, using(crate::proofs::Symbols::record_there))]
+fn symbol_at<'a>(table: &'a [u8], strings: &Strtab<'a>, index: usize) -> Option<PeNamedSymbol<'a>>
+    ensures inside { IfSome result (λ s. index < length table.now / 18) }
+    ensures some { IfSome result
+        (λ s. named_symbol_view s
+        ≡ named_symbol table.now strings.now (symbol_of table.now index)) }
+    ensures none { result ≡ None → length table.now / 18 ≤ index }
 {
-    let mut count = 0usize;
-    'symbols: for (index, inline_name, symbol) in symbols.iter() {
-        put(
-            records,
-            count,
-            symbol_record(bytes, index, inline_name, &symbol, strings),
-        );
-        count += 1;
+    if table.len() / COFF_SYMBOL_SIZE <= index {
+        return None;
     }
-    count
+    let (inline_name, symbol) = Symbol::parse(table, COFF_SYMBOL_SIZE * index).ok()?;
+    Some(named_record(table, strings, index, inline_name, symbol))
+}
+
+// Fills the records of the symbols of a table from an index on, as far as there is room, moves the
+// index past them, and answers how many there are.
+fn fill_symbols_at<'a>(
+    table: &'a [u8],
+    strings: &Strtab<'a>,
+    position: &mut usize,
+    records: &mut [PeNamedSymbol<'a>],
+) -> usize
+    ensures { let old : SymbolRecords =
+        record { position = position.old; records = records.old; count = 0 } in
+        let new : SymbolRecords =
+        record { position = position.new; records = records.new; count = result } in
+        GivesSymbols table.now strings.now old new }
+{
+    'symbols: for count in 0..records.len() {
+        let Some(symbol) = symbol_at(table, strings, *position) else {
+            return count;
+        };
+        *position += 1 + symbol.symbol.number_of_aux_symbols as usize;
+        records[count] = symbol;
+    }
+    records.len()
+}
+
+// The bytes of the symbol table that a header leads to.
+#[tactic(auto, unfolding(goblin_pe_head::specs::CoffReadings::symbols_of))]
+fn table_of<'a>(bytes: &'a [u8], header: &CoffHeader) -> Result<Option<&'a [u8]>>
+    ensures { Reads (option_map (λ t. t.now)) result (symbols_of header.now) bytes.now }
+{
+    if header.pointer_to_symbol_table == 0 {
+        return Ok(None);
+    }
+    let size = COFF_SYMBOL_SIZE * header.number_of_symbol_table as usize;
+    let table = pread_slice(bytes, header.pointer_to_symbol_table as usize, size)?;
+    Ok(Some(table))
+}
+
+// Reads the tables of a file, and fills what is asked for.
+fn read_symbols<'a>(
+    alloc: Global,
+    bytes: &'a [u8],
+    header: &CoffHeader,
+    position: &mut usize,
+    records: &mut [PeNamedSymbol<'a>],
+    count: &mut usize,
+) -> Result<()>
+    ensures { let old : SymbolRecords =
+        record { position = position.old; records = records.old; count = count.old } in
+        let new : SymbolRecords =
+        record { position = position.new; records = records.new; count = count.new } in
+        ReadsWithout (symbol_tables header.now) bytes.now (λ x. SaysSymbols x old new)
+        (new ≡ old) result }
+{
+    let table = table_of(bytes, header)?;
+    let strings = header.strings(alloc, bytes)?;
+    *count = match (table, &strings) {
+        (Some(table), Some(strings)) => fill_symbols_at(table, strings, position, records),
+        _ => 0,
+    };
+    Ok(())
+}
+
+/// Fills records of the symbols of an image or an object, which its COFF header leads to, from the
+/// record at the index `position` on: as many as there are and as there is room for. `count` says
+/// how many these are, and `position` is then the index of the record that is read next. The first
+/// record is read as a symbol, even where it is an auxiliary one of a symbol before it. After the
+/// last symbol, and where the header's pointer to the table is 0, `count` is 0.
+///
+/// It takes no memory. It is refused where the records of the table run past the end of the file or
+/// begin at it (the status 4), where the string table after them has no length of four bytes (4) or
+/// one below 4 (the cause 12) or runs past the end of the file (20), and where its texts are not
+/// UTF-8 (the status 4). Nothing is then changed.
+#[unsafe(no_mangle)]
+pub extern "C" fn goblin_pe_raw_next_symbols<'a>(
+    alloc: Global,
+    bytes: &'a [u8],
+    header: &CoffHeader,
+    position: &mut usize,
+    records: &mut [PeNamedSymbol<'a>],
+    count: &mut usize,
+) -> PeFault
+    ensures { let old : SymbolRecords =
+        record { position = position.old; records = records.old; count = count.old } in
+        let new : SymbolRecords =
+        record { position = position.new; records = records.new; count = count.new } in
+        Reported result
+        (ReadsWithout (symbol_tables header.now) bytes.now (λ x. SaysSymbols x old new)
+        (new ≡ old)) }
+{
+    match read_symbols(alloc, bytes, header, position, records, count) {
+        Ok(()) => no_fault(),
+        Err(error) => fault_of(&error),
+    }
 }

@@ -1,0 +1,99 @@
+//! The calls that read the auxiliary records of a symbol. Each takes the records' bytes, as
+//! `goblin_pe_raw_next_symbols` gives them, and no memory; which record it is says the symbol.
+
+ghost use Rattle.std.specs.Prelude.{length};
+ghost use Rattle.goblin_base.specs.Bytes.{bounded_text_at};
+ghost use Rattle.goblin_base.specs.Record.{record_at};
+ghost use Rattle.goblin_base.specs.declared.endian.Endian.{Endian};
+ghost use Rattle.goblin_pe_sect.specs.AuxiliarySymbols.{begin_and_end_function_record};
+ghost use Rattle.goblin_pe_sect.specs.AuxiliarySymbols.{function_definition_record};
+ghost use Rattle.goblin_pe_sect.specs.AuxiliarySymbols.{section_definition_record};
+ghost use Rattle.goblin_pe_sect.specs.AuxiliarySymbols.{weak_external_record};
+ghost use Rattle.goblin_pe_c.specs.Found.{Puts};
+ghost use Rattle.goblin_pe_c.specs.Images.{text_view};
+
+use crate::found::put_found;
+use crate::image::{PeText, text_record};
+use goblin_base::{Endian, Record};
+use goblin_pe::read::pread_str_until;
+use goblin_pe::symbol::{
+    AuxBeginAndEndFunction, AuxFunctionDefinition, AuxSectionDefinition, AuxWeakExternal,
+};
+
+// Puts the record at the front of bytes into its place, and answers whether it is there.
+fn put_front<R: Record>(bytes: &[u8], place: &mut R) -> bool
+    ensures { Puts (λ r. r) result (record_at R.width (R.value Endian.Little) bytes.now 0) place.old
+        place.new }
+{
+    put_found(place, R::read_at(bytes, 0, Endian::Little).ok())
+}
+
+/// Puts what the first record says of a function's definition into `definition`, and answers
+/// whether there is a record: 18 bytes. If not, nothing is changed.
+#[unsafe(no_mangle)]
+pub extern "C" fn goblin_pe_raw_aux_function_definition(
+    bytes: &[u8],
+    definition: &mut AuxFunctionDefinition,
+) -> bool
+    ensures { Puts (λ r. r) result
+        (record_at 18 (function_definition_record Endian.Little) bytes.now 0) definition.old
+        definition.new }
+{
+    put_front(bytes, definition)
+}
+
+/// Puts what the first record says of a function's start or end into `function`, and answers
+/// whether there is a record: 18 bytes. If not, nothing is changed.
+#[unsafe(no_mangle)]
+pub extern "C" fn goblin_pe_raw_aux_begin_and_end_function(
+    bytes: &[u8],
+    function: &mut AuxBeginAndEndFunction,
+) -> bool
+    ensures { Puts (λ r. r) result
+        (record_at 18 (begin_and_end_function_record Endian.Little) bytes.now 0) function.old
+        function.new }
+{
+    put_front(bytes, function)
+}
+
+/// Puts what the first record says of a weak external into `external`, and answers whether there is
+/// a record: 18 bytes. If not, nothing is changed.
+#[unsafe(no_mangle)]
+pub extern "C" fn goblin_pe_raw_aux_weak_external(
+    bytes: &[u8],
+    external: &mut AuxWeakExternal,
+) -> bool
+    ensures { Puts (λ r. r) result (record_at 18 (weak_external_record Endian.Little) bytes.now 0)
+        external.old external.new }
+{
+    put_front(bytes, external)
+}
+
+/// Puts what the first record says of a section's definition into `definition`, and answers whether
+/// there is a record: 18 bytes. If not, nothing is changed.
+#[unsafe(no_mangle)]
+pub extern "C" fn goblin_pe_raw_aux_section_definition(
+    bytes: &[u8],
+    definition: &mut AuxSectionDefinition,
+) -> bool
+    ensures { Puts (λ r. r) result
+        (record_at 18 (section_definition_record Endian.Little) bytes.now 0) definition.old
+        definition.new }
+{
+    put_front(bytes, definition)
+}
+
+/// Puts the name of a source file, which all its auxiliary records hold, into `name`: the bytes up
+/// to a NUL, or all of them. It answers whether there is one: not where there are no bytes, or
+/// those of the name are not UTF-8. Nothing is then changed.
+#[unsafe(no_mangle)]
+#[tactic(auto, using(crate::proofs::Puts::puts_view))]
+pub extern "C" fn goblin_pe_raw_aux_file<'a>(bytes: &'a [u8], name: &mut PeText<'a>) -> bool
+    ensures { Puts text_view result (bounded_text_at bytes.now 0 (length bytes.now)) name.old
+        name.new }
+{
+    put_found(
+        name,
+        text_record(pread_str_until(bytes, 0, bytes.len()).ok()),
+    )
+}
