@@ -19,6 +19,7 @@ mod headers;
 mod image;
 mod import;
 mod mapping;
+mod next;
 mod object;
 mod open;
 mod options;
