@@ -78,15 +78,7 @@ module _ {A B C X Y : Type 0} (a : Reading A) (b : Reading B) (c : Reading C) (f
 
 -- ---- the tables of a file
 
-module _ {X Y : Type 0} (import_of : ImportValue → X) (exports_of : ExportTables → Y) where
-  export-tables : (p : Part (ExportTables × List ExportRow))
-      → part_map (collected_exports exports_of) p
-      ≡ part_map exports_of (part_map (λ read. read.0) p)
-  unfolding part_map
-  export-tables Absent = refl
-  export-tables (part.Read read) = refl
-  export-tables Refused = refl
-
+module _ {X Y : Type 0} (import_of : ImportValue → X) (exports_of : Part ExportTables → Y) where
   -- what is kept of a file with this header and these sections, and of whose tables this is kept
   abbrev file_with : PeHeader → List Section → CollectedParts X Y → CollectedFileValue X Y
   file_with h sections t = record {
@@ -101,8 +93,7 @@ module _ {X Y : Type 0} (import_of : ImportValue → X) (exports_of : ExportTabl
       → collected_file import_of exports_of (whole_of h sections parts)
       ≡ file_with h sections
       (collected_tables import_of exports_of parts)
-  file-collected h sections parts =
-      rw (export-tables parts.0.1) refl
+  file-collected h sections parts = refl
 
   module _ (opts : ParseOptions) (h : PeHeader) (sections : List Section) (bytes : List ℕ) where
     abbrev tables_of : Option TableParts

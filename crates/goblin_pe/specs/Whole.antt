@@ -280,35 +280,34 @@ abbrev pub collected_imports : {X : Type 0} → (ImportValue → X)
 collected_imports import_of read = part_map (map import_of) read.1
 
 -- what is made of the export tables that were read with their rows
-abbrev pub collected_exports : {Y : Type 0} → (ExportTables → Y) → ExportTables × List ExportRow → Y
-collected_exports exports_of read = exports_of read.0
+abbrev pub collected_exports : {Y : Type 0} → (Part ExportTables → Y)
+    → Part (ExportTables × List ExportRow) → Y
+collected_exports exports_of read = exports_of (part_map (λ read. read.0) read)
 
 -- what is made of the tables of a file
 abbrev pub CollectedParts : Type 0 → Type 0 → Type 0
-CollectedParts X Y = (Part (List X) × Part Y) × Part (List ℕ)
+CollectedParts X Y = (Part (List X) × Y) × Part (List ℕ)
 
-abbrev pub collected_tables : {X Y : Type 0} → (ImportValue → X) → (ExportTables → Y) → TableParts
-    → CollectedParts X Y
-collected_tables import_of exports_of parts = (
-  (collected_imports import_of parts.0.0, part_map (collected_exports exports_of) parts.0.1),
-  parts.1,
-)
+abbrev pub collected_tables : {X Y : Type 0} → (ImportValue → X) → (Part ExportTables → Y)
+    → TableParts → CollectedParts X Y
+collected_tables import_of exports_of parts =
+    ((collected_imports import_of parts.0.0, collected_exports exports_of parts.0.1), parts.1)
 
 -- a whole file with X made of each of its imports, and Y of its export tables
 pub record CollectedFileValue (X Y : Type 0) : Type 0 where
   pub header : PeHeader
   pub sections : List Section
   pub imports : Part (List X)
-  pub exports : Part Y
+  pub exports : Y
   pub relocations : Part (List ℕ)
 
-abbrev pub collected_file : {X Y : Type 0} → (ImportValue → X) → (ExportTables → Y) → WholeFile
-    → CollectedFileValue X Y
+abbrev pub collected_file : {X Y : Type 0} → (ImportValue → X) → (Part ExportTables → Y)
+    → WholeFile → CollectedFileValue X Y
 collected_file import_of exports_of w = record {
   header = w.header;
   sections = w.sections;
   imports = part_map (map import_of) w.imports;
-  exports = part_map exports_of w.export_data;
+  exports = exports_of w.export_data;
   relocations = w.relocations;
 }
 

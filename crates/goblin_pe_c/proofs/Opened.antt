@@ -15,6 +15,8 @@ use Rattle.goblin_pe_sect.specs.SectionTable.{Section}
 use Rattle.goblin_pe_head.specs.declared.header.pe_header.Header.{Header}
 use Rattle.goblin_pe_head.specs.HeaderReadings.{pe_header}
 use Rattle.goblin_pe_head.specs.PeHeader.{PeHeader, header_value}
+use Rattle.goblin_pe_tables.specs.ExportRecords.{ExportTables}
+use Rattle.goblin_pe_tables.specs.ExportWalks.{numbered_from}
 use Rattle.goblin_pe_tables.specs.Addresses.{MapOfAddresses, map_by, offset_of}
 use Rattle.goblin_pe.specs.declared.whole.Part.{Part}
 use Rattle.goblin_pe.specs.declared.whole.Part.TheVariants.{Absent, Refused}
@@ -22,15 +24,15 @@ use Rattle.goblin_pe.specs.declared.whole.Part.TheVariants as part
 use Rattle.goblin_pe.specs.declared.whole.layout.Layout.{Layout}
 use Rattle.goblin_pe.specs.Layouts.{IsLayoutOf, layout_map, layout_places}
 use Rattle.goblin_pe.specs.Whole.{TableParts, TablePlaces, WholeFile, collected_file, collected_tables}
-use Rattle.goblin_pe.specs.Whole.{numbered_exports, offset_by}
+use Rattle.goblin_pe.specs.Whole.{offset_by}
 use Rattle.goblin_pe.specs.Whole.{part_map, places_in, sections_after, table_parts, whole_file}
 use Rattle.goblin_pe.specs.Whole.{whole_of, whole_with}
 use Rattle.goblin_pe.proofs.Collected.{file_read, unmapped}
 use Rattle.goblin_pe.proofs.Layouts.{tables-cause, tables-value}
 use Rattle.goblin_pe.proofs.NumberedExports.{rows_of_file}
-use Rattle.goblin_pe.proofs.Parts.{part_map-twice}
 use Rattle.goblin_pe_c.specs.declared.records.FileRecords.{FileRecords}
-use Rattle.goblin_pe_c.specs.Exports.{export_said, export_views, exports_said}
+use Rattle.goblin_pe_c.specs.Exports.{ExportsSaid, export_said, exports_said, exports_view}
+use Rattle.goblin_pe_c.specs.Exports.{file_exports}
 use Rattle.goblin_pe_c.specs.Files.{entries_of, table_of}
 use Rattle.goblin_pe_c.specs.Imports.{import_said, import_views}
 use Rattle.goblin_pe_c.specs.Opened.{RecordsOfFile, records_of_file, records_view, tables_view}
@@ -60,6 +62,17 @@ entries-same Absent q f is = rw (← is) refl
 entries-same (part.Read xs) q f is = rw (← is) refl
 entries-same Refused q f is = rw (← is) refl
 
+-- there are as many records of exports as rows
+rows-table : (offset_of : ℕ → Option ℕ) (bytes : List ℕ) (tables : Part ExportTables)
+    → table_of (part_map (map (λ x. x.row)) (part_map (λ t. numbered_from offset_of bytes t 0) tables))
+    ≡ table_of (exports_said offset_of bytes tables).exports
+unfolding part_map
+rows-table offset_of bytes Absent = refl
+rows-table offset_of bytes (part.Read tables) =
+    let exports = numbered_from offset_of bytes tables 0 in
+    rw (length-map exports (λ x. x.row), length-map exports export_said) refl
+rows-table offset_of bytes Refused = refl
+
 -- ---- a file whose records were collected
 
 -- The file of which these are the records.
@@ -70,10 +83,9 @@ pub record IsOf (opts : ParseOptions) (bytes : List ℕ) (v : RecordsOfFile) : T
   pub sections : whole.sections ≡ v.sections
   pub relocations : whole.relocations ≡ v.relocations
   pub imports : map import_said (entries_of whole.imports) ≡ entries_of v.imports
-  pub exports : map export_said (entries_of (numbered_exports opts bytes whole))
-      ≡ entries_of v.exports
+  pub exports : file_exports opts bytes whole ≡ v.exports
   pub imports_table : table_of whole.imports ≡ table_of v.imports
-  pub exports_table : table_of whole.exports ≡ table_of v.exports
+  pub exports_table : table_of whole.exports ≡ table_of v.exports.exports
 
 pub file-of-records : (opts : ParseOptions) (bytes : List ℕ) (v : RecordsOfFile)
     → option_map (records_of_file opts bytes) ((whole_file opts).value bytes) ≡ Some v
@@ -83,9 +95,8 @@ file-of-records opts bytes v is =
     let w = m.value in
     let imports : part_map (map import_said) w.imports ≡ v.imports =
     ap (λ (x : RecordsOfFile). x.imports) m.made in
-    let exports : part_map (map export_said) (numbered_exports opts bytes w) ≡ v.exports =
-    sym (part_map-twice _ (map export_said) w.export_data) ∙ ap (λ (x : RecordsOfFile). x.exports) m.made in
-    let rows = rows_of_file opts bytes w m.is in
+    let exports : file_exports opts bytes w ≡ v.exports =
+    ap (λ (x : RecordsOfFile). x.exports) m.made in
     record {
       whole = w;
       read = m.is;
@@ -93,11 +104,12 @@ file-of-records opts bytes v is =
       sections = ap (λ (x : RecordsOfFile). x.sections) m.made;
       relocations = ap (λ (x : RecordsOfFile). x.relocations) m.made;
       imports = entries-same w.imports v.imports import_said imports;
-      exports = entries-same (numbered_exports opts bytes w) v.exports export_said exports;
+      exports = exports;
       imports_table = table-same w.imports v.imports import_said imports;
       exports_table =
-          sym (table-same (numbered_exports opts bytes w) w.exports (λ x. x.row) (sym rows))
-          ∙ table-same (numbered_exports opts bytes w) v.exports export_said exports;
+          ap table_of (rows_of_file opts bytes w m.is)
+          ∙ rows-table (offset_by opts w.sections (places_in w.header.optional_header)) bytes w.export_data
+          ∙ ap (λ (x : ExportsSaid). table_of x.exports) exports;
     }
 
 -- ---- the records of a file's tables
@@ -147,7 +159,7 @@ module _ (opts : ParseOptions) (bytes : List ℕ) (h : Header)
         header = header_value x;
         sections = l.sections.items;
         imports = part_map import_views r.imports;
-        exports = part_map export_views r.exports;
+        exports = exports_view r.exports;
         relocations = part_map relocation_bytes r.relocations;
       })) (sym of.after)
 

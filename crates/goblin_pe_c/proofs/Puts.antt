@@ -1,6 +1,6 @@
 -- A value that may not be there, as it is seen.
 use Rattle.std.proofs.Common.{◌≡◌, Bool, true, false, ap, sym, ◌∙◌}
-use Rattle.std.specs.Prelude.{Option, None, Some, option_map}
+use Rattle.std.specs.Prelude.{Option, option_map}
 use Rattle.goblin_pe_c.specs.Found.{Puts}
 
 -- what is put is what is seen of it

@@ -1,12 +1,12 @@
 -- The symbols of a table from an index on, one by one.
-use Rattle.std.proofs.Common.{◌≡◌, ◌<◌, ◌≤◌, ℕ, zero, suc, ◌+◌, ◌*◌, ◌/◌, List, [], ◌∷◌, length, take, drop, map, set, nat_lt, nat_le, true, arith, ap, sym, refl, ◌∙◌, inl, inr}
-use Rattle.std.specs.Prelude.{◌&&◌, min, Option, Some, None, slice_index_or, slice_range}
+use Rattle.std.proofs.Common.{◌≡◌, ◌<◌, ◌≤◌, ℕ, zero, suc, ◌+◌, ◌*◌, ◌/◌, List, [], ◌∷◌, length, take, drop, set, nat_lt, nat_le, true, arith, ap, sym, refl, ◌∙◌, inl, inr}
+use Rattle.std.specs.Prelude.{Some, slice_index_or}
 use Rattle.std.proofs.lemmas.List.{take_all}
 use Rattle.goblin_base.specs.Bytes.{slice_at}
-use Rattle.goblin_pe_sect.specs.Symbols.{SymbolItem, aux, record_of, symbol_of}
+use Rattle.goblin_pe_sect.specs.Symbols.{aux, record_of, symbol_of}
 use Rattle.goblin_pe_sect.proofs.SymbolHeads.{symbols_next, symbols_past}
 use Rattle.goblin_pe_c.specs.declared.symbol.PeNamedSymbol.{PeNamedSymbol}
-use Rattle.goblin_pe_c.specs.Symbols.{GivesSymbols, SymbolRecords, index_after, named_symbol, named_symbol_view, next_index, symbols_onward}
+use Rattle.goblin_pe_c.specs.Symbols.{GivesSymbols, index_after, named_symbol, named_symbol_view, next_index, symbols_onward}
 use Rattle.goblin_pe_c.proofs.Filling.{IsFilling, filling-end, filling-next, filling-start}
 
 -- all bytes are fewer than were asked for

@@ -2,11 +2,20 @@
 use Rattle.std.specs.Prelude.{ℕ, Bool, List, [], Option, Some, None, Vec, map, unwrap_or}
 use Rattle.std.specs.Global.{Global}
 use Rattle.std.specs.Option.{is_some}
+use Rattle.goblin_pe_sect.specs.declared.options.ParseOptions.{ParseOptions}
 use Rattle.goblin_pe.specs.ExportRecords.{ExportTables}
 use Rattle.goblin_pe.specs.ExportWalks.{NumberedExport, numbered_from}
 use Rattle.goblin_pe.specs.Forwarders.{Forwarder}
 use Rattle.goblin_pe.specs.Forwarders.Forwarder.{ByName, ByOrdinal}
+use Rattle.goblin_pe.specs.declared.whole.Part.{Part}
+use Rattle.goblin_pe.specs.declared.whole.Part.TheVariants.{Absent, Refused}
+use Rattle.goblin_pe.specs.declared.whole.Part.TheVariants as part
+use Rattle.goblin_pe.specs.Whole.{WholeFile, offset_by, part_map, places_in}
+use Rattle.goblin_pe_c.specs.declared.export.ExportRecords.{ExportRecords}
 use Rattle.goblin_pe_c.specs.declared.export.PeExport.{PeExport}
+use Rattle.goblin_pe_c.specs.declared.export_directory.PeExportAddress.{PeExportAddress}
+use Rattle.goblin_pe_c.specs.ExportDirectories.{DirectorySaid, address_said, directory_said}
+use Rattle.goblin_pe_c.specs.ExportDirectories.{directory_view, no_directory}
 
 -- a record of an export, its slices as lists
 pub record ExportSaid : Type 0 where
@@ -72,6 +81,43 @@ export_view x = record {
 abbrev pub export_views : Vec PeExport Global → List ExportSaid
 export_views records = map export_view records.items
 
--- the records of the exports that tables of a file list, whose addresses are mapped so
-abbrev pub exports_said : (ℕ → Option ℕ) → List ℕ → ExportTables → List ExportSaid
-exports_said offset_of bytes tables = map export_said (numbered_from offset_of bytes tables 0)
+-- ---- what an export directory leads to
+
+-- records of what the export directory of a file leads to, their slices as lists
+pub record ExportsSaid : Type 0 where
+  pub exports : Part (List ExportSaid)
+  pub addresses : List PeExportAddress
+  pub directory : DirectorySaid
+
+-- where no exports are read there are no records, and zeros
+abbrev pub unread_said : Part (List ExportSaid) → ExportsSaid
+unread_said exports = record { exports = exports; addresses = []; directory = no_directory }
+
+-- the records of these tables, and of the exports that they list
+abbrev pub read_said : ExportTables → List NumberedExport → ExportsSaid
+read_said tables exports = record {
+  exports = part.Read (map export_said exports);
+  addresses = map address_said tables.export_address_table;
+  directory = directory_said tables;
+}
+
+-- the records of the tables in a file whose addresses are mapped so
+abbrev pub exports_said : (ℕ → Option ℕ) → List ℕ → Part ExportTables → ExportsSaid
+exports_said offset_of bytes Absent = unread_said Absent
+exports_said offset_of bytes (part.Read tables) =
+    read_said tables (numbered_from offset_of bytes tables 0)
+exports_said offset_of bytes Refused = unread_said Refused
+
+-- those of a file
+abbrev pub file_exports : ParseOptions → List ℕ → WholeFile → ExportsSaid
+file_exports opts bytes w =
+    exports_said (offset_by opts w.sections (places_in w.header.optional_header)) bytes
+    w.export_data
+
+-- what the records hold
+abbrev pub exports_view : ExportRecords → ExportsSaid
+exports_view x = record {
+  exports = part_map export_views x.exports;
+  addresses = x.addresses.items;
+  directory = directory_view x.directory;
+}

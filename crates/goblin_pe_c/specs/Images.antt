@@ -1,6 +1,5 @@
 -- What is at an address of an image, as a caller passes it.
 use Rattle.std.specs.Prelude.{ℕ, List, Option, map}
-use Rattle.goblin_base.specs.Reading.{Reading}
 use Rattle.goblin_pe.specs.Reads.{slice_at}
 use Rattle.goblin_pe_sect.specs.AddressReadings.{at_address, text_at_address}
 use Rattle.goblin_pe_sect.specs.Mapping.{file_offset}

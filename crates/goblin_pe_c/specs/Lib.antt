@@ -4,6 +4,7 @@ pub mod Blocks
 pub mod Calls
 pub mod Damages
 pub mod Directories
+pub mod ExportDirectories
 pub mod Exports
 pub mod Faults
 pub mod Files
@@ -14,6 +15,7 @@ pub mod Headers
 pub mod Images
 pub mod Imports
 pub mod Items
+pub mod Kinds
 pub mod Objects
 pub mod Opened
 pub mod Options
@@ -23,3 +25,4 @@ pub mod SectionData
 pub mod Sections
 pub mod Symbols
 pub mod Te
+pub mod Written

@@ -2,7 +2,7 @@
 use Rattle.std.specs.Prelude.{◌≡◌, ℕ, List, map}
 use Rattle.goblin_pe_sect.specs.declared.options.ParseOptions.{ParseOptions}
 use Rattle.goblin_pe.specs.Whole.{CollectedFileValue, CollectedParts, WholeFile, collected_file}
-use Rattle.goblin_pe.specs.Whole.{numbered_exports, offset_by, part_map, places_in}
+use Rattle.goblin_pe.specs.Whole.{offset_by, part_map, places_in}
 use Rattle.goblin_pe.specs.declared.whole.layout.Layout.{Layout}
 use Rattle.goblin_pe.specs.BaseRelocations.{relocation_bytes}
 use Rattle.goblin_pe.specs.PeHeader.{header_value}
@@ -12,7 +12,8 @@ use Rattle.goblin_pe_c.specs.declared.open.PeTables.{PeTables}
 use Rattle.goblin_pe_c.specs.Blocks.{block_view, blocks_in}
 use Rattle.goblin_pe_c.specs.Directories.{directories_of, directory_record}
 use Rattle.goblin_pe_c.specs.declared.records.FileRecords.{FileRecords}
-use Rattle.goblin_pe_c.specs.Exports.{ExportSaid, export_said, export_view, export_views, exports_said}
+use Rattle.goblin_pe_c.specs.ExportDirectories.{directory_view}
+use Rattle.goblin_pe_c.specs.Exports.{ExportsSaid, export_view, exports_said, exports_view, file_exports}
 use Rattle.goblin_pe_c.specs.Files.{entries_of, file_of}
 use Rattle.goblin_pe_c.specs.Filled.{Filled, alone}
 use Rattle.goblin_pe_c.specs.Imports.{ImportSaid, import_said, import_view, import_views}
@@ -28,12 +29,15 @@ pub record Opened : Type 0 where
 -- the tables are those of a file, each whole
 abbrev pub AreTablesOf : ParseOptions → List ℕ → WholeFile → PeTables → Type 0
 AreTablesOf opts bytes w t =
+    let exports = file_exports opts bytes w in
     (t.rich_entries.now ≡ entries_in w.header.rich_header)
     × (map section_said t.sections.now ≡ map alone w.sections)
     × (map import_view t.imports.now ≡ map import_said (entries_of w.imports))
-    × (map export_view t.exports.now
-    ≡ map export_said (entries_of (numbered_exports opts bytes w)))
+    × (map export_view t.exports.now ≡ entries_of exports.exports)
+    × (t.export_addresses.now ≡ exports.addresses)
+    × (directory_view t.export_directory ≡ exports.directory)
     × (map block_view t.blocks.now ≡ blocks_in w.relocations)
+    × (t.dos_stub.now ≡ w.header.dos_stub)
 
 -- what a call reports of a file whose tables it keeps: the directories as far as there is room, all
 -- else whole
@@ -48,7 +52,7 @@ Opens opts bytes w old new =
 
 -- A file whose imports and exports are records.
 abbrev pub RecordsOfFile : Type 0
-RecordsOfFile = CollectedFileValue ImportSaid (List ExportSaid)
+RecordsOfFile = CollectedFileValue ImportSaid ExportsSaid
 
 abbrev pub records_of_file : ParseOptions → List ℕ → WholeFile → RecordsOfFile
 records_of_file opts bytes w =
@@ -56,9 +60,9 @@ records_of_file opts bytes w =
     collected_file import_said (exports_said offset_of bytes) w
 
 -- the tables as records
-abbrev pub tables_view : FileRecords → CollectedParts ImportSaid (List ExportSaid)
+abbrev pub tables_view : FileRecords → CollectedParts ImportSaid ExportsSaid
 tables_view x = (
-  (part_map import_views x.imports, part_map export_views x.exports),
+  (part_map import_views x.imports, exports_view x.exports),
   part_map relocation_bytes x.relocations,
 )
 
@@ -68,6 +72,6 @@ records_view l x = record {
   header = header_value l.header.now;
   sections = l.sections.items;
   imports = part_map import_views x.imports;
-  exports = part_map export_views x.exports;
+  exports = exports_view x.exports;
   relocations = part_map relocation_bytes x.relocations;
 }

@@ -32,15 +32,20 @@ pub record NamedSymbol : Type 0 where
 abbrev pub auxiliary_of : List ℕ → ℕ → Symbol → List ℕ
 auxiliary_of table i symbol = take (18 * symbol.number_of_aux_symbols) (drop (18 * (i + 1)) table)
 
--- a symbol of a table with its name and its auxiliary records
+-- a symbol at an index of a table, with this name and its auxiliary records
+abbrev pub symbol_named : List ℕ → ℕ → Option (List ℕ) → Symbol → NamedSymbol × List ℕ
+symbol_named table i name symbol =
+    alone (record {
+      index = i;
+      name = name;
+      auxiliary = auxiliary_of table i symbol;
+      symbol = symbol;
+    })
+
+-- a symbol of a table with its name from the record or a string table
 abbrev pub named_symbol : List ℕ → List ℕ → SymbolItem → NamedSymbol × List ℕ
 named_symbol table strings item =
-    alone (record {
-      index = item.0;
-      name = name_in strings item.1 item.2;
-      auxiliary = auxiliary_of table item.0 item.2;
-      symbol = item.2;
-    })
+    symbol_named table item.0 (name_in strings item.1 item.2) item.2
 
 -- what a record holds of it, and what replaces a missing name
 abbrev pub named_symbol_view : PeNamedSymbol → NamedSymbol × List ℕ

@@ -5,12 +5,16 @@ ghost use Rattle.goblin_base.specs.Answers.{GivesOrMemory};
 ghost use Rattle.goblin_base.specs.Reading.{ReadsOrMemory};
 ghost use Rattle.goblin_pe.specs.Reads.{mapped};
 ghost use Rattle.goblin_pe_tables.specs.Addresses.{offset_of};
-ghost use Rattle.goblin_pe_tables.specs.ExportWalks.{exports_left, walked_export};
+ghost use Rattle.goblin_pe_tables.specs.ExportWalks.{exports_left, walked_export, walked_tables};
 ghost use Rattle.goblin_pe.specs.Layouts.{layout_map, layout_places};
 ghost use Rattle.goblin_pe.specs.Whole.{collected_exports, export_part, part_map};
-ghost use Rattle.goblin_pe_c.specs.Blocked.{HasNoIdleBlock, HasNoIdleBlockIn};
+ghost use Rattle.goblin_pe_c.specs.Blocked.{HasNoIdleBlock, HasNoIdleBlockIn, HaveNoIdleBlocks};
 ghost use Rattle.goblin_pe_c.specs.Exports.{export_said, export_view, export_views, exports_said};
+ghost use Rattle.goblin_pe_c.specs.Exports.{exports_view, read_said, unread_said};
 
+use crate::export_directory::{
+    PeExportAddress, PeExportDirectory, address_records, directory_record, no_directory,
+};
 use crate::room::make_room;
 use goblin_pe::export::{Exports, Reexport, WalkedExport};
 use goblin_pe::{Layout, Part, Result};
@@ -90,6 +94,17 @@ pub fn export_record<'a>(bytes: &'a [u8], walked: &WalkedExport<'a>) -> PeExport
     }
 }
 
+/// The records of a file's exports, and of what the export directory leads to.
+#[derive(Drop)]
+pub struct ExportRecords<'a> {
+    /// The exports.
+    pub exports: Part<Vec<PeExport<'a>>>,
+    /// The entries of the export address table; none where the exports are not read.
+    pub addresses: Vec<PeExportAddress>,
+    /// What the export directory says; zeros where the exports are not read.
+    pub directory: PeExportDirectory<'a>,
+}
+
 // For at most so many records room is made first.
 const MOST_FIRST: usize = 32;
 
@@ -129,22 +144,53 @@ fn records_of<'a, 'm>(
     Ok(records)
 }
 
-/// The records of a file's exports, in the order of the name pointers.
+// The records of the exports of a walk, and of what the export directory leads to.
 #[tactic(auto, unfolding(goblin_pe::specs::Whole::part_map))]
-pub fn export_records<'a>(alloc: Global, layout: &Layout<'a, '_>) -> Result<Part<Vec<PeExport<'a>>>>
+fn read_records<'a, 'm>(
+    alloc: Global,
+    bytes: &'a [u8],
+    exports: Exports<'a, 'm>,
+) -> Result<ExportRecords<'a>>
+    ensures value { GivesOrMemory exports_view result
+        (read_said (walked_tables exports.entry) (exports_left exports.entry)) }
+    ensures none { IfOk result HaveNoIdleBlocks }
+{
+    let directory = directory_record(bytes, &exports);
+    let addresses = address_records(alloc, &exports)?;
+    let exports = records_of(alloc, bytes, exports)?;
+    Ok(ExportRecords {
+        exports: Part::Read(exports),
+        addresses,
+        directory,
+    })
+}
+
+// No records, where no exports are read.
+fn unread_records<'a>(alloc: Global, exports: Part<Vec<PeExport<'a>>>) -> ExportRecords<'a>
+    ensures value { exports_view result ≡ unread_said (part_map export_views exports.entry) }
+    ensures none { HasNoIdleBlockIn exports.entry → HaveNoIdleBlocks result }
+{
+    ExportRecords {
+        exports,
+        addresses: Vec::new(alloc),
+        directory: no_directory(),
+    }
+}
+
+/// The records of a file's exports, in the order of the name pointers, and of what the export
+/// directory leads to.
+#[tactic(auto, unfolding(goblin_pe::specs::Whole::part_map))]
+pub fn export_records<'a>(alloc: Global, layout: &Layout<'a, '_>) -> Result<ExportRecords<'a>>
     ensures value { let m = layout_map layout.now in
-        ReadsOrMemory (part_map export_views) result
-        (mapped (part_map (collected_exports (exports_said (offset_of m) layout.now.bytes.now)))
+        ReadsOrMemory exports_view result
+        (mapped (collected_exports (exports_said (offset_of m) layout.now.bytes.now))
         (export_part m.opts (offset_of m) (layout_places layout.now)))
         layout.now.bytes.now }
-    ensures none { IfOk result HasNoIdleBlockIn }
+    ensures none { IfOk result HaveNoIdleBlocks }
 {
     match layout.exports()? {
-        Part::Absent => Ok(Part::Absent),
-        Part::Read(exports) => {
-            let records = records_of(alloc, layout.bytes(), exports)?;
-            Ok(Part::Read(records))
-        }
-        Part::Refused => Ok(Part::Refused),
+        Part::Absent => Ok(unread_records(alloc, Part::Absent)),
+        Part::Read(exports) => read_records(alloc, layout.bytes(), exports),
+        Part::Refused => Ok(unread_records(alloc, Part::Refused)),
     }
 }

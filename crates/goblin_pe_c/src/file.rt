@@ -104,7 +104,7 @@ pub fn file_of<'a>(
     requires rich_header { rich_header ≡ rich_of (header_value layout.now.header.now).rich_header }
     ensures { let v = records_view layout.now records.now in
         result
-        ≡ summary v.header (length v.sections) (table_of v.imports) (table_of v.exports)
+        ≡ summary v.header (length v.sections) (table_of v.imports) (table_of v.exports.exports)
         v.relocations }
 {
     let header = layout.header();
@@ -113,7 +113,7 @@ pub fn file_of<'a>(
         directories: directories_of(&header.optional_header).len(),
         sections: layout.sections().len(),
         imports: table_of(&records.imports),
-        exports: table_of(&records.exports),
+        exports: table_of(&records.exports.exports),
         relocations,
         rich_header,
         dos_header: header.dos_header,

@@ -7,9 +7,9 @@ ghost use Rattle.goblin_pe_head.specs.HeaderReadings.{pe_header};
 ghost use Rattle.goblin_pe.specs.SectionRoom.{HasRoom};
 ghost use Rattle.goblin_pe.specs.Whole.{part_map, whole_file};
 ghost use Rattle.goblin_pe_c.specs.Blocks.{block_view, blocks_in, relocations_of};
-ghost use Rattle.goblin_pe_c.specs.Blocked.{HasNoIdleBlock, HasNoIdleBlockIn};
+ghost use Rattle.goblin_pe_c.specs.Blocked.{HasNoIdleBlock, HasNoIdleBlockIn, HaveNoIdleBlocks};
 ghost use Rattle.goblin_pe_c.specs.Calls.{ReadsInto, Reported};
-ghost use Rattle.goblin_pe_c.specs.Exports.{export_view, export_views};
+ghost use Rattle.goblin_pe_c.specs.Exports.{export_view, export_views, exports_view};
 ghost use Rattle.goblin_pe_c.specs.Files.{entries_of};
 ghost use Rattle.goblin_pe_c.specs.Filled.{alone};
 ghost use Rattle.goblin_pe_c.specs.Imports.{import_view, import_views};
@@ -21,7 +21,8 @@ ghost use Rattle.goblin_pe_c.specs.Sections.{section_said};
 
 use crate::block::{PeBaseRelocations, PeBlock, block_records};
 use crate::directory::{PeDirectory, directories_of, fill_directories};
-use crate::export::PeExport;
+use crate::export::{ExportRecords, PeExport};
+use crate::export_directory::{PeExportAddress, PeExportDirectory};
 use crate::fault::{PeFault, fault_of, no_fault};
 use crate::file::{PeFile, file_of};
 use crate::import::PeImport;
@@ -46,8 +47,15 @@ pub struct PeTables<'a> {
     pub imports: &'a [PeImport<'a>],
     /// The exports.
     pub exports: &'a [PeExport<'a>],
+    /// The entries of the export address table.
+    pub export_addresses: &'a [PeExportAddress],
     /// The blocks of base relocations.
     pub blocks: &'a [PeBlock<'a>],
+    /// What the export directory says; zeros where the exports are not read.
+    pub export_directory: PeExportDirectory<'a>,
+    /// The DOS stub: in the file, or where permissive mode replaced it the library's own. It is no
+    /// block of memory, and not freed.
+    pub dos_stub: &'a [u8],
 }
 
 // What is made of a file beside the records of its imports and exports.
@@ -127,25 +135,32 @@ fn exports_of<'a>(exports: Part<Vec<PeExport<'a>>>) -> &'a [PeExport<'a>]
 fn handed_over<'a>(
     made: Made<'a>,
     imports: Part<Vec<PeImport<'a>>>,
-    exports: Part<Vec<PeExport<'a>>>,
+    exports: ExportRecords<'a>,
+    dos_stub: &'a [u8],
 ) -> PeTables<'a>
     requires none { HasNoIdleBlock made.rich_entries × HasNoIdleBlock made.blocks }
     requires no_imports { HasNoIdleBlockIn imports }
-    requires no_exports { HasNoIdleBlockIn exports }
+    requires no_exports { HaveNoIdleBlocks exports }
     ensures rich_entries { result.rich_entries.now ≡ made.entry.rich_entries.items }
     ensures sections { result.sections.now ≡ made.entry.sections.items }
     ensures imports { map import_view result.imports.now
         ≡ entries_of (part_map import_views imports.entry) }
     ensures exports { map export_view result.exports.now
-        ≡ entries_of (part_map export_views exports.entry) }
+        ≡ entries_of (exports_view exports.entry).exports }
+    ensures addresses { result.export_addresses.now ≡ exports.entry.addresses.items }
     ensures blocks { result.blocks.now ≡ made.entry.blocks.items }
+    ensures directory { result.export_directory ≡ exports.entry.directory }
+    ensures stub { result.dos_stub.now ≡ dos_stub.now }
 {
     PeTables {
         rich_entries: made.rich_entries.leak(),
         sections: made.sections.leak(),
         imports: imports_of(imports),
-        exports: exports_of(exports),
+        exports: exports_of(exports.exports),
+        export_addresses: exports.addresses.leak(),
         blocks: made.blocks.leak(),
+        export_directory: exports.directory,
+        dos_stub,
     }
 }
 
@@ -171,14 +186,16 @@ fn open<'a>(
     let made = made_of(alloc, &layout, &records, bytes, opts)?;
     fill_directories(directories, directories_of(&header.optional_header));
     *file = file_of(&layout, &records, made.relocations, made.rich_header);
-    *tables = handed_over(made, records.imports, records.exports);
+    let dos_stub = header.dos_stub.bytes;
+    *tables = handed_over(made, records.imports, records.exports, dos_stub);
     Ok(())
 }
 
 /// Reads a whole file once: says in `file` what it is, fills the records of its data directories as
 /// far as there is room, and puts into `tables` its Rich header's entries, sections, imports,
-/// exports and base relocation blocks, all of them. Each table that is not empty is a block of
-/// memory that the caller frees. After a refusal nothing is changed, and nothing is to be freed;
+/// exports, export addresses and base relocation blocks, all of them, with what the export
+/// directory says and the DOS stub. Each table that is not empty is a block of memory that the
+/// caller frees. After a refusal nothing is changed, and nothing is to be freed;
 /// memory is refused (the status 5) only where the file has a header, and room for as many sections
 /// as that says.
 #[unsafe(no_mangle)]

@@ -6,12 +6,12 @@ ghost use Rattle.goblin_pe.specs.Reads.{mapped};
 ghost use Rattle.goblin_pe_tables.specs.Addresses.{offset_of};
 ghost use Rattle.goblin_pe.specs.Layouts.{layout_map, layout_places};
 ghost use Rattle.goblin_pe.specs.Whole.{collected_tables, table_parts};
-ghost use Rattle.goblin_pe_c.specs.Blocked.{HasNoIdleBlockIn};
+ghost use Rattle.goblin_pe_c.specs.Blocked.{HasNoIdleBlockIn, HaveNoIdleBlocks};
 ghost use Rattle.goblin_pe_c.specs.Exports.{exports_said};
 ghost use Rattle.goblin_pe_c.specs.Imports.{import_said};
 ghost use Rattle.goblin_pe_c.specs.Opened.{tables_view};
 
-use crate::export::{PeExport, export_records};
+use crate::export::{ExportRecords, export_records};
 use crate::import::{PeImport, import_records};
 use goblin_pe::relocation::RelocationData;
 use goblin_pe::{Layout, Part, Result};
@@ -22,8 +22,8 @@ use std::alloc::Global;
 pub struct FileRecords<'a> {
     /// The imports.
     pub imports: Part<Vec<PeImport<'a>>>,
-    /// The exports.
-    pub exports: Part<Vec<PeExport<'a>>>,
+    /// The exports, and what their directory leads to.
+    pub exports: ExportRecords<'a>,
     /// The base relocations.
     pub relocations: Part<RelocationData<'a>>,
 }
@@ -36,7 +36,7 @@ pub fn file_records<'a>(alloc: Global, layout: &Layout<'a, '_>) -> Result<FileRe
         (table_parts m.opts (offset_of m) (layout_places layout.now)))
         layout.now.bytes.now }
     ensures none { IfOk result
-        (λ r. HasNoIdleBlockIn r.imports × HasNoIdleBlockIn r.exports) }
+        (λ r. HasNoIdleBlockIn r.imports × HaveNoIdleBlocks r.exports) }
 {
     let imports = import_records(alloc, layout)?;
     let exports = export_records(alloc, layout)?;

@@ -2,12 +2,12 @@
 
 ghost use Rattle.std.specs.Prelude.{◌≡◌, ◌/◌, ◌<◌, ◌≤◌, IfSome, None, length, option_map};
 ghost use Rattle.goblin_base.specs.Reading.{Reads};
-ghost use Rattle.goblin_pe_sect.specs.Symbols.{symbol_item, symbol_of};
+ghost use Rattle.goblin_pe_sect.specs.Symbols.{symbol_of};
 ghost use Rattle.goblin_pe_head.specs.CoffReadings.{symbols_of};
 ghost use Rattle.goblin_pe_c.specs.Calls.{ReadsWithout, Reported};
 ghost use Rattle.goblin_pe_c.specs.Symbols.{GivesSymbols, SaysSymbols, SymbolRecords};
 ghost use Rattle.goblin_pe_c.specs.Symbols.{auxiliary_of, name_in, named_symbol};
-ghost use Rattle.goblin_pe_c.specs.Symbols.{named_symbol_view, symbol_tables};
+ghost use Rattle.goblin_pe_c.specs.Symbols.{named_symbol_view, symbol_named, symbol_tables};
 
 use crate::fault::{PeFault, fault_of, no_fault};
 use goblin_pe::header::CoffHeader;
@@ -65,23 +65,22 @@ fn auxiliary_of<'a>(table: &'a [u8], index: usize, symbol: &Symbol) -> &'a [u8]
     }
 }
 
-// The record of a symbol at an index of a table.
+// The record of a symbol at an index of a table, with this name.
 fn named_record<'a>(
+    bytes: &'a [u8],
     table: &'a [u8],
-    strings: &Strtab<'a>,
     index: usize,
-    inline_name: Option<&'a str>,
+    name: Option<&'a str>,
     symbol: Symbol,
 ) -> PeNamedSymbol<'a>
     requires { index < length table.now / 18 }
     ensures { named_symbol_view result
-        ≡ named_symbol table.now strings.now (symbol_item (index, inline_name.entry, symbol)) }
+        ≡ symbol_named table.now index (option_map (λ s. s.now) name.entry) symbol }
 {
-    let name = name_in(inline_name, &symbol, strings);
     PeNamedSymbol {
         name: match name {
             Some(name) => name.as_bytes(),
-            None => &table[..0],
+            None => &bytes[..0],
         },
         auxiliary: auxiliary_of(table, index, &symbol),
         index,
@@ -92,7 +91,12 @@ fn named_record<'a>(
 
 // The symbol of the record at an index of a table.
 #[tactic(auto, using(crate::proofs::Symbols::record_there))]
-fn symbol_at<'a>(table: &'a [u8], strings: &Strtab<'a>, index: usize) -> Option<PeNamedSymbol<'a>>
+fn symbol_at<'a>(
+    bytes: &'a [u8],
+    table: &'a [u8],
+    strings: &Strtab<'a>,
+    index: usize,
+) -> Option<PeNamedSymbol<'a>>
     ensures inside { IfSome result (λ s. index < length table.now / 18) }
     ensures some { IfSome result
         (λ s. named_symbol_view s
@@ -103,12 +107,14 @@ fn symbol_at<'a>(table: &'a [u8], strings: &Strtab<'a>, index: usize) -> Option<
         return None;
     }
     let (inline_name, symbol) = Symbol::parse(table, COFF_SYMBOL_SIZE * index).ok()?;
-    Some(named_record(table, strings, index, inline_name, symbol))
+    let name = name_in(inline_name, &symbol, strings);
+    Some(named_record(bytes, table, index, name, symbol))
 }
 
 // Fills the records of the symbols of a table from an index on, as far as there is room, moves the
 // index past them, and answers how many there are.
 fn fill_symbols_at<'a>(
+    bytes: &'a [u8],
     table: &'a [u8],
     strings: &Strtab<'a>,
     position: &mut usize,
@@ -121,7 +127,7 @@ fn fill_symbols_at<'a>(
         GivesSymbols table.now strings.now old new }
 {
     'symbols: for count in 0..records.len() {
-        let Some(symbol) = symbol_at(table, strings, *position) else {
+        let Some(symbol) = symbol_at(bytes, table, strings, *position) else {
             return count;
         };
         *position += 1 + symbol.symbol.number_of_aux_symbols as usize;
@@ -162,7 +168,7 @@ fn read_symbols<'a>(
     let table = table_of(bytes, header)?;
     let strings = header.strings(alloc, bytes)?;
     *count = match (table, &strings) {
-        (Some(table), Some(strings)) => fill_symbols_at(table, strings, position, records),
+        (Some(table), Some(strings)) => fill_symbols_at(bytes, table, strings, position, records),
         _ => 0,
     };
     Ok(())
@@ -172,7 +178,8 @@ fn read_symbols<'a>(
 /// record at the index `position` on: as many as there are and as there is room for. `count` says
 /// how many these are, and `position` is then the index of the record that is read next. The first
 /// record is read as a symbol, even where it is an auxiliary one of a symbol before it. After the
-/// last symbol, and where the header's pointer to the table is 0, `count` is 0.
+/// last symbol, and where the header's pointer to the table is 0, `count` is 0, as it is without
+/// room; the position then stays.
 ///
 /// It takes no memory. It is refused where the records of the table run past the end of the file or
 /// begin at it (the status 4), where the string table after them has no length of four bytes (4) or

@@ -152,16 +152,22 @@ impl<'a> TablesInFile<'a> {
         table_of(alloc, count, |index| self.ordinal(index))
     }
 
-    // The addresses in memory.
+    // How many addresses there are.
     #[tactic(auto, using(crate::proofs::WholeEntries::entry_count))]
+    pub(super) fn address_count(&self) -> usize
+        ensures { result ≡ length (tables_in self.now).export_address_table }
+    {
+        self.addresses.len() / SIZEOF_EXPORT_ADDRESS_TABLE_ENTRY
+    }
+
+    // The addresses in memory.
     pub(super) fn addresses(&self, alloc: Global) -> Result<ExportAddressTable>
         ensures value { let entries = (tables_in self.now).export_address_table in
             GivesOrMemory (λ t. t) result entries }
         ensures grown { let entries = (tables_in self.now).export_address_table in
             OnErr result (0 < length entries) }
     {
-        let count = self.addresses.len() / SIZEOF_EXPORT_ADDRESS_TABLE_ENTRY;
-        table_of(alloc, count, |index| self.address(index))
+        table_of(alloc, self.address_count(), |index| self.address(index))
     }
 }
 

@@ -1,6 +1,7 @@
 //! A walk over the exports of an image.
 
 ghost use Rattle.std.specs.Prelude.{◌≡◌, ◌≤◌, ⊤, IfOk, IfSome, Some, length, map, option_map};
+ghost use Rattle.std.specs.Prelude.{slice_get};
 ghost use Rattle.std.specs.Iterator.{MakesProgress, UpTo, YieldsFirstBy, at_most};
 ghost use Rattle.std.specs.Iterator.SizeHint.{IsWithinCount};
 ghost use Rattle.goblin_base.specs.Reading.{Reads};
@@ -13,7 +14,7 @@ ghost use Rattle.goblin_pe_tables.specs.ExportWalks.{walked_export, walked_table
 use crate::address_map::AddressMap;
 use crate::export::Export;
 use crate::export::entries::{Entries, TablesInFile};
-use crate::export::tables::ExportDirectoryTable;
+use crate::export::tables::{ExportAddressTableEntry, ExportDirectoryTable};
 use goblin_base::Result;
 use goblin_pe_sect::DataDirectory;
 use std::fmt;
@@ -108,6 +109,21 @@ impl<'a, 'm> Exports<'a, 'm> {
         ensures { result.now ≡ (walked_tables self.now).export_directory_table }
     {
         &self.tables.export_directory_table
+    }
+
+    /// How many entries the export address table has: those that are whole.
+    pub fn address_count(&self) -> usize
+        ensures { result ≡ length (walked_tables self.now).export_address_table }
+    {
+        self.tables.address_count()
+    }
+
+    /// The entry of the export address table at an index, where there is one. The index and the
+    /// ordinal base are the ordinal that it stands for.
+    pub fn address(&self, index: usize) -> Option<ExportAddressTableEntry>
+        ensures { result ≡ slice_get (walked_tables self.now).export_address_table index }
+    {
+        self.tables.address(index)
     }
 
     // The export of the name pointer at an index, where that has one.

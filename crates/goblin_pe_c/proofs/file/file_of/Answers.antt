@@ -7,5 +7,5 @@ use Rattle.goblin_pe_c.proofs.file.file_of.Goals as goal
 pub returns : goal.returns
 returns c =
     let imports = c.table_of.ensures ∙ table-viewed import_view c.args.records.now.imports in
-    let exports = c.table_of-2.ensures ∙ table-viewed export_view c.args.records.now.exports in
+    let exports = c.table_of-2.ensures ∙ table-viewed export_view c.args.records.now.exports.exports in
     rw (imports, exports) (search rules)

@@ -16,7 +16,7 @@ returns-in_err-imports-clause-value c =
     let places = layout_places l in
     let error = err_from_is_err_and c.from_residual.result c.from_residual.ensures.1 in
     rw (error.1, error.2)
-    (λ other. first-refused (import_parts m.opts (offset_of m) places) (export_part m.opts (offset_of m) places) (relocation_part m.opts (offset_of m) places) (collected_imports import_said) (part_map (collected_exports (exports_said (offset_of m) l.bytes.now))) l.bytes.now _ (c.in_err-imports.ensures.value other))
+    (λ other. first-refused (import_parts m.opts (offset_of m) places) (export_part m.opts (offset_of m) places) (relocation_part m.opts (offset_of m) places) (collected_imports import_said) (collected_exports (exports_said (offset_of m) l.bytes.now)) l.bytes.now _ (c.in_err-imports.ensures.value other))
 
 pub returns-in_err-exports-clause-value : goal.returns-in_err-exports-clause-value
 unfolding table_parts
@@ -26,7 +26,7 @@ returns-in_err-exports-clause-value c =
     let places = layout_places l in
     let error = err_from_is_err_and c.from_residual-in_err-exports.result c.from_residual-in_err-exports.ensures.1 in
     rw (error.1, error.2)
-    (λ other. second-refused (import_parts m.opts (offset_of m) places) (export_part m.opts (offset_of m) places) (relocation_part m.opts (offset_of m) places) (collected_imports import_said) (part_map (collected_exports (exports_said (offset_of m) l.bytes.now))) l.bytes.now _ _ c.in_ok-imports.ensures.value (c.in_err-exports.ensures.value other))
+    (λ other. second-refused (import_parts m.opts (offset_of m) places) (export_part m.opts (offset_of m) places) (relocation_part m.opts (offset_of m) places) (collected_imports import_said) (collected_exports (exports_said (offset_of m) l.bytes.now)) l.bytes.now _ _ c.in_ok-imports.ensures.value (c.in_err-exports.ensures.value other))
 
 pub returns-in_err-relocations-clause-value : goal.returns-in_err-relocations-clause-value
 unfolding table_parts
@@ -36,7 +36,7 @@ returns-in_err-relocations-clause-value c =
     let places = layout_places l in
     let error = err_from_is_err_and c.from_residual-in_err-relocations.result c.from_residual-in_err-relocations.ensures.1 in
     rw (error.1, error.2)
-    (λ other. third-refused (import_parts m.opts (offset_of m) places) (export_part m.opts (offset_of m) places) (relocation_part m.opts (offset_of m) places) (collected_imports import_said) (part_map (collected_exports (exports_said (offset_of m) l.bytes.now))) l.bytes.now _ _ _ c.in_ok-imports.ensures.value c.in_ok-exports.ensures.value c.in_err-relocations.ensures)
+    (λ other. third-refused (import_parts m.opts (offset_of m) places) (export_part m.opts (offset_of m) places) (relocation_part m.opts (offset_of m) places) (collected_imports import_said) (collected_exports (exports_said (offset_of m) l.bytes.now)) l.bytes.now _ _ _ c.in_ok-imports.ensures.value c.in_ok-exports.ensures.value c.in_err-relocations.ensures)
 
 pub returns-clause-value : goal.returns-clause-value
 unfolding table_parts
@@ -44,4 +44,4 @@ returns-clause-value c =
     let l = c.args.layout.now in
     let m = layout_map l in
     let places = layout_places l in
-    all-read (import_parts m.opts (offset_of m) places) (export_part m.opts (offset_of m) places) (relocation_part m.opts (offset_of m) places) (collected_imports import_said) (part_map (collected_exports (exports_said (offset_of m) l.bytes.now))) l.bytes.now _ _ _ c.in_ok-imports.ensures.value c.in_ok-exports.ensures.value c.in_ok-relocations.ensures
+    all-read (import_parts m.opts (offset_of m) places) (export_part m.opts (offset_of m) places) (relocation_part m.opts (offset_of m) places) (collected_imports import_said) (collected_exports (exports_said (offset_of m) l.bytes.now)) l.bytes.now _ _ _ c.in_ok-imports.ensures.value c.in_ok-exports.ensures.value c.in_ok-relocations.ensures

@@ -1,7 +1,7 @@
 use Rattle.std.proofs.Common.{arith, ap, List, refl}
 use Rattle.goblin_pe_sect.specs.declared.relocation.Relocation.{Relocation}
 use Rattle.goblin_pe_sect.specs.Relocations.{relocations_left}
-use Rattle.goblin_pe_c.proofs.Items.{all-filled, as_items, count-below, items-end, items-next, relocations_below, unmapped-filled}
+use Rattle.goblin_pe_c.proofs.Items.{as_items, count-below, items-end, items-next, relocations_below, unmapped-filled}
 use Rattle.goblin_pe_c.proofs.relocation.fill_relocations.Goals as goal
 
 pub overflow_add-count : goal.overflow_add-count
