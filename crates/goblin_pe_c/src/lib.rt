@@ -1,7 +1,7 @@
 //! PE files for callers that are not written in Rattle: a static library with a flat interface.
 //!
 //! A call borrows the caller's bytes. Each text in a record is a slice of those bytes, so no text
-//! is copied. The tables of a whole file, and the bytes on which its imports depend, are handed
+//! is copied. The tables of a whole file, and the ranges on which a read of it depends, are handed
 //! over as memory that the caller frees; the other calls fill the caller's records.
 #![tactic(auto)]
 
