@@ -1,3 +1,4 @@
+pub mod Batches
 pub mod Blocked
 pub mod Blocks
 pub mod Calls
