@@ -1,8 +1,10 @@
 #!/usr/bin/env python3
-"""Compares the records of the crate goblin_pe_c with those that the callers declare: the same names, with the
-same fields in the same order and of the same types. Compares also the numbers that stand in the records, each
-with its name: those of goblin_pe_c's code, and of the enums of the callers; and the calls, by what they take and
-answer, and the version of their interface. The last line says how many passed and failed."""
+"""Compares the records of the crate goblin_pe_c, and those of the libraries that stand in them, with those that
+the callers declare: the same names, with the same fields in the same order and of the same types. Compares also the
+numbers that stand in the records, each with its name: those of the code, and of the enums of the callers; and the
+calls, by what they take and answer, and the version of their interface. The last line says how many passed and
+failed."""
+import glob
 import os
 import re
 import sys
@@ -11,6 +13,10 @@ HERE = os.path.dirname(os.path.abspath(__file__))
 CRATES = os.path.join(HERE, "../crates")
 CRATE = os.path.join(CRATES, "goblin_pe_c/src")
 NUMBERS = {"uint8_t": "u8", "uint16_t": "u16", "uint32_t": "u32", "uint64_t": "u64", "int16_t": "i16", "size_t": "usize", "bool": "bool"}
+# The records of the libraries that callers see.
+LIBRARIES = ("DosHeader", "CoffHeader", "StandardFields", "WindowsFields64", "DataDirectory", "TeHeader", "RichMetadata",
+             "ExportDirectoryTable", "Symbol", "Relocation", "AuxFunctionDefinition", "AuxBeginAndEndFunction", "AuxWeakExternal",
+             "AuxSectionDefinition")
 PYTHON = {"c.c_uint8": "u8", "c.c_uint16": "u16", "c.c_uint32": "u32", "c.c_uint64": "u64", "c.c_int16": "i16", "c.c_size_t": "usize",
           "c.c_bool": "bool", "Text": "text"}
 
@@ -24,17 +30,29 @@ def camel(name):
     return "".join(word.capitalize() for word in name.split("_"))
 
 
+def named(kind):
+    """A type as callers name it."""
+    return re.sub(r"^Pe(?=[A-Z])", "", re.sub(r"<'[^>]*>", "", kind)).replace("WindowsFields64", "WindowsFields")
+
+
 def rust_fields(body, slices):
     """Fields as they stand in Rattle and in Rust, with one word for slices of the file."""
     fields = re.findall(r"^ +pub (\w+): (.+),$", body, re.M)
-    table = lambda kind: re.match(r"(?:&'a \[Pe|List<'a, )(\w+)(?:<'a>)?[\]>]$", kind)
-    return [(name, "text" if kind in slices else "table of " + table(kind)[1] if table(kind) else re.sub(r"^Pe(?=[A-Z])", "", kind))
+    table = lambda kind: re.match(r"(?:&'a \[|(?:List|Shared)<'\w, )(\w+)(?:<'a>)?[\]>]$", kind)
+    return [(name, "text" if kind in slices else "table of " + named(table(kind)[1]) if table(kind) else named(kind))
             for name, kind in fields]
 
 
-def rust_records(source, prefix, slices):
-    found = re.findall(r"#\[repr\(C\)\]\n(?:#\[derive\([^)]*\)\]\n)?pub struct " + prefix + r"(\w+)(?:<'a>)? \{\n(.*?)\n\}", source, re.S)
+def rust_records(source, slices):
+    found = re.findall(r"#\[repr\(C\)\]\n(?:#\[derive\([^)]*\)\]\n)?pub struct (\w+)(?:<'[^>]*>)? \{\n(.*?)\n\}", source, re.S)
     return {name: rust_fields(body, slices) for name, body in found}
+
+
+def own_records():
+    """The records of goblin_pe_c, and those of the libraries that callers see."""
+    records = {name: fields for path in glob.glob(os.path.join(CRATES, "*/src/**/*.rt"), recursive=True)
+               for name, fields in rust_records(text(path), {"&'a [u8]"}).items()}
+    return {named(name): fields for name, fields in records.items() if name.startswith("Pe") or name in LIBRARIES}
 
 
 def c_kind(kind, count):
@@ -50,7 +68,7 @@ def c_kind(kind, count):
 def c_records(source):
     source = re.sub(r"/\*.*?\*/", "", source, flags=re.S)
     # (a table is a pointer and a count)
-    source = re.sub(r"const struct goblin_pe_(\w+) \*(\w+);\n +size_t \1_count;", r"table_of_\1 \2;", source)
+    source = re.sub(r"const struct goblin_pe_(\w+) \*(\w+);\n +size_t \w+_count;", r"table_of_\1 \2;", source)
     found = re.findall(r"struct goblin_pe_(\w+) \{\n(.*?)\n\};", source, re.S)
     fields = lambda body: re.findall(r"^ +((?:struct )?\w+) (\w+)(?:\[(\d+)\])?;$", body, re.M)
     return {camel(name): [(field, c_kind(kind, count)) for kind, field, count in fields(body)] for name, body in found if name != "text"}
@@ -63,10 +81,13 @@ def python_kinds(source):
 
 
 def python_records(source):
-    kinds = {**PYTHON, **python_kinds(source)}
+    kinds = {**PYTHON, **python_kinds(source), "TableOfSection": "table of Section"}
+    source = re.sub(r"sections: Address\n +section_count: Size\n", "sections: TableOfSection\n", source)
     found = re.findall(r"^class (\w+)\((?:Record|NamedTuple)\):\n.*?\n\n((?:    \w+: \w+\n)+)", source, re.S | re.M)
-    tables = re.findall(r"^class (\w+)\(HandedOver\):.*?KINDS = \{(.*?)\}", source, re.S | re.M)
-    return {**{name: [(field, "table of " + kind) for field, kind in re.findall(r'"(\w+)": (\w+)', body)] for name, body in tables},
+    tables = re.findall(r"^class (\w+)\(HandedOver\):.*?KINDS = \{(.*?)\}(?:\n    MORE = \{(.*?)\})?", source, re.S | re.M)
+    pairs = lambda body: re.findall(r'"(\w+)": (\w+)', body)
+    return {**{name: [*((field, "table of " + kind) for field, kind in pairs(body)), *((field, kinds.get(kind, kind)) for field, kind in pairs(more))]
+               for name, body, more in tables},
             **{name: [(field, kinds.get(kind, kind)) for field, kind in re.findall(r"(\w+): (\w+)", body)]
                for name, body in found if name != "Text"}}
 
@@ -83,30 +104,31 @@ def numbered(pairs):
     return numbers
 
 
-def own_numbers():
+def enum_of(name, source):
+    """The numbers of an enum of Rattle, by their names; none where there is no such enum."""
+    body = re.search(r"enum %s \{(.*?)\n\}" % name, source, re.S)
+    return numbered((snake(it), number) for it, number in re.findall(r"(\w+) = (\d+),", body[1] if body else ""))
+
+
+def own_numbers(source):
     """The numbers by their names, as the code of goblin_pe_c gives them, and those of directories by their place."""
-    fault, file, export = (text(CRATE, name) for name in ("fault.rt", "file.rt", "export.rt"))
-    words = re.findall(r'what == "([\w ]+)" \{\s+(\d+)', fault)
+    words = re.findall(r'what == "([\w ]+)" \{\s+(\d+)', source)
     kinds = re.search(r"const KINDS: .*?= \[(.*?)\];", text(CRATES, "goblin_pe_sect/src/data_directories.rt"), re.S).group(1)
-    forwards = dict(re.findall(r"(None|DLLName|DLLOrdinal)\b[^=\n]*=> \((\d+),", export))
-    statuses = re.search(r"enum Status \{(.*?)\n\}", fault, re.S).group(1)
     return {
-        "State": numbered((snake(name), number) for name, number in re.findall(r"Part::(\w+)\b[^=]*=> PeTable \{.*?state: (\d+)", file, re.S)),
-        "Forwards": {"NO_FORWARDER": int(forwards["None"]), "NAME": int(forwards["DLLName"]), "ORDINAL": int(forwards["DLLOrdinal"])},
-        "Status": numbered((snake(name), number) for name, number in re.findall(r"(\w+) = (\d+),", statuses)),
-        "Cause": numbered((snake(name), number) for name, number in re.findall(r"Cause::(\w+)\b.* => malformed\((\d+),", fault)),
+        **{name: enum_of(name, source) for name in ("State", "Forwards", "Kind", "Status")},
+        "Cause": numbered((snake(name), number) for name, number in re.findall(r"Cause::(\w+)\b.* => malformed\((\d+),", source)),
         "Counted": {**numbered((word.upper().replace(" ", "_"), number) for word, number in words),
-                    "OTHER": int(re.search(r"\} else \{\s+(\d+)", fault).group(1))},
-        "ReadFault": numbered((snake(name), number) for name, number in re.findall(r"ReadFault::(\w+)\) => fault\(\w+::\w+, (\d+),", fault)),
+                    "OTHER": int(re.search(r'"address table entries".*?\} else \{\s+(\d+)', source, re.S).group(1))},
+        "ReadFault": numbered((snake(name), number) for name, number in re.findall(r"ReadFault::(\w+)\) => fault\(\w+::\w+, (\d+),", source)),
         "DirectoryType": {snake(name): index for index, name in enumerate(re.findall(r"DataDirectoryType::(\w+)", kinds))},
     }
 
 
 # What a caller names otherwise than goblin_pe_c does, and the prefixes of the names in C.
 STATUSES = {"TOO_SHORT": "BUFFER_TOO_SHORT", "BAD_READ": "READ", "NO_MEMORY": "MEMORY"}
-FORWARDS = {"NOTHING": "NO_FORWARDER", "FORWARDS_NAME": "NAME", "FORWARDS_ORDINAL": "ORDINAL"}
+FORWARDS = {"NO_FORWARDER": "NONE", "NOTHING": "NONE", "FORWARDS_NAME": "NAME", "FORWARDS_ORDINAL": "ORDINAL"}
 RUST = {"Part": "State", "ErrorKind": "Status"}
-PREFIXES = {"Cause": "CAUSE_", "Counted": "COUNTED_", "ReadFault": "READ_FAULT_", "DirectoryType": "DIRECTORY_"}
+PREFIXES = {"Kind": "KIND_", "Cause": "CAUSE_", "Counted": "COUNTED_", "ReadFault": "READ_FAULT_", "DirectoryType": "DIRECTORY_"}
 
 
 def named_alike(numbers):
@@ -142,15 +164,15 @@ def python_numbers(source):
 
 def own_calls(source):
     """The calls of a file of goblin_pe_c, each as what it answers and takes; a slice is a pointer and a count."""
-    found = re.findall(r'pub extern "C" fn goblin_pe_(\w+)(?:<\'a>)?\((.*?)\) -> (\w+)$', source, re.S | re.M)
+    found = re.findall(r'pub extern "C" fn goblin_pe_(\w+)\((.*?)\) -> (\w+)$', re.sub(r"<'[^>]*>", "", source), re.S | re.M)
     def kinds(taken):
         for kind in re.findall(r"\w+: ([^,\n]+)", taken):
-            kind = re.sub(r"^&(?:'a )?(mut )?", "*", kind).replace("<'a>", "").replace("Pe", "")
-            if kind.startswith("*["):
-                yield from ("*" + kind[2:-1], "usize")
+            star, kind = re.fullmatch(r"(&(?:'a )?(?:mut )?)?(.*)", kind).groups()
+            if kind.startswith("["):
+                yield from ("*" + named(kind[1:-1]), "usize")
             elif kind != "Global":
-                yield kind
-    return {"goblin_pe_" + name: [answer.replace("Pe", ""), *kinds(taken)] for name, taken, answer in found}
+                yield "*" * bool(star) + named(kind)
+    return {"goblin_pe_" + name: [named(answer), *kinds(taken)] for name, taken, answer in found}
 
 
 def c_calls(source):
@@ -164,22 +186,18 @@ def c_calls(source):
 
 
 def rust_calls(source):
-    found = re.findall(r"^    (?:safe )?fn (goblin_pe_\w+)(?:<'a>)?\((.*?)\) -> (\w+);", source, re.S | re.M)
-    kind = lambda it: re.sub(r"^(?:\*const |\*mut |&mut |&)", "*", re.sub(r"<'.>", "", it))
+    found = re.findall(r"^    (?:safe )?fn (goblin_pe_\w+)\((.*?)\) -> (\w+);", re.sub(r"<'[^>]*>", "", source), re.S | re.M)
+    kind = lambda it: re.sub(r"^(?:\*const |\*mut |&mut |&)", "*", it).replace("Slice", "Text")
     return {name: [answer, *map(kind, re.findall(r"\w+: ([^,\n]+)", taken))] for name, taken, answer in found}
 
 
 def python_calls(source):
     """The calls as the module declares them; its pointers to bytes have no type of their own."""
     found = re.findall(r'"(goblin_pe_\w+)": \(([\w.]+), \[(.*?)\]\)', source, re.S)
+    words = {"*_BYTES": ["*u8", "usize"], "_SIZE": ["*usize"]}
     def kinds(taken):
-        for whole, counted, pointer, kind in re.findall(r"(\*_counted\(([\w, ]+)\)|(?:_to|c\.POINTER)\(([\w.]+)\)|([\w.]+))", taken):
-            if counted:
-                yield from (it for name in counted.split(", ") for it in ("*" + name, "usize"))
-            elif pointer:
-                yield "*" + PYTHON.get(pointer, pointer)
-            else:
-                yield {"c.c_void_p": "*u8", "c.c_char_p": "*u8"}.get(kind) or PYTHON[kind]
+        for counted, pointer, kind in re.findall(r"\*_counted\((\w+)\)|_to\((\w+)\)|(\*?[\w.]+)", taken):
+            yield from ["*" + counted, "usize"] if counted else ["*" + pointer] if pointer else words.get(kind) or [PYTHON[kind]]
     calls = {name: [PYTHON.get(answer, answer), *kinds(taken)] for name, answer, taken in found}
     return {"goblin_pe_interface": ["u32"], **calls}
 
@@ -189,24 +207,22 @@ def version(pattern, source):
 
 
 def main():
-    ours = {}
-    for name in sorted(os.listdir(CRATE)):
-        ours.update(rust_records(text(CRATE, name), "Pe", {"&'a [u8]"}))
-        ours.update(own_calls(text(CRATE, name)))
+    source = "".join(text(it) for it in sorted(glob.glob(os.path.join(CRATE, "**/*.rt"), recursive=True)))
+    ours = {**own_records(), **own_numbers(source), **own_calls(source), **version(r"fn goblin_pe_interface\(\).*?\{\n +(\d+)", source)}
     callers = {
         "c/goblin_pe.h": c_records(text("c/goblin_pe.h")),
-        "rust/src": rust_records(text("rust/src/raw.rs"), "", {"Slice<'a>"}),
+        "rust/src": rust_records(text("rust/src/raw.rs"), {"Slice<'a>"}),
         "python/goblin_pe": python_records(text("python/goblin_pe/records.py")),
     }
-    callers["rust/src"].pop("Slice", None)
-    ours.update(own_numbers())
+    ours.pop("Text", None)
+    for name in ("Slice", "List", "Shared"):  # (what a text and a table are in Rust)
+        callers["rust/src"].pop(name, None)
     callers["c/goblin_pe.h"].update(c_numbers(text("c/goblin_pe.h")))
     callers["rust/src"].update(rust_numbers(text("rust/src/numbers.rs")))
     callers["python/goblin_pe"].update(python_numbers(text("python/goblin_pe/numbers.py") + "\n\n"))
     callers["c/goblin_pe.h"].update(c_calls(text("c/goblin_pe.h")))
     callers["rust/src"].update(rust_calls(text("rust/src/raw.rs")))
     callers["python/goblin_pe"].update(python_calls(text("python/goblin_pe/_library.py")))
-    ours.update(version(r"fn goblin_pe_interface\(\).*?\{\n +(\d+)", text(CRATE, "open.rt")))
     callers["c/goblin_pe.h"].update(version(r"#define GOBLIN_PE_INTERFACE (\d+)", text("c/goblin_pe.h")))
     callers["rust/src"].update(version(r"const INTERFACE: u32 = (\d+)", text("rust/src/raw.rs")))
     callers["python/goblin_pe"].update(version(r"INTERFACE = (\d+)", text("python/goblin_pe/_library.py")))

@@ -76,6 +76,60 @@ def shared_image(libraries, functions):
     return headers + data + bytes(-len(data) % 0x200)
 
 
+def library(name, exports, base=1):
+    """A library for 64 bits that exports these by the ordinals from a base on: each a pair (name or None, address or text of
+    a forwarder). The names have to be sorted."""
+    place = 0x1000
+    named = [(index, it) for index, (it, _) in enumerate(exports) if it]
+    tables = place + 40
+    pointers = tables + 4 * len(exports)
+    ordinals = pointers + 4 * len(named)
+    texts = ordinals + 2 * len(named)
+    data = bytearray()
+
+    def text(it):
+        data.extend(it + b"\0")
+        return texts + len(data) - len(it) - 1
+
+    own = text(name)
+    addresses = [text(it) if isinstance(it, bytes) else it for _, it in exports]
+    names = [text(it) for _, it in named]
+    record = struct.pack("<IIHHIIIIIII", 0, 0, 0, 0, own, base, len(exports), len(named), tables, pointers, ordinals)
+    record += struct.pack("<%dI%dI%dH" % (len(exports), len(named), len(named)), *addresses, *names, *(index for index, _ in named))
+    data = record + data
+    headers = image_headers(0x200, 1, 0x10000, ((0, place, len(data)),))
+    put_section(headers, 0x148, b".edata", data, place, 0x200)
+    return headers + data + bytes(-len(data) % 0x200)
+
+
+def importer(imports, relocated=0):
+    """An image for 64 bits that imports these from libraries: each a pair (library, list of names and ordinals). Its
+    first section has the address of so many of its own bytes, in base relocations, and zeros in memory."""
+    place = 0x2000
+    data = bytearray(20 * (len(imports) + 1))
+    for index, (name, entries) in enumerate(imports):
+        words = []
+        for it in entries:
+            words.append(1 << 63 | it if isinstance(it, int) else place + len(data))
+            data.extend(b"" if isinstance(it, int) else b"\0\0" + it + b"\0")
+        library = place + len(data)
+        data.extend(name + b"\0" + bytes(-(len(data) + len(name) + 1) % 8))
+        table = struct.pack("<%dQ" % (len(words) + 1), *words, 0)
+        struct.pack_into("<5I", data, 20 * index, place + len(data), 0, 0, library, place + len(data) + len(table))
+        data.extend(table * 2)
+    own = struct.pack("<%dQ" % relocated, *(0x180001000 + it for it in range(relocated)))
+    words = struct.pack("<%dH" % relocated, *(10 << 12 | 8 * it for it in range(relocated)))
+    blocks = struct.pack("<II", 0x1000, 8 + len(words)) + words
+    directories = ((1, place, 20 * (len(imports) + 1)), (5, 0x3000, len(blocks)))
+    headers = image_headers(0x200, 3, 0x10000, directories)
+    pointer, raw = 0x200, bytearray()
+    for index, (name, content) in enumerate(((b".data", own), (b".idata", data), (b".reloc", blocks))):
+        put_section(headers, 0x148 + 40 * index, name, content, 0x1000 * (index + 1), pointer + len(raw))
+        raw += content + bytes(-len(content) % 0x200)
+    struct.pack_into("<I", headers, 0x148 + 8, 0x800)
+    return headers + raw
+
+
 def without_directory(image, index):
     """The image for 64 bits without one of its data directories."""
     image = bytearray(image)

@@ -1,9 +1,14 @@
 """The library for callers in C and C++."""
 import functools
 import os
+import sys
 
 from tests import images, programs
 from tests.programs import BY_NAME, CALLERS, CC, FLAGS, IMAGES, OBJECTS, SAMPLES, TERSE, Case, library, milliseconds, need, run, succeed, with_memory
+
+
+STRICT = ["-pedantic", "-Wcast-qual", "-Wconversion"]
+SANITIZED = ("-std=c11", "-g", "-fsanitize=address,undefined", "-fno-sanitize-recover=all")
 
 
 def setUpModule():
@@ -14,8 +19,8 @@ def setUpModule():
 @functools.cache
 def built(name, *flags):
     """A program of callers/c, built over the archive."""
-    made = programs.folder() / name
-    succeed([CC, *(flags or ["-std=c11"]), *FLAGS, "-o", made, CALLERS / f"c/{name}.c", library() / "libgoblin_pe.a"])
+    made = programs.folder() / "-".join([name, *flags])
+    succeed([CC, *(flags or ["-std=c11"]), *FLAGS, *STRICT, "-o", made, CALLERS / f"c/{name}.c", library() / "libgoblin_pe.a"])
     return made
 
 
@@ -32,22 +37,107 @@ class Programs(Case):
     def test_threads_with_stacks_of_16_kib(self):
         succeed([built("threads", "-std=c11", "-pthread"), "16", "1", BY_NAME])
 
+    def test_threads_under_the_sanitizer_of_races(self):
+        succeed([built("threads", "-std=c11", "-pthread", "-fsanitize=thread"), "256", "1", BY_NAME])
+
     def test_each_growth_is_refused(self):
-        for kind, samples in (("image", IMAGES), ("footprint", IMAGES), ("object", OBJECTS), ("te", TERSE)):
+        of_images = [(call, IMAGES) for call in ("open", "damage", "footprint", "imports", "exports")]
+        for call, samples in (*of_images, ("object", OBJECTS), ("te", TERSE)):
             for sample in samples:
-                with self.subTest(kind=kind, sample=sample.name):
-                    succeed([built("growths"), kind, sample])
+                with self.subTest(call=call, sample=sample.name):
+                    succeed([built("growths"), call, sample])
 
     def test_a_file_without_a_table_leaves_no_block_behind(self):
         for index, table in ((0, "exports"), (1, "imports"), (5, "base relocations")):
             with self.subTest(table):
-                succeed([built("growths"), "image", self.written("without.dll", images.without_directory(BY_NAME.read_bytes(), index))])
+                succeed([built("growths"), "open", self.written("without.dll", images.without_directory(BY_NAME.read_bytes(), index))])
 
     def test_a_program_in_cxx_finds_the_interface_that_it_declares(self):
         need("c++")
         program = self.folder / "interface"
-        succeed(["c++", "-std=c++11", *FLAGS, "-o", program, CALLERS / "c/interface.cc", library() / "libgoblin_pe.a"])
+        succeed(["c++", "-std=c++11", *FLAGS, *STRICT, "-o", program, CALLERS / "c/interface.cc", library() / "libgoblin_pe.a"])
         succeed([program])
+
+
+    def test_the_constants_are_those_of_the_libraries(self):
+        made = succeed([sys.executable, "-c", "import constants; print(constants.header(), end='')"], cwd=CALLERS)
+        self.assertEqual((CALLERS / "c/goblin_pe_constants.h").read_text("utf-8"), made)
+
+    def test_calls_answer_alike(self):
+        succeed([built("calls"), *IMAGES, *OBJECTS, *TERSE])
+
+
+class Walk(Case):
+    def walked(self, most, image):
+        """What the walk says, with memory for the program alone."""
+        return run(with_memory(40000, [built("walk"), str(most), self.written("many.dll", image)]))
+
+    def test_all_imports_of_a_hostile_image(self):
+        """Of so many libraries that share one table."""
+        self.assertEqual(self.walked(1 << 62, images.shared_image(6500, 16000)), (0, b"104000000 imports\n", b""))
+
+    def test_a_walk_stops_where_there_are_too_many(self):
+        self.assertEqual(self.walked(10000, images.shared_image(650, 1600)), (0, b"10240 imports and perhaps more\n", b""))
+
+    def test_a_refusal_ends_it(self):
+        """The name of the third of four libraries stands at an address that no section maps."""
+        image = images.shared_image(libraries=4, functions=3)
+        image[0x200 + 20 * 2 + 12: 0x200 + 20 * 2 + 16] = b"\0\x90\0\0"
+        self.assertEqual(self.walked(100, image), (1, b"6 imports\n", b""))
+
+
+class Loader(Case):
+    """An image that imports from libraries by name and by ordinal."""
+
+    def setUp(self):
+        super().setUp()
+        exports = [(b"Apple", 0x3010), (None, 0x3020), (b"Cherry", b"other.Pear"), (None, b"other.#7"), (b"Elder", 0x3050)]
+        self.library = self.written("Fruit.dll", images.library(b"fruit.dll", exports, base=10))
+
+    def assert_resolves(self, imports, status, wanted):
+        image = self.written("image.exe", images.importer(imports, relocated=3))
+        out = "\n".join(["image.exe for machine 0x8664 at 0x180010000", "section at 0x1000: 512 bytes and 1536 zeros", *self.SECTIONS,
+                         "Fruit.dll for machine 0x8664 at 0x180010000", "section at 0x1000: 512 bytes and 0 zeros", "3 base relocations",
+                         *wanted, ""])
+        self.assert_runs([built("loader"), image, self.library], (status, out.encode(), b""))
+
+    SECTIONS = ["section at 0x2000: 512 bytes and 0 zeros", "section at 0x3000: 512 bytes and 0 zeros"]
+
+    def test_imports_by_name_and_by_ordinal(self):
+        self.assert_resolves([(b"FRUIT.DLL", [b"Elder", 10, 11, b"Apple"])], 0, [
+            "FRUIT.DLL Elder: 0x180013050 in the slot at 0x2070", "FRUIT.DLL #10: 0x180013010 in the slot at 0x2078",
+            "FRUIT.DLL #11: 0x180013020 in the slot at 0x2080", "FRUIT.DLL Apple: 0x180013010 in the slot at 0x2088"])
+
+    def test_forwarders_are_told(self):
+        self.assert_resolves([(b"fruit.dll", [b"Cherry", 13])], 0, [
+            "fruit.dll Cherry: forwarded to other.Pear", "fruit.dll #13: forwarded to other.#7"])
+
+    def test_what_is_not_there_is_told(self):
+        self.assert_resolves([(b"fruit.dll", [9, 15, b"Banana"]), (b"nuts.dll", [1])], 1, [
+            "fruit.dll #9: not exported", "fruit.dll #15: not exported", "fruit.dll Banana: not exported", "nuts.dll #1: no such library"])
+
+    def test_samples(self):
+        for sample in IMAGES:
+            with self.subTest(sample=sample.name):
+                status, out, said = run([built("loader"), sample])
+                self.assertEqual((status, said), (int(b"no such library" in out), b""))
+
+
+class Patch(Case):
+    def test_a_header_and_a_section(self):
+        for sample in IMAGES:
+            with self.subTest(sample=sample.name):
+                data, to = bytearray(sample.read_bytes()), self.folder / "patched.dll"
+                self.assert_runs([built("patch"), sample, "0x12345678", ".text", ".code", to], (0, b"0x12345678 .code\n", b""))
+                header = int.from_bytes(data[0x3C:0x40], "little")
+                place = data.index(b".text\0\0\0", header)
+                data[header + 8: header + 12], data[place: place + 8] = b"\x78\x56\x34\x12", b".code\0\0\0"
+                self.assertEqual(to.read_bytes(), data)
+
+    def test_a_name_that_is_too_long(self):
+        wanted = (1, b"", b"refused: ")
+        status, out, said = run([built("patch"), BY_NAME, "0", ".text", "ninebytes", self.folder / "not.dll"])
+        self.assertEqual((status, out, said[:9]), wanted)
 
 
 class LargeImages(Case):
@@ -81,15 +171,28 @@ class Reuse(Case):
         super().setUp()
         data, text, program = BY_NAME.read_bytes(), CALLERS / "build", SAMPLES / "program_x64.exe"
         no_header = self.written("no_header.dll", data[:140] + bytes(2) + data[142:])
-        self.command = [built("reuse", "-std=c99"), program, text, *sorted(SAMPLES.glob("*.dll")), no_header, text, program]
+        self.files = [program, text, *sorted(SAMPLES.glob("*.dll")), no_header, text, program]
+        self.command = [built("reuse", "-std=c99"), *self.files]
+        self.kinds = [*IMAGES, *OBJECTS, *TERSE]
 
     def test_each_file_is_read_or_refused(self):
         succeed(self.command)
+
+    def test_with_sanitizers(self):
+        """Of the examples; the library itself is built without them."""
+        succeed([built("reuse", *SANITIZED), *self.files])
+        succeed([built("calls", *SANITIZED), *self.kinds])
+        succeed([built("list", *SANITIZED), "--symbols", OBJECTS[0]])
+        succeed([built("patch", *SANITIZED), BY_NAME, "1", ".text", ".code", self.folder / "patched.dll"])
+        image = self.written("image.exe", images.importer([(b"fruit.dll", [b"Apple", 1])], relocated=3))
+        succeed([built("loader", *SANITIZED), image, self.written("fruit.dll", images.library(b"fruit.dll", [(b"Apple", 0x3010)]))])
 
     def test_under_valgrind(self):
         need("valgrind")
         lists = [built("list")]
         for name, command in (("opened, refused, freed and opened again", self.command),
+                              ("each call", [built("calls"), *self.kinds]),
+                              ("loaded", [built("loader"), SAMPLES / "forwarders_x64.dll"]),
                               ("an image", [*lists, BY_NAME]),
                               ("an object", [*lists, "--symbols", SAMPLES / "object_x64.obj"]),
                               ("a Terse Executable", [*lists, "--te", SAMPLES / "firmware_x64.te"]),

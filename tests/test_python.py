@@ -14,7 +14,7 @@ LISTS = [*PYTHON, "-m", "goblin_pe"]
 TELLS_THE_LOCK = b"""#include "goblin_pe.h"
 int PyGILState_Check(void);
 uint32_t goblin_pe_interface(void) { return GOBLIN_PE_INTERFACE; }
-struct goblin_pe_fault goblin_pe_read_te(
+struct goblin_pe_fault goblin_pe_raw_read_te(
     const uint8_t *bytes, size_t length, struct goblin_pe_te_header *header, struct goblin_pe_section *sections, size_t section_room)
 {
     static const struct goblin_pe_te_header none;
@@ -104,6 +104,7 @@ class Package(Case):
         self.written("some.dll", BY_NAME.read_bytes())
         told = succeed([*PYTHON, "-c", "\n".join(programs)], env=self.env, cwd=self.folder)
         self.assertEqual(told.splitlines()[:3], ["b'KERNEL32.dll' b'GetTickCount'", "x86-64", "b'.text' 1.23"])
+        self.assertEqual(told.splitlines()[-1], "0 []")
 
     def test_fields_of_headers(self):
         succeed([*PYTHON, CALLERS / "python/fields.py", *IMAGES], env=self.env)
@@ -128,7 +129,7 @@ class Package(Case):
 
     def test_no_thread_runs_while_bytes_are_read_that_it_could_write(self):
         declared = set(re.findall(r'"(goblin_pe_\w+)": ', (CALLERS / "python/goblin_pe/_library.py").read_text("utf-8")))
-        others = b"".join(b"void %s(void) {}\n" % name.encode() for name in declared - {"goblin_pe_read_te"})
+        others = b"".join(b"void %s(void) {}\n" % name.encode() for name in declared - {"goblin_pe_raw_read_te"})
         made = self.folder / "tells.so"
         succeed([CC, *FLAGS, "-shared", "-fPIC", "-I", CALLERS / "c", "-o", made, self.written("tells.c", TELLS_THE_LOCK),
                  self.written("others.c", others)])

@@ -1,32 +1,43 @@
 /* PE files read by a proved library.
 
-   callers/build puts libgoblin_pe.a, libgoblin_pe.so and this header into callers/lib; the C library is
-   all else that a program needs:
+   callers/build puts libgoblin_pe.a, libgoblin_pe.so, this header and goblin_pe_constants.h into callers/lib;
+   the C library is all else that a program needs:
 
        cc -I callers/lib -o program program.c callers/lib/libgoblin_pe.a
 
-   callers/c/list.c is such a program.
+   callers/c/list.c, loader.c, patch.c and walk.c are such programs.
 
    A call reads a file that lies in memory. It borrows the caller's bytes; a text in a record is a pointer
    into those bytes and a length, so no text is copied, and the texts stay good as long as the bytes do.
    The tables of an image, and the ranges of a footprint, are memory of their own, which goblin_pe_free
    and goblin_pe_free_ranges give back; all else is filled into the caller's records.
 
-   The file offset of a text is the difference of two pointers: each lies in the file. One that is absent,
-   as its record says, or that permissive mode could not read, has no bytes and points at the file's first.
+   The file offset of a text is the difference of two pointers: each lies in the file, but for a DOS stub
+   that permissive mode replaced. One that is absent, as its record says, or that permissive mode could not
+   read, has no bytes and points at the file's first.
+
+   An address (rva) is relative to the image's base, an offset is a file offset, and both are in bytes.
+   Names such as IMAGE_SCN_* and COFF_MACHINE_* are those of goblin_pe_constants.h after GOBLIN_PE_.
 
    What a caller owes, which nothing checks:
-   - Pointers are not null, also where there are no bytes or no records: any other will do then.
-   - The bytes are as many as `length` says, and nothing changes them during the call. What is filled
-     overlaps neither itself nor the bytes.
-   - What is filled holds values before the call and is not uninitialized memory: each text in it
-     has a pointer that is not null, each bool is 0 or 1. A file, an object, a header and the records
-     without texts may be zeros; GOBLIN_PE_EMPTY_* are the other records.
+   - The bytes are as many as the length says, and nothing changes them during the call. What is filled
+     overlaps neither itself nor the bytes. A pointer may be null where its count or length is 0, and so
+     may options: then they are the default ones. No other pointer is null.
+   - A record that a call takes is as a call filled it, or its fields are set; what is filled may hold
+     anything, as nothing of it is read. Tables and ranges that are freed whatever a call answers are
+     zeros before it.
    - malloc, realloc and free are those of one allocator, and no call is made from a signal handler.
    A call may be made from any thread, and from several at once. After a refusal nothing is changed.
 
-   The fields are those of the crate goblin_pe_c, in the same order, and so are the numbers;
-   callers/layout.py compares them. */
+   How much memory a file may take is for the caller to limit, as a small file may list much: its
+   libraries may share one table of imports. 32 KiB can list a million imports, and 256 KiB 104 million,
+   7 GB of records. Where no limit can be set, open with parse_imports false, and walk over the imports by
+   goblin_pe_next_imports, with parse_imports true: it takes memory for the sections alone, and gives it
+   back; stop when it is enough.
+
+   The fields are those of the crate goblin_pe_c and of the libraries below it, in the same order, and so
+   are the numbers; callers/layout.py compares them. In C++ a record with the name of a call, such as
+   goblin_pe_damage, is named with the word struct. */
 #ifndef GOBLIN_PE_H
 #define GOBLIN_PE_H
 
@@ -34,13 +45,28 @@
 #include <stddef.h>
 #include <stdint.h>
 #include <stdlib.h>
+#include <string.h>
+
+#include "goblin_pe_constants.h"
 
 #ifdef __cplusplus
 extern "C" {
 #endif
 
 /* The version of this interface, which goblin_pe_interface answers. */
-#define GOBLIN_PE_INTERFACE 2
+#define GOBLIN_PE_INTERFACE 3
+
+/* What a file is, by its first two bytes. */
+enum goblin_pe_kind {
+    /* Neither of these. */
+    GOBLIN_PE_KIND_UNKNOWN,
+    /* An image, which begins with MZ. */
+    GOBLIN_PE_KIND_IMAGE,
+    /* An object, which begins with a machine, a COFF_MACHINE_* other than COFF_MACHINE_UNKNOWN. */
+    GOBLIN_PE_KIND_OBJECT,
+    /* A Terse Executable, which begins with VZ. */
+    GOBLIN_PE_KIND_TE
+};
 
 /* The state of a table: the file has none or it was not asked for, it was read, or it is refused and
    was passed over. */
@@ -199,7 +225,8 @@ struct goblin_pe_text {
 struct goblin_pe_options {
     /* Whether damaged parts are passed over. */
     bool is_permissive;
-    /* Whether an address is mapped to a file offset by the sections; where not, it is the offset. */
+    /* Whether an address is mapped to a file offset by the sections; where not, it is the
+       offset. */
     bool resolve_rva;
     /* Whether the mapping rounds the raw pointer of a section down to 512, as the Windows loader
        does; where not, it takes the pointer as stored. */
@@ -220,139 +247,189 @@ struct goblin_pe_fault {
     uint64_t second;
 };
 
-/* The DOS header. */
+/* The header of a DOS program, which a PE file begins with.
+
+   Source: PE Format, "MS-DOS Stub (Image Only)"; the fields are those of a DOS executable.
+   Numbers are as stored, little-endian in a file; the record has 64 bytes, and `at` gives a
+   field's file offset. A loader of PE files looks only at the signature and the pointer. */
 struct goblin_pe_dos_header {
-    /* The file offset of the PE signature. */
-    uint32_t pe_pointer;
-    /* MZ. */
+    /* MZ, at 0x00. */
     uint16_t signature;
-    /* How many bytes of the last page are used. */
+    /* How many bytes of the last page are used, at 0x02. */
     uint16_t bytes_on_last_page;
-    /* How many pages of 512 bytes the program has. */
+    /* How many pages of 512 bytes the program has, at 0x04. */
     uint16_t pages_in_file;
-    /* How many relocations there are. */
+    /* How many relocations there are, at 0x06. */
     uint16_t relocations;
-    /* The size of the header in paragraphs of 16 bytes. */
+    /* The size of the header in paragraphs of 16 bytes, at 0x08. */
     uint16_t size_of_header_in_paragraphs;
-    /* The least memory that the program needs after it, in paragraphs. */
+    /* The least memory that the program needs after it, in paragraphs, at 0x0A. */
     uint16_t minimum_extra_paragraphs_needed;
-    /* The most memory that the program asks for after it, in paragraphs. */
+    /* The most memory that the program asks for after it, in paragraphs, at 0x0C. */
     uint16_t maximum_extra_paragraphs_needed;
-    /* The stack segment at the start, relative to the program. */
+    /* The stack segment at the start, relative to the program, at 0x0E. */
     uint16_t initial_relative_ss;
-    /* The stack pointer at the start. */
+    /* The stack pointer at the start, at 0x10. */
     uint16_t initial_sp;
-    /* The checksum. */
+    /* The checksum, at 0x12. */
     uint16_t checksum;
-    /* The instruction pointer at the start. */
+    /* The instruction pointer at the start, at 0x14. */
     uint16_t initial_ip;
-    /* The code segment at the start, relative to the program. */
+    /* The code segment at the start, relative to the program, at 0x16. */
     uint16_t initial_relative_cs;
-    /* The file offset of the relocations. */
+    /* The file offset of the relocations, at 0x18. */
     uint16_t file_address_of_relocation_table;
-    /* The overlay's number. */
+    /* The overlay's number, at 0x1A. */
     uint16_t overlay_number;
-    /* Reserved. */
+    /* Reserved, at 0x1C. */
     uint16_t reserved[4];
-    /* The maker's identifier. */
+    /* The maker's identifier, at 0x24. */
     uint16_t oem_id;
-    /* What the maker says. */
+    /* What the maker says, at 0x26. */
     uint16_t oem_info;
-    /* Reserved. */
+    /* Reserved, at 0x28. */
     uint16_t reserved2[10];
+    /* The file offset of the PE signature, at 0x3C. It may lie anywhere in the file, even inside
+       the DOS header, and need not be aligned; a whole header is read in strict mode only where
+       this is at least 0x40. */
+    uint32_t pe_pointer;
 };
 
-/* The COFF header. */
+/* The header of a COFF file, or of the COFF part of an image.
+
+   Source: PE Format, "COFF File Header (Object and Image)". Numbers are as stored; the record
+   has 20 bytes, and `at` gives a field's offset in it. An object begins with it; in an image it
+   follows the PE signature. */
 struct goblin_pe_coff_header {
-    /* The machine that the file is for: 0x14c is x86, 0x8664 x86-64, 0xaa64 ARM64. */
+    /* The machine that the file is for, a COFF_MACHINE_*, at 0. No reader looks at it: the width
+       of an image is what the magic of its optional header says. */
     uint16_t machine;
-    /* How many section records follow the optional header. */
+    /* How many section records follow the optional header, at 2. The Windows loader takes at
+       most 96. */
     uint16_t number_of_sections;
-    /* When the file was made, in seconds since the start of 1970, or what its maker put there,
-       such as a hash. */
+    /* When the file was made, in seconds since the start of 1970, at 4; or what its maker put
+       there, such as a hash. */
     uint32_t time_date_stamp;
-    /* The file offset of the symbol table, 0 where there is none. */
+    /* The file offset of the symbol table, at 8; 0 where there is none, as in most images. The
+       string table follows the symbol table. */
     uint32_t pointer_to_symbol_table;
-    /* How many records the symbol table has, the auxiliary ones too. */
+    /* How many records the symbol table has, the auxiliary ones too, at 12. */
     uint32_t number_of_symbol_table;
-    /* The size of the optional header, in bytes; 0 where there is none, as in an object. It says
-       where the section table begins. */
+    /* The size of the optional header, in bytes, at 16; 0 where there is none, as in an object.
+       Only this says where the section table begins; it says nothing about the optional header's
+       own layout. */
     uint16_t size_of_optional_header;
-    /* What kind of file it is, as bits IMAGE_FILE_* (PE Format, "Characteristics"). */
+    /* What kind of file it is, as bits IMAGE_FILE_* (PE Format, "Characteristics"), at 18. */
     uint16_t characteristics;
 };
 
-/* The optional header; zeros where there is none. */
-struct goblin_pe_optional_header {
-    /* The size of the code, in bytes: the sum of all code sections. */
-    uint64_t size_of_code;
-    /* The size of the initialized data, in bytes: the sum of all such sections. */
-    uint64_t size_of_initialized_data;
-    /* The size of the uninitialized data, in bytes: the sum of all such sections. */
-    uint64_t size_of_uninitialized_data;
-    /* The address at which the code begins, relative to the image's base. */
-    uint64_t base_of_code;
-    /* The address at which the image is best loaded, a multiple of 64 KiB. Where the loader
-       takes another, it applies the base relocations. */
-    uint64_t image_base;
-    /* How much of the stack to reserve, in bytes. */
-    uint64_t size_of_stack_reserve;
-    /* How much of the stack to commit, in bytes; the rest follows page by page. */
-    uint64_t size_of_stack_commit;
-    /* How much of the heap to reserve, in bytes. */
-    uint64_t size_of_heap_reserve;
-    /* How much of the heap to commit, in bytes; the rest follows page by page. */
-    uint64_t size_of_heap_commit;
-    /* The address of the entry point, relative to the image's base; 0 where there is none, as in
-       some libraries. The loader starts there, in whatever section it lies. */
-    uint32_t address_of_entry_point;
-    /* The address at which the data begins, relative to the image's base; 0 in an image for 64
-       bits. */
-    uint32_t base_of_data;
-    /* The alignment of sections in memory, in bytes: at least the file alignment, mostly a page. */
-    uint32_t section_alignment;
-    /* The alignment of the raw data of sections in the file, in bytes: a power of two, mostly
-       512. The mapping of addresses to file offsets goes by it. */
-    uint32_t file_alignment;
-    /* Reserved, 0. */
-    uint32_t win32_version_value;
-    /* The size of the image in memory with all headers, in bytes: how much the loader reserves,
-       a multiple of the section alignment. */
-    uint32_t size_of_image;
-    /* The size of all headers together, in bytes, rounded up to the file alignment. The loader
-       maps this much of the file's front at the image's base. */
-    uint32_t size_of_headers;
-    /* The image's checksum. The loader tests that of drivers and of what is loaded at boot; no
-       reader does. */
-    uint32_t check_sum;
-    /* Reserved, 0. */
-    uint32_t loader_flags;
-    /* How many data directories follow. Readers take at most sixteen; directories past this
-       number are not there, whatever bytes follow. */
-    uint32_t number_of_rva_and_sizes;
-    /* 0x10b for 32 bits, 0x20b for 64 bits, 0 where there is no optional header. */
+/* The standard fields of an optional header of either width.
+
+   Source: PE Format, "Optional Header Standard Fields (Image Only)". `at` gives a field's offset
+   from the front of the optional header, in both widths. */
+struct goblin_pe_standard_fields {
+    /* What the optional header is, at 0: 0x10b or 0x20b. Only this says the width of the header
+       and of import entries. */
     uint16_t magic;
-    /* The major version of the system that the image needs. */
+    /* The linker's major version, at 2. */
+    uint8_t major_linker_version;
+    /* The linker's minor version, at 3. */
+    uint8_t minor_linker_version;
+    /* The size of the code, in bytes, at 4: the sum of all code sections. */
+    uint64_t size_of_code;
+    /* The size of the initialized data, in bytes, at 8: the sum of all such sections. */
+    uint64_t size_of_initialized_data;
+    /* The size of the uninitialized data, in bytes, at 12: the sum of all such sections. */
+    uint64_t size_of_uninitialized_data;
+    /* The address of the entry point, relative to the image's base, at 16; 0 where there is
+       none, as in some libraries. The loader starts there, in whatever section it lies. */
+    uint32_t address_of_entry_point;
+    /* The address at which the code begins, relative to the image's base, at 20. */
+    uint64_t base_of_code;
+    /* The address at which the data begins, relative to the image's base, at 24 in an image for
+       32 bits; 0 in one for 64 bits. */
+    uint32_t base_of_data;
+};
+
+/* The Windows fields of an optional header for 64 bits.
+
+   Source: PE Format, "Optional Header Windows-Specific Fields (Image Only)". Numbers are as
+   stored; the record has 88 bytes, and `at` gives a field's offset in it. It begins at 24 in the
+   optional header. */
+struct goblin_pe_windows_fields {
+    /* The address at which the image is best loaded, a multiple of 64 KiB, at 0. Where the
+       loader takes another, it applies the base relocations. */
+    uint64_t image_base;
+    /* The alignment of sections in memory, in bytes, at 8: at least the file alignment, mostly a
+       page. */
+    uint32_t section_alignment;
+    /* The alignment of the raw data of sections in the file, in bytes, at 12: a power of two,
+       mostly 512. The mapping of addresses to file offsets goes by it. */
+    uint32_t file_alignment;
+    /* The major version of the system that the image needs, at 16. */
     uint16_t major_operating_system_version;
-    /* The minor version of the system that the image needs. */
+    /* The minor version of the system that the image needs, at 18. */
     uint16_t minor_operating_system_version;
-    /* The image's major version. */
+    /* The image's major version, at 20. */
     uint16_t major_image_version;
-    /* The image's minor version. */
+    /* The image's minor version, at 22. */
     uint16_t minor_image_version;
-    /* The major version of the subsystem that the image needs. */
+    /* The major version of the subsystem that the image needs, at 24. */
     uint16_t major_subsystem_version;
-    /* The minor version of the subsystem that the image needs. */
+    /* The minor version of the subsystem that the image needs, at 26. */
     uint16_t minor_subsystem_version;
-    /* The subsystem that runs the image, an IMAGE_SUBSYSTEM_* (PE Format, "Windows Subsystem"). */
+    /* Reserved, 0, at 28. */
+    uint32_t win32_version_value;
+    /* The size of the image in memory with all headers, in bytes, at 32: how much the loader
+       reserves, a multiple of the section alignment. */
+    uint32_t size_of_image;
+    /* The size of all headers together, in bytes, rounded up to the file alignment, at 36. The
+       loader maps this much of the file's front at the image's base. */
+    uint32_t size_of_headers;
+    /* The image's checksum, at 40. The loader tests that of drivers and of what is loaded at
+       boot; no reader does. */
+    uint32_t check_sum;
+    /* The subsystem that runs the image, an IMAGE_SUBSYSTEM_* (PE Format, "Windows Subsystem"),
+       at 44. */
     uint16_t subsystem;
     /* What the loader may and has to do, as bits IMAGE_DLLCHARACTERISTICS_* (PE Format, "DLL
-       Characteristics"): whether it may move the image, and which guards it turns on. */
+       Characteristics"), at 46: whether it may move the image, and which guards it turns on. */
     uint16_t dll_characteristics;
-    /* The linker's major version. */
-    uint8_t major_linker_version;
-    /* The linker's minor version. */
-    uint8_t minor_linker_version;
+    /* How much of the stack to reserve, in bytes, at 48. */
+    uint64_t size_of_stack_reserve;
+    /* How much of the stack to commit, in bytes, at 56; the rest follows page by page. */
+    uint64_t size_of_stack_commit;
+    /* How much of the heap to reserve, in bytes, at 64. */
+    uint64_t size_of_heap_reserve;
+    /* How much of the heap to commit, in bytes, at 72; the rest follows page by page. */
+    uint64_t size_of_heap_commit;
+    /* Reserved, 0, at 80. */
+    uint32_t loader_flags;
+    /* How many data directories follow, at 84. Readers take at most sixteen; directories past
+       this number are not there, whatever bytes follow. */
+    uint32_t number_of_rva_and_sizes;
+};
+
+/* The optional header without its data directories; zeros where there is none. */
+struct goblin_pe_optional_header {
+    /* The standard fields, whose magic is 0 where there is no optional header. */
+    struct goblin_pe_standard_fields standard_fields;
+    /* The Windows fields; of an image for 32 bits as they are of one for 64 bits. */
+    struct goblin_pe_windows_fields windows_fields;
+};
+
+/* Where a table of an image lies.
+
+   Source: PE Format, "Optional Header Data Directories (Image Only)". Numbers are as stored; the
+   record has 8 bytes, and `at` gives a field's offset in it. */
+struct goblin_pe_data_directory {
+    /* The table's address, relative to the image's base, at 0. That of the certificates is a
+       file offset, since they are not loaded. */
+    uint32_t virtual_address;
+    /* The table's size in bytes, at 4. An import directory ends at its own last record, and a
+       value at an address by its own type, whatever the size; of an export directory the size
+       says which addresses are forwarders, of base relocations where the blocks end. */
+    uint32_t size;
 };
 
 /* An entry of the table of data directories. */
@@ -360,57 +437,57 @@ struct goblin_pe_directory {
     /* Where the entry's record ends, in bytes from the front of the optional header; 0 where
        there is no entry. */
     size_t end;
-    /* The address of what it leads to, relative to the image's base. That of the attribute
-       certificates is a file offset, since they are not loaded. */
-    uint32_t virtual_address;
-    /* The size of what it leads to, in bytes. An import directory ends at its own last record,
-       whatever the size. */
-    uint32_t size;
+    /* Where what it leads to lies; zeros where there is no entry. */
+    struct goblin_pe_data_directory directory;
     /* Whether there is such an entry, and not all of it is 0. */
     bool is_present;
 };
 
-/* Where a table of an image lies. */
-struct goblin_pe_data_directory {
-    /* The table's address, relative to the image's base. */
-    uint32_t virtual_address;
-    /* The table's size, in bytes. */
-    uint32_t size;
-};
+/* The header of a Terse Executable.
 
-/* The header of a Terse Executable, its addresses as they are in the stripped file. */
+   Source: UEFI Platform Initialization Specification, volume 1, "TE Image". Numbers are as
+   stored, but for the four that goblin_pe_read_te adjusts; the record has 40 bytes, and `at`
+   gives a field's offset in it. It replaces the headers of a PE file and keeps what a loader of
+   firmware needs of them; its addresses still count the bytes that were stripped. */
 struct goblin_pe_te_header {
-    /* The address at which the image is best loaded. */
-    uint64_t image_base;
-    /* The address of the entry point, relative to the image's base. */
-    uint32_t entry_point;
-    /* The address at which the code begins, relative to the image's base. */
-    uint32_t base_of_code;
-    /* Where the base relocations lie. */
-    struct goblin_pe_data_directory reloc_dir;
-    /* Where the debug data lies. */
-    struct goblin_pe_data_directory debug_dir;
-    /* The first two bytes, VZ in a Terse Executable. */
+    /* VZ, at 0. No reader tests it. */
     uint16_t signature;
-    /* The machine that the file is for. */
+    /* The machine that the file is for, a COFF_MACHINE_*, at 2. */
     uint16_t machine;
-    /* How many bytes were stripped from the front of the PE file; this header's 40 stand for
-       them. */
-    uint16_t stripped_size;
-    /* How many sections there are. */
+    /* How many section records follow, at 4. */
     uint8_t number_of_sections;
-    /* The subsystem that runs the image. */
+    /* The subsystem that runs the image, at 5. */
     uint8_t subsystem;
+    /* How many bytes were stripped from the front of the PE file, at 6. This header replaces
+       them, so everything after it moved forward by this minus 40. */
+    uint16_t stripped_size;
+    /* The address of the entry point, relative to the image's base, at 8; in a header that was
+       parsed, adjusted. */
+    uint32_t entry_point;
+    /* The address at which the code begins, relative to the image's base, at 12; in a header
+       that was parsed, adjusted. */
+    uint32_t base_of_code;
+    /* The address at which the image is best loaded, at 16; as stored. */
+    uint64_t image_base;
+    /* Where the base relocations lie, at 24; in a header that was parsed, with the address
+       adjusted. */
+    struct goblin_pe_data_directory reloc_dir;
+    /* Where the debug data lies, at 32; in a header that was parsed, with the address adjusted. */
+    struct goblin_pe_data_directory debug_dir;
 };
 
-/* An entry of the Rich header: a tool, and how often it was used. */
-struct goblin_pe_rich_entry {
-    /* How many files the tool made. */
-    uint32_t use_count;
-    /* The build of the tool. */
+/* An entry of a Rich header: a tool, and how often it was used.
+
+   Source: not documented by Microsoft; the layout is what linkers write. Numbers are as stored;
+   the record has 8 bytes, and `at` gives a field's offset in it. In a file its two words are
+   stored under the header's key. */
+struct goblin_pe_rich_metadata {
+    /* The build of the tool, at 0. */
     uint16_t build;
-    /* Which tool it is. */
+    /* Which tool it is, at 2. */
     uint16_t product;
+    /* How many files it made, at 4. */
+    uint32_t use_count;
 };
 
 /* The Rich header; zeros where there is none. */
@@ -423,15 +500,17 @@ struct goblin_pe_rich_header {
     struct goblin_pe_fault rest;
     /* The key, with which each stored word is the exclusive or. */
     uint32_t key;
-    /* The file offset of the first marker, DanS under the key. */
+    /* The file offset of the first marker, `DanS` under the key. */
     uint32_t start_offset;
-    /* The file offset of the second marker, Rich. */
+    /* The file offset of the second marker, `Rich`. */
     uint32_t end_offset;
     /* Whether there is a Rich header. */
     bool is_present;
 };
 
-/* A section, as its record describes it. */
+/* A section, as its record describes it.
+
+   Source: PE Format, "Section Table (Section Headers)". */
 struct goblin_pe_section {
     /* The name from the string table, where there is one; a name of more than eight bytes stands
        there. */
@@ -470,11 +549,9 @@ struct goblin_pe_import {
     struct goblin_pe_text dll;
     /* The address (not the file offset) of its own entry in the address table, where the loader
        puts the address of what is imported. */
-    size_t offset;
+    size_t slot_rva;
     /* The address of the hint and the name; 0 of an import by ordinal. */
     size_t rva;
-    /* The size of an entry of the address table, in bytes: 4 in an image for 32 bits, else 8. */
-    size_t size;
     /* The index of its entry, in the file, in the lookup table and in the address table. Entries
        that are left out count. */
     size_t slot;
@@ -485,36 +562,98 @@ struct goblin_pe_import {
     bool is_by_name;
 };
 
+/* Where a walk over imports goes on; zeros are the beginning. It may be kept, and copied. */
+struct goblin_pe_import_position {
+    /* The file offset of a library's record; SIZE_MAX where the end has been reached. */
+    size_t record;
+    /* The file offset of the slot that is read next, or 0 before the library's first. */
+    size_t slot;
+};
+
 /* An export. */
 struct goblin_pe_export {
     /* The export's name, where it can be read. */
     struct goblin_pe_text name;
     /* Of a forwarder the library, without its ending. */
-    struct goblin_pe_text lib;
+    struct goblin_pe_text forward_lib;
     /* Of a forwarder by name the name in that library. */
-    struct goblin_pe_text export_name;
+    struct goblin_pe_text forward_name;
     /* Of a forwarder by ordinal the ordinal in that library. */
+    size_t forward_ordinal;
+    /* Its own ordinal: the index of its address, and the ordinal base added. */
     size_t ordinal;
-    /* The file offset of rva, where it has one; else 0. Where the options say that addresses are
-       offsets, rva itself. */
+    /* The index of its name pointer: what imports by name give as a hint. */
+    size_t hint;
+    /* The file offset of `rva`, where it has one; else 0. Where the options say that addresses
+       are offsets, `rva` itself. */
     size_t offset;
     /* The export's address, relative to the image's base; of a forwarder that of its text. */
     size_t rva;
-    /* How many bytes it has: the tables don't say it, so 0. */
-    size_t size;
     /* Whether the name can be read. */
     bool has_name;
-    /* Whether rva has a file offset: a section maps it and the file alignment is a power of two, or
-       the options say that addresses are offsets. */
+    /* Whether `rva` has a file offset: a section maps it and the file alignment is a power of
+       two, or the options say that addresses are offsets. */
     bool has_offset;
     /* What it forwards to: a goblin_pe_forwards. */
     uint8_t forwards;
 };
 
-/* A block of base relocations, for one page of the image in memory. */
+/* An entry of the export address table. Its index and the ordinal base are the ordinal that it
+   stands for. */
+struct goblin_pe_export_address {
+    /* The address, relative to the image's base; of a forwarder that of its text; 0 where the
+       ordinal is not used. */
+    uint32_t rva;
+    /* Whether it is a forwarder: its address lies in the export directory. */
+    bool forwards;
+};
+
+/* The record that an image's exports begin with.
+
+   Source: PE Format, "Export Directory Table". Numbers are as stored; the record has 40 bytes,
+   and `at` gives a field's offset in it. Addresses are relative to the image's base. */
+struct goblin_pe_export_directory_table {
+    /* Reserved, 0, at 0. */
+    uint32_t export_flags;
+    /* When the exports were made, in seconds since the start of 1970, at 4. */
+    uint32_t time_date_stamp;
+    /* The major version, at 8. It is the maker's own. */
+    uint16_t major_version;
+    /* The minor version, at 10. */
+    uint16_t minor_version;
+    /* The address of the library's name, at 12. */
+    uint32_t name_rva;
+    /* The ordinal of the first entry of the address table, at 16; mostly 1. It is added to an
+       index to make an ordinal, and counts in no table. */
+    uint32_t ordinal_base;
+    /* How many entries the address table has, at 20. */
+    uint32_t address_table_entries;
+    /* How many entries the name pointer table has, and as many has the ordinal table, at 24. */
+    uint32_t number_of_name_pointers;
+    /* The address of the address table, at 28. */
+    uint32_t export_address_table_rva;
+    /* The address of the name pointer table, at 32. */
+    uint32_t name_pointer_rva;
+    /* The address of the ordinal table, at 36. */
+    uint32_t ordinal_table_rva;
+};
+
+/* What the export directory says of the library; zeros where the exports are not read. */
+struct goblin_pe_export_directory {
+    /* The library's own name, as it was linked, where there is a text at its address. */
+    struct goblin_pe_text name;
+    /* The record itself. */
+    struct goblin_pe_export_directory_table table;
+    /* Whether there is a text at the name's address. */
+    bool has_name;
+};
+
+/* A block of base relocations, for one page of the image in memory.
+
+   Source: PE Format, "Base Relocation Block". */
 struct goblin_pe_block {
-    /* The words, of two bytes each: the type in the high four bits, and in the low twelve the offset
-       in the page, in bytes. A byte that is left is no word. */
+    /* The words, of two bytes each: the type, an IMAGE_REL_BASED_*, in the high four bits, and
+       in the low twelve the offset in the page, in bytes. A byte that is left is no word. */
     struct goblin_pe_text words;
     /* The page's address, relative to the image's base, to which each offset is added. */
     uint32_t rva;
@@ -531,34 +670,11 @@ struct goblin_pe_table {
 };
 
 /* The base relocations. */
-struct goblin_pe_relocations {
+struct goblin_pe_base_relocations {
     /* The blocks. */
     struct goblin_pe_table blocks;
     /* Why the rest that follows the blocks is no block; its status is 0 where there is no rest. */
     struct goblin_pe_fault rest;
-};
-
-/* A symbol. */
-struct goblin_pe_symbol {
-    /* The name, from the record or the string table, where it can be read. */
-    struct goblin_pe_text name;
-    /* The index of its record in the symbol table, which also counts auxiliary records. */
-    size_t index;
-    /* The eight bytes of the name in the record. */
-    uint8_t record_name[8];
-    /* What the symbol stands for, by its section and class: mostly an offset in its section. */
-    uint32_t value;
-    /* The number of its section, counted from 1; or 0 undefined, -1 absolute, -2 for a debugger. */
-    int16_t section_number;
-    /* Its type: the base type in the low four bits, the derived type above them; 0x20 is a
-       function. */
-    uint16_t typ;
-    /* Its class: 2 external, 3 static, 103 a source file, 105 weak external. */
-    uint8_t storage_class;
-    /* How many auxiliary records follow it. */
-    uint8_t number_of_aux_symbols;
-    /* Whether the name can be read. */
-    bool has_name;
 };
 
 /* The file as a whole. */
@@ -566,16 +682,16 @@ struct goblin_pe_file {
     /* The optional header. */
     struct goblin_pe_optional_header optional_header;
     /* How many data directories there are, whatever the room: sixteen, or none where there is no
-       optional header. Records past them are those of an earlier file, if any. */
+       optional header. Records past them are not filled. */
     size_t directories;
-    /* How many sections there are, whatever the room. */
+    /* How many sections there are. */
     size_t sections;
     /* The imports. */
     struct goblin_pe_table imports;
     /* The exports. */
     struct goblin_pe_table exports;
     /* The base relocations. */
-    struct goblin_pe_relocations relocations;
+    struct goblin_pe_base_relocations relocations;
     /* The Rich header. */
     struct goblin_pe_rich_header rich_header;
     /* The DOS header. */
@@ -588,10 +704,184 @@ struct goblin_pe_file {
 struct goblin_pe_object {
     /* How many sections there are, whatever the room. */
     size_t sections;
-    /* The symbols. */
-    struct goblin_pe_table symbols;
     /* The COFF header. */
     struct goblin_pe_coff_header coff_header;
+};
+
+/* The tables of an image. Each that is not empty is a block of memory of its own, and the texts
+   in it are in the file's bytes. */
+struct goblin_pe_tables {
+    /* The entries of the Rich header. */
+    const struct goblin_pe_rich_metadata *rich_entries;
+    size_t rich_entry_count;
+    /* The sections. */
+    const struct goblin_pe_section *sections;
+    size_t section_count;
+    /* The imports. */
+    const struct goblin_pe_import *imports;
+    size_t import_count;
+    /* The exports, in the order of their name pointers. */
+    const struct goblin_pe_export *exports;
+    size_t export_count;
+    /* The entries of the export address table: that at index i has the ordinal i plus the
+       ordinal base. */
+    const struct goblin_pe_export_address *export_addresses;
+    size_t export_address_count;
+    /* The blocks of base relocations. */
+    const struct goblin_pe_block *blocks;
+    size_t block_count;
+    /* What the export directory says; zeros where the exports are not read. */
+    struct goblin_pe_export_directory export_directory;
+    /* The DOS stub, which goblin_pe_write_header takes: bytes of the file, or where permissive
+       mode could not read them a stub of the library's own. It is never freed. */
+    struct goblin_pe_text dos_stub;
+};
+
+/* A symbol, as its record describes it.
+
+   Source: PE Format, "COFF Symbol Table". Numbers are as stored; a record has 18 bytes, and `at`
+   gives a field's offset in it. */
+struct goblin_pe_symbol {
+    /* The eight bytes of the name, padded with NULs, at 0. Where the first is 0, the name is in
+       the string table, at the number in the last four, which counts from the table's length
+       field. */
+    uint8_t name[8];
+    /* What the symbol stands for, by its section and class, at 8: mostly an offset in its
+       section, in bytes. */
+    uint32_t value;
+    /* The number of its section, counted from 1, at 12; or IMAGE_SYM_UNDEFINED (0),
+       IMAGE_SYM_ABSOLUTE (-1) or IMAGE_SYM_DEBUG (-2). */
+    int16_t section_number;
+    /* Its type, at 14: an IMAGE_SYM_TYPE_* in the low four bits, an IMAGE_SYM_DTYPE_* above
+       them. Microsoft's tools store 0x20 of a function, else 0. */
+    uint16_t typ;
+    /* Its class, an IMAGE_SYM_CLASS_*, at 16. */
+    uint8_t storage_class;
+    /* How many auxiliary records follow it, at 17. The next symbol follows these. */
+    uint8_t number_of_aux_symbols;
+};
+
+/* A symbol with its name and the bytes of its auxiliary records. */
+struct goblin_pe_named_symbol {
+    /* The name, from the record or the string table, where it can be read. */
+    struct goblin_pe_text name;
+    /* The records that follow it and say more, 18 bytes each: as many as it says, or fewer where
+       the table ends before. */
+    struct goblin_pe_text auxiliary;
+    /* The index of its record in the symbol table, which also counts auxiliary records. */
+    size_t index;
+    /* The symbol, as its record describes it. */
+    struct goblin_pe_symbol symbol;
+    /* Whether the name can be read. */
+    bool has_name;
+};
+
+/* What follows a symbol that defines a function.
+
+   Source: PE Format, "Auxiliary Format 1: Function Definitions". Numbers are as stored; the
+   record has 18 bytes, and `at` gives a field's offset in it. */
+struct goblin_pe_aux_function_definition {
+    /* The index in the symbol table of the function's start, a record of class
+       IMAGE_SYM_CLASS_FUNCTION, at 0. */
+    uint32_t tag_index;
+    /* The size of the function's code, in bytes, at 4. */
+    uint32_t total_size;
+    /* The file offset of the function's first line number, at 8; 0 where it has none. */
+    uint32_t pointer_to_line_number;
+    /* The index in the symbol table of the next function's record, at 12; 0 where this is the
+       last. */
+    uint32_t pointer_to_next_function;
+    /* Not used, at 16. */
+    uint8_t unused[2];
+};
+
+/* What follows a symbol of a function's start or end.
+
+   Source: PE Format, "Auxiliary Format 2: .bf and .ef Symbols". Numbers are as stored; the
+   record has 18 bytes, and `at` gives a field's offset in it. */
+struct goblin_pe_aux_begin_and_end_function {
+    /* Not used, at 0. */
+    uint8_t unused1[4];
+    /* The line in the source file, counted from 1, at 4. */
+    uint16_t line_number;
+    /* Not used, at 6. */
+    uint8_t unused2[6];
+    /* At 12, only for a start: the index in the symbol table of the next function's start, 0
+       where this is the last. */
+    uint32_t pointer_to_next_function;
+    /* Not used, at 16. */
+    uint8_t unused3[2];
+};
+
+/* What follows a symbol that another may replace.
+
+   Source: PE Format, "Auxiliary Format 3: Weak Externals". Numbers are as stored; the record has
+   18 bytes, and `at` gives a field's offset in it. */
+struct goblin_pe_aux_weak_external {
+    /* The index in the symbol table of the symbol that is taken where this one is not found, at
+       0. */
+    uint32_t tag_index;
+    /* Where this one is looked for, an IMAGE_WEAK_EXTERN_SEARCH_*, at 4. */
+    uint32_t characteristics;
+    /* Not used, at 8. */
+    uint8_t unused[10];
+};
+
+/* What follows a symbol that defines a section.
+
+   Source: PE Format, "Auxiliary Format 5: Section Definitions". Numbers are as stored; the
+   record has 18 bytes, and `at` gives a field's offset in it. */
+struct goblin_pe_aux_section_definition {
+    /* The size of the section's data, in bytes, at 0: the same as in its section record. */
+    uint32_t length;
+    /* How many relocations the section has, at 4. */
+    uint16_t number_of_relocations;
+    /* How many line numbers the section has, at 6. */
+    uint16_t number_of_line_numbers;
+    /* The checksum of COMDAT data, at 8. */
+    uint32_t checksum;
+    /* The number, counted from 1, of the section that this one is taken with, at 12; it counts
+       if `selection` is IMAGE_COMDAT_SELECT_ASSOCIATIVE. */
+    uint16_t number;
+    /* Which of several COMDAT sections of one name is taken, an IMAGE_COMDAT_SELECT_*, at 14. */
+    uint8_t selection;
+    /* Not used, at 15. */
+    uint8_t unused[3];
+};
+
+/* A relocation of a COFF object: which bytes of a section a linker changes, and how.
+
+   Source: PE Format, "COFF Relocations (Object Only)". Numbers are as stored; the record has 10
+   bytes, and `at` gives a field's offset in it. */
+struct goblin_pe_relocation {
+    /* Where the bytes that are changed begin, at 0: their offset in the section, in bytes, plus
+       the section's own address, which is mostly 0. Of the first relocation of a section with
+       IMAGE_SCN_LNK_NRELOC_OVFL it is the number of all. */
+    uint32_t virtual_address;
+    /* The index in the symbol table of the symbol whose address is put there, at 4. */
+    uint32_t symbol_table_index;
+    /* How it is put there, at 8: an IMAGE_REL_* of the machine that the COFF header names. */
+    uint16_t typ;
+};
+
+/* What strict mode would refuse of a file, part by part: for each part a fault of the status 0
+   where strict mode would read it, or the file has no such part; else why not. */
+struct goblin_pe_damage {
+    /* The DOS stub. */
+    struct goblin_pe_fault dos_stub;
+    /* The names of the sections. */
+    struct goblin_pe_fault section_names;
+    /* The imports, if they are asked for. */
+    struct goblin_pe_fault imports;
+    /* The exports. */
+    struct goblin_pe_fault exports;
+    /* The base relocations: their directory, not its blocks. */
+    struct goblin_pe_fault relocations;
+    /* How many libraries permissive mode leaves out of the imports: those without an address
+       table. */
+    size_t left_out_libraries;
+    /* How many entries of the other libraries it leaves out. */
+    size_t left_out_entries;
 };
 
 /* A range of the file. */
@@ -602,124 +892,382 @@ struct goblin_pe_range {
     size_t length;
 };
 
-/* Strictly, with addresses mapped by the sections from their raw pointers as stored, and imports. */
-#define GOBLIN_PE_DEFAULT_OPTIONS { false, true, false, true }
-
-/* Records that may be filled. */
-static const uint8_t goblin_pe_no_bytes[1] = { 0 };
-#define GOBLIN_PE_NO_TEXT { goblin_pe_no_bytes, 0 }
-#define GOBLIN_PE_EMPTY_SECTION \
-    { GOBLIN_PE_NO_TEXT, { 0 }, 0, 0, 0, 0, 0, 0, 0, 0, 0, false }
-#define GOBLIN_PE_EMPTY_SYMBOL \
-    { GOBLIN_PE_NO_TEXT, 0, { 0 }, 0, 0, 0, 0, 0, false }
-
-/* The version of this interface as the library was built with it. */
-uint32_t goblin_pe_interface(void);
-
-/* The tables of an image. Each that is not empty is a block of memory of its own, and the texts in it
-   are in the file's bytes. */
-struct goblin_pe_tables {
-    const struct goblin_pe_rich_entry *rich_entries;
-    size_t rich_entry_count;
-    const struct goblin_pe_section *sections;
-    size_t section_count;
-    const struct goblin_pe_import *imports;
-    size_t import_count;
-    const struct goblin_pe_export *exports;
-    size_t export_count;
-    const struct goblin_pe_block *blocks;
-    size_t block_count;
-};
-
-/* Tables of nothing, to be filled. */
-static const uint64_t goblin_pe_no_table[1] = { 0 };
-#define GOBLIN_PE_NO_TABLE(kind) (const struct goblin_pe_##kind *)(const void *)goblin_pe_no_table, 0
-#define GOBLIN_PE_NO_TABLES \
-    { GOBLIN_PE_NO_TABLE(rich_entry), GOBLIN_PE_NO_TABLE(section), GOBLIN_PE_NO_TABLE(import), \
-      GOBLIN_PE_NO_TABLE(export), GOBLIN_PE_NO_TABLE(block) }
-
-/* Reads an image once: says in `file` what it is, fills the records of its data directories as far as
-   there is room (a file has sixteen or none), and puts all other tables into `tables`, each whole. The
-   tables that stood there before are not freed. After a refusal nothing is to be freed. */
-struct goblin_pe_fault goblin_pe_open(
-    const uint8_t *bytes, size_t length, const struct goblin_pe_options *options,
-    struct goblin_pe_file *file,
-    struct goblin_pe_directory *directories, size_t directory_room,
-    struct goblin_pe_tables *tables);
-
-/* Frees the tables of an image, and leaves tables of nothing. */
-static inline void goblin_pe_free(struct goblin_pe_tables *tables)
-{
-    static const struct goblin_pe_tables none = GOBLIN_PE_NO_TABLES;
-    if (tables->rich_entry_count)
-        free((void *)tables->rich_entries);
-    if (tables->section_count)
-        free((void *)tables->sections);
-    if (tables->import_count)
-        free((void *)tables->imports);
-    if (tables->export_count)
-        free((void *)tables->exports);
-    if (tables->block_count)
-        free((void *)tables->blocks);
-    *tables = none;
-}
-
-/* Ranges of the file: a block of memory of its own where there is any. */
+/* Ranges of the file: a block of memory of its own, or none where there is no range. */
 struct goblin_pe_ranges {
+    /* The ranges. */
     const struct goblin_pe_range *ranges;
     size_t range_count;
 };
 
-/* Ranges of nothing, to be filled. */
-#define GOBLIN_PE_NO_RANGES { GOBLIN_PE_NO_TABLE(range) }
+/* An image, by what maps its addresses. */
+struct goblin_pe_image {
+    /* The file's bytes. */
+    struct goblin_pe_text bytes;
+    /* The records of its sections, in the order of the section table. */
+    const struct goblin_pe_section *sections;
+    size_t section_count;
+    /* Its file alignment, in bytes. */
+    uint32_t file_alignment;
+    /* Whether addresses are mapped, and by which rule for raw pointers; all else is not looked
+       at. */
+    struct goblin_pe_options options;
+};
 
-/* Puts into `ranges` the bytes of a file on which its imports depend, by what goblin_pe_open said of it:
-   its optional header, its directory GOBLIN_PE_DIRECTORY_IMPORT_TABLE (one of zeros where the file has
-   no directories) and its sections. A file of the same length with the same bytes in these ranges, and
-   with the same header, directory and sections, has the same imports. The ranges come in no order and
-   may overlap; none passes the file. Whether imports are asked for makes no difference. The ranges that
-   stood there before are not freed. Refused is memory alone, and only where there is a directory;
-   nothing is to be freed then. */
-struct goblin_pe_fault goblin_pe_footprint_imports(
+/* The data of a section, as it is in memory. */
+struct goblin_pe_section_data {
+    /* The bytes that the file has of it. */
+    struct goblin_pe_text bytes;
+    /* How many zeros follow them. */
+    size_t zeros;
+};
+
+/* The library's own calls, for those who declare them in another language. As the calls below, which are
+   made of them, but none of their pointers may be null. */
+
+uint32_t goblin_pe_interface(void);
+struct goblin_pe_fault goblin_pe_raw_open(
+    const uint8_t *bytes, size_t length, const struct goblin_pe_options *options, struct goblin_pe_file *file,
+    struct goblin_pe_directory *directories, size_t directory_room, struct goblin_pe_tables *tables);
+struct goblin_pe_fault goblin_pe_raw_damage(
+    const uint8_t *bytes, size_t length, const struct goblin_pe_options *options, struct goblin_pe_damage *damage);
+struct goblin_pe_fault goblin_pe_raw_footprint(
+    const uint8_t *bytes, size_t length, const struct goblin_pe_options *options, struct goblin_pe_ranges *ranges);
+struct goblin_pe_fault goblin_pe_raw_next_imports(
     const uint8_t *bytes, size_t length, const struct goblin_pe_options *options,
-    const struct goblin_pe_optional_header *optional_header,
-    const struct goblin_pe_directory *directory,
-    const struct goblin_pe_section *sections, size_t section_count,
-    struct goblin_pe_ranges *ranges);
+    struct goblin_pe_import_position *position, struct goblin_pe_import *imports, size_t room, size_t *count);
+struct goblin_pe_fault goblin_pe_raw_next_exports(
+    const uint8_t *bytes, size_t length, const struct goblin_pe_options *options, size_t *position,
+    struct goblin_pe_export *exports, size_t room, size_t *count);
+struct goblin_pe_fault goblin_pe_raw_read_object(
+    const uint8_t *bytes, size_t length, const struct goblin_pe_options *options, struct goblin_pe_object *object,
+    struct goblin_pe_section *sections, size_t room);
+struct goblin_pe_fault goblin_pe_raw_read_te(
+    const uint8_t *bytes, size_t length, struct goblin_pe_te_header *header, struct goblin_pe_section *sections,
+    size_t room);
+struct goblin_pe_fault goblin_pe_raw_next_symbols(
+    const uint8_t *bytes, size_t length, const struct goblin_pe_coff_header *header, size_t *position,
+    struct goblin_pe_named_symbol *symbols, size_t room, size_t *count);
+bool goblin_pe_raw_aux_function_definition(
+    const uint8_t *bytes, size_t length, struct goblin_pe_aux_function_definition *record);
+bool goblin_pe_raw_aux_begin_and_end_function(
+    const uint8_t *bytes, size_t length, struct goblin_pe_aux_begin_and_end_function *record);
+bool goblin_pe_raw_aux_weak_external(const uint8_t *bytes, size_t length, struct goblin_pe_aux_weak_external *record);
+bool goblin_pe_raw_aux_section_definition(
+    const uint8_t *bytes, size_t length, struct goblin_pe_aux_section_definition *record);
+bool goblin_pe_raw_aux_file(const uint8_t *bytes, size_t length, struct goblin_pe_text *name);
+struct goblin_pe_fault goblin_pe_raw_read_relocations(
+    const uint8_t *bytes, size_t length, const struct goblin_pe_section *section,
+    struct goblin_pe_relocation *relocations, size_t room, size_t *count);
+struct goblin_pe_fault goblin_pe_raw_section_data(
+    const uint8_t *bytes, size_t length, const struct goblin_pe_section *section, struct goblin_pe_section_data *data);
+bool goblin_pe_raw_find_offset(const struct goblin_pe_image *image, size_t rva, size_t *offset);
+bool goblin_pe_raw_text_at(const struct goblin_pe_image *image, size_t rva, struct goblin_pe_text *text);
+bool goblin_pe_raw_bytes_at(const struct goblin_pe_image *image, size_t rva, size_t size, struct goblin_pe_text *bytes);
+struct goblin_pe_fault goblin_pe_raw_write_header(
+    const struct goblin_pe_file *file, const struct goblin_pe_directory *directories, size_t directory_count,
+    const uint8_t *stub, size_t stub_length, uint8_t *out, size_t room, size_t *written);
+struct goblin_pe_fault goblin_pe_raw_write_section(
+    const struct goblin_pe_section *section, uint8_t *out, size_t room, size_t *written);
+struct goblin_pe_fault goblin_pe_raw_set_name_offset(struct goblin_pe_section *section, size_t offset);
+uint32_t goblin_pe_raw_kind(const uint8_t *bytes, size_t length);
+size_t goblin_pe_raw_fault_text(const struct goblin_pe_fault *fault, uint8_t *text, size_t room);
 
-/* Frees the ranges of a footprint, and leaves ranges of nothing. */
-static inline void goblin_pe_free_ranges(struct goblin_pe_ranges *ranges)
+/* Strictly, with addresses mapped by the sections from their raw pointers as stored, and imports. */
+#define GOBLIN_PE_DEFAULT_OPTIONS { false, true, false, true }
+
+/* The options, or the default ones in place of a null pointer. */
+static inline const struct goblin_pe_options *goblin_pe_options_or_default(const struct goblin_pe_options *options)
 {
-    static const struct goblin_pe_ranges none = GOBLIN_PE_NO_RANGES;
-    if (ranges->range_count)
-        free((void *)ranges->ranges);
-    *ranges = none;
+    static const struct goblin_pe_options by_default = GOBLIN_PE_DEFAULT_OPTIONS;
+    return options ? options : &by_default;
 }
 
-/* Reads an object, which begins with a COFF header; only the mode of the options counts. */
-struct goblin_pe_fault goblin_pe_read_object(
+/* A place of no bytes and no records, in place of a null pointer. */
+static inline void *goblin_pe_nowhere(void)
+{
+    static uint64_t nowhere[1];
+    return nowhere;
+}
+#define GOBLIN_PE_SOME(kind, pointer) ((pointer) ? (pointer) : (kind *)goblin_pe_nowhere())
+#define GOBLIN_PE_BYTES(pointer) GOBLIN_PE_SOME(const uint8_t, pointer)
+
+/* What a file is, by its first two bytes: a goblin_pe_kind. */
+static inline uint32_t goblin_pe_kind(const uint8_t *bytes, size_t length)
+{
+    return goblin_pe_raw_kind(GOBLIN_PE_BYTES(bytes), length);
+}
+
+/* Reads an image once: says in `file` what it is, fills the records of its data directories as far as
+   there is room (a file has sixteen or none), and puts all other tables into `tables`, each whole. The
+   tables that stood there before are not freed. After a refusal nothing is to be freed. Memory is taken
+   for the tables. */
+static inline struct goblin_pe_fault goblin_pe_open(
+    const uint8_t *bytes, size_t length, const struct goblin_pe_options *options, struct goblin_pe_file *file,
+    struct goblin_pe_directory *directories, size_t directory_room, struct goblin_pe_tables *tables)
+{
+    return goblin_pe_raw_open(
+        GOBLIN_PE_BYTES(bytes), length, goblin_pe_options_or_default(options), file,
+        GOBLIN_PE_SOME(struct goblin_pe_directory, directories), directory_room, tables);
+}
+
+/* Frees a block of so many records. */
+static inline void goblin_pe_free_block(const void *block, size_t count)
+{
+    if (count)
+        free((void *)(uintptr_t)block);
+}
+
+/* Frees the tables of an image, and leaves zeros. Tables of zeros have nothing to be freed. */
+static inline void goblin_pe_free(struct goblin_pe_tables *tables)
+{
+    goblin_pe_free_block(tables->rich_entries, tables->rich_entry_count);
+    goblin_pe_free_block(tables->sections, tables->section_count);
+    goblin_pe_free_block(tables->imports, tables->import_count);
+    goblin_pe_free_block(tables->exports, tables->export_count);
+    goblin_pe_free_block(tables->export_addresses, tables->export_address_count);
+    goblin_pe_free_block(tables->blocks, tables->block_count);
+    memset(tables, 0, sizeof *tables);
+}
+
+/* Tells what strict mode would refuse of an image, part by part, each for itself, where its header and its
+   sections are read as the options say; a file without damage is one that strict mode reads. Refused are a
+   header or sections that these options refuse, and memory, which is taken for the sections and what maps
+   the addresses, and given back. */
+static inline struct goblin_pe_fault goblin_pe_damage(
+    const uint8_t *bytes, size_t length, const struct goblin_pe_options *options, struct goblin_pe_damage *damage)
+{
+    return goblin_pe_raw_damage(GOBLIN_PE_BYTES(bytes), length, goblin_pe_options_or_default(options), damage);
+}
+
+/* Puts into `ranges` the bytes of a file on which goblin_pe_open by these options depends: of two files of
+   one length with the same bytes there, both have the same header, sections and tables, or both are refused,
+   not always for the same cause. A file that is refused has a footprint, too. The ranges come in no order and
+   may overlap; none is empty, and none passes the file. Those that stood there before are not freed. Refused
+   is memory alone; nothing is to be freed then. */
+static inline struct goblin_pe_fault goblin_pe_footprint(
+    const uint8_t *bytes, size_t length, const struct goblin_pe_options *options, struct goblin_pe_ranges *ranges)
+{
+    return goblin_pe_raw_footprint(GOBLIN_PE_BYTES(bytes), length, goblin_pe_options_or_default(options), ranges);
+}
+
+/* Frees the ranges of a footprint, and leaves zeros. */
+static inline void goblin_pe_free_ranges(struct goblin_pe_ranges *ranges)
+{
+    goblin_pe_free_block(ranges->ranges, ranges->range_count);
+    memset(ranges, 0, sizeof *ranges);
+}
+
+/* Goes on with the walk over the imports of an image from `position`: fills as many records as there is
+   room for, says in `count` how many, and leaves in `position` where the next call goes on. The count 0
+   without a refusal is the end, where there is room; so it is of a file without imports, where these are not
+   asked for, and where permissive mode passes over a refused directory. In strict mode the walk ends with a
+   refusal where goblin_pe_open has one; what comes before it is given first. Each call reads the header and the
+   sections anew, so room for some hundreds is better than for one. Memory is taken for the sections and what
+   maps the addresses, and given back. */
+static inline struct goblin_pe_fault goblin_pe_next_imports(
     const uint8_t *bytes, size_t length, const struct goblin_pe_options *options,
-    struct goblin_pe_object *object,
-    struct goblin_pe_section *sections, size_t section_room,
-    struct goblin_pe_symbol *symbols, size_t symbol_room);
+    struct goblin_pe_import_position *position, struct goblin_pe_import *imports, size_t room, size_t *count)
+{
+    return goblin_pe_raw_next_imports(
+        GOBLIN_PE_BYTES(bytes), length, goblin_pe_options_or_default(options), position,
+        GOBLIN_PE_SOME(struct goblin_pe_import, imports), room, count);
+}
+
+/* Goes on with the walk over the exports of an image, as goblin_pe_next_imports does over imports. The
+   position is the index of a name pointer, 0 at the beginning. */
+static inline struct goblin_pe_fault goblin_pe_next_exports(
+    const uint8_t *bytes, size_t length, const struct goblin_pe_options *options, size_t *position,
+    struct goblin_pe_export *exports, size_t room, size_t *count)
+{
+    return goblin_pe_raw_next_exports(
+        GOBLIN_PE_BYTES(bytes), length, goblin_pe_options_or_default(options), position,
+        GOBLIN_PE_SOME(struct goblin_pe_export, exports), room, count);
+}
+
+/* Reads an object, which begins with a COFF header: says in `object` how many sections there are, and fills
+   their records as far as there is room. Of the options only the mode counts. Memory is taken for the
+   sections, and given back. */
+static inline struct goblin_pe_fault goblin_pe_read_object(
+    const uint8_t *bytes, size_t length, const struct goblin_pe_options *options, struct goblin_pe_object *object,
+    struct goblin_pe_section *sections, size_t room)
+{
+    return goblin_pe_raw_read_object(
+        GOBLIN_PE_BYTES(bytes), length, goblin_pe_options_or_default(options), object,
+        GOBLIN_PE_SOME(struct goblin_pe_section, sections), room);
+}
 
 /* Reads a Terse Executable: its header, which says how many sections there are, and those as far as
-   there is room. The signature is not looked at. */
-struct goblin_pe_fault goblin_pe_read_te(
-    const uint8_t *bytes, size_t length, struct goblin_pe_te_header *header,
-    struct goblin_pe_section *sections, size_t section_room);
+   there is room. The signature is not looked at. Memory is taken for the sections, and given back. */
+static inline struct goblin_pe_fault goblin_pe_read_te(
+    const uint8_t *bytes, size_t length, struct goblin_pe_te_header *header, struct goblin_pe_section *sections,
+    size_t room)
+{
+    return goblin_pe_raw_read_te(
+        GOBLIN_PE_BYTES(bytes), length, header, GOBLIN_PE_SOME(struct goblin_pe_section, sections), room);
+}
 
-/* Puts the file offset of an address into `offset`, and answers whether there is one: by sections that
-   were filled in and the file alignment of the optional header. There is none where no section maps
-   the address or the alignment is no power of two; where the options say that addresses are offsets,
-   it is the address itself. */
-bool goblin_pe_find_offset(
-    size_t rva, const struct goblin_pe_section *sections, size_t section_count,
-    uint32_t file_alignment, const struct goblin_pe_options *options, size_t *offset);
+/* Goes on with the walk over the symbols of an image or an object, by its COFF header, from the record at
+   the index `position` on, 0 at the beginning: fills as many records as there is room for, says in `count`
+   how many, and leaves in `position` the index of the record that is read next. The count 0 without a refusal
+   is the end, where there is room; so it is of a file without a symbol table. The record at the position is
+   read as a symbol, even where it is an auxiliary one of the symbol before it. Refused is a file that is too
+   short for its symbol table or the string table after it, and one whose string table is not UTF-8. No memory
+   is taken. */
+static inline struct goblin_pe_fault goblin_pe_next_symbols(
+    const uint8_t *bytes, size_t length, const struct goblin_pe_coff_header *header, size_t *position,
+    struct goblin_pe_named_symbol *symbols, size_t room, size_t *count)
+{
+    return goblin_pe_raw_next_symbols(
+        GOBLIN_PE_BYTES(bytes), length, header, position, GOBLIN_PE_SOME(struct goblin_pe_named_symbol, symbols), room,
+        count);
+}
+
+/* Reads the first auxiliary record of a symbol, by the kind that its class says; each answers false, and
+   changes nothing, where there are fewer than the 18 bytes of one. */
+static inline bool goblin_pe_aux_function_definition(
+    struct goblin_pe_text auxiliary, struct goblin_pe_aux_function_definition *record)
+{
+    return goblin_pe_raw_aux_function_definition(GOBLIN_PE_BYTES(auxiliary.bytes), auxiliary.length, record);
+}
+
+static inline bool goblin_pe_aux_begin_and_end_function(
+    struct goblin_pe_text auxiliary, struct goblin_pe_aux_begin_and_end_function *record)
+{
+    return goblin_pe_raw_aux_begin_and_end_function(GOBLIN_PE_BYTES(auxiliary.bytes), auxiliary.length, record);
+}
+
+static inline bool goblin_pe_aux_weak_external(
+    struct goblin_pe_text auxiliary, struct goblin_pe_aux_weak_external *record)
+{
+    return goblin_pe_raw_aux_weak_external(GOBLIN_PE_BYTES(auxiliary.bytes), auxiliary.length, record);
+}
+
+static inline bool goblin_pe_aux_section_definition(
+    struct goblin_pe_text auxiliary, struct goblin_pe_aux_section_definition *record)
+{
+    return goblin_pe_raw_aux_section_definition(GOBLIN_PE_BYTES(auxiliary.bytes), auxiliary.length, record);
+}
+
+/* The name of a source file, up to its padding, in the auxiliary records of a symbol of class
+   IMAGE_SYM_CLASS_FILE, up to a NUL or the end of the records; false, and nothing changed, where there is
+   none, or it is not UTF-8. */
+static inline bool goblin_pe_aux_file(struct goblin_pe_text auxiliary, struct goblin_pe_text *name)
+{
+    return goblin_pe_raw_aux_file(GOBLIN_PE_BYTES(auxiliary.bytes), auxiliary.length, name);
+}
+
+/* Reads the relocations of a section of an object: says in `count` how many there are, and fills as many
+   records as there is room for. These are as many as the section's record says, at most 65,535. Refused is a
+   file that is too short for them. No memory is taken. */
+static inline struct goblin_pe_fault goblin_pe_read_relocations(
+    const uint8_t *bytes, size_t length, const struct goblin_pe_section *section,
+    struct goblin_pe_relocation *relocations, size_t room, size_t *count)
+{
+    return goblin_pe_raw_read_relocations(
+        GOBLIN_PE_BYTES(bytes), length, section, GOBLIN_PE_SOME(struct goblin_pe_relocation, relocations), room, count);
+}
+
+/* The data of a section: its bytes in the file, from its raw pointer as stored, and how many zeros follow
+   them up to the size in memory; none where the file has at least as many bytes, which are not cut then.
+   Refused is a file that is too short for it. No memory is taken. */
+static inline struct goblin_pe_fault goblin_pe_section_data(
+    const uint8_t *bytes, size_t length, const struct goblin_pe_section *section, struct goblin_pe_section_data *data)
+{
+    return goblin_pe_raw_section_data(GOBLIN_PE_BYTES(bytes), length, section, data);
+}
+
+/* What maps the addresses of an image that was opened. */
+static inline struct goblin_pe_image goblin_pe_image_of(
+    const uint8_t *bytes, size_t length, const struct goblin_pe_options *options, const struct goblin_pe_file *file,
+    const struct goblin_pe_tables *tables)
+{
+    struct goblin_pe_image image;
+    image.bytes.bytes = GOBLIN_PE_BYTES(bytes);
+    image.bytes.length = length;
+    image.sections = GOBLIN_PE_SOME(const struct goblin_pe_section, tables->sections);
+    image.section_count = tables->section_count;
+    image.file_alignment = file->optional_header.windows_fields.file_alignment;
+    image.options = *goblin_pe_options_or_default(options);
+    return image;
+}
+
+/* Puts the file offset of an address into `offset`, and answers whether there is one. There is none where no
+   section maps the address or the alignment is no power of two; where the options say that addresses are
+   offsets, it is the address itself. It can lie past the file's end. */
+static inline bool goblin_pe_find_offset(const struct goblin_pe_image *image, size_t rva, size_t *offset)
+{
+    return goblin_pe_raw_find_offset(image, rva, offset);
+}
+
+/* The text at an address, up to its NUL or the end of the file, and whether there is one: the address has an
+   offset in the file, and UTF-8 stands there. */
+static inline bool goblin_pe_text_at(const struct goblin_pe_image *image, size_t rva, struct goblin_pe_text *text)
+{
+    return goblin_pe_raw_text_at(image, rva, text);
+}
+
+/* So many bytes at an address, and whether there are as many: the address has an offset in the file, and
+   none of them passes the file's end. The end of a section is not looked at. */
+static inline bool goblin_pe_bytes_at(
+    const struct goblin_pe_image *image, size_t rva, size_t size, struct goblin_pe_text *bytes)
+{
+    return goblin_pe_raw_bytes_at(image, rva, size, bytes);
+}
+
+/* Writes the header of an image to the front of `out`, and says in `written` how many bytes it has: the DOS
+   header, the stub, the PE signature, the COFF header, and an optional header with sixteen data directories
+   unless file->directories is 0. Where strict mode read them, these are the bytes of the file up to the last
+   of its directories. The stub may not lie in `out`. Refused are a magic that is neither of the two, a field
+   that does not fit an optional header for 32 bits, and too little room; nothing is written then. */
+static inline struct goblin_pe_fault goblin_pe_write_header(
+    const struct goblin_pe_file *file, const struct goblin_pe_directory *directories, size_t directory_count,
+    struct goblin_pe_text stub, uint8_t *out, size_t room, size_t *written)
+{
+    return goblin_pe_raw_write_header(
+        file, GOBLIN_PE_SOME(const struct goblin_pe_directory, directories), directory_count,
+        GOBLIN_PE_BYTES(stub.bytes), stub.length, GOBLIN_PE_SOME(uint8_t, out), room, written);
+}
+
+/* Writes the record of a section with its eight bytes of name to the front of `out`, and says in `written`
+   that these are 40 bytes. Refused is too little room. */
+static inline struct goblin_pe_fault goblin_pe_write_section(
+    const struct goblin_pe_section *section, uint8_t *out, size_t room, size_t *written)
+{
+    return goblin_pe_raw_write_section(section, GOBLIN_PE_SOME(uint8_t, out), room, written);
+}
+
+/* Puts a short name, of at most eight bytes, into the record of a section, which has none from the string
+   table then; a record of zeros is one that calls take from then on. Answers whether it is short enough; where
+   not, nothing is changed. */
+static inline bool goblin_pe_set_name(struct goblin_pe_section *section, const char *text, size_t length)
+{
+    if (length > sizeof section->name)
+        return false;
+    memset(section->name, 0, sizeof section->name);
+    if (length)
+        memcpy(section->name, text, length);
+    section->real_name.bytes = GOBLIN_PE_BYTES(section->real_name.bytes);
+    section->real_name.length = 0;
+    section->has_real_name = false;
+    return true;
+}
+
+/* Puts into the eight bytes of name of a section that its name stands at this offset of the string table.
+   Refused is an offset that they can't hold. */
+static inline struct goblin_pe_fault goblin_pe_set_name_offset(struct goblin_pe_section *section, size_t offset)
+{
+    return goblin_pe_raw_set_name_offset(section, offset);
+}
 
 /* Writes the text of a refusal, without a NUL, as far as there is room, and answers how long the whole
    text is; 0 where there is none. None is longer than 160 bytes. */
-size_t goblin_pe_fault_text(const struct goblin_pe_fault *fault, uint8_t *text, size_t room);
+static inline size_t goblin_pe_fault_text(const struct goblin_pe_fault *fault, uint8_t *text, size_t room)
+{
+    return goblin_pe_raw_fault_text(fault, GOBLIN_PE_SOME(uint8_t, text), room);
+}
+
+#undef GOBLIN_PE_BYTES
+#undef GOBLIN_PE_SOME
 
 #ifdef __cplusplus
 }

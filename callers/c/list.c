@@ -62,17 +62,6 @@ static uint8_t *whole(const char *path, size_t *length)
     return bytes;
 }
 
-/* Records, one more than asked for so that the pointer is not null, each a copy of an empty one. */
-static void *records(size_t count, const void *empty, size_t size)
-{
-    char *all = malloc((count + 1) * size);
-    if (!all)
-        exit(3);
-    for (size_t i = 0; i <= count; i++)
-        memcpy(all + i * size, empty, size);
-    return all;
-}
-
 static int refused(struct goblin_pe_fault fault)
 {
     uint8_t text[160];
@@ -81,9 +70,6 @@ static int refused(struct goblin_pe_fault fault)
             (const char *)text);
     return 1;
 }
-
-static const struct goblin_pe_section no_section = GOBLIN_PE_EMPTY_SECTION;
-static const struct goblin_pe_symbol no_symbol = GOBLIN_PE_EMPTY_SYMBOL;
 
 static void put_sections(const struct goblin_pe_section *sections, size_t count)
 {
@@ -96,12 +82,13 @@ static void put_sections(const struct goblin_pe_section *sections, size_t count)
     }
 }
 
-static void put_imports(const struct goblin_pe_import *imports, size_t count)
+/* An entry of the address table has as many bytes as an address. */
+static void put_imports(const struct goblin_pe_import *imports, size_t count, size_t size)
 {
     for (size_t i = 0; i < count; i++) {
         const struct goblin_pe_import *x = &imports[i];
-        printf("import offset=0x%zx ordinal=%u rva=0x%zx size=%zu slot=%zu", x->offset, x->ordinal,
-               x->rva, x->size, x->slot);
+        printf("import offset=0x%zx ordinal=%u rva=0x%zx size=%zu slot=%zu", x->slot_rva,
+               x->ordinal, x->rva, size, x->slot);
         put(" dll=", x->dll);
         if (x->is_by_name)
             put(" name=", x->name);
@@ -119,11 +106,11 @@ static void put_exports(const struct goblin_pe_export *exports, size_t count)
         if (x->has_offset)
             printf(" offset=0x%zx", x->offset);
         if (x->forwards)
-            put(" forward=", x->lib);
+            put(" forward=", x->forward_lib);
         if (x->forwards == GOBLIN_PE_FORWARDS_NAME)
-            put(".", x->export_name);
+            put(".", x->forward_name);
         if (x->forwards == GOBLIN_PE_FORWARDS_ORDINAL)
-            printf(".#%zu", x->ordinal);
+            printf(".#%zu", x->forward_ordinal);
         if (x->has_name)
             put(" name=", x->name);
         putchar('\n');
@@ -133,22 +120,20 @@ static void put_exports(const struct goblin_pe_export *exports, size_t count)
 static int list_image(const uint8_t *bytes, size_t length, bool is_permissive)
 {
     struct goblin_pe_options options = GOBLIN_PE_DEFAULT_OPTIONS;
-    struct goblin_pe_file file = { 0 };
-    struct goblin_pe_directory no_directory = { 0 };
-    struct goblin_pe_tables tables = GOBLIN_PE_NO_TABLES;
+    struct goblin_pe_file file;
+    struct goblin_pe_tables tables;
     options.is_permissive = is_permissive;
-    struct goblin_pe_fault fault =
-        goblin_pe_open(bytes, length, &options, &file, &no_directory, 0, &tables);
+    struct goblin_pe_fault fault = goblin_pe_open(bytes, length, &options, &file, NULL, 0, &tables);
     if (fault.status != GOBLIN_PE_OK)
         return refused(fault);
+    const struct goblin_pe_standard_fields *standard = &file.optional_header.standard_fields;
     printf("header machine=0x%x sections=%zu", file.coff_header.machine, file.sections);
     if (file.coff_header.size_of_optional_header)
-        printf(" magic=0x%x entry=0x%x", file.optional_header.magic,
-               file.optional_header.address_of_entry_point);
+        printf(" magic=0x%x entry=0x%x", standard->magic, standard->address_of_entry_point);
     putchar('\n');
     put_sections(tables.sections, tables.section_count);
     put_table("imports", file.imports);
-    put_imports(tables.imports, tables.import_count);
+    put_imports(tables.imports, tables.import_count, standard->magic == 0x20b ? 8 : 4);
     put_table("exports", file.exports);
     put_exports(tables.exports, tables.export_count);
     put_table("relocations", file.relocations.blocks);
@@ -161,59 +146,68 @@ static int list_image(const uint8_t *bytes, size_t length, bool is_permissive)
     return 0;
 }
 
+/* The symbols, some at a time; the fault of the call that was refused, if any. */
+static struct goblin_pe_fault put_symbols(const uint8_t *bytes, size_t length,
+                                          const struct goblin_pe_coff_header *header)
+{
+    struct goblin_pe_named_symbol symbols[16];
+    struct goblin_pe_fault fault;
+    size_t position = 0, count = 0;
+    do {
+        fault = goblin_pe_next_symbols(bytes, length, header, &position, symbols, 16, &count);
+        for (size_t i = 0; fault.status == GOBLIN_PE_OK && i < count; i++) {
+            const struct goblin_pe_symbol *s = &symbols[i].symbol;
+            printf("symbol %zu value=%u section=%d class=%u aux=%u", symbols[i].index, s->value,
+                   s->section_number, s->storage_class, s->number_of_aux_symbols);
+            put(" name=", symbols[i].name);
+            putchar('\n');
+        }
+    } while (fault.status == GOBLIN_PE_OK && count);
+    return fault;
+}
+
 static int list_symbols(const uint8_t *bytes, size_t length)
 {
-    struct goblin_pe_options options = GOBLIN_PE_DEFAULT_OPTIONS;
-    struct goblin_pe_object object = { 0 };
-    struct goblin_pe_section *sections = records(0, &no_section, sizeof no_section);
-    struct goblin_pe_symbol *symbols = records(0, &no_symbol, sizeof no_symbol);
-    struct goblin_pe_fault fault =
-        goblin_pe_read_object(bytes, length, &options, &object, sections, 0, symbols, 0);
+    struct goblin_pe_object object;
+    struct goblin_pe_section *sections = NULL;
+    struct goblin_pe_fault fault = goblin_pe_read_object(bytes, length, NULL, &object, NULL, 0);
     if (fault.status == GOBLIN_PE_OK) {
-        free(sections);
-        free(symbols);
-        sections = records(object.sections, &no_section, sizeof no_section);
-        symbols = records(object.symbols.count, &no_symbol, sizeof no_symbol);
-        fault = goblin_pe_read_object(bytes, length, &options, &object, sections, object.sections,
-                                      symbols, object.symbols.count);
+        sections = malloc((object.sections + 1) * sizeof *sections);
+        if (!sections)
+            return 3;
+        fault = goblin_pe_read_object(bytes, length, NULL, &object, sections, object.sections);
     }
-    for (size_t i = 0; fault.status == GOBLIN_PE_OK && i < object.symbols.count; i++) {
-        const struct goblin_pe_symbol *s = &symbols[i];
-        printf("symbol %zu value=%u section=%d class=%u aux=%u", s->index, s->value,
-               s->section_number, s->storage_class, s->number_of_aux_symbols);
-        put(" name=", s->name);
-        putchar('\n');
-    }
+    if (fault.status == GOBLIN_PE_OK)
+        fault = put_symbols(bytes, length, &object.coff_header);
     for (size_t i = 0; fault.status == GOBLIN_PE_OK && i < object.sections; i++)
         if (sections[i].number_of_relocations) {
             put("relocations ", section_name(&sections[i]));
             printf(" %u\n", sections[i].number_of_relocations);
         }
     free(sections);
-    free(symbols);
     return fault.status == GOBLIN_PE_OK ? 0 : refused(fault);
 }
 
 static int list_te(const uint8_t *bytes, size_t length)
 {
-    struct goblin_pe_te_header h = { 0 };
-    struct goblin_pe_section *sections = records(255, &no_section, sizeof no_section);
+    struct goblin_pe_te_header h;
+    static struct goblin_pe_section sections[255];
     struct goblin_pe_fault fault = goblin_pe_read_te(bytes, length, &h, sections, 255);
-    if (fault.status == GOBLIN_PE_OK)
-        printf("signature %#x\nmachine %#x\nnumber_of_sections %#x\nsubsystem %#x\n"
-               "stripped_size %#x\nentry_point %#x\nbase_of_code %#x\nimage_base %#" PRIx64 "\n"
-               "reloc_dir %#x %u\ndebug_dir %#x %u\n",
-               h.signature, h.machine, h.number_of_sections, h.subsystem, h.stripped_size,
-               h.entry_point, h.base_of_code, h.image_base, h.reloc_dir.virtual_address,
-               h.reloc_dir.size, h.debug_dir.virtual_address, h.debug_dir.size);
-    for (size_t i = 0; fault.status == GOBLIN_PE_OK && i < h.number_of_sections; i++) {
+    if (fault.status != GOBLIN_PE_OK)
+        return refused(fault);
+    printf("signature %#x\nmachine %#x\nnumber_of_sections %#x\nsubsystem %#x\n"
+           "stripped_size %#x\nentry_point %#x\nbase_of_code %#x\nimage_base %#" PRIx64 "\n"
+           "reloc_dir %#x %u\ndebug_dir %#x %u\n",
+           h.signature, h.machine, h.number_of_sections, h.subsystem, h.stripped_size,
+           h.entry_point, h.base_of_code, h.image_base, h.reloc_dir.virtual_address,
+           h.reloc_dir.size, h.debug_dir.virtual_address, h.debug_dir.size);
+    for (size_t i = 0; i < h.number_of_sections; i++) {
         const struct goblin_pe_section *s = &sections[i];
         put("section ", section_name(s));
         printf(" va=%#x vsize=%#x raw=%#x ptr=%#x characteristics=%#x\n", s->virtual_address,
                s->virtual_size, s->size_of_raw_data, s->pointer_to_raw_data, s->characteristics);
     }
-    free(sections);
-    return fault.status == GOBLIN_PE_OK ? 0 : refused(fault);
+    return 0;
 }
 
 int main(int argc, char **argv)

@@ -1,12 +1,12 @@
 /* Opens each file with the same records, as a scanner does: reuse FILE... The status is 0 where each file is
-   read or refused, a refusal leaves nothing to be freed, what is told of a file is its own, and all that points
-   into it does. */
+   read or refused, what is told of a file is its own, all that points into it does, a walk of two records at a
+   time gives what is listed, and the header is written as it was read. The records hold anything at first. */
 #include "goblin_pe.h"
 
 #include <stdio.h>
 #include <string.h>
 
-static uint8_t bytes[1 << 20];
+static uint8_t bytes[1 << 20], written[1 << 20];
 static size_t length;
 
 /* Whether a text lies in the file; one of no bytes may lie anywhere. */
@@ -22,28 +22,18 @@ static bool are_in_file(const struct goblin_pe_tables *tables)
         if (!is_in_file(tables->imports[i].name) || !is_in_file(tables->imports[i].dll))
             return false;
     for (size_t i = 0; i < tables->export_count; i++)
-        if (!is_in_file(tables->exports[i].name) || !is_in_file(tables->exports[i].lib))
+        if (!is_in_file(tables->exports[i].name) || !is_in_file(tables->exports[i].forward_lib))
             return false;
-    return true;
+    return is_in_file(tables->export_directory.name) && is_in_file(tables->dos_stub);
 }
 
-/* The directory of a file's imports, one of zeros where it has none, whatever stood in the records before. */
-static struct goblin_pe_directory imports_of(const struct goblin_pe_file *file,
-                                             const struct goblin_pe_directory *directories)
+/* Whether each range of the footprint lies in the file. */
+static bool has_footprint(void)
 {
-    struct goblin_pe_directory none = { 0, 0, 0, false };
-    return file->directories ? directories[GOBLIN_PE_DIRECTORY_IMPORT_TABLE] : none;
-}
-
-/* Whether imports have a footprint, and each of its ranges lies in the file. */
-static bool has_footprint(const struct goblin_pe_options *options, const struct goblin_pe_file *file,
-                          struct goblin_pe_directory imports, const struct goblin_pe_tables *tables)
-{
-    struct goblin_pe_ranges ranges = GOBLIN_PE_NO_RANGES;
-    struct goblin_pe_fault fault =
-        goblin_pe_footprint_imports(bytes, length, options, &file->optional_header, &imports,
-                                    tables->sections, tables->section_count, &ranges);
-    bool is_right = fault.status == GOBLIN_PE_OK && (ranges.range_count > 0) == imports.is_present;
+    struct goblin_pe_ranges ranges;
+    if (goblin_pe_footprint(bytes, length, NULL, &ranges).status != GOBLIN_PE_OK)
+        return false;
+    bool is_right = ranges.range_count > 0;
     for (size_t i = 0; i < ranges.range_count; i++) {
         struct goblin_pe_range range = ranges.ranges[i];
         is_right &= range.length && range.offset < length && range.length <= length - range.offset;
@@ -52,33 +42,97 @@ static bool has_footprint(const struct goblin_pe_options *options, const struct 
     return is_right;
 }
 
+static bool is_import(const struct goblin_pe_import *x, const struct goblin_pe_import *y)
+{
+    return x->name.length == y->name.length && x->dll.bytes == y->dll.bytes && x->slot_rva == y->slot_rva &&
+           x->rva == y->rva && x->slot == y->slot && x->ordinal == y->ordinal && x->is_by_name == y->is_by_name;
+}
+
+static bool walks_over_imports(const struct goblin_pe_tables *tables)
+{
+    struct goblin_pe_import_position position = { 0, 0 };
+    struct goblin_pe_import imports[2];
+    size_t found = 0, count = 0;
+    do {
+        if (goblin_pe_next_imports(bytes, length, NULL, &position, imports, 2, &count).status != GOBLIN_PE_OK)
+            return false;
+        for (size_t i = 0; i < count; i++, found++)
+            if (found >= tables->import_count || !is_import(&imports[i], &tables->imports[found]))
+                return false;
+    } while (count);
+    return found == tables->import_count;
+}
+
+static bool walks_over_exports(const struct goblin_pe_tables *tables)
+{
+    struct goblin_pe_export exports[2];
+    size_t position = 0, found = 0, count = 0;
+    do {
+        if (goblin_pe_next_exports(bytes, length, NULL, &position, exports, 2, &count).status != GOBLIN_PE_OK)
+            return false;
+        for (size_t i = 0; i < count; i++, found++)
+            if (found >= tables->export_count || exports[i].ordinal != tables->exports[found].ordinal ||
+                exports[i].name.bytes != tables->exports[found].name.bytes)
+                return false;
+    } while (count);
+    return found == tables->export_count;
+}
+
+/* Whether the address of each export is that of its ordinal in the address table. */
+static bool has_addresses(const struct goblin_pe_tables *tables)
+{
+    for (size_t i = 0; i < tables->export_count; i++) {
+        size_t index = tables->exports[i].ordinal - tables->export_directory.table.ordinal_base;
+        if (index >= tables->export_address_count || tables->export_addresses[index].rva != tables->exports[i].rva ||
+            tables->export_addresses[index].forwards != (tables->exports[i].forwards != GOBLIN_PE_NO_FORWARDER))
+            return false;
+    }
+    return true;
+}
+
+/* Whether the header and the sections are written as they stand in the file. */
+static bool is_written(const struct goblin_pe_file *file, const struct goblin_pe_directory *directories,
+                       const struct goblin_pe_tables *tables)
+{
+    size_t count = 0, table = file->dos_header.pe_pointer + 24u + file->coff_header.size_of_optional_header;
+    if (goblin_pe_write_header(file, directories, file->directories, tables->dos_stub, written, sizeof written, &count)
+            .status != GOBLIN_PE_OK)
+        return false;
+    for (size_t i = 0; i < tables->section_count; i++) {
+        size_t place = table + 40 * i;
+        if (goblin_pe_write_section(&tables->sections[i], written + place, 40, &count).status != GOBLIN_PE_OK ||
+            count != 40)
+            return false;
+    }
+    return !memcmp(written, bytes, table + 40 * tables->section_count);
+}
+
 int main(int argc, char **argv)
 {
-    static const struct goblin_pe_options options = GOBLIN_PE_DEFAULT_OPTIONS;
-    struct goblin_pe_tables tables = GOBLIN_PE_NO_TABLES;
+    struct goblin_pe_tables tables;
     struct goblin_pe_directory directories[16];
     struct goblin_pe_file file;
-    memset(&file, 0, sizeof file);
-    memset(directories, 0, sizeof directories);
+    memset(&file, 0xff, sizeof file);
+    memset(&tables, 0xff, sizeof tables);
+    memset(directories, 0xff, sizeof directories);
     for (int i = 1; i < argc; i++) {
         FILE *from = fopen(argv[i], "rb");
         if (!from)
             return 3;
         length = fread(bytes, 1, sizeof bytes, from);
         fclose(from);
-        struct goblin_pe_fault fault =
-            goblin_pe_open(bytes, length, &options, &file, directories, 16, &tables);
-        if (fault.status != GOBLIN_PE_OK) {
-            if (tables.section_count)
-                return 1;
+        struct goblin_pe_fault fault = goblin_pe_open(bytes, length, NULL, &file, directories, 16, &tables);
+        if (fault.status != GOBLIN_PE_OK)
             continue;
-        }
-        struct goblin_pe_directory imports = imports_of(&file, directories);
         bool has_header = file.coff_header.size_of_optional_header;
-        if (file.directories != (has_header ? 16 : 0) || imports.is_present != (tables.import_count > 0))
+        if (file.directories != (has_header ? 16 : 0))
             return 4;
-        if (!are_in_file(&tables) || !has_footprint(&options, &file, imports, &tables))
+        if (!are_in_file(&tables) || !has_footprint() || !has_addresses(&tables))
             return 5;
+        if (!walks_over_imports(&tables) || !walks_over_exports(&tables))
+            return 6;
+        if (has_header && !is_written(&file, directories, &tables))
+            return 7;
         goblin_pe_free(&tables);
     }
     return 0;

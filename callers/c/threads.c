@@ -11,13 +11,10 @@ static size_t length;
 
 static void *reads(void *imports_wanted)
 {
-    static const struct goblin_pe_options options = GOBLIN_PE_DEFAULT_OPTIONS;
     for (int i = 0; i < 200; i++) {
-        struct goblin_pe_file file = { 0 };
-        struct goblin_pe_directory directory = { 0 };
-        struct goblin_pe_tables tables = GOBLIN_PE_NO_TABLES;
-        struct goblin_pe_fault fault =
-            goblin_pe_open(bytes, length, &options, &file, &directory, 1, &tables);
+        struct goblin_pe_file file;
+        struct goblin_pe_tables tables = { 0 };
+        struct goblin_pe_fault fault = goblin_pe_open(bytes, length, NULL, &file, NULL, 0, &tables);
         size_t found = tables.import_count;
         goblin_pe_free(&tables);
         if (fault.status != GOBLIN_PE_OK || found != *(const size_t *)imports_wanted)

@@ -35,21 +35,23 @@ def headers(path):
     assert pe.dos_header.pe_pointer == signature
     same(path, pe.coff_header, COFF, struct.unpack_from("<HHIIIHH", data, signature + 4))
     place = signature + 24
-    same(path, pe.optional_header, STANDARD, struct.unpack_from("<HBBIIIII", data, place))
-    is_wide = pe.optional_header.magic == 0x20B
-    assert pe.optional_header.base_of_data == (0 if is_wide else struct.unpack_from("<I", data, place + 24)[0])
+    standard, windows = pe.optional_header.standard_fields, pe.optional_header.windows_fields
+    same(path, standard, STANDARD, struct.unpack_from("<HBBIIIII", data, place))
+    is_wide = standard.magic == 0x20B
+    assert standard.base_of_data == (0 if is_wide else struct.unpack_from("<I", data, place + 24)[0])
     form = "<QIIHHHHHHIIIIHHQQQQII" if is_wide else "<IIIHHHHHHIIIIHHIIIIII"
     place += 24 if is_wide else 28
-    same(path, pe.optional_header, WINDOWS, struct.unpack_from(form, data, place))
+    same(path, windows, WINDOWS, struct.unpack_from(form, data, place))
     place += struct.calcsize(form)
     assert all(isinstance(index, DirectoryType) for index in pe.data_directories), pe.data_directories
-    for index in range(pe.optional_header.number_of_rva_and_sizes):
+    for index in range(windows.number_of_rva_and_sizes):
         address, size = struct.unpack_from("<II", data, place + 8 * index)
         d = pe.data_directories.get(index)
         assert (d.virtual_address, d.size) == (address, size) if d else (address, size) == (0, 0), (path, index)
     table = signature + 24 + pe.coff_header.size_of_optional_header
     for index, s in enumerate(pe.sections):
-        assert tuple(s[1:]) == struct.unpack_from("<8xIIIIIIHHI", data, table + 40 * index), (path, index)
+        assert (s.raw_name, *s[1:-1]) == struct.unpack_from("<8sIIIIIIHHI", data, table + 40 * index), (path, index)
+    assert pe.write() == data, path
 
 
 def rich_header(path):

@@ -17,7 +17,8 @@ import unittest
 import unittest.mock
 
 import goblin_pe
-from goblin_pe import Cause, DirectoryType, ObjectFile, Options, Pe, ReadFault, Refused, State, Status, Te
+from goblin_pe import (AuxSectionDefinition, Cause, DirectoryType, Kind, ObjectFile, Options, Pe, ReadFault, Refused, State, Status, Te,
+                       aux_file, aux_of, kind, relocations_of, section_data)
 from goblin_pe.records import Text
 from goblin_pe.rows import Rows
 
@@ -74,13 +75,13 @@ class Refusals(unittest.TestCase):
                               wanted.optional_header, wanted.data_directories))
             rva = pe.sections[0].virtual_address
             self.assertEqual(pe.find_offset(rva), wanted.find_offset(rva))
-            self.assertRaises(ValueError, pe.import_footprint)  # the bytes stay where they were
+            self.assertRaises(ValueError, pe.footprint)  # the bytes stay where they were
 
 
 class Texts(unittest.TestCase):
     """Each text of a record lies in the file; one that is absent, or could not be read, at its first byte."""
 
-    TEXTS = {"sections": ["real_name"], "imports": ["dll", "name"], "exports": ["name", "lib", "export_name"]}
+    TEXTS = {"sections": ["real_name"], "imports": ["dll", "name"], "exports": ["name", "forward_lib", "forward_name"]}
 
     def begins(self, data):
         """Where the texts begin, by their length."""
@@ -124,11 +125,11 @@ class Buffers(unittest.TestCase):
                     pe = Pe(buffer)
                     self.assertEqual((pe.sections, pe.imports, pe.exports, pe.blocks),
                                      (wanted.sections, wanted.imports, wanted.exports, wanted.blocks))
-                    self.assertEqual(pe.import_footprint(), wanted.import_footprint())
+                    self.assertEqual(pe.footprint(), wanted.footprint())
             # what was read has nothing to do with the buffer any more
             self.assertEqual(pe.imports, wanted.imports)
             self.assertEqual(pe.find_offset(0x1020), 0x420)
-            self.assertRaises(ValueError, pe.import_footprint)
+            self.assertRaises(ValueError, pe.footprint)
 
     def test_objects_and_terse_executables_from_other_buffers(self):
         data = sample("object_x64.obj")
@@ -148,7 +149,7 @@ class Buffers(unittest.TestCase):
     def test_no_buffer_is_copied(self):
         data = bytearray(sample("imports_by_name_x64.dll")) + bytearray(1 << 26)
         tracemalloc.start()
-        Pe(data).import_footprint()
+        Pe(data).footprint()
         self.assertLess(tracemalloc.get_traced_memory()[1], 1 << 20)
         tracemalloc.stop()
         data.append(0)  # no buffer is held any more
@@ -159,8 +160,8 @@ class Buffers(unittest.TestCase):
 
     def test_with(self):
         with Pe(sample("imports_by_name_x64.dll")) as pe:
-            self.assertTrue(pe.import_footprint())
-        self.assertRaises(ValueError, pe.import_footprint)
+            self.assertTrue(pe.footprint())
+        self.assertRaises(ValueError, pe.footprint)
         self.assertEqual([x.dll for x in pe.imports], [b"KERNEL32.dll"])
 
     def test_what_was_read_is_shown_by_its_numbers(self):
@@ -178,7 +179,7 @@ class Headers(unittest.TestCase):
         for header in headers:
             with self.assertRaises(AttributeError):
                 setattr(header, header._fields[-1], 3)
-        self.assertEqual(pe.optional_header._replace(file_alignment=3).file_alignment, 3)
+        self.assertEqual(pe.optional_header.windows_fields._replace(file_alignment=3).file_alignment, 3)
         self.assertEqual(pe.find_offset(0x1020), 0x420)
 
     def test_headers_are_shown_and_compared_by_their_fields(self):
@@ -251,15 +252,109 @@ class Files(unittest.TestCase):
         self.assertIn(DirectoryType.IMPORT_TABLE, Pe(data).data_directories)
         size_of_optional_header = int.from_bytes(data[0x3C:0x40], "little") + 20
         pe = Pe(data[:size_of_optional_header] + bytes(2) + data[size_of_optional_header + 2:])
-        self.assertEqual((pe.optional_header, pe.data_directories, pe.import_footprint()), (None, {}, []))
+        self.assertEqual((pe.optional_header, pe.data_directories, pe.export_directory, pe.export_addresses), (None, {}, None, []))
 
-    def test_imports_depend_on_their_footprint_alone(self):
+    def test_a_file_depends_on_its_footprint_alone(self):
         data, how = sample("imports_by_name_x64.dll"), Options(is_permissive=True)
         pe = Pe(data, how)
         other = bytearray(~it & 0xFF for it in data)
-        for begin, length in [(0, pe.optional_header.size_of_headers), *pe.import_footprint()]:
+        for begin, length in pe.footprint():
             other[begin: begin + length] = data[begin: begin + length]
-        self.assertEqual(Pe(other, how).imports, pe.imports)
+        again = Pe(other, how)
+        self.assertEqual((again.imports, again.exports, again.coff_header), (pe.imports, pe.exports, pe.coff_header))
+        self.assertNotEqual(other, data)
+        self.assertEqual((again.fingerprint(), again.imphash()), (pe.fingerprint(), pe.imphash()))
+        self.assertNotEqual(Pe(data + b"\0", how).fingerprint(), pe.fingerprint())
+        self.assertRegex(pe.fingerprint(), "^[0-9a-f]{64}$")
+
+    def test_walks_give_what_is_listed(self):
+        for name in ("imports_by_name_x64.dll", "forwarders_x64.dll", "program_x86.exe"):
+            data = sample(name)
+            pe, unlisted = Pe(data), Pe(data, Options(parse_imports=False))
+            self.assertEqual((list(pe.walk_imports()), list(pe.walk_exports())), (pe.imports, pe.exports))
+            self.assertEqual((unlisted.imports, list(unlisted.walk_imports()), unlisted.imphash()), ([], pe.imports, pe.imphash()))
+
+    def test_a_walk_ends_with_the_refusal_of_a_read(self):
+        data = bytearray(sample("imports_by_name_x64.dll"))
+        pe = Pe(data)
+        record = pe.find_offset(pe.data_directories[DirectoryType.IMPORT_TABLE].virtual_address)
+        struct.pack_into("<I", data, record + 12, 0x9000)
+        walk = Pe(data, Options(parse_imports=False)).walk_imports()
+        with self.assertRaises(Refused) as caught:
+            next(walk)
+        self.assertEqual((caught.exception.cause, caught.exception.first), (Cause.UNMAPPED, 0x9000))
+        damage = Pe(data, Options(is_permissive=True)).damage
+        self.assertEqual((str(damage.imports), damage[:2], damage[3:]), (str(caught.exception), (None, None), (None, None, 0, 0)))
+
+    def test_what_stands_at_an_address(self):
+        data = sample("imports_by_name_x64.dll")
+        pe = Pe(data)
+        self.assertEqual(pe.text_at(pe.imports[0].rva + 2), b"GetTickCount")
+        self.assertEqual((pe.bytes_at(0x1020, 4), pe.bytes_at(0x1020, len(data)), pe.text_at(0x9000)), (data[0x420:0x424], None, None))
+
+    def test_the_data_of_sections(self):
+        data = sample("align16_x64.dll")
+        for s in Pe(data).sections:
+            found = section_data(data, s)
+            self.assertEqual(found.data, data[s.pointer_to_raw_data:][:s.size_of_raw_data])
+            self.assertEqual(len(found.data) + found.zeros, max(s.virtual_size, s.size_of_raw_data))
+        s = next(it for it in Pe(data).sections if it.size_of_raw_data)
+        self.assertRaises(Refused, section_data, data[:s.pointer_to_raw_data + s.size_of_raw_data - 1], s)
+
+    def test_exports_have_ordinals(self):
+        pe = Pe(sample("forwarders_x64.dll"))
+        addresses = {it.ordinal: it for it in pe.export_addresses}
+        self.assertEqual(min(addresses), pe.export_directory.table.ordinal_base)
+        for x in pe.exports:
+            self.assertEqual((x.rva, x.forwarder is not None), addresses[x.ordinal][1:])
+            self.assertEqual(pe.exports[x.hint], x)
+
+    def test_headers_and_sections_are_written(self):
+        for name in os.listdir(SAMPLES):
+            if name.endswith((".dll", ".exe", ".efi")):
+                data = sample(name)
+                pe = Pe(data)
+                self.assertEqual(pe.write(), data, name)
+                optional = pe.optional_header
+                optional = optional._replace(windows_fields=optional.windows_fields._replace(check_sum=7))
+                sections = [pe.sections[0]._replace(raw_name=b".code"), *pe.sections[1:]]
+                made = Pe(pe.write(pe.coff_header._replace(time_date_stamp=5), optional, sections))
+                self.assertEqual((made.coff_header.time_date_stamp, made.optional_header, made.sections[0].name, made.sections[1:]),
+                                 (5, optional, b".code", pe.sections[1:]))
+                self.assertEqual(len(pe.write()), len(data))
+
+    def test_a_header_inside_the_dos_header(self):
+        data = bytearray(sample("imports_by_name_x64.dll"))
+        header = data.index(b"PE\0\0")
+        data[0x10: 0x10 + 0x200] = data[header: header + 0x200]
+        struct.pack_into("<I", data, 0x3C, 0x10)
+        with self.assertRaises(Refused) as caught:
+            Pe(data)
+        pe = Pe(data, Options(is_permissive=True))
+        self.assertEqual((str(pe.damage.dos_stub), pe.damage[1:]), (str(caught.exception), (None, None, None, None, 0, 0)))
+        self.assertEqual(caught.exception.cause, Cause.STUB_BEFORE_START)
+        self.assertRaises(ValueError, pe.write)
+
+    def test_symbols_and_relocations_of_objects(self):
+        for name in ("object_x64.obj", "object_x86.obj"):
+            data = sample(name)
+            found = ObjectFile(data)
+            for s in found.sections:
+                wanted = [struct.unpack_from("<IIH", data, s.pointer_to_relocations + 10 * i) for i in range(s.number_of_relocations)]
+                self.assertEqual([tuple(it) for it in relocations_of(data, s)], wanted)
+            for s in found.symbols:
+                self.assertEqual(len(s.auxiliary), 18 * s.number_of_aux_symbols)
+                if s.storage_class == 3 and s.number_of_aux_symbols == 1:
+                    definition = aux_of(s, AuxSectionDefinition)
+                    self.assertEqual(definition.length, found.sections[s.section_number - 1].size_of_raw_data)
+                elif not s.auxiliary:
+                    self.assertEqual((aux_of(s, AuxSectionDefinition), aux_file(s)), (None, None))
+        self.assertEqual(Pe(sample("imports_by_name_x64.dll")).symbols, [])
+
+    def test_kinds(self):
+        names = ("firmware_x64.efi", "object_x86.obj", "firmware_x64.te")
+        self.assertEqual([kind(sample(it)) for it in names], [Kind.IMAGE, Kind.OBJECT, Kind.TE])
+        self.assertEqual([kind(b""), kind(bytearray(b"\0\0"))], [Kind.UNKNOWN] * 2)
 
     def test_the_hash_of_imports_is_that_of_other_tools(self):
         # (told by pefile 2023.2.7)
@@ -289,7 +384,7 @@ class Files(unittest.TestCase):
 
     def test_help_names_what_is_for_users(self):
         text = pydoc.plain(pydoc.render_doc(goblin_pe))
-        for name in ("class Pe", "class ObjectFile", "class Te", "class Refused", "class Options", "import_footprint("):
+        for name in ("class Pe", "class ObjectFile", "class Te", "class Refused", "class Options", "footprint(", "walk_imports(", "write("):
             self.assertIn(name, text)
         self.assertNotIn("ctypes", text)
 

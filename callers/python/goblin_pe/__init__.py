@@ -19,36 +19,43 @@ Pe, ObjectFile and Te read bytes, a memoryview, a mapped file or any other buffe
 none of it; Options say how. The bytes must not change meanwhile: no thread of Python runs while bytes are read into
 which one could write, as those of a bytearray; else threads run on. What was read is Python's own: it stays when the
 buffer is gone. Texts are bytes. Addresses (rva) are relative to the image's base, offsets are file offsets, both in
-bytes; but the offset of an import is the address of its entry in the address table.
+bytes. `kind` tells what a file is.
+
+A file of 256 KiB can have more than 100 million imports. Where memory can't be limited, read it by
+Options(parse_imports=False) and use Pe.walk_imports, which keeps none of them.
 
 A refusal raises Refused, also where the library is refused memory: its status is then Status.NO_MEMORY. MemoryError
 comes from Python alone, where there is no memory for what was read.
 
-The rows Section, Import, Export, Block, Symbol and Range are named tuples, and so are the headers, whose fields are
-those of the format; State, Status, Cause, Counted, ReadFault and DirectoryType name numbers. All of them can be
-imported from here.
+The rows Section, Import, Export, Block, Symbol, Range and others are named tuples, and so are the headers, whose fields
+are those of the format: a changed copy is made by _replace, and Pe.write writes it. State, Status, Kind, Cause, Counted,
+ReadFault and DirectoryType name numbers. All of them can be imported from here.
 
 The reader is the proved library goblin_pe_c. Its shared library stands beside an installed module; in the repository
 callers/build puts it into callers/lib. The variable GOBLIN_PE_SO names another when the module is imported.
 """
 import ctypes as c
 import dataclasses
+import hashlib
 import mmap
 import operator
 import sys
-from typing import Any, Dict, List, Optional, Tuple, Union
+from typing import Any, Callable, Dict, Iterable, Iterator, List, NamedTuple, Optional, Tuple, Union
 
 from . import records
 from ._imphash import imphash as _imphash
 from ._library import LIB as _LIB, held as _held, text_of as _text_of
-from .numbers import Cause, Counted, DirectoryType, ReadFault, State, Status
-from .records import CoffHeader, DataDirectory, DosHeader, OptionalHeader, RichEntry, TeHeader
-from .rows import Block, Export, Import, Range, RichHeader, Rows as _Rows, Section, Symbol
+from .numbers import Cause, Counted, DirectoryType, Kind, ReadFault, State, Status
+from .records import (AuxBeginAndEndFunction, AuxFunctionDefinition, AuxSectionDefinition, AuxWeakExternal, CoffHeader, DataDirectory,
+                      DosHeader, ExportDirectoryTable, OptionalHeader, Relocation, RichMetadata, StandardFields, TeHeader, WindowsFields)
+from .rows import (Block, Export, ExportAddress, ExportDirectory, Import, Range, RichHeader, Rows as _Rows, Section, SectionData,
+                   Symbol)
 
-__all__ = ["Pe", "ObjectFile", "Te", "Options", "Refused", "Data",
-           "DosHeader", "CoffHeader", "OptionalHeader", "DataDirectory", "RichHeader", "RichEntry", "TeHeader",
-           "Section", "Import", "Export", "Block", "Symbol", "Range",
-           "State", "Status", "Cause", "Counted", "ReadFault", "DirectoryType"]
+__all__ = ["Pe", "ObjectFile", "Te", "Options", "Refused", "Damage", "Data", "kind", "section_data", "relocations_of", "aux_of",
+           "aux_file", "DosHeader", "CoffHeader", "OptionalHeader", "StandardFields", "WindowsFields", "DataDirectory", "RichHeader",
+           "RichMetadata", "TeHeader", "ExportDirectoryTable", "Section", "SectionData", "Relocation", "Import", "Export",
+           "ExportAddress", "ExportDirectory", "Block", "Symbol", "AuxFunctionDefinition", "AuxBeginAndEndFunction", "AuxWeakExternal",
+           "AuxSectionDefinition", "Range", "State", "Status", "Kind", "Cause", "Counted", "ReadFault", "DirectoryType"]
 
 # The bytes of a file.
 if sys.version_info >= (3, 12):
@@ -94,19 +101,116 @@ def _test(fault: records.Fault) -> None:
 
 
 def _room(kind: Any, count: int) -> Any:
-    # records to be filled, whose texts are empty, but point somewhere; one more than asked for, so that the pointer is
-    # never null
-    blank = kind()
-    for field in blank._fields_:
-        if field[1] is records.Text:
-            setattr(blank, field[0], records.Text(records.NOWHERE, 0))
-    return (kind * (count + 1)).from_buffer_copy(bytes(blank) * (count + 1))
+    # records to be filled; one more than asked for, so that the pointer is never null
+    return (kind * (count + 1))()
+
+
+# Where there is no text.
+_NO_TEXT = records.Text(records.NOWHERE, 0)
+
+
+def _record(s: Section) -> records.Section:
+    # the record of a section, without its name from the string table
+    return records.Section(_NO_TEXT, tuple(s.raw_name.ljust(8, b"\0")[:8]), *s[1:-1], False)
 
 
 def _records_of(sections: List[Section]) -> Any:
-    # sections, for the mapping of addresses, which looks at no name; one more than there are
-    blank, none = records.Text(records.NOWHERE, 0), (c.c_uint8 * 8)()
-    return (records.Section * (len(sections) + 1))(*(records.Section(blank, none, *s[1:], False) for s in sections))
+    # sections, for the mapping of addresses; one more than there are
+    return (records.Section * (len(sections) + 1))(*map(_record, sections))
+
+
+def _size(number: int) -> int:
+    # an address or a size, which the library takes without a look at what is past 64 bits
+    number = operator.index(number)
+    number.to_bytes(c.sizeof(c.c_size_t), "little")
+    return number
+
+
+# How many rows of a walk are read at once.
+_BATCH = 256
+
+
+def _walk(data: Data, kind: Any, row: str, call: Callable[..., records.Fault], position: Any) -> Iterator[Any]:
+    # the rows of a walk: `call` takes the calls, the address, the length, the position, the room and the count
+    room, count = _room(kind, _BATCH), c.c_size_t()
+    while True:
+        with memoryview(data) as view, _held(view) as (calls, address, length), view.cast("B") as in_bytes:
+            _test(call(calls, address, length, c.byref(position), room, _BATCH, c.byref(count)))
+            rows = _Rows(in_bytes, address)
+            batch = [getattr(rows, row)(it) for it in room[: count.value]]
+        yield from batch
+        if not batch:
+            return
+
+
+def _symbols(data: Data, header: CoffHeader) -> List[Symbol]:
+    coff = records.laid_out(CoffHeader)(*header)
+    return list(_walk(data, records.NamedSymbol, "symbol", lambda calls, address, length, *to: calls.goblin_pe_raw_next_symbols(
+        address, length, c.byref(coff), *to), c.c_size_t()))
+
+
+def kind(data: Data) -> Kind:
+    """What a file is, by its first two bytes."""
+    with memoryview(data) as view, _held(view) as (calls, address, length):
+        return Kind(calls.goblin_pe_raw_kind(address, length))
+
+
+def section_data(data: Data, section: Section) -> SectionData:
+    """The data of a section of the file `data`: its bytes, from the raw pointer as stored, and how many zeros follow them in
+    memory. Refused is raised where the bytes pass the file."""
+    found = records.SectionData()
+    with memoryview(data) as view, _held(view) as (calls, address, length), view.cast("B") as in_bytes:
+        _test(calls.goblin_pe_raw_section_data(address, length, c.byref(_record(section)), c.byref(found)))
+        return SectionData(_Rows(in_bytes, address).text(found.bytes), found.zeros)
+
+
+def relocations_of(data: Data, section: Section) -> List[Relocation]:
+    """The relocations of a section of the object `data`. Refused is raised where the file is too short for them."""
+    count, room = c.c_size_t(), _room(records.laid_out(Relocation), 0)
+    with memoryview(data) as view, _held(view) as (calls, address, length):
+        for _ in range(2):
+            room = _room(records.laid_out(Relocation), count.value)
+            _test(calls.goblin_pe_raw_read_relocations(address, length, c.byref(_record(section)), room, count.value, c.byref(count)))
+    return [records.read(Relocation, it) for it in room[: count.value]]
+
+
+_Aux = Union[AuxFunctionDefinition, AuxBeginAndEndFunction, AuxWeakExternal, AuxSectionDefinition]
+_AUX_CALLS: Dict[Any, Any] = {
+    AuxFunctionDefinition: _LIB.goblin_pe_raw_aux_function_definition,
+    AuxBeginAndEndFunction: _LIB.goblin_pe_raw_aux_begin_and_end_function,
+    AuxWeakExternal: _LIB.goblin_pe_raw_aux_weak_external,
+    AuxSectionDefinition: _LIB.goblin_pe_raw_aux_section_definition,
+}
+
+
+def aux_of(symbol: Symbol, kind: Any) -> Optional[_Aux]:
+    """The first auxiliary record of a symbol as one of the kinds AuxFunctionDefinition, AuxBeginAndEndFunction, AuxWeakExternal
+    and AuxSectionDefinition, by the class of the symbol; None where it has none."""
+    record = records.laid_out(kind)()
+    is_there = _AUX_CALLS[kind](symbol.auxiliary, len(symbol.auxiliary), c.byref(record))
+    found: Optional[_Aux] = records.read(kind, record) if is_there else None
+    return found
+
+
+def aux_file(symbol: Symbol) -> Optional[bytes]:
+    """The name of a source file in the auxiliary records of a symbol of class 103; None where it has none."""
+    name = records.Text()
+    with memoryview(symbol.auxiliary) as view, _held(view) as (calls, address, length):
+        is_there = calls.goblin_pe_raw_aux_file(address, length, c.byref(name))
+        return _Rows(view, address).text(name) if is_there else None
+
+
+class Damage(NamedTuple):
+    """What strict mode would refuse of an image, part by part, each for itself, as a Refused; None is no damage. And how many
+    libraries permissive mode leaves out of the imports, and how many entries of the others."""
+
+    dos_stub: Optional[Refused]
+    section_names: Optional[Refused]
+    imports: Optional[Refused]
+    exports: Optional[Refused]
+    relocations: Optional[Refused]
+    left_out_libraries: int
+    left_out_entries: int
 
 
 @dataclasses.dataclass(frozen=True)
@@ -155,10 +259,13 @@ class Pe:
     sections: a list of Section.
     import_table, export_table, relocation_table: a State; only what was read has entries.
     imports, exports, blocks: lists of Import, of Export and of Block.
+    export_directory: the ExportDirectory; None where the exports were not read.
+    export_addresses: a list of ExportAddress, by rising ordinals, also of those without a name.
     block_rest: why the rest that follows the blocks is no block, as a Refused; None where there is no rest.
 
-    It keeps `data` for import_footprint, until close() or the end of a `with`; all else needs it no longer. A copy,
-    as it is sent to another process, has all but `data`.
+    It keeps `data` for symbols, damage and the methods, until close() or the end of a `with`: these raise ValueError then,
+    but find_offset and the hash of imports that were listed need it no longer. A copy, as it is sent to another process,
+    has all but `data`.
     """
 
     def __init__(self, data: Data, how: Optional[Options] = None):
@@ -166,14 +273,13 @@ class Pe:
         self._options = _record_of(how)
         file, directories, tables = records.File(), (records.Directory * 16)(), records.Tables()
         with memoryview(data) as view, _held(view) as (calls, address, length), tables:
-            _test(calls.goblin_pe_open(address, length, c.byref(self._options), c.byref(file), directories, 16, c.byref(tables)))
+            _test(calls.goblin_pe_raw_open(address, length, c.byref(self._options), c.byref(file), directories, 16, c.byref(tables)))
             with view.cast("B") as in_bytes:
                 self._take_headers(file, directories[: file.directories])
                 self._take_tables(file, tables, _Rows(in_bytes, address))
 
     def _take_headers(self, file: records.File, directories: List[records.Directory]) -> None:
         self._header = file.optional_header
-        self._imports_at = directories[DirectoryType.IMPORT_TABLE] if directories else records.Directory()
         self.dos_header: DosHeader = file.dos_header
         self.coff_header: CoffHeader = file.coff_header
         self.optional_header: Optional[OptionalHeader] = self._header if directories else None
@@ -182,17 +288,22 @@ class Pe:
             RichHeader(rich.key, rich.padding_size, rich.start_offset, rich.end_offset) if rich.is_present else None)
         self.rich_rest = _refusal(rich.rest)
         self.data_directories: Dict[int, DataDirectory] = {
-            _named(DirectoryType, index): DataDirectory(d.virtual_address, d.size)
-            for index, d in enumerate(directories) if d.is_present}
+            _named(DirectoryType, index): d.directory for index, d in enumerate(directories) if d.is_present}
 
     def _take_tables(self, file: records.File, tables: records.Tables, rows: _Rows) -> None:
         self.sections: List[Section] = [rows.section(s) for s in tables.records("sections")]
         self._mapping = _records_of(self.sections)
-        self.rich_entries: List[RichEntry] = [records.read(RichEntry, entry) for entry in tables.records("rich_entries")]
+        self._stub = c.string_at(tables.dos_stub.bytes, tables.dos_stub.length)  # (it need not lie in the file)
+        self.rich_entries: List[RichMetadata] = [records.read(RichMetadata, entry) for entry in tables.records("rich_entries")]
         self.import_table = State(file.imports.state)
         self.imports: List[Import] = [rows.imported(x) for x in tables.records("imports")]
         self.export_table = State(file.exports.state)
         self.exports: List[Export] = [rows.exported(x) for x in tables.records("exports")]
+        directory = rows.export_directory(tables.export_directory)
+        self.export_directory: Optional[ExportDirectory] = directory if self.export_table == State.READ else None
+        self.export_addresses: List[ExportAddress] = [
+            ExportAddress(ordinal, it.rva, it.forwards)
+            for ordinal, it in enumerate(tables.records("export_addresses"), directory.table.ordinal_base)]
         self.relocation_table = State(file.relocations.blocks.state)
         self.blocks: List[Block] = [rows.block(b) for b in tables.records("blocks")]
         self.block_rest = _refusal(file.relocations.rest)
@@ -218,34 +329,128 @@ class Pe:
         """Lets go of the file's bytes."""
         self._data = None
 
+    def _bytes(self) -> Data:
+        if self._data is None:
+            raise ValueError("the file's bytes are no longer here")
+        return self._data
+
+    def _image(self, address: int, length: int) -> records.Image:
+        # what maps addresses
+        sections, alignment = self._mapping, self._header.windows_fields.file_alignment
+        return records.Image(records.Text(address, length), c.addressof(sections), len(sections) - 1, alignment, self._options)
+
     def find_offset(self, rva: int) -> Optional[int]:
         """The file offset of an address: None where no section maps it or the file alignment is no power of two;
-        the address itself where the options say that addresses are offsets. OverflowError is raised where it has more
-        than 64 bits or a sign."""
-        rva = operator.index(rva)
-        rva.to_bytes(c.sizeof(c.c_size_t), "little")
+        the address itself where the options say that addresses are offsets. It can lie past the file's end. OverflowError
+        is raised where the address has more than 64 bits or a sign."""
         offset = c.c_size_t()
-        is_found = _LIB.goblin_pe_find_offset(rva, self._mapping, len(self._mapping) - 1, self._header.file_alignment,
-                                              c.byref(self._options), c.byref(offset))
+        is_found = _LIB.goblin_pe_raw_find_offset(c.byref(self._image(records.NOWHERE, 0)), _size(rva), c.byref(offset))
         return offset.value if is_found else None
+
+    def text_at(self, rva: int) -> Optional[bytes]:
+        """The text at an address, up to its NUL: None where the address has no offset in the file, or no UTF-8 stands
+        there."""
+        text = records.Text()
+        with memoryview(self._bytes()) as view, _held(view) as (calls, address, length), view.cast("B") as in_bytes:
+            is_there = calls.goblin_pe_raw_text_at(c.byref(self._image(address, length)), _size(rva), c.byref(text))
+            return _Rows(in_bytes, address).text(text) if is_there else None
+
+    def bytes_at(self, rva: int, size: int) -> Optional[bytes]:
+        """So many bytes at an address: None where the address has no offset in the file, or the bytes pass its end."""
+        text = records.Text()
+        with memoryview(self._bytes()) as view, _held(view) as (calls, address, length), view.cast("B") as in_bytes:
+            image = self._image(address, length)
+            is_there = calls.goblin_pe_raw_bytes_at(c.byref(image), _size(rva), _size(size), c.byref(text))
+            return _Rows(in_bytes, address).text(text) if is_there else None
+
+    def walk_imports(self) -> Iterator[Import]:
+        """The imports one by one, of which none is kept: also where the options left them out. In strict mode Refused is
+        raised where it would be of the list, after what comes before."""
+        how = self._options
+        asked = records.Options(how.is_permissive, how.resolve_rva, how.rounds_raw_pointers, True)
+        return _walk(self._bytes(), records.Import, "imported", lambda calls, address, length, *to: calls.goblin_pe_raw_next_imports(
+            address, length, c.byref(asked), *to), records.ImportPosition())
+
+    def walk_exports(self) -> Iterator[Export]:
+        """The exports one by one, of which none is kept."""
+        return _walk(self._bytes(), records.Export, "exported", lambda calls, address, length, *to: calls.goblin_pe_raw_next_exports(
+            address, length, c.byref(self._options), *to), c.c_size_t())
+
+    @property
+    def symbols(self) -> List[Symbol]:
+        """The symbols, which few images have. Refused is raised where the file is too short for their table."""
+        return _symbols(self._bytes(), self.coff_header)
+
+    @property
+    def damage(self) -> Damage:
+        """What strict mode would refuse of the file, part by part."""
+        d = records.Damage()
+        with memoryview(self._bytes()) as view, _held(view) as (calls, address, length):
+            _test(calls.goblin_pe_raw_damage(address, length, c.byref(self._options), c.byref(d)))
+        return Damage(_refusal(d.dos_stub), _refusal(d.section_names), _refusal(d.imports), _refusal(d.exports),
+                      _refusal(d.relocations), d.left_out_libraries, d.left_out_entries)
 
     def imphash(self) -> str:
         """The hash of the imports that analysts compare: the MD5 in hexadecimal, or an empty text where there are no
-        imports. Other tools tell the same where they see the same imports."""
-        return _imphash(self.imports)
+        imports. Other tools tell the same where they see the same imports. Where the options left the imports out, it
+        walks over them, and keeps none."""
+        return _imphash(self.imports if self._options.parse_imports else self.walk_imports())
 
-    def import_footprint(self) -> List[Range]:
-        """The bytes of the file on which its imports depend, by its headers and sections: a file of the same length,
-        headers and sections that has the same bytes in these ranges has the same imports. They come in no order and
-        may overlap; none is empty, and none passes the file. ValueError is raised after close()."""
-        if self._data is None:
-            raise ValueError("the file's bytes are no longer here")
-        ranges, header = records.Ranges(), records.laid_out(OptionalHeader)(*self._header)
-        with memoryview(self._data) as view, _held(view) as (calls, address, length), ranges:
-            _test(calls.goblin_pe_footprint_imports(address, length, c.byref(self._options), c.byref(header),
-                                                    c.byref(self._imports_at), self._mapping, len(self._mapping) - 1,
-                                                    c.byref(ranges)))
+    def footprint(self) -> List[Range]:
+        """The bytes of the file on which all that was read depends: a file of the same length that has the same bytes in
+        these ranges is read alike. They come in no order and may overlap; none is empty, and none passes the file."""
+        with memoryview(self._bytes()) as view, _held(view) as (calls, address, length), records.Ranges() as ranges:
+            _test(calls.goblin_pe_raw_footprint(address, length, c.byref(self._options), c.byref(ranges)))
             return [Range(it.offset, it.length) for it in ranges.records("ranges")]
+
+    def fingerprint(self) -> str:
+        """A hash of the length of the file and of the bytes on which all that was read depends: the SHA-256 in hexadecimal.
+        Files that have the same are read alike by the same options."""
+        ranges: List[List[int]] = []
+        for begin, length in sorted(self.footprint()):
+            if ranges and begin <= ranges[-1][1]:
+                ranges[-1][1] = max(ranges[-1][1], begin + length)
+            else:
+                ranges.append([begin, begin + length])
+        with memoryview(self._bytes()) as view, view.cast("B") as in_bytes:
+            digest = hashlib.sha256(b"%d" % len(in_bytes))
+            for begin, end in ranges:
+                digest.update(b" %d %d " % (begin, end))
+                digest.update(in_bytes[begin:end])
+        return digest.hexdigest()
+
+    def write(self, coff_header: Optional[CoffHeader] = None, optional_header: Optional[OptionalHeader] = None,
+              sections: Optional[Iterable[Section]] = None) -> bytes:
+        """The file with these in place of its own: the headers up to the section table, and the records of sections, each
+        with its raw_name. Refused is raised where a header can't be written, and ValueError where the sections pass the
+        file, and where permissive mode replaced the DOS stub."""
+        coff = self.coff_header if coff_header is None else coff_header
+        optional = self._header if optional_header is None else optional_header
+        with memoryview(self._bytes()) as view, view.cast("B") as in_bytes:
+            out = bytearray(in_bytes)
+        place = self.dos_header.pe_pointer + 24 + self.coff_header.size_of_optional_header
+        header = self._written_header(coff, optional)[:place]
+        out[: len(header)] = header
+        for s in self.sections if sections is None else sections:
+            if place + 40 > len(out):
+                raise ValueError("there is no room for so many sections")
+            room, written = (c.c_uint8 * 40)(), c.c_size_t()
+            _test(_LIB.goblin_pe_raw_write_section(c.byref(_record(s)), room, 40, c.byref(written)))
+            out[place: place + 40] = room
+            place += 40
+        return bytes(out)
+
+    def _written_header(self, coff: CoffHeader, optional: OptionalHeader) -> bytes:
+        if 64 + len(self._stub) != self.dos_header.pe_pointer:
+            raise ValueError("permissive mode replaced the DOS stub, so the headers can't be written at their places")
+        count, none = 16 if self.optional_header else 0, DataDirectory(0, 0)
+        directories = (records.Directory * 16)(*(
+            records.Directory(0, self.data_directories.get(index, none), index in self.data_directories) for index in range(16)))
+        file = records.File(optional_header=optional, directories=count, dos_header=self.dos_header, coff_header=coff)
+        size, written = self.dos_header.pe_pointer + 512, c.c_size_t()
+        room = (c.c_uint8 * size)()
+        _test(_LIB.goblin_pe_raw_write_header(c.byref(file), directories, count, self._stub, len(self._stub), room, size, c.byref(written)))
+        return bytes(room[: written.value])
 
 
 class ObjectFile:
@@ -257,17 +462,14 @@ class ObjectFile:
     """
 
     def __init__(self, data: Data, how: Optional[Options] = None):
-        asked, found, counts = _record_of(how), records.Object(), (0, 0)
+        asked, found = _record_of(how), records.Object()
         with memoryview(data) as view, _held(view) as (calls, address, length), view.cast("B") as in_bytes:
             for _ in range(2):
-                sections, symbols = _room(records.Section, counts[0]), _room(records.Symbol, counts[1])
-                _test(calls.goblin_pe_read_object(address, length, c.byref(asked), c.byref(found), sections, counts[0],
-                                                  symbols, counts[1]))
-                counts = (found.sections, found.symbols.count)
-            rows = _Rows(in_bytes, address)
+                sections, count = _room(records.Section, found.sections), found.sections
+                _test(calls.goblin_pe_raw_read_object(address, length, c.byref(asked), c.byref(found), sections, count))
             self.coff_header: CoffHeader = found.coff_header
-            self.sections: List[Section] = [rows.section(s) for s in sections[: counts[0]]]
-            self.symbols: List[Symbol] = [rows.symbol(s) for s in symbols[: counts[1]]]
+            self.sections: List[Section] = [_Rows(in_bytes, address).section(s) for s in sections[: found.sections]]
+        self.symbols: List[Symbol] = _symbols(data, self.coff_header)
 
     def __repr__(self) -> str:
         return "<ObjectFile machine=%#x sections=%d symbols=%d>" % (
@@ -284,7 +486,7 @@ class Te:
     def __init__(self, data: Data):
         header, sections = records.laid_out(TeHeader)(), _room(records.Section, 255)
         with memoryview(data) as view, _held(view) as (calls, address, length), view.cast("B") as in_bytes:
-            _test(calls.goblin_pe_read_te(address, length, c.byref(header), sections, 255))
+            _test(calls.goblin_pe_raw_read_te(address, length, c.byref(header), sections, 255))
             rows = _Rows(in_bytes, address)
             self.header: TeHeader = records.read(TeHeader, header)
             self.sections: List[Section] = [rows.section(s) for s in sections[: self.header.number_of_sections]]

@@ -35,16 +35,18 @@ def image(pe: Pe) -> Iterator[str]:
     """The lines of an image."""
     line = "header machine=%#x sections=%d" % (pe.coff_header.machine, len(pe.sections))
     if pe.optional_header:
-        line += " magic=%#x entry=%#x" % (pe.optional_header.magic, pe.optional_header.address_of_entry_point)
+        fields = pe.optional_header.standard_fields
+        line += " magic=%#x entry=%#x" % (fields.magic, fields.address_of_entry_point)
     yield line
     for s in pe.sections:
         yield "section va=%#x vsize=%#x raw=%#x ptr=%#x name=%s" % (
             s.virtual_address, s.virtual_size, s.size_of_raw_data, s.pointer_to_raw_data, shown(s.name))
+    size = 8 if pe.optional_header and pe.optional_header.standard_fields.magic == 0x20B else 4
     yield heading("imports", pe.import_table, pe.imports)
     for x in pe.imports:
         name = shown(x.name) if x.name is not None else "ORDINAL %d" % x.ordinal
         yield "import offset=%#x ordinal=%d rva=%#x size=%d slot=%d dll=%s name=%s" % (
-            x.offset, x.ordinal, x.rva, x.size, x.slot, shown(x.dll), name)
+            x.slot_rva, x.ordinal, x.rva, size, x.slot, shown(x.dll), name)
     yield heading("exports", pe.export_table, pe.exports)
     yield from map(export, pe.exports)
     yield heading("relocations", pe.relocation_table, pe.blocks)

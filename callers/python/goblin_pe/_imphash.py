@@ -126,6 +126,10 @@ def _line(x: Import) -> bytes:
 
 def imphash(imports: Iterable[Import]) -> str:
     """The hash in hexadecimal; empty where nothing is imported. What has no name, or the ordinal 0, is left out, and so is
-    a library without a name."""
-    lines = [_line(x) for x in imports if x.dll and (x.ordinal if x.name is None else x.name)]
-    return hashlib.md5(b",".join(lines), usedforsecurity=False).hexdigest() if lines else ""
+    a library without a name. It goes through the imports once, and keeps none of them."""
+    digest, separator = hashlib.md5(usedforsecurity=False), b""
+    for x in imports:
+        if x.dll and (x.ordinal if x.name is None else x.name):
+            digest.update(separator + _line(x))
+            separator = b","
+    return digest.hexdigest() if separator else ""

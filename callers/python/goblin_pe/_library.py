@@ -4,11 +4,12 @@ import ctypes as c
 import os
 from typing import Any, Iterator, List, Tuple, Type
 
-from .records import (NOWHERE, Directory, Fault, File, Object, OptionalHeader, Options, Ranges, Section, Symbol, Tables,
-                      TeHeader, laid_out)
+from .records import (NOWHERE, AuxBeginAndEndFunction, AuxFunctionDefinition, AuxSectionDefinition, AuxWeakExternal, CoffHeader,
+                      Damage, Directory, Export, Fault, File, Image, Import, ImportPosition, NamedSymbol, Object, Options, Ranges,
+                      Relocation, Section, SectionData, Tables, TeHeader, Text, laid_out)
 
 # The version of the interface that is declared here.
-INTERFACE = 2
+INTERFACE = 3
 
 
 def _path() -> str:
@@ -33,14 +34,34 @@ def _counted(*kinds: Any) -> List[Any]:
     return [it for kind in kinds for it in (_to(kind), c.c_size_t)]
 
 
+# Bytes, and a number that is filled in.
+_BYTES = [c.c_void_p, c.c_size_t]
+_SIZE = c.POINTER(c.c_size_t)
+
 _CALLS = {
-    "goblin_pe_open": (Fault, [c.c_void_p, c.c_size_t, _to(Options), _to(File), *_counted(Directory), _to(Tables)]),
-    "goblin_pe_read_object": (Fault, [c.c_void_p, c.c_size_t, _to(Options), _to(Object), *_counted(Section, Symbol)]),
-    "goblin_pe_read_te": (Fault, [c.c_void_p, c.c_size_t, _to(TeHeader), *_counted(Section)]),
-    "goblin_pe_find_offset": (c.c_bool, [c.c_size_t, *_counted(Section), c.c_uint32, _to(Options), c.POINTER(c.c_size_t)]),
-    "goblin_pe_footprint_imports": (Fault, [c.c_void_p, c.c_size_t, _to(Options), _to(OptionalHeader), _to(Directory),
-                                            *_counted(Section), _to(Ranges)]),
-    "goblin_pe_fault_text": (c.c_size_t, [_to(Fault), c.c_char_p, c.c_size_t]),
+    "goblin_pe_raw_open": (Fault, [*_BYTES, _to(Options), _to(File), *_counted(Directory), _to(Tables)]),
+    "goblin_pe_raw_damage": (Fault, [*_BYTES, _to(Options), _to(Damage)]),
+    "goblin_pe_raw_footprint": (Fault, [*_BYTES, _to(Options), _to(Ranges)]),
+    "goblin_pe_raw_next_imports": (Fault, [*_BYTES, _to(Options), _to(ImportPosition), *_counted(Import), _SIZE]),
+    "goblin_pe_raw_next_exports": (Fault, [*_BYTES, _to(Options), _SIZE, *_counted(Export), _SIZE]),
+    "goblin_pe_raw_read_object": (Fault, [*_BYTES, _to(Options), _to(Object), *_counted(Section)]),
+    "goblin_pe_raw_read_te": (Fault, [*_BYTES, _to(TeHeader), *_counted(Section)]),
+    "goblin_pe_raw_next_symbols": (Fault, [*_BYTES, _to(CoffHeader), _SIZE, *_counted(NamedSymbol), _SIZE]),
+    "goblin_pe_raw_aux_function_definition": (c.c_bool, [*_BYTES, _to(AuxFunctionDefinition)]),
+    "goblin_pe_raw_aux_begin_and_end_function": (c.c_bool, [*_BYTES, _to(AuxBeginAndEndFunction)]),
+    "goblin_pe_raw_aux_weak_external": (c.c_bool, [*_BYTES, _to(AuxWeakExternal)]),
+    "goblin_pe_raw_aux_section_definition": (c.c_bool, [*_BYTES, _to(AuxSectionDefinition)]),
+    "goblin_pe_raw_aux_file": (c.c_bool, [*_BYTES, _to(Text)]),
+    "goblin_pe_raw_read_relocations": (Fault, [*_BYTES, _to(Section), *_counted(Relocation), _SIZE]),
+    "goblin_pe_raw_section_data": (Fault, [*_BYTES, _to(Section), _to(SectionData)]),
+    "goblin_pe_raw_find_offset": (c.c_bool, [_to(Image), c.c_size_t, _SIZE]),
+    "goblin_pe_raw_text_at": (c.c_bool, [_to(Image), c.c_size_t, _to(Text)]),
+    "goblin_pe_raw_bytes_at": (c.c_bool, [_to(Image), c.c_size_t, c.c_size_t, _to(Text)]),
+    "goblin_pe_raw_write_header": (Fault, [_to(File), *_counted(Directory), *_BYTES, *_BYTES, _SIZE]),
+    "goblin_pe_raw_write_section": (Fault, [_to(Section), *_BYTES, _SIZE]),
+    "goblin_pe_raw_set_name_offset": (Fault, [_to(Section), c.c_size_t]),
+    "goblin_pe_raw_kind": (c.c_uint32, [*_BYTES]),
+    "goblin_pe_raw_fault_text": (c.c_size_t, [_to(Fault), *_BYTES]),
 }
 
 
@@ -63,7 +84,7 @@ _LOCKED = _load(c.PyDLL)
 def text_of(fault: Fault) -> str:
     """The text of a refusal."""
     text = c.create_string_buffer(160)
-    length = LIB.goblin_pe_fault_text(c.byref(fault), text, len(text))
+    length = LIB.goblin_pe_raw_fault_text(c.byref(fault), text, len(text))
     return text.raw[: min(length, len(text))].decode()
 
 

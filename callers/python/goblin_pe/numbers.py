@@ -21,6 +21,16 @@ class State(Number):
     REFUSED = 2
 
 
+class Kind(Number):
+    """What a file is, by its first two bytes: an image begins with MZ, an object with a machine, a Terse Executable with
+    VZ."""
+
+    UNKNOWN = 0
+    IMAGE = 1
+    OBJECT = 2
+    TE = 3
+
+
 class Forwards(Number):
     """What an export forwards to."""
 

@@ -1,5 +1,5 @@
-"""The library's records. Their fields are those of the crate goblin_pe_c, in the same order; callers/layout.py
-compares them, and goblin_pe.h says of each field what it is.
+"""The library's records. Their fields are those of the crate goblin_pe_c and of the libraries below it, in the same
+order; callers/layout.py compares them, and goblin_pe.h says of each field what it is.
 
 Headers are named tuples, which nobody can change. What lies in memory is a record with the same fields (`laid_out`);
 a header that stands in a record is read as its named tuple."""
@@ -17,7 +17,12 @@ I16 = Annotated[int, c.c_int16]
 Size = Annotated[int, c.c_size_t]
 Address = Annotated[int, c.c_void_p]
 Flag = Annotated[bool, c.c_bool]
-Name = Annotated[Tuple[int, ...], c.c_uint8 * 8]
+Bytes2 = Annotated[Tuple[int, ...], c.c_uint8 * 2]
+Bytes3 = Annotated[Tuple[int, ...], c.c_uint8 * 3]
+Bytes4 = Annotated[Tuple[int, ...], c.c_uint8 * 4]
+Bytes6 = Annotated[Tuple[int, ...], c.c_uint8 * 6]
+Bytes8 = Annotated[Tuple[int, ...], c.c_uint8 * 8]
+Bytes10 = Annotated[Tuple[int, ...], c.c_uint8 * 10]
 Words4 = Annotated[Tuple[int, ...], c.c_uint16 * 4]
 Words10 = Annotated[Tuple[int, ...], c.c_uint16 * 10]
 
@@ -45,7 +50,7 @@ def read(header: Type[_Kind], record: Any) -> _Kind:
 
 def _converted(convert: Any, field: Any) -> property:
     # a field whose value is another one than ctypes gives
-    return property(lambda record: convert(field.__get__(record)))
+    return property(lambda record: convert(field.__get__(record)), field.__set__)
 
 
 def _record(kind: _Kind) -> _Kind:
@@ -90,7 +95,7 @@ class Options(Record):
 
 @_record
 class Fault(Record):
-    """Why a call gave no value, in numbers; the status 0 is that it gave one."""
+    """Why a call gave no value, in numbers."""
 
     status: U32
     cause: U32
@@ -100,9 +105,8 @@ class Fault(Record):
 
 @_header
 class DosHeader(NamedTuple):
-    """The DOS header."""
+    """The header of a DOS program, which a PE file begins with."""
 
-    pe_pointer: U32
     signature: U16
     bytes_on_last_page: U16
     pages_in_file: U16
@@ -121,11 +125,12 @@ class DosHeader(NamedTuple):
     oem_id: U16
     oem_info: U16
     reserved2: Words10
+    pe_pointer: U32
 
 
 @_header
 class CoffHeader(NamedTuple):
-    """The COFF header."""
+    """The header of a COFF file, or of the COFF part of an image."""
 
     machine: U16
     number_of_sections: U16
@@ -137,49 +142,53 @@ class CoffHeader(NamedTuple):
 
 
 @_header
-class OptionalHeader(NamedTuple):
-    """The optional header."""
+class StandardFields(NamedTuple):
+    """The standard fields of an optional header of either width."""
 
+    magic: U16
+    major_linker_version: U8
+    minor_linker_version: U8
     size_of_code: U64
     size_of_initialized_data: U64
     size_of_uninitialized_data: U64
-    base_of_code: U64
-    image_base: U64
-    size_of_stack_reserve: U64
-    size_of_stack_commit: U64
-    size_of_heap_reserve: U64
-    size_of_heap_commit: U64
     address_of_entry_point: U32
+    base_of_code: U64
     base_of_data: U32
+
+
+@_header
+class WindowsFields(NamedTuple):
+    """The Windows fields of an optional header of either width."""
+
+    image_base: U64
     section_alignment: U32
     file_alignment: U32
-    win32_version_value: U32
-    size_of_image: U32
-    size_of_headers: U32
-    check_sum: U32
-    loader_flags: U32
-    number_of_rva_and_sizes: U32
-    magic: U16
     major_operating_system_version: U16
     minor_operating_system_version: U16
     major_image_version: U16
     minor_image_version: U16
     major_subsystem_version: U16
     minor_subsystem_version: U16
+    win32_version_value: U32
+    size_of_image: U32
+    size_of_headers: U32
+    check_sum: U32
     subsystem: U16
     dll_characteristics: U16
-    major_linker_version: U8
-    minor_linker_version: U8
+    size_of_stack_reserve: U64
+    size_of_stack_commit: U64
+    size_of_heap_reserve: U64
+    size_of_heap_commit: U64
+    loader_flags: U32
+    number_of_rva_and_sizes: U32
 
 
-@_record
-class Directory(Record):
-    """An entry of the table of data directories."""
+@_header
+class OptionalHeader(NamedTuple):
+    """The optional header."""
 
-    end: Size
-    virtual_address: U32
-    size: U32
-    is_present: Flag
+    standard_fields: StandardFields
+    windows_fields: WindowsFields
 
 
 @_header
@@ -190,34 +199,43 @@ class DataDirectory(NamedTuple):
     size: U32
 
 
+@_record
+class Directory(Record):
+    """An entry of the table of data directories."""
+
+    end: Size
+    directory: DataDirectory
+    is_present: Flag
+
+
 @_header
 class TeHeader(NamedTuple):
-    """The header of a Terse Executable, its addresses as they are in the stripped file."""
+    """The header of a Terse Executable."""
 
-    image_base: U64
-    entry_point: U32
-    base_of_code: U32
-    reloc_dir: DataDirectory
-    debug_dir: DataDirectory
     signature: U16
     machine: U16
-    stripped_size: U16
     number_of_sections: U8
     subsystem: U8
+    stripped_size: U16
+    entry_point: U32
+    base_of_code: U32
+    image_base: U64
+    reloc_dir: DataDirectory
+    debug_dir: DataDirectory
 
 
 @_header
-class RichEntry(NamedTuple):
-    """An entry of the Rich header: a tool, and how often it was used."""
+class RichMetadata(NamedTuple):
+    """An entry of a Rich header: a tool, and how often it was used."""
 
-    use_count: U32
     build: U16
     product: U16
+    use_count: U32
 
 
 @_record
 class RichHeader(Record):
-    """The Rich header; zeros where there is none."""
+    """The Rich header."""
 
     entries: Size
     padding_size: Size
@@ -233,7 +251,7 @@ class Section(Record):
     """A section, as its record describes it."""
 
     real_name: Text
-    name: Name
+    name: Bytes8
     virtual_size: U32
     virtual_address: U32
     size_of_raw_data: U32
@@ -252,12 +270,19 @@ class Import(Record):
 
     name: Text
     dll: Text
-    offset: Size
+    slot_rva: Size
     rva: Size
-    size: Size
     slot: Size
     ordinal: U16
     is_by_name: Flag
+
+
+@_record
+class ImportPosition(Record):
+    """Where a walk over imports goes on."""
+
+    record: Size
+    slot: Size
 
 
 @_record
@@ -265,15 +290,50 @@ class Export(Record):
     """An export."""
 
     name: Text
-    lib: Text
-    export_name: Text
+    forward_lib: Text
+    forward_name: Text
+    forward_ordinal: Size
     ordinal: Size
+    hint: Size
     offset: Size
     rva: Size
-    size: Size
     has_name: Flag
     has_offset: Flag
     forwards: U8
+
+
+@_record
+class ExportAddress(Record):
+    """An entry of the export address table."""
+
+    rva: U32
+    forwards: Flag
+
+
+@_header
+class ExportDirectoryTable(NamedTuple):
+    """The record that an image's exports begin with."""
+
+    export_flags: U32
+    time_date_stamp: U32
+    major_version: U16
+    minor_version: U16
+    name_rva: U32
+    ordinal_base: U32
+    address_table_entries: U32
+    number_of_name_pointers: U32
+    export_address_table_rva: U32
+    name_pointer_rva: U32
+    ordinal_table_rva: U32
+
+
+@_record
+class ExportDirectory(Record):
+    """The record of the exports."""
+
+    name: Text
+    table: ExportDirectoryTable
+    has_name: Flag
 
 
 @_record
@@ -294,26 +354,11 @@ class Table(Record):
 
 
 @_record
-class Relocations(Record):
+class BaseRelocations(Record):
     """The base relocations."""
 
     blocks: Table
     rest: Fault
-
-
-@_record
-class Symbol(Record):
-    """A symbol."""
-
-    name: Text
-    index: Size
-    record_name: Name
-    value: U32
-    section_number: I16
-    typ: U16
-    storage_class: U8
-    number_of_aux_symbols: U8
-    has_name: Flag
 
 
 @_record
@@ -325,7 +370,7 @@ class File(Record):
     sections: Size
     imports: Table
     exports: Table
-    relocations: Relocations
+    relocations: BaseRelocations
     rich_header: RichHeader
     dos_header: DosHeader
     coff_header: CoffHeader
@@ -336,8 +381,96 @@ class Object(Record):
     """An object as a whole."""
 
     sections: Size
-    symbols: Table
     coff_header: CoffHeader
+
+
+@_record
+class Symbol(Record):
+    """A symbol, as its record describes it."""
+
+    name: Bytes8
+    value: U32
+    section_number: I16
+    typ: U16
+    storage_class: U8
+    number_of_aux_symbols: U8
+
+
+@_record
+class NamedSymbol(Record):
+    """A symbol with its name and its auxiliary records."""
+
+    name: Text
+    auxiliary: Text
+    index: Size
+    symbol: Symbol
+    has_name: Flag
+
+
+@_header
+class AuxFunctionDefinition(NamedTuple):
+    """What follows a symbol that defines a function."""
+
+    tag_index: U32
+    total_size: U32
+    pointer_to_line_number: U32
+    pointer_to_next_function: U32
+    unused: Bytes2
+
+
+@_header
+class AuxBeginAndEndFunction(NamedTuple):
+    """What follows a symbol of a function's start or end."""
+
+    unused1: Bytes4
+    line_number: U16
+    unused2: Bytes6
+    pointer_to_next_function: U32
+    unused3: Bytes2
+
+
+@_header
+class AuxWeakExternal(NamedTuple):
+    """What follows a symbol that another may replace."""
+
+    tag_index: U32
+    characteristics: U32
+    unused: Bytes10
+
+
+@_header
+class AuxSectionDefinition(NamedTuple):
+    """What follows a symbol that defines a section."""
+
+    length: U32
+    number_of_relocations: U16
+    number_of_line_numbers: U16
+    checksum: U32
+    number: U16
+    selection: U8
+    unused: Bytes3
+
+
+@_header
+class Relocation(NamedTuple):
+    """A relocation of a COFF object: which bytes of a section a linker changes, and how."""
+
+    virtual_address: U32
+    symbol_table_index: U32
+    typ: U16
+
+
+@_record
+class Damage(Record):
+    """What strict mode would refuse of an image, part by part, each for itself."""
+
+    dos_stub: Fault
+    section_names: Fault
+    imports: Fault
+    exports: Fault
+    relocations: Fault
+    left_out_libraries: Size
+    left_out_entries: Size
 
 
 @_record
@@ -346,6 +479,25 @@ class Range(Record):
 
     offset: Size
     length: Size
+
+
+@_record
+class Image(Record):
+    """What maps the addresses of an image."""
+
+    bytes: Text
+    sections: Address
+    section_count: Size
+    file_alignment: U32
+    options: Options
+
+
+@_record
+class SectionData(Record):
+    """The data of a section."""
+
+    bytes: Text
+    zeros: Size
 
 
 # Where there are no bytes and no records: the library wants pointers that are not null.
@@ -385,10 +537,12 @@ def _tables(kinds: Dict[str, Any]) -> List[Any]:
 
 
 class Tables(HandedOver):
-    """The tables of an image."""
+    """The tables of an image, the record of its exports and its DOS stub."""
 
-    KINDS = {"rich_entries": RichEntry, "sections": Section, "imports": Import, "exports": Export, "blocks": Block}
-    _fields_ = _tables(KINDS)
+    KINDS = {"rich_entries": RichMetadata, "sections": Section, "imports": Import, "exports": Export,
+             "export_addresses": ExportAddress, "blocks": Block}
+    MORE = {"export_directory": ExportDirectory, "dos_stub": Text}
+    _fields_ = [*_tables(KINDS), *MORE.items()]
 
 
 class Ranges(HandedOver):

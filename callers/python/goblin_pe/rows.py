@@ -4,6 +4,7 @@ from typing import List, NamedTuple, Optional, Tuple, Union
 
 from . import records
 from .numbers import Forwards
+from .records import ExportDirectoryTable
 
 
 class RichHeader(NamedTuple):
@@ -17,8 +18,8 @@ class RichHeader(NamedTuple):
 
 
 class Section(NamedTuple):
-    """A section: its name (that of the string table where it has one, else its eight bytes up to the first NUL) and the
-    fields of its record."""
+    """A section: its name (that of the string table where it has one, else its eight bytes up to the first NUL), the
+    fields of its record, and the eight bytes of the name in it. section_data and relocations_of read more of it."""
 
     name: bytes
     virtual_size: int
@@ -30,29 +31,48 @@ class Section(NamedTuple):
     number_of_relocations: int
     number_of_linenumbers: int
     characteristics: int
+    raw_name: bytes
 
 
 class Import(NamedTuple):
     """An import. One by ordinal has the name None; of one by name the ordinal is the hint. The dll is empty where permissive
-    mode could not read it. The offset is the address (not the file offset) of its own entry in the address table."""
+    mode could not read it. The slot_rva is the address of its own entry in the address table, and slot that entry's index."""
 
     dll: bytes
     name: Optional[bytes]
     ordinal: int
-    offset: int
+    slot_rva: int
     rva: int
-    size: int
     slot: int
 
 
 class Export(NamedTuple):
-    """An export. A name that can't be read is None, and so is the file offset of an address that no section maps. The
-    forwarder is None, or the pair (library, name or ordinal)."""
+    """An export: its name, its own ordinal, the index of its name pointer, its address and the file offset of that. A name
+    that can't be read is None, and so is the offset of an address that no section maps. The forwarder is None, or the pair
+    (library, name or ordinal)."""
 
     name: Optional[bytes]
+    ordinal: int
+    hint: int
     rva: int
     offset: Optional[int]
     forwarder: Optional[Tuple[bytes, Union[bytes, int]]]
+
+
+class ExportAddress(NamedTuple):
+    """An entry of the export address table, with or without a name: its ordinal, its address (0 where the ordinal is not
+    used), and whether it is a forwarder, whose text stands at the address."""
+
+    ordinal: int
+    rva: int
+    forwards: bool
+
+
+class ExportDirectory(NamedTuple):
+    """The name with which the library was linked, None where it can't be read, and the record of the exports."""
+
+    name: Optional[bytes]
+    table: ExportDirectoryTable
 
 
 class Block(NamedTuple):
@@ -64,7 +84,8 @@ class Block(NamedTuple):
 
 
 class Symbol(NamedTuple):
-    """A symbol of an object. A name that can't be read is None."""
+    """A symbol of an image or an object. A name that can't be read is None. The auxiliary are the bytes of its auxiliary
+    records, 18 each."""
 
     index: int  # type: ignore[assignment]  # (it takes the place of the method of that name)
     name: Optional[bytes]
@@ -73,6 +94,7 @@ class Symbol(NamedTuple):
     typ: int
     storage_class: int
     number_of_aux_symbols: int
+    auxiliary: bytes
 
 
 class Range(NamedTuple):
@@ -80,6 +102,13 @@ class Range(NamedTuple):
 
     offset: int
     length: int
+
+
+class SectionData(NamedTuple):
+    """The data of a section in the file, and how many zeros follow it in memory."""
+
+    data: bytes
+    zeros: int
 
 
 class Rows:
@@ -98,17 +127,22 @@ class Rows:
     def section(self, s: records.Section) -> Section:
         """The row of a section."""
         name = self.text(s.real_name) if s.has_real_name else bytes(s.name).split(b"\0")[0]
-        return Section(name, *(getattr(s, field) for field in Section._fields[1:]))
+        return Section(name, *(getattr(s, field) for field in Section._fields[1:-1]), bytes(s.name))
 
     def imported(self, x: records.Import) -> Import:
         """The row of an import."""
-        return Import(self.text(x.dll), self.text(x.name) if x.is_by_name else None, x.ordinal, x.offset, x.rva, x.size, x.slot)
+        return Import(self.text(x.dll), self.text(x.name) if x.is_by_name else None, x.ordinal, x.slot_rva, x.rva, x.slot)
 
     def exported(self, x: records.Export) -> Export:
         """The row of an export."""
-        what: Union[bytes, int] = self.text(x.export_name) if x.forwards == Forwards.NAME else x.ordinal
-        forwarder = (self.text(x.lib), what) if x.forwards else None
-        return Export(self.text(x.name) if x.has_name else None, x.rva, x.offset if x.has_offset else None, forwarder)
+        what: Union[bytes, int] = self.text(x.forward_name) if x.forwards == Forwards.NAME else x.forward_ordinal
+        forwarder = (self.text(x.forward_lib), what) if x.forwards else None
+        offset = x.offset if x.has_offset else None
+        return Export(self.text(x.name) if x.has_name else None, x.ordinal, x.hint, x.rva, offset, forwarder)
+
+    def export_directory(self, d: records.ExportDirectory) -> ExportDirectory:
+        """The row of the record of the exports."""
+        return ExportDirectory(self.text(d.name) if d.has_name else None, d.table)
 
     def block(self, b: records.Block) -> Block:
         """The row of a block."""
@@ -116,6 +150,7 @@ class Rows:
         words = struct.unpack_from("<%dH" % count, self._data, self._begin(b.words)) if count else ()
         return Block(b.rva, b.size, list(words))
 
-    def symbol(self, s: records.Symbol) -> Symbol:
+    def symbol(self, s: records.NamedSymbol) -> Symbol:
         """The row of a symbol."""
-        return Symbol(s.index, self.text(s.name) if s.has_name else None, *(getattr(s, field) for field in Symbol._fields[2:]))
+        name = self.text(s.name) if s.has_name else None
+        return Symbol(s.index, name, *(getattr(s.symbol, field) for field in Symbol._fields[2:-1]), self.text(s.auxiliary))

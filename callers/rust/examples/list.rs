@@ -1,6 +1,6 @@
 //! Lists a file as pe_list does: list [--permissive] FILE. With --symbols the symbols of an object, and
 //! with --te the header of a Terse Executable, as beside the samples.
-use goblin_pe::{Forwarder, Object, Options, Part, Pe, Te};
+use goblin_pe::{Forwarder, Object, OptionalHeader, Options, Part, Pe, Te};
 use std::error::Error;
 
 fn main() -> Result<(), Box<dyn Error>> {
@@ -39,8 +39,9 @@ fn image(bytes: &[u8], is_permissive: bool) -> Result<String, goblin_pe::Error> 
         pe.sections().len()
     );
     if let Some(header) = pe.optional_header() {
-        let entry = header.address_of_entry_point;
-        text += &format!(" magic={:#x} entry={entry:#x}", header.magic);
+        let entry = header.standard_fields.address_of_entry_point;
+        let magic = header.standard_fields.magic;
+        text += &format!(" magic={magic:#x} entry={entry:#x}");
     }
     text += "\n";
     for s in pe.sections() {
@@ -50,13 +51,19 @@ fn image(bytes: &[u8], is_permissive: bool) -> Result<String, goblin_pe::Error> 
         );
     }
     text += &heading("imports", pe.import_table(), pe.imports().len());
+    let is_wide = |it: &OptionalHeader| it.standard_fields.magic == 0x20b;
+    let size = if pe.optional_header().is_some_and(is_wide) {
+        8
+    } else {
+        4
+    };
     for x in pe.imports() {
         text += &format!(
             "import offset={:#x} ordinal={} rva={:#x} size={} slot={} dll={} name={}\n",
-            x.offset,
+            x.slot_rva,
             x.name.ordinal(),
             x.rva,
-            x.size,
+            size,
             x.slot,
             x.dll,
             x.name
@@ -98,7 +105,7 @@ fn image(bytes: &[u8], is_permissive: bool) -> Result<String, goblin_pe::Error> 
 fn symbols(bytes: &[u8]) -> Result<String, goblin_pe::Error> {
     let object = Object::read(bytes, &Options::default())?;
     let mut text = String::new();
-    for s in object.symbols() {
+    for s in object.symbols()? {
         text += &format!(
             "symbol {} value={} section={} class={} aux={} name={}\n",
             s.index,

@@ -1,12 +1,14 @@
 //! The iterators over what was read, each with a name. Each knows its length, goes from either end, and is
-//! cloned to go again.
+//! cloned to go again; but walks read the file as they go, and know neither their length nor their end.
 
 use std::fmt;
 use std::iter::{Enumerate, FusedIterator, Zip};
+use std::ops::Range;
 use std::slice::{ChunksExact, Iter};
 
-use crate::raw;
-use crate::rows::{Block, Export, Import, Section, Symbol};
+use crate::error::Error;
+use crate::raw::{self, CoffHeader, Fault, Options};
+use crate::rows::{Block, Export, ExportAddress, Import, Section, Symbol};
 
 // Iterators that make a row of each item of another one.
 macro_rules! iterators {
@@ -63,8 +65,8 @@ iterators! {
     /// The blocks of base relocations of an image.
     Blocks<'p, 'a> over Iter<'p, raw::Block<'a>>, by Block::from => Block<'a>;
 
-    /// The symbols of an object.
-    Symbols<'p, 'a> over Iter<'p, raw::Symbol<'a>>, by Symbol::from => Symbol<'a>;
+    /// The entries of the export address table of an image, with the ordinal of the first and their indexes.
+    ExportAddresses<'p> over Zip<Range<usize>, Iter<'p, raw::ExportAddress>>, by export_address => ExportAddress;
 
     /// The words of a block of base relocations, as pairs (type, offset in the page in bytes).
     Words<'a> over ChunksExact<'a, u8>, by word => (u8, u16);
@@ -81,6 +83,15 @@ impl<'p, 'a> Sections<'p, 'a> {
 // The size of a section's record in the file, in bytes.
 const SECTION_RECORD: usize = 40;
 
+// The row of an entry, with its ordinal.
+fn export_address((ordinal, it): (usize, &raw::ExportAddress)) -> ExportAddress {
+    ExportAddress {
+        ordinal,
+        rva: it.rva,
+        forwards: it.forwards,
+    }
+}
+
 // The type and the offset in a word of two bytes.
 fn word(bytes: &[u8]) -> (u8, u16) {
     let word = u16::from_le_bytes([bytes[0], bytes[1]]);
@@ -93,11 +104,7 @@ pub struct DataDirectories<'p>(pub(crate) Enumerate<Iter<'p, raw::Directory>>);
 
 // The directory at an index, where it is there.
 fn present((index, d): (usize, &raw::Directory)) -> Option<(usize, raw::DataDirectory)> {
-    let directory = raw::DataDirectory {
-        virtual_address: d.virtual_address,
-        size: d.size,
-    };
-    d.is_present.then_some((index, directory))
+    d.is_present.then_some((index, d.directory))
 }
 
 impl Iterator for DataDirectories<'_> {
@@ -115,3 +122,153 @@ impl DoubleEndedIterator for DataDirectories<'_> {
 }
 
 impl FusedIterator for DataDirectories<'_> {}
+
+// How many records a walk reads at once.
+const BATCH: usize = 64;
+
+// Records that are read some at a time, each time by the same call from where the last one ended.
+#[derive(Clone)]
+struct Batches<T, P> {
+    records: [T; BATCH],
+    position: P,
+    next: usize,
+    count: usize,
+}
+
+impl<T: Copy, P: Default> Batches<T, P> {
+    // From the beginning, with no record read yet.
+    fn new(empty: T) -> Self {
+        Batches {
+            records: [empty; BATCH],
+            position: P::default(),
+            next: 0,
+            count: 0,
+        }
+    }
+
+    // Reads the next records, which answers whether it was refused.
+    fn fill(
+        &mut self,
+        call: impl FnOnce(&mut P, &mut [T], &mut usize) -> Fault,
+    ) -> Result<(), Error> {
+        (self.next, self.count) = (0, 0);
+        let fault = call(&mut self.position, &mut self.records, &mut self.count);
+        Error::test(fault)
+    }
+
+    // The next of the records that were read.
+    fn pop(&mut self) -> Option<&T> {
+        let record = self.records[..self.count].get(self.next)?;
+        self.next += 1;
+        Some(record)
+    }
+}
+
+// Walks whose items are rows or the refusal that ends them.
+macro_rules! walks {
+    ($($(#[$of:meta])* $name:ident by $call:path, $record:ident from $position:ty => $item:ty;)*) => {$(
+        $(#[$of])*
+        #[derive(Clone)]
+        pub struct $name<'a> {
+            bytes: &'a [u8],
+            options: Options,
+            batches: Option<Batches<raw::$record<'a>, $position>>,
+        }
+
+        impl<'a> $name<'a> {
+            // From the beginning.
+            pub(crate) fn of(bytes: &'a [u8], options: Options) -> Self {
+                let batches = Some(Batches::new(raw::$record::EMPTY));
+                $name { bytes, options, batches }
+            }
+        }
+
+        impl<'a> Iterator for $name<'a> {
+            type Item = Result<$item, Error>;
+
+            fn next(&mut self) -> Option<Result<$item, Error>> {
+                let (bytes, options) = (self.bytes, &self.options);
+                let batches = self.batches.as_mut()?;
+                if batches.next == batches.count {
+                    let filled = batches.fill(|position, records, count| $call(bytes, options, position, records, count));
+                    if let Err(error) = filled {
+                        self.batches = None;
+                        return Some(Err(error));
+                    }
+                }
+                let record = batches.pop();
+                let item = record.map(|it| Ok(<$item>::from(it)));
+                if item.is_none() {
+                    self.batches = None;
+                }
+                item
+            }
+        }
+
+        impl FusedIterator for $name<'_> {}
+
+        impl fmt::Debug for $name<'_> {
+            fn fmt(&self, f: &mut fmt::Formatter<'_>) -> fmt::Result {
+                f.debug_struct(stringify!($name)).finish_non_exhaustive()
+            }
+        }
+    )*};
+}
+
+walks! {
+    /// A walk over the imports of an image, in constant memory.
+    WalkImports by raw::next_imports, Import from raw::ImportPosition => Import<'a>;
+
+    /// A walk over the exports of an image, in constant memory.
+    WalkExports by raw::next_exports, Export from usize => Export<'a>;
+}
+
+/// A walk over the symbols of an image or an object, in constant memory.
+#[derive(Clone)]
+pub struct Symbols<'a> {
+    bytes: &'a [u8],
+    header: CoffHeader,
+    batches: Batches<raw::NamedSymbol<'a>, usize>,
+}
+
+impl<'a> Symbols<'a> {
+    // Those that a COFF header tells of, the first of them read.
+    pub(crate) fn of(bytes: &'a [u8], header: &CoffHeader) -> Result<Self, Error> {
+        let mut symbols = Symbols {
+            bytes,
+            header: *header,
+            batches: Batches::new(raw::NamedSymbol::EMPTY),
+        };
+        symbols.fill()?;
+        Ok(symbols)
+    }
+
+    fn fill(&mut self) -> Result<(), Error> {
+        let (bytes, header) = (self.bytes, &self.header);
+        self.batches.fill(|position, records, count| {
+            raw::next_symbols(bytes, header, position, records, count)
+        })
+    }
+}
+
+impl<'a> Iterator for Symbols<'a> {
+    type Item = Symbol<'a>;
+
+    fn next(&mut self) -> Option<Symbol<'a>> {
+        let is_read = self.batches.next == self.batches.count && self.batches.count != 0;
+        if is_read && self.fill().is_err() {
+            // (what is refused is so at the first call)
+            return None;
+        }
+        self.batches.pop().map(Symbol::from)
+    }
+}
+
+impl FusedIterator for Symbols<'_> {}
+
+impl fmt::Debug for Symbols<'_> {
+    /// What is still to come.
+    fn fmt(&self, f: &mut fmt::Formatter<'_>) -> fmt::Result {
+        f.debug_list().entries(self.clone()).finish()
+    }
+}

@@ -3,11 +3,11 @@
 //!
 //! The reader is the proved library `goblin_pe_c`; this crate declares it and gives its records types.
 //! Rows, names and texts borrow from the bytes alone. Addresses (`rva`) are
-//! relative to the image's base, and offsets are file offsets, both in bytes, but for that of an import,
-//! which is an address.
+//! relative to the image's base, and offsets are file offsets, both in bytes.
 //!
 //! What was read can be kept and handed to other threads as long as the bytes live. A file may ask for
-//! much memory: where it is refused, so is the read, by [`ErrorKind::Memory`].
+//! much memory: where it is refused, so is the read, by [`ErrorKind::Memory`]. Where it should not even be
+//! asked for, read without imports and use [`Pe::walk_imports`].
 //!
 //! `callers/build` makes the library that this crate links, in `callers/lib`, or `callers/install` puts
 //! it where pkg-config finds it; the variable `GOBLIN_PE_LIB` names another folder with it. A crate names
@@ -49,14 +49,41 @@ mod te;
 mod text;
 
 pub use error::Error;
-pub use iterators::{Blocks, DataDirectories, Exports, Imports, Sections, Symbols, Words};
-pub use numbers::{Cause, Counted, DirectoryType, ErrorKind, Part, ReadFault};
+pub use iterators::{
+    Blocks, DataDirectories, ExportAddresses, Exports, Imports, Sections, Symbols, WalkExports,
+    WalkImports, Words,
+};
+pub use numbers::{Cause, Counted, DirectoryType, ErrorKind, Kind, Part, ReadFault};
 pub use object::Object;
 pub use pe::Pe;
-pub use raw::{CoffHeader, DataDirectory, DosHeader, OptionalHeader, Options, RichEntry, TeHeader};
-pub use rows::{Block, Export, Forwarder, Import, Imported, RichHeader, Section, Symbol};
+pub use raw::{
+    AuxBeginAndEndFunction, AuxFunctionDefinition, AuxSectionDefinition, AuxWeakExternal,
+    CoffHeader, DataDirectory, DosHeader, ExportDirectoryTable, OptionalHeader, Options,
+    Relocation, RichMetadata, StandardFields, TeHeader, WindowsFields,
+};
+pub use rows::{
+    Block, Damage, Export, ExportAddress, ExportDirectory, Forwarder, Header, Import, Imported,
+    RichHeader, Section, Symbol,
+};
 pub use te::Te;
 pub use text::Text;
+
+/// What a file is, by its first two bytes.
+///
+/// ```no_run
+/// use goblin_pe::{Kind, Object, Options, Pe};
+///
+/// let bytes = std::fs::read("some.file")?;
+/// match goblin_pe::kind(&bytes) {
+///     Kind::Image => println!("{:?}", Pe::read(&bytes, &Options::default())?),
+///     Kind::Object => println!("{:?}", Object::read(&bytes, &Options::default())?),
+///     _ => println!("neither"),
+/// }
+/// # Ok::<(), std::io::Error>(())
+/// ```
+pub fn kind(bytes: &[u8]) -> Kind {
+    Kind::try_from(raw::kind(bytes)).unwrap_or(Kind::Unknown)
+}
 
 /// Whether the library that is linked has the interface that this crate declares. Each read asks so, and
 /// panics where it has not.

@@ -48,6 +48,19 @@ numbers! {
         Refused = 2,
     }
 
+    /// What a file is, by its first two bytes.
+    #[non_exhaustive]
+    Kind {
+        /// None of these.
+        Unknown = 0,
+        /// An image, which begins with `MZ`.
+        Image = 1,
+        /// An object, which begins with a machine.
+        Object = 2,
+        /// A Terse Executable, which begins with `VZ`.
+        Te = 3,
+    }
+
     /// What an export forwards to.
     Forwards {
         /// It is no forwarder.

@@ -18,7 +18,7 @@ const COFF_HEADER: usize = 20;
 ///
 /// let bytes = std::fs::read("some.obj")?;
 /// let object = Object::read(&bytes, &Options::default())?;
-/// for symbol in object.symbols().filter(|s| s.section_number > 0) {
+/// for symbol in object.symbols()?.filter(|s| s.section_number > 0) {
 ///     println!("{:#010x} {}", symbol.value, symbol.name.unwrap_or_default());
 /// }
 /// # Ok::<(), std::io::Error>(())
@@ -28,7 +28,6 @@ pub struct Object<'a> {
     bytes: &'a [u8],
     object: raw::Object,
     sections: Vec<raw::Section<'a>>,
-    symbols: Vec<raw::Symbol<'a>>,
 }
 
 impl<'a> Object<'a> {
@@ -38,27 +37,13 @@ impl<'a> Object<'a> {
     /// Why it was refused.
     pub fn read(bytes: &'a [u8], options: &Options) -> Result<Object<'a>, Error> {
         let mut object = raw::Object::default();
-        Error::test(raw::read_object(
-            bytes,
-            options,
-            &mut object,
-            &mut [],
-            &mut [],
-        ))?;
+        Error::test(raw::read_object(bytes, options, &mut object, &mut []))?;
         let mut sections = records(raw::Section::EMPTY, object.sections)?;
-        let mut symbols = records(raw::Symbol::EMPTY, object.symbols.count)?;
-        Error::test(raw::read_object(
-            bytes,
-            options,
-            &mut object,
-            &mut sections,
-            &mut symbols,
-        ))?;
+        Error::test(raw::read_object(bytes, options, &mut object, &mut sections))?;
         Ok(Object {
             bytes,
             object,
             sections,
-            symbols,
         })
     }
 
@@ -78,22 +63,19 @@ impl<'a> Object<'a> {
     /// ```no_run
     /// # let bytes = [];
     /// let object = goblin_pe::Object::read(&bytes, &goblin_pe::Options::default())?;
-    /// let code = object.section_by_name(".text").and_then(|s| object.section_data(&s));
+    /// let code = object.section_by_name(".text").map(|s| s.data(&bytes));
     /// # Ok::<(), goblin_pe::Error>(())
     /// ```
     pub fn section_by_name(&self, name: impl AsRef<[u8]>) -> Option<Section<'a>> {
         self.sections().find(|s| s.name == *name.as_ref())
     }
 
-    /// The pair (data of a section in the file, how many zeros follow it in memory); `None` where the
-    /// data passes the file.
-    pub fn section_data(&self, section: &Section) -> Option<(&'a [u8], u32)> {
-        section.data_at(self.bytes, section.pointer_to_raw_data as usize)
-    }
-
-    /// The symbols.
-    pub fn symbols(&self) -> Symbols<'_, 'a> {
-        Symbols(self.symbols.iter())
+    /// The symbols, which are read as the walk goes on.
+    ///
+    /// # Errors
+    /// A file that is too short for the symbol table or its string table.
+    pub fn symbols(&self) -> Result<Symbols<'a>, Error> {
+        Symbols::of(self.bytes, self.coff_header())
     }
 }
 
@@ -103,7 +85,6 @@ impl fmt::Debug for Object<'_> {
         f.debug_struct("Object")
             .field("machine", &self.coff_header().machine)
             .field("sections", &self.sections.len())
-            .field("symbols", &self.symbols.len())
             .finish_non_exhaustive()
     }
 }

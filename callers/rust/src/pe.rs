@@ -4,11 +4,17 @@ use std::fmt;
 use std::ops::Range;
 
 use crate::error::Error;
-use crate::iterators::{Blocks, DataDirectories, Exports, Imports, Sections};
+use crate::iterators::{
+    Blocks, DataDirectories, ExportAddresses, Exports, Imports, Sections, Symbols, WalkExports,
+    WalkImports,
+};
 use crate::memory::room;
 use crate::numbers::{DirectoryType, Part};
-use crate::raw::{self, CoffHeader, DataDirectory, DosHeader, OptionalHeader, Options, RichEntry};
-use crate::rows::{RichHeader, Section};
+use crate::raw::{
+    self, CoffHeader, DataDirectory, DosHeader, OptionalHeader, Options, RichMetadata,
+};
+use crate::rows::{Damage, Export, ExportAddress, ExportDirectory, Header, RichHeader, Section};
+use crate::text::Text;
 
 impl From<raw::Table> for Part {
     fn from(table: raw::Table) -> Part {
@@ -61,7 +67,7 @@ impl<'a> Pe<'a> {
             options: *options,
             file: raw::File::default(),
             directories: [raw::Directory::default(); 16],
-            tables: raw::Tables::EMPTY,
+            tables: raw::Tables::empty(),
         };
         Error::test(raw::open(
             bytes,
@@ -110,7 +116,7 @@ impl<'a> Pe<'a> {
     /// }
     /// # Ok::<(), goblin_pe::Error>(())
     /// ```
-    pub fn rich_entries(&self) -> &[RichEntry] {
+    pub fn rich_entries(&self) -> &[RichMetadata] {
         self.tables.rich_entries.get()
     }
 
@@ -159,34 +165,11 @@ impl<'a> Pe<'a> {
     /// # use goblin_pe::{Options, Pe};
     /// # let bytes = [];
     /// let pe = Pe::read(&bytes, &Options::default())?;
-    /// let resources = pe.section_by_name(".rsrc").and_then(|s| pe.section_data(&s));
+    /// let resources = pe.section_by_name(".rsrc").map(|s| s.data(&bytes));
     /// # Ok::<(), goblin_pe::Error>(())
     /// ```
     pub fn section_by_name(&self, name: impl AsRef<[u8]>) -> Option<Section<'a>> {
         self.sections().find(|s| s.name == *name.as_ref())
-    }
-
-    /// The pair (data of a section in the file, how many zeros follow it in memory); `None` where the
-    /// data passes the file, or has no place in it. It begins where [`Pe::find_offset`] maps the section's
-    /// address, by the options with which the file was read.
-    ///
-    /// ```no_run
-    /// # use goblin_pe::{Options, Pe};
-    /// # let bytes = [];
-    /// let pe = Pe::read(&bytes, &Options::default())?;
-    /// for section in pe.sections() {
-    ///     if let Some((data, zeros)) = pe.section_data(&section) {
-    ///         println!("{} has {} bytes and {zeros} zeros", section.name, data.len());
-    ///     }
-    /// }
-    /// # Ok::<(), goblin_pe::Error>(())
-    /// ```
-    pub fn section_data(&self, section: &Section) -> Option<(&'a [u8], u32)> {
-        let begin = match section.size_of_raw_data {
-            0 => 0,
-            _ => self.find_offset(section.virtual_address as usize)?,
-        };
-        section.data_at(self.bytes, begin)
     }
 
     fn section_records(&self) -> &[raw::Section<'a>] {
@@ -206,12 +189,37 @@ impl<'a> Pe<'a> {
     /// let pe = Pe::read(&bytes, &Options::default())?;
     /// let of_kernel = pe.imports().filter(|import| import.dll.eq_ignore_ascii_case(b"kernel32.dll"));
     /// for import in of_kernel {
-    ///     println!("{:#x} {}", import.offset, import.name);
+    ///     println!("{:#x} {}", import.slot_rva, import.name);
     /// }
     /// # Ok::<(), goblin_pe::Error>(())
     /// ```
     pub fn imports(&self) -> Imports<'_, 'a> {
         Imports(self.tables.imports.get().iter())
+    }
+
+    /// A walk over the imports, in constant memory, which reads the file as it goes on: also where the
+    /// options of the read left them out. A file of 256 KiB can have more than 100 million imports, more
+    /// than may be listed. In strict mode it ends with the error for which a read is refused.
+    ///
+    /// ```no_run
+    /// # use goblin_pe::{Options, Pe};
+    /// # let bytes = [];
+    /// let options = Options {
+    ///     parse_imports: false,
+    ///     ..Options::default()
+    /// };
+    /// let pe = Pe::read(&bytes, &options)?;
+    /// for import in pe.walk_imports().take(1_000_000) {
+    ///     println!("{}", import?.name);
+    /// }
+    /// # Ok::<(), goblin_pe::Error>(())
+    /// ```
+    pub fn walk_imports(&self) -> WalkImports<'a> {
+        let options = Options {
+            parse_imports: true,
+            ..self.options
+        };
+        WalkImports::of(self.bytes, options)
     }
 
     /// How the exports stand.
@@ -230,6 +238,83 @@ impl<'a> Pe<'a> {
     /// ```
     pub fn exports(&self) -> Exports<'_, 'a> {
         Exports(self.tables.exports.get().iter())
+    }
+
+    /// A walk over the exports, in constant memory, which reads the file as it goes on.
+    pub fn walk_exports(&self) -> WalkExports<'a> {
+        WalkExports::of(self.bytes, self.options)
+    }
+
+    /// The first export of this name; `None` where there is none.
+    ///
+    /// ```no_run
+    /// # use goblin_pe::{Options, Pe};
+    /// # let bytes = [];
+    /// let pe = Pe::read(&bytes, &Options::default())?;
+    /// let is_server = pe.find_export("DllGetClassObject").is_some();
+    /// # Ok::<(), goblin_pe::Error>(())
+    /// ```
+    pub fn find_export(&self, name: impl AsRef<[u8]>) -> Option<Export<'a>> {
+        self.exports()
+            .find(|it| it.name.is_some_and(|its| its == *name.as_ref()))
+    }
+
+    /// The entry of the export address table for an ordinal, also of an export without a name; `None`
+    /// where the table has none, or one that is not used.
+    ///
+    /// ```no_run
+    /// # use goblin_pe::{Options, Pe};
+    /// # let bytes = [];
+    /// let pe = Pe::read(&bytes, &Options::default())?;
+    /// if let Some(found) = pe.find_export_by_ordinal(115).filter(|it| it.forwards) {
+    ///     println!("see {}", pe.text_at(found.rva as usize).unwrap_or_default());
+    /// }
+    /// # Ok::<(), goblin_pe::Error>(())
+    /// ```
+    pub fn find_export_by_ordinal(&self, ordinal: usize) -> Option<ExportAddress> {
+        let index = ordinal.checked_sub(self.ordinal_base())?;
+        self.export_addresses()
+            .nth(index)
+            .filter(|found| found.rva != 0)
+    }
+
+    /// The entries of the export address table, by rising ordinals; an address of 0 is that of an ordinal
+    /// that is not used.
+    pub fn export_addresses(&self) -> ExportAddresses<'_> {
+        let base = self.ordinal_base();
+        let records = self.tables.export_addresses.get();
+        ExportAddresses((base..base + records.len()).zip(records.iter()))
+    }
+
+    fn ordinal_base(&self) -> usize {
+        self.tables.export_directory.table.ordinal_base as usize
+    }
+
+    /// The record of the exports; `None` where these were not read.
+    pub fn export_directory(&self) -> Option<ExportDirectory<'a>> {
+        let directory = &self.tables.export_directory;
+        (self.export_table() == Part::Read).then(|| ExportDirectory {
+            name: directory.has_name.then(|| Text(directory.name.get())),
+            table: directory.table,
+        })
+    }
+
+    /// The symbols, which few images have; they are read as the walk goes on.
+    ///
+    /// # Errors
+    /// A file that is too short for the symbol table or its string table.
+    ///
+    /// ```no_run
+    /// # use goblin_pe::{Options, Pe};
+    /// # let bytes = [];
+    /// let pe = Pe::read(&bytes, &Options::default())?;
+    /// for symbol in pe.symbols()? {
+    ///     println!("{:#x} {}", symbol.value, symbol.name.unwrap_or_default());
+    /// }
+    /// # Ok::<(), goblin_pe::Error>(())
+    /// ```
+    pub fn symbols(&self) -> Result<Symbols<'a>, Error> {
+        Symbols::of(self.bytes, self.coff_header())
     }
 
     /// How the base relocations stand.
@@ -259,25 +344,107 @@ impl<'a> Pe<'a> {
 
     /// The file offset of an address, by the sections, the file alignment and the options with
     /// which the file was read; `None` where no section maps it or the alignment is no power of
-    /// two. Where the options say that addresses are offsets, it is the address itself. It walks
-    /// over the sections each time.
+    /// two. Where the options say that addresses are offsets, it is the address itself. It can lie past
+    /// the file's end. It walks over the sections each time.
     ///
     /// ```no_run
     /// # use goblin_pe::{Options, Pe};
     /// # let bytes = [];
     /// let pe = Pe::read(&bytes, &Options::default())?;
-    /// let entry = pe.optional_header().map(|it| it.address_of_entry_point as usize);
-    /// let code = entry.and_then(|rva| pe.find_offset(rva)).map(|offset| &bytes[offset..]);
+    /// let entry = pe.optional_header().map(|it| it.standard_fields.address_of_entry_point as usize);
+    /// let code = entry.and_then(|rva| pe.find_offset(rva)).and_then(|offset| bytes.get(offset..));
     /// # Ok::<(), goblin_pe::Error>(())
     /// ```
     pub fn find_offset(&self, rva: usize) -> Option<usize> {
-        let alignment = self.file.optional_header.file_alignment;
-        raw::find_offset(rva, self.section_records(), alignment, &self.options)
+        raw::find_offset(&self.image(), rva)
     }
 
-    /// The bytes of the file on which its imports depend, by its headers and sections: a file of the
-    /// same length, headers and sections that has the same bytes in these ranges has the same imports.
-    /// They come in no order and may overlap; none is empty, and none passes the file.
+    /// The text at an address, up to its NUL; `None` where the address has no offset in the file, or no
+    /// UTF-8 stands there.
+    ///
+    /// ```no_run
+    /// # use goblin_pe::{Options, Pe};
+    /// # let bytes = [];
+    /// let pe = Pe::read(&bytes, &Options::default())?;
+    /// for import in pe.imports().filter(|import| import.rva != 0) {
+    ///     assert_eq!(pe.text_at(import.rva + 2), import.name.name());
+    /// }
+    /// # Ok::<(), goblin_pe::Error>(())
+    /// ```
+    pub fn text_at(&self, rva: usize) -> Option<Text<'a>> {
+        raw::text_at(&self.image(), rva).map(Text)
+    }
+
+    /// So many bytes at an address; `None` where the address has no offset in the file, or the bytes pass
+    /// the file's end.
+    ///
+    /// ```no_run
+    /// # use goblin_pe::{DirectoryType, Options, Pe};
+    /// # let bytes = [];
+    /// let pe = Pe::read(&bytes, &Options::default())?;
+    /// let debug = pe.data_directory(DirectoryType::DebugTable);
+    /// let data = debug.and_then(|it| pe.bytes_at(it.virtual_address as usize, it.size as usize));
+    /// # Ok::<(), goblin_pe::Error>(())
+    /// ```
+    pub fn bytes_at(&self, rva: usize, size: usize) -> Option<&'a [u8]> {
+        raw::bytes_at(&self.image(), rva, size)
+    }
+
+    fn image(&self) -> raw::Image<'_, 'a> {
+        raw::Image {
+            bytes: raw::Slice::from(self.bytes),
+            sections: raw::Shared::from(self.section_records()),
+            file_alignment: self.file.optional_header.windows_fields.file_alignment,
+            options: self.options,
+        }
+    }
+
+    /// The header, to be changed and written.
+    pub fn header(&self) -> Header<'a> {
+        let mut data_directories = [None; 16];
+        for (index, directory) in self.data_directories() {
+            data_directories[index] = Some(directory);
+        }
+        Header {
+            dos_header: self.file.dos_header,
+            dos_stub: Text(self.tables.dos_stub.get()),
+            coff_header: self.file.coff_header,
+            optional_header: self.optional_header().copied(),
+            data_directories,
+        }
+    }
+
+    /// Writes the header as it was read; see [`Header::write`].
+    ///
+    /// # Errors
+    /// Too little room; nothing is written then.
+    pub fn write_header(&self, out: &mut [u8]) -> Result<usize, Error> {
+        self.header().write(out)
+    }
+
+    /// What strict mode would refuse of the file, part by part.
+    ///
+    /// # Errors
+    /// [`ErrorKind::Memory`](crate::ErrorKind::Memory) alone.
+    ///
+    /// ```no_run
+    /// # use goblin_pe::{Options, Pe};
+    /// # let bytes = [];
+    /// let pe = Pe::read(&bytes, &Options::permissive())?;
+    /// for (part, error) in pe.damage()?.parts() {
+    ///     println!("{part}: {error}");
+    /// }
+    /// # Ok::<(), goblin_pe::Error>(())
+    /// ```
+    pub fn damage(&self) -> Result<Damage, Error> {
+        let mut damage = raw::Damage::default();
+        Error::test(raw::damage(self.bytes, &self.options, &mut damage))?;
+        Ok(Damage::from(damage))
+    }
+
+    /// The bytes of the file on which all that was read depends: a file of the same length that has the
+    /// same bytes in these ranges is read alike. They come in no order and may overlap; none is empty, and
+    /// none passes the file.
     ///
     /// # Errors
     /// [`ErrorKind::Memory`](crate::ErrorKind::Memory) alone.
@@ -286,24 +453,13 @@ impl<'a> Pe<'a> {
     /// # use goblin_pe::{Options, Pe};
     /// # let bytes = [];
     /// let pe = Pe::read(&bytes, &Options::default())?;
-    /// let count: usize = pe.import_footprint()?.iter().map(|range| range.len()).sum();
-    /// println!("its imports depend on at most {count} bytes");
+    /// let count: usize = pe.footprint()?.iter().map(|range| range.len()).sum();
+    /// println!("it depends on at most {count} bytes");
     /// # Ok::<(), goblin_pe::Error>(())
     /// ```
-    pub fn import_footprint(&self) -> Result<Vec<Range<usize>>, Error> {
-        let none = raw::Directory::default();
-        let directories = self.directory_records();
+    pub fn footprint(&self) -> Result<Vec<Range<usize>>, Error> {
         let mut ranges = raw::Ranges::EMPTY;
-        Error::test(raw::footprint_imports(
-            self.bytes,
-            &self.options,
-            &self.file.optional_header,
-            directories
-                .get(DirectoryType::ImportTable as usize)
-                .unwrap_or(&none),
-            self.section_records(),
-            &mut ranges,
-        ))?;
+        Error::test(raw::footprint(self.bytes, &self.options, &mut ranges))?;
         let found = ranges.ranges.get();
         let mut footprint = room(found.len())?;
         footprint.extend(found.iter().map(|it| it.offset..it.offset + it.length));

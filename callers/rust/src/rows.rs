@@ -1,10 +1,118 @@
 //! What was read, row by row. Rows live as long as the bytes of the file.
 
+use crate::error::Error;
 use crate::iterators::Words;
+use crate::memory::records;
 use crate::numbers::Forwards;
-use crate::raw;
+use crate::raw::{
+    self, AuxBeginAndEndFunction, AuxFunctionDefinition, AuxSectionDefinition, AuxWeakExternal,
+    CoffHeader, DataDirectory, DosHeader, ExportDirectoryTable, OptionalHeader, Relocation,
+};
 use crate::text::Text;
 use std::fmt;
+
+/// The header of an image, which can be changed and written.
+///
+/// ```no_run
+/// # let mut bytes = vec![0];
+/// let pe = goblin_pe::Pe::read(&bytes, &goblin_pe::Options::default())?;
+/// let mut header = pe.header();
+/// header.coff_header.time_date_stamp = 0;
+/// let mut out = bytes.clone();
+/// header.write(&mut out)?;
+/// # Ok::<(), goblin_pe::Error>(())
+/// ```
+#[derive(Clone, Copy, Debug, PartialEq, Eq, Hash)]
+pub struct Header<'a> {
+    /// The DOS header, which says where the PE signature is written.
+    pub dos_header: DosHeader,
+    /// The bytes after the DOS header, up to the PE signature.
+    pub dos_stub: Text<'a>,
+    /// The COFF header.
+    pub coff_header: CoffHeader,
+    /// The optional header; `None` where the file has none.
+    pub optional_header: Option<OptionalHeader>,
+    /// The data directories, by their indexes.
+    pub data_directories: [Option<DataDirectory>; 16],
+}
+
+impl Header<'_> {
+    /// Writes the header from the front of the file on, up to the section table, and returns how many
+    /// bytes that are. Where strict mode read it, these are the bytes of the file.
+    ///
+    /// # Errors
+    /// Too little room, or a field that does not fit the width of the optional header; nothing is
+    /// written then.
+    pub fn write(&self, out: &mut [u8]) -> Result<usize, Error> {
+        let directories = self.data_directories.map(|it| raw::Directory {
+            end: 0,
+            directory: it.unwrap_or_default(),
+            is_present: it.is_some(),
+        });
+        let count = self.optional_header.map_or(0, |_| directories.len());
+        let file = raw::File {
+            optional_header: self.optional_header.unwrap_or_default(),
+            directories: count,
+            dos_header: self.dos_header,
+            coff_header: self.coff_header,
+            ..raw::File::default()
+        };
+        let mut written = 0;
+        let stub = self.dos_stub.0;
+        let fault = raw::write_header(&file, &directories[..count], stub, out, &mut written);
+        Error::test(fault)?;
+        Ok(written)
+    }
+}
+
+/// What strict mode would refuse of an image, part by part, each for itself: `None` is no damage.
+#[derive(Clone, Copy, Debug, PartialEq, Eq, Hash)]
+pub struct Damage {
+    /// Of the DOS stub and the Rich header in it.
+    pub dos_stub: Option<Error>,
+    /// Of the names of sections in the string table.
+    pub section_names: Option<Error>,
+    /// Of the imports.
+    pub imports: Option<Error>,
+    /// Of the exports.
+    pub exports: Option<Error>,
+    /// Of the base relocations.
+    pub relocations: Option<Error>,
+    /// How many libraries permissive mode leaves out of the imports.
+    pub left_out_libraries: usize,
+    /// How many entries of the other libraries permissive mode leaves out.
+    pub left_out_entries: usize,
+}
+
+impl Damage {
+    /// The parts that are damaged, as pairs (name of the field, why).
+    pub fn parts(&self) -> impl Iterator<Item = (&'static str, Error)> + use<> {
+        let parts = [
+            ("dos_stub", self.dos_stub),
+            ("section_names", self.section_names),
+            ("imports", self.imports),
+            ("exports", self.exports),
+            ("relocations", self.relocations),
+        ];
+        parts
+            .into_iter()
+            .filter_map(|(name, error)| Some((name, error?)))
+    }
+}
+
+impl From<raw::Damage> for Damage {
+    fn from(damage: raw::Damage) -> Damage {
+        Damage {
+            dos_stub: Error::of(damage.dos_stub),
+            section_names: Error::of(damage.section_names),
+            imports: Error::of(damage.imports),
+            exports: Error::of(damage.exports),
+            relocations: Error::of(damage.relocations),
+            left_out_libraries: damage.left_out_libraries,
+            left_out_entries: damage.left_out_entries,
+        }
+    }
+}
 
 /// The Rich header, which says by which tools a file was made.
 #[derive(Clone, Copy, Debug, PartialEq, Eq, PartialOrd, Ord, Hash)]
@@ -77,13 +185,98 @@ impl<'a> Section<'a> {
         }
     }
 
-    // The pair (data that begins at this place of the file, how many zeros follow it in memory).
-    pub(crate) fn data_at<'b>(&self, bytes: &'b [u8], begin: usize) -> Option<(&'b [u8], u32)> {
-        let data = bytes.get(begin..)?.get(..self.size_of_raw_data as usize)?;
-        Some((
-            data,
-            self.virtual_size.saturating_sub(self.size_of_raw_data),
-        ))
+    // The record of it, without its name from the string table.
+    fn record(&self) -> raw::Section<'static> {
+        raw::Section {
+            name: self.raw_name,
+            virtual_size: self.virtual_size,
+            virtual_address: self.virtual_address,
+            size_of_raw_data: self.size_of_raw_data,
+            pointer_to_raw_data: self.pointer_to_raw_data,
+            pointer_to_relocations: self.pointer_to_relocations,
+            pointer_to_linenumbers: self.pointer_to_linenumbers,
+            number_of_relocations: self.number_of_relocations,
+            number_of_linenumbers: self.number_of_linenumbers,
+            characteristics: self.characteristics,
+            ..raw::Section::EMPTY
+        }
+    }
+
+    /// The pair (data in the file `bytes`, how many zeros follow it in memory). The data begins at the
+    /// raw pointer as stored.
+    ///
+    /// # Errors
+    /// [`ErrorKind::Read`](crate::ErrorKind::Read) where the data passes the file.
+    ///
+    /// ```no_run
+    /// # let bytes = [];
+    /// let pe = goblin_pe::Pe::read(&bytes, &goblin_pe::Options::default())?;
+    /// for section in pe.sections() {
+    ///     let (data, zeros) = section.data(&bytes)?;
+    ///     println!("{} has {} bytes and {zeros} zeros", section.name, data.len());
+    /// }
+    /// # Ok::<(), goblin_pe::Error>(())
+    /// ```
+    pub fn data<'b>(&self, bytes: &'b [u8]) -> Result<(&'b [u8], usize), Error> {
+        let mut data = raw::SectionData::EMPTY;
+        Error::test(raw::section_data(bytes, &self.record(), &mut data))?;
+        Ok((data.bytes.get(), data.zeros))
+    }
+
+    /// The relocations of a section of the object `bytes`.
+    ///
+    /// # Errors
+    /// Why they were refused; memory may be.
+    ///
+    /// ```no_run
+    /// # let bytes = [];
+    /// let object = goblin_pe::Object::read(&bytes, &goblin_pe::Options::default())?;
+    /// for section in object.sections() {
+    ///     for it in section.relocations(&bytes)? {
+    ///         println!("{} {:#x}: {}", section.name, it.virtual_address, it.typ);
+    ///     }
+    /// }
+    /// # Ok::<(), goblin_pe::Error>(())
+    /// ```
+    pub fn relocations(&self, bytes: &[u8]) -> Result<Vec<Relocation>, Error> {
+        let (section, mut count) = (self.record(), 0);
+        Error::test(raw::read_relocations(bytes, &section, &mut [], &mut count))?;
+        let mut relocations = records(Relocation::default(), count)?;
+        let fault = raw::read_relocations(bytes, &section, &mut relocations, &mut count);
+        Error::test(fault)?;
+        Ok(relocations)
+    }
+
+    /// Puts into `raw_name` that the name stands at this offset of the string table.
+    ///
+    /// # Errors
+    /// An offset that no record can hold; nothing is changed then.
+    pub fn set_name_offset(&mut self, offset: usize) -> Result<(), Error> {
+        let mut section = self.record();
+        Error::test(raw::set_name_offset(&mut section, offset))?;
+        self.raw_name = section.name;
+        Ok(())
+    }
+
+    /// Writes the record of the section, with `raw_name` for a name, and returns its size, 40 bytes.
+    ///
+    /// # Errors
+    /// Too little room; nothing is written then.
+    ///
+    /// ```no_run
+    /// # let mut bytes = vec![0];
+    /// let pe = goblin_pe::Pe::read(&bytes, &goblin_pe::Options::default())?;
+    /// let mut record = [0; 40];
+    /// if let Some(mut section) = pe.section_by_name(".text") {
+    ///     section.raw_name = *b".code\0\0\0";
+    ///     section.write(&mut record)?;
+    /// }
+    /// # Ok::<(), goblin_pe::Error>(())
+    /// ```
+    pub fn write(&self, out: &mut [u8]) -> Result<usize, Error> {
+        let mut written = 0;
+        Error::test(raw::write_section(&self.record(), out, &mut written))?;
+        Ok(written)
     }
 }
 
@@ -146,11 +339,9 @@ pub struct Import<'a> {
     pub dll: Text<'a>,
     /// The address (not the file offset) of its own entry in the address table, where the loader
     /// puts the address of what is imported.
-    pub offset: usize,
+    pub slot_rva: usize,
     /// The address of the hint and the name; 0 of an import by ordinal.
     pub rva: usize,
-    /// The size of an entry of the address table, in bytes: 4 in an image for 32 bits, else 8.
-    pub size: usize,
     /// The index of its entry, in the file, in the lookup table and in the address table. Entries
     /// that are left out count.
     pub slot: usize,
@@ -169,9 +360,8 @@ impl<'a> From<&raw::Import<'a>> for Import<'a> {
                 Imported::Ordinal(x.ordinal)
             },
             dll: Text(x.dll.get()),
-            offset: x.offset,
+            slot_rva: x.slot_rva,
             rva: x.rva,
-            size: x.size,
             slot: x.slot,
         }
     }
@@ -201,6 +391,10 @@ pub enum Forwarder<'a> {
 pub struct Export<'a> {
     /// The name; `None` where no text stands at its address.
     pub name: Option<Text<'a>>,
+    /// The ordinal: the index of its address in the export address table, plus the ordinal base.
+    pub ordinal: usize,
+    /// The index of its name pointer, by which others name it as a hint.
+    pub hint: usize,
     /// The file offset of `rva`, as [`Pe::find_offset`](crate::Pe::find_offset) gives it.
     pub offset: Option<usize>,
     /// The address, relative to the image's base; of a forwarder that of its text.
@@ -211,11 +405,13 @@ pub struct Export<'a> {
 
 impl<'a> From<&raw::Export<'a>> for Export<'a> {
     fn from(x: &raw::Export<'a>) -> Export<'a> {
-        let lib = Text(x.lib.get());
-        let export = Text(x.export_name.get());
-        let ordinal = x.ordinal;
+        let lib = Text(x.forward_lib.get());
+        let export = Text(x.forward_name.get());
+        let ordinal = x.forward_ordinal;
         Export {
             name: x.has_name.then(|| Text(x.name.get())),
+            ordinal: x.ordinal,
+            hint: x.hint,
             offset: x.has_offset.then_some(x.offset),
             rva: x.rva,
             forwarder: match Forwards::try_from(u32::from(x.forwards)) {
@@ -225,6 +421,27 @@ impl<'a> From<&raw::Export<'a>> for Export<'a> {
             },
         }
     }
+}
+
+/// An entry of the export address table, with or without a name.
+#[derive(Clone, Copy, Debug, PartialEq, Eq, PartialOrd, Ord, Hash)]
+pub struct ExportAddress {
+    /// The ordinal.
+    pub ordinal: usize,
+    /// The address, relative to the image's base; of a forwarder that of its text, which
+    /// [`Pe::text_at`](crate::Pe::text_at) reads.
+    pub rva: u32,
+    /// Whether it is a forwarder.
+    pub forwards: bool,
+}
+
+/// The record of the exports.
+#[derive(Clone, Copy, Debug, PartialEq, Eq, Hash)]
+pub struct ExportDirectory<'a> {
+    /// The name with which the library was linked; `None` where no text stands at its address.
+    pub name: Option<Text<'a>>,
+    /// The record.
+    pub table: ExportDirectoryTable,
 }
 
 /// A block of base relocations, for one page of the image in memory.
@@ -266,7 +483,7 @@ impl<'a> From<&raw::Block<'a>> for Block<'a> {
     }
 }
 
-/// A symbol of an object.
+/// A symbol of an image or an object.
 #[derive(Clone, Copy, Debug, PartialEq, Eq, PartialOrd, Ord, Hash)]
 pub struct Symbol<'a> {
     /// The index of its record in the symbol table, which also counts auxiliary records.
@@ -287,19 +504,50 @@ pub struct Symbol<'a> {
     pub storage_class: u8,
     /// How many auxiliary records follow it.
     pub number_of_aux_symbols: u8,
+    /// The bytes of its auxiliary records, 18 each: as many as it says and the table has.
+    pub auxiliary: &'a [u8],
 }
 
-impl<'a> From<&raw::Symbol<'a>> for Symbol<'a> {
-    fn from(s: &raw::Symbol<'a>) -> Symbol<'a> {
+impl<'a> Symbol<'a> {
+    /// The first auxiliary record, of a symbol that defines a function; `None` where it has none, as
+    /// in the calls below.
+    pub fn aux_function_definition(&self) -> Option<AuxFunctionDefinition> {
+        raw::aux_function_definition(self.auxiliary)
+    }
+
+    /// The first auxiliary record, of a symbol of a function's start or end.
+    pub fn aux_begin_and_end_function(&self) -> Option<AuxBeginAndEndFunction> {
+        raw::aux_begin_and_end_function(self.auxiliary)
+    }
+
+    /// The first auxiliary record, of a symbol that another may replace.
+    pub fn aux_weak_external(&self) -> Option<AuxWeakExternal> {
+        raw::aux_weak_external(self.auxiliary)
+    }
+
+    /// The first auxiliary record, of a symbol that defines a section.
+    pub fn aux_section_definition(&self) -> Option<AuxSectionDefinition> {
+        raw::aux_section_definition(self.auxiliary)
+    }
+
+    /// The name of a source file, of a symbol of class 103.
+    pub fn aux_file(&self) -> Option<Text<'a>> {
+        raw::aux_file(self.auxiliary).map(Text)
+    }
+}
+
+impl<'a> From<&raw::NamedSymbol<'a>> for Symbol<'a> {
+    fn from(s: &raw::NamedSymbol<'a>) -> Symbol<'a> {
         Symbol {
             index: s.index,
             name: s.has_name.then(|| Text(s.name.get())),
-            raw_name: s.record_name,
-            value: s.value,
-            section_number: s.section_number,
-            typ: s.typ,
-            storage_class: s.storage_class,
-            number_of_aux_symbols: s.number_of_aux_symbols,
+            raw_name: s.symbol.name,
+            value: s.symbol.value,
+            section_number: s.symbol.section_number,
+            typ: s.symbol.typ,
+            storage_class: s.symbol.storage_class,
+            number_of_aux_symbols: s.symbol.number_of_aux_symbols,
+            auxiliary: s.auxiliary.get(),
         }
     }
 }

@@ -58,17 +58,11 @@ impl<'a> Te<'a> {
     /// ```no_run
     /// # let bytes = [];
     /// let te = goblin_pe::Te::read(&bytes)?;
-    /// let code = te.section_by_name(".text").and_then(|s| te.section_data(&s));
+    /// let code = te.section_by_name(".text").map(|s| s.data(&bytes));
     /// # Ok::<(), goblin_pe::Error>(())
     /// ```
     pub fn section_by_name(&self, name: impl AsRef<[u8]>) -> Option<Section<'a>> {
         self.sections().find(|s| s.name == *name.as_ref())
-    }
-
-    /// The pair (data of a section in the file, how many zeros follow it in memory); `None` where the
-    /// data passes the file.
-    pub fn section_data(&self, section: &Section) -> Option<(&'a [u8], u32)> {
-        section.data_at(self.bytes, section.pointer_to_raw_data as usize)
     }
 }
 

@@ -1,7 +1,7 @@
 //! Reads samples, and what is no image.
 use goblin_pe::{
-    Cause, DirectoryType, ErrorKind, Forwarder, Imported, Object, Options, Part, Pe, ReadFault, Te,
-    Text,
+    Cause, DirectoryType, ErrorKind, ExportAddress, Forwarder, Imported, Kind, Object, Options,
+    Part, Pe, ReadFault, Te, Text,
 };
 
 fn sample(name: &str) -> Vec<u8> {
@@ -80,6 +80,7 @@ fn fields_stand_where_the_format_says() {
         u64::from(pe.coff_header().characteristics),
         number(&bytes, header + 22, 2)
     );
+    let fields = fields.windows_fields;
     assert_eq!(fields.image_base, number(&bytes, optional + 24, 8));
     assert_eq!(
         u64::from(fields.subsystem),
@@ -139,30 +140,172 @@ fn place(bytes: &[u8], part: &[u8]) -> usize {
 }
 
 #[test]
-fn the_data_of_a_section_begins_where_its_address_is_mapped() {
+fn the_data_of_a_section_begins_at_its_raw_pointer() {
     for name in ["align16_x64.dll", "imports_by_name_x64.dll"] {
         let bytes = sample(name);
-        for rounds_raw_pointers in [false, true] {
-            let options = Options {
-                rounds_raw_pointers,
-                ..Options::permissive()
-            };
-            let pe = Pe::read(&bytes, &options).unwrap();
-            for s in pe.sections() {
-                let (data, zeros) = pe.section_data(&s).unwrap();
-                let begin = Some(place(&bytes, data));
-                assert_eq!(begin, pe.find_offset(s.virtual_address as usize));
-                assert_eq!(data.len(), s.size_of_raw_data as usize);
-                let grown = s.virtual_size.max(s.size_of_raw_data);
-                assert_eq!(data.len() + zeros as usize, grown as usize);
-            }
+        let pe = Pe::read(&bytes, &Options::permissive()).unwrap();
+        for s in pe.sections() {
+            let (data, zeros) = s.data(&bytes).unwrap();
+            assert_eq!(place(&bytes, data), s.pointer_to_raw_data as usize);
+            assert_eq!(data.len(), s.size_of_raw_data as usize);
+            let grown = s.virtual_size.max(s.size_of_raw_data);
+            assert_eq!(data.len() + zeros, grown as usize);
         }
     }
     let bytes = sample("imports_by_name_x64.dll");
-    let cut = bytes.len() - 1;
-    let pe = Pe::read(&bytes[..cut], &Options::permissive()).unwrap();
+    let cut = &bytes[..bytes.len() - 1];
+    let pe = Pe::read(cut, &Options::permissive()).unwrap();
     let last = pe.sections().next_back().unwrap();
-    assert_eq!(pe.section_data(&last), None);
+    let error = last.data(cut).unwrap_err();
+    assert_eq!(error.read_fault(), Some(ReadFault::TooBig));
+}
+
+#[test]
+fn what_stands_at_an_address() {
+    let bytes = sample("imports_by_name_x64.dll");
+    let pe = Pe::read(&bytes, &Options::default()).unwrap();
+    let import = pe.imports().next().unwrap();
+    assert_eq!(pe.text_at(import.rva + 2), Some(Text(b"GetTickCount")));
+    assert_eq!(pe.bytes_at(0x1020, 4), Some(&bytes[0x420..0x424]));
+    assert_eq!(pe.bytes_at(0x1020, bytes.len()), None);
+    assert_eq!((pe.text_at(0x9000), pe.bytes_at(0x9000, 1)), (None, None));
+}
+
+#[test]
+fn walks_give_what_is_listed() {
+    for name in [
+        "imports_by_name_x64.dll",
+        "forwarders_x86.dll",
+        "program_x64.exe",
+    ] {
+        let bytes = sample(name);
+        let pe = Pe::read(&bytes, &Options::default()).unwrap();
+        let imports: Vec<_> = pe.walk_imports().map(Result::unwrap).collect();
+        let exports: Vec<_> = pe.walk_exports().map(Result::unwrap).collect();
+        assert!(pe.imports().eq(imports.iter().copied()), "{name}");
+        assert!(pe.exports().eq(exports), "{name}");
+        let options = Options {
+            parse_imports: false,
+            ..Options::default()
+        };
+        let unlisted = Pe::read(&bytes, &options).unwrap();
+        assert_eq!(unlisted.imports().len(), 0);
+        assert!(unlisted.walk_imports().map(Result::unwrap).eq(imports));
+    }
+}
+
+// The file offset of the first record of the import directory.
+fn import_record(bytes: &[u8]) -> usize {
+    let pe = Pe::read(bytes, &Options::default()).unwrap();
+    let directory = pe.data_directory(DirectoryType::ImportTable).unwrap();
+    pe.find_offset(directory.virtual_address as usize).unwrap()
+}
+
+// The name of the only library stands at an address that no section maps.
+#[test]
+fn a_walk_ends_with_the_refusal_of_a_read() {
+    let mut bytes = sample("imports_by_name_x64.dll");
+    let options = Options::default();
+    let record = import_record(&bytes);
+    bytes[record + 12..record + 16].copy_from_slice(&0x9000u32.to_le_bytes());
+    let refused = Pe::read(&bytes, &options).err();
+    assert_eq!(refused.unwrap().named_cause(), Some(Cause::Unmapped));
+    let options = Options {
+        parse_imports: false,
+        ..options
+    };
+    let pe = Pe::read(&bytes, &options).unwrap();
+    let mut walk = pe.walk_imports();
+    assert_eq!(walk.next().unwrap().err(), refused);
+    assert!(walk.next().is_none());
+    let permissive = Pe::read(&bytes, &Options::permissive()).unwrap();
+    let damage = permissive.damage().unwrap();
+    assert_eq!(damage.imports, refused);
+    let parts: Vec<_> = damage.parts().map(|(name, _)| name).collect();
+    assert_eq!(parts, ["imports"]);
+    assert_eq!(
+        (damage.dos_stub, damage.exports, damage.relocations),
+        (None, None, None)
+    );
+}
+
+#[test]
+fn exports_are_found_by_name_and_by_ordinal() {
+    let bytes = sample("forwarders_x64.dll");
+    let pe = Pe::read(&bytes, &Options::default()).unwrap();
+    let base = pe.export_directory().unwrap().table.ordinal_base as usize;
+    for export in pe.exports() {
+        assert_eq!(pe.find_export(export.name.unwrap()), Some(export));
+        let found = pe.find_export_by_ordinal(export.ordinal).unwrap();
+        let wanted = ExportAddress {
+            ordinal: export.ordinal,
+            rva: export.rva as u32,
+            forwards: export.forwarder.is_some(),
+        };
+        assert_eq!(found, wanted);
+    }
+    assert_eq!(pe.find_export("nothing"), None);
+    let past = base + pe.export_addresses().len();
+    assert_eq!(pe.find_export_by_ordinal(past), None);
+    assert_eq!(pe.find_export_by_ordinal(base.wrapping_sub(1)), None);
+}
+
+#[test]
+fn headers_and_sections_are_written_back() {
+    for name in [
+        "imports_by_name_x64.dll",
+        "program_x86.exe",
+        "firmware_x64.efi",
+    ] {
+        let bytes = sample(name);
+        let pe = Pe::read(&bytes, &Options::default()).unwrap();
+        let mut out = vec![0; bytes.len()];
+        let written = pe.write_header(&mut out).unwrap();
+        assert_eq!(out[..written], bytes[..written], "{name}");
+        for section in pe.sections() {
+            let mut record = [0; 40];
+            assert_eq!(section.write(&mut record).unwrap(), 40);
+            assert!(bytes[written..].chunks(40).any(|it| it == record));
+            assert!(section.write(&mut record[1..]).is_err());
+        }
+        assert!(pe.write_header(&mut out[..written - 1]).is_err());
+        let mut header = pe.header();
+        header.coff_header.time_date_stamp = 7;
+        header.write(&mut out).unwrap();
+        assert_eq!(
+            Pe::read(&out[..], &Options::permissive())
+                .unwrap()
+                .coff_header()
+                .time_date_stamp,
+            7
+        );
+    }
+}
+
+#[test]
+fn long_names_are_set_by_their_place() {
+    let bytes = sample("imports_by_name_x64.dll");
+    let pe = Pe::read(&bytes, &Options::default()).unwrap();
+    let mut section = pe.sections().next().unwrap();
+    section.set_name_offset(1234).unwrap();
+    assert_eq!(section.raw_name, *b"/1234\0\0\0");
+    let error = section.set_name_offset(usize::MAX).unwrap_err();
+    assert_eq!(error.named_cause(), Some(Cause::NameOffset));
+    assert_eq!(section.raw_name, *b"/1234\0\0\0");
+}
+
+#[test]
+fn kinds_are_told_by_the_first_bytes() {
+    let kinds = [
+        ("imports_by_name_x64.dll", Kind::Image),
+        ("object_x86.obj", Kind::Object),
+        ("firmware_x64.te", Kind::Te),
+    ];
+    for (name, kind) in kinds {
+        assert_eq!(goblin_pe::kind(&sample(name)), kind);
+    }
+    assert_eq!(goblin_pe::kind(b"\0\0"), Kind::Unknown);
+    assert_eq!(goblin_pe::kind(b"M"), Kind::Unknown);
 }
 
 #[test]
@@ -182,14 +325,14 @@ fn names_of_sections_are_those_of_their_records() {
     let object = Object::read(&bytes, &Options::default()).unwrap();
     assert!(object.sections().all(|s| named(s.name, s.raw_name)));
     let text = object.section_by_name(".text").unwrap();
-    let (data, _) = object.section_data(&text).unwrap();
+    let (data, _) = text.data(&bytes).unwrap();
     assert_eq!(place(&bytes, data), text.pointer_to_raw_data as usize);
     let bytes = sample("firmware_x64.te");
     let te = Te::read(&bytes).unwrap();
     assert_eq!(te.sections().len(), usize::from(bytes[4]));
     assert!(te.sections().all(|s| named(s.name, s.raw_name)));
     let text = te.section_by_name(b".text").unwrap();
-    let (data, _) = te.section_data(&text).unwrap();
+    let (data, _) = text.data(&bytes).unwrap();
     assert_eq!(place(&bytes, data), text.pointer_to_raw_data as usize);
 }
 
@@ -206,24 +349,25 @@ fn a_file_without_directories_has_none_after_one_with_them() {
     assert!(pe.optional_header().is_none());
     assert_eq!(pe.data_directory(DirectoryType::ImportTable), None);
     assert_eq!(pe.data_directories().count(), 0);
-    assert_eq!(pe.import_footprint().unwrap(), []);
+    assert_eq!(pe.export_addresses().len(), 0);
+    assert!(pe.export_directory().is_none());
 }
 
-// All of a file is changed but for its headers and the footprint of its imports: they are the same.
+// All of a file is changed but for its footprint: the rest is read alike.
 #[test]
-fn imports_depend_on_their_footprint_alone() {
+fn a_file_depends_on_its_footprint_alone() {
     let options = Options::permissive();
     for name in ["imports_by_name_x64.dll", "imports_by_ordinal_x86.dll"] {
         let bytes = sample(name);
         let pe = Pe::read(&bytes, &options).unwrap();
-        let headers = pe.optional_header().unwrap().size_of_headers as usize;
         let mut other: Vec<u8> = bytes.iter().map(|byte| !byte).collect();
-        other[..headers].copy_from_slice(&bytes[..headers]);
-        for range in pe.import_footprint().unwrap() {
+        for range in pe.footprint().unwrap() {
             other[range.clone()].copy_from_slice(&bytes[range]);
         }
         let other = Pe::read(&other, &options).unwrap();
         assert!(pe.imports().eq(other.imports()), "{name}");
+        assert!(pe.exports().eq(other.exports()), "{name}");
+        assert_eq!(pe.header(), other.header());
         assert_ne!(pe.imports().len(), 0, "{name}");
     }
 }
@@ -256,7 +400,39 @@ fn objects_and_terse_executables() {
         u64::from(object.coff_header().machine),
         number(&bytes, 0, 2)
     );
-    assert!(object.symbols().all(|s| s.name.is_some()));
+    assert!(object.symbols().unwrap().all(|s| s.name.is_some()));
+    for section in object.sections() {
+        let relocations = section.relocations(&bytes).unwrap();
+        assert_eq!(
+            relocations.len(),
+            usize::from(section.number_of_relocations)
+        );
+        for (index, it) in relocations.iter().enumerate() {
+            let place = section.pointer_to_relocations as usize + 10 * index;
+            assert_eq!(u64::from(it.virtual_address), number(&bytes, place, 4));
+            assert_eq!(
+                u64::from(it.symbol_table_index),
+                number(&bytes, place + 4, 4)
+            );
+            assert_eq!(u64::from(it.typ), number(&bytes, place + 8, 2));
+        }
+    }
+    let sections = object.sections().len();
+    let definitions = object.symbols().unwrap().filter(|s| s.storage_class == 3);
+    for symbol in definitions.filter(|s| s.number_of_aux_symbols == 1) {
+        let definition = symbol.aux_section_definition().unwrap();
+        let section = object
+            .sections()
+            .nth(symbol.section_number as usize - 1)
+            .unwrap();
+        assert!(sections > 0 && definition.length == section.size_of_raw_data);
+        assert_eq!(symbol.auxiliary.len(), 18);
+    }
+    let none = object
+        .symbols()
+        .unwrap()
+        .find(|s| s.number_of_aux_symbols == 0);
+    assert_eq!(none.unwrap().aux_weak_external(), None);
     let bytes = sample("firmware_x64.te");
     let te = Te::read(&bytes).unwrap();
     assert_eq!(

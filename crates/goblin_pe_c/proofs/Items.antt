@@ -17,7 +17,7 @@ use Rattle.goblin_pe_c.specs.Filled.{Filled}
 use Rattle.goblin_pe_c.specs.Items.{rest_of, values_of}
 
 -- where there is room for one more
-room : {R B : Type 0} (view : R → B) (done : List B) (old records : List R) (b : B) (r : R) (n : ℕ) → Filled view done old records → length records ≡ length old → length done ≡ n → view r ≡ b → n < length old → Filled view (done ++ b ∷ []) old (set records n r)
+pub room : {R B : Type 0} (view : R → B) (done : List B) (old records : List R) (b : B) (r : R) (n : ℕ) → Filled view done old records → length records ≡ length old → length done ≡ n → view r ≡ b → n < length old → Filled view (done ++ b ∷ []) old (set records n r)
 room {R} {B} view done old records b r n h same is says lt =
     let count : length (done ++ b ∷ []) ≡ n + 1 = length-append done (b ∷ []) ∙ ap (λ (m : ℕ). m + 1) is in
     let here : n < length records = omega (arith, same, lt) in

@@ -1,3 +1,4 @@
+pub mod Batches
 pub mod Blocked
 pub mod Blocks
 pub mod Calls
@@ -10,6 +11,7 @@ pub mod Files
 pub mod Filled
 pub mod Footprints
 pub mod Found
+pub mod Growth
 pub mod Headers
 pub mod Images
 pub mod Imports

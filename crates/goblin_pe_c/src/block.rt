@@ -1,6 +1,6 @@
 //! The records of base relocation blocks.
 
-ghost use Rattle.std.specs.Prelude.{◌≡◌, IfErr, IfOk, map};
+ghost use Rattle.std.specs.Prelude.{◌≡◌, ◌<◌, IfErr, IfOk, OnErr, length, map};
 ghost use Rattle.goblin_base.specs.Answers.{IsMemory};
 ghost use Rattle.goblin_pe_sect.specs.BaseRelocations.{block_items, block_value, relocation_bytes};
 ghost use Rattle.goblin_pe.specs.Whole.{part_map};
@@ -61,6 +61,8 @@ fn item_records<'a>(
     ensures rest { IfOk result
         (λ made. made.1 ≡ rest_of (block_items (relocation_bytes relocations.now) 0)) }
     ensures none { IfOk result (λ made. HasNoIdleBlock made.0) }
+    ensures grown { OnErr result
+        (0 < length (values_of (block_items (relocation_bytes relocations.now) 0))) }
 {
     let mut records = Vec::new(alloc);
     'blocks: for block in relocations.blocks() {
@@ -86,6 +88,8 @@ pub fn block_records<'a>(
     ensures said { IfOk result
         (λ made. made.1 ≡ relocations_of (part_map relocation_bytes relocations.now)) }
     ensures none { IfOk result (λ made. HasNoIdleBlock made.0) }
+    ensures grown { OnErr result
+        (0 < length (blocks_in (part_map relocation_bytes relocations.now))) }
 {
     let (records, state, rest) = match relocations {
         Part::Absent => (Vec::new(alloc), State::Absent, no_fault()),

@@ -1,6 +1,7 @@
 //! The records of exports.
 
-ghost use Rattle.std.specs.Prelude.{◌≡◌, ◌≤◌, ◌++◌, ◌∷◌, [], IfOk, OnOk, map};
+ghost use Rattle.std.specs.Prelude.{◌≡◌, ◌≤◌, ◌<◌, ◌+◌, ◌++◌, ◌∷◌, [], IfOk, IfSome, OnErr, OnOk};
+ghost use Rattle.std.specs.Prelude.{length, map};
 ghost use Rattle.goblin_base.specs.Answers.{GivesOrMemory};
 ghost use Rattle.goblin_base.specs.Reading.{ReadsOrMemory};
 ghost use Rattle.goblin_pe.specs.Reads.{mapped};
@@ -11,6 +12,7 @@ ghost use Rattle.goblin_pe.specs.Whole.{collected_exports, export_part, part_map
 ghost use Rattle.goblin_pe_c.specs.Blocked.{HasNoIdleBlock, HasNoIdleBlockIn, HaveNoIdleBlocks};
 ghost use Rattle.goblin_pe_c.specs.Exports.{export_said, export_view, export_views, exports_said};
 ghost use Rattle.goblin_pe_c.specs.Exports.{exports_view, read_said, unread_said};
+ghost use Rattle.goblin_pe_c.specs.Growth.{HasExports};
 
 use crate::export_directory::{
     PeExportAddress, PeExportDirectory, address_records, directory_record, no_directory,
@@ -135,6 +137,7 @@ fn records_of<'a, 'm>(
     ensures value { GivesOrMemory export_views result
         (map export_said (exports_left exports.entry)) }
     ensures none { IfOk result HasNoIdleBlock }
+    ensures grown { OnErr result (0 < length (exports_left exports.entry)) }
 {
     let expected = exports.size_hint().1.unwrap_or(MOST_FIRST).min(MOST_FIRST);
     let mut records = Vec::new(alloc);
@@ -154,6 +157,8 @@ fn read_records<'a, 'm>(
     ensures value { GivesOrMemory exports_view result
         (read_said (walked_tables exports.entry) (exports_left exports.entry)) }
     ensures none { IfOk result HaveNoIdleBlocks }
+    ensures grown { let addresses = (walked_tables exports.entry).export_address_table in
+        OnErr result (0 < length (exports_left exports.entry) + length addresses) }
 {
     let directory = directory_record(bytes, &exports);
     let addresses = address_records(alloc, &exports)?;
@@ -187,6 +192,9 @@ pub fn export_records<'a>(alloc: Global, layout: &Layout<'a, '_>) -> Result<Expo
         (export_part m.opts (offset_of m) (layout_places layout.now)))
         layout.now.bytes.now }
     ensures none { IfOk result HaveNoIdleBlocks }
+    ensures grown { let m = layout_map layout.now in
+        let read = export_part m.opts (offset_of m) (layout_places layout.now) in
+        OnErr result (IfSome (read.value layout.now.bytes.now) HasExports) }
 {
     match layout.exports()? {
         Part::Absent => Ok(unread_records(alloc, Part::Absent)),

@@ -1,6 +1,7 @@
 //! The records of imports.
 
-ghost use Rattle.std.specs.Prelude.{◌≡◌, ◌++◌, ◌∷◌, [], IfOk, OnOk, map, option_map};
+ghost use Rattle.std.specs.Prelude.{◌≡◌, ◌<◌, ◌++◌, ◌∷◌, [], IfOk, IfSome, OnErr, OnOk, length, map};
+ghost use Rattle.std.specs.Prelude.{option_map};
 ghost use Rattle.goblin_base.specs.Answers.{AnswersOrMemory, GivesOrMemory, all_of};
 ghost use Rattle.goblin_base.specs.Reading.{ReadsOrMemory};
 ghost use Rattle.goblin_pe.specs.Reads.{mapped};
@@ -11,6 +12,7 @@ ghost use Rattle.goblin_pe.specs.Layouts.{layout_places};
 ghost use Rattle.goblin_pe.specs.Whole.{AreListed, collected_imports, import_list, import_parts};
 ghost use Rattle.goblin_pe.specs.Whole.{part_map};
 ghost use Rattle.goblin_pe_c.specs.Blocked.{HasNoIdleBlock, HasNoIdleBlockIn};
+ghost use Rattle.goblin_pe_c.specs.Growth.{HasEntries};
 ghost use Rattle.goblin_pe_c.specs.Imports.{import_said, import_view, import_views};
 
 use crate::room::make_room;
@@ -96,6 +98,7 @@ fn records_of<'a, 'm, 'e, T: Bitfield<'a>>(
         AnswersOrMemory import_views result (option_map (map import_said) items)
         (IsImportsCause T.format imports.entry) }
     ensures none { IfOk result HasNoIdleBlock }
+    ensures grown { OnErr result (0 < length (imports_left T.format imports.entry)) }
 {
     let mut records = Vec::new(alloc);
     'imports: for import in imports {
@@ -114,6 +117,7 @@ fn file_records_of<'a, 'm, 'e>(
         AnswersOrMemory import_views result (option_map (map import_said) items)
         (IsFileImportsCause imports.entry) }
     ensures none { IfOk result HasNoIdleBlock }
+    ensures grown { OnErr result (0 < length (file_imports_left imports.entry)) }
 {
     match imports {
         FileImports::Narrow(imports) => records_of(alloc, bytes, imports),
@@ -131,6 +135,9 @@ fn listed_records<'a>(alloc: Global, layout: &Layout<'a, '_>) -> Result<Part<Vec
     ensures listed { let m = layout_map layout.now in
         AreListed m.opts (offset_of m) (layout_places layout.now) layout.now.bytes.now }
     ensures none { IfOk result HasNoIdleBlockIn }
+    ensures grown { let m = layout_map layout.now in
+        let list = import_list m.opts (offset_of m) (layout_places layout.now) in
+        OnErr result (IfSome (list.value layout.now.bytes.now) HasEntries) }
 {
     match layout.imports()? {
         Part::Absent => Ok(Part::Absent),
@@ -143,7 +150,7 @@ fn listed_records<'a>(alloc: Global, layout: &Layout<'a, '_>) -> Result<Part<Vec
 }
 
 /// The records of a file's imports, in the order of the libraries and of their entries.
-#[tactic(auto, using(goblin_pe::proofs::ImportParts::list_collected))]
+#[tactic(auto, using(goblin_pe::proofs::ImportParts::list_collected, crate::proofs::Growth::parts_entries))]
 pub fn import_records<'a>(alloc: Global, layout: &Layout<'a, '_>) -> Result<Part<Vec<PeImport<'a>>>>
     ensures value { let m = layout_map layout.now in
         ReadsOrMemory (part_map import_views) result
@@ -151,6 +158,9 @@ pub fn import_records<'a>(alloc: Global, layout: &Layout<'a, '_>) -> Result<Part
         (import_parts m.opts (offset_of m) (layout_places layout.now)))
         layout.now.bytes.now }
     ensures none { IfOk result HasNoIdleBlockIn }
+    ensures grown { let m = layout_map layout.now in
+        let parts = import_parts m.opts (offset_of m) (layout_places layout.now) in
+        OnErr result (IfSome (parts.value layout.now.bytes.now) (λ read. HasEntries read.1)) }
 {
     listed_records(alloc, layout)
 }

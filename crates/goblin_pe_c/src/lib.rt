@@ -22,6 +22,7 @@ mod image;
 mod import;
 mod kind;
 mod mapping;
+mod next;
 mod object;
 mod open;
 mod options;

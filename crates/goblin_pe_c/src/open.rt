@@ -1,10 +1,10 @@
 //! The call that reads a whole file once, and keeps its tables in memory of their own.
 
-ghost use Rattle.std.specs.Prelude.{◌≡◌, IfErr, IfOk, Some, map, option_map};
+ghost use Rattle.std.specs.Prelude.{◌≡◌, ◌<◌, ◌+◌, IfErr, IfOk, OnErr, Some, length, map};
+ghost use Rattle.std.specs.Prelude.{option_map};
 ghost use Rattle.goblin_base.specs.Answers.{IsMemory};
 ghost use Rattle.goblin_pe_sect.specs.Options.{is_strict};
 ghost use Rattle.goblin_pe_head.specs.HeaderReadings.{pe_header};
-ghost use Rattle.goblin_pe.specs.SectionRoom.{HasRoom};
 ghost use Rattle.goblin_pe.specs.Whole.{part_map, whole_file};
 ghost use Rattle.goblin_pe_c.specs.Blocks.{block_view, blocks_in, relocations_of};
 ghost use Rattle.goblin_pe_c.specs.Blocked.{HasNoIdleBlock, HasNoIdleBlockIn, HaveNoIdleBlocks};
@@ -12,6 +12,7 @@ ghost use Rattle.goblin_pe_c.specs.Calls.{ReadsInto, Reported};
 ghost use Rattle.goblin_pe_c.specs.Exports.{export_view, export_views, exports_view};
 ghost use Rattle.goblin_pe_c.specs.Files.{entries_of};
 ghost use Rattle.goblin_pe_c.specs.Filled.{alone};
+ghost use Rattle.goblin_pe_c.specs.Growth.{TakesRecords};
 ghost use Rattle.goblin_pe_c.specs.Imports.{import_view, import_views};
 ghost use Rattle.goblin_pe_c.specs.Opened.{Opened, Opens};
 ghost use Rattle.goblin_pe_c.specs.Opened.{records_of_file, records_view};
@@ -92,6 +93,9 @@ fn made_of<'a>(
         IfOk result (λ m. map block_view m.blocks.items ≡ blocks_in v.relocations) }
     ensures none { IfOk result
         (λ m. HasNoIdleBlock m.rich_entries × HasNoIdleBlock m.blocks) }
+    ensures grown { let v = records_view layout.now records.now in
+        OnErr result (0 < length v.sections + length (entries_in v.header.rich_header)
+        + length (blocks_in v.relocations)) }
 {
     let header = layout.header();
     let table = header.coff_header.symbols_end();
@@ -177,7 +181,7 @@ fn open<'a>(
         record { file = file.old; directories = directories.old; tables = tables.old } in
         let new : Opened =
         record { file = file.new; directories = directories.new; tables = tables.new } in
-        ReadsInto (pe_header (is_strict opts.now.parse_mode)) (HasRoom bytes.now)
+        ReadsInto (pe_header (is_strict opts.now.parse_mode)) (TakesRecords opts.now bytes.now)
         (whole_file opts.now) bytes.now (λ w. Opens opts.now bytes.now w old new) (new ≡ old) result }
 {
     let header = Header::parse_with_opts(bytes, opts)?;
@@ -197,7 +201,8 @@ fn open<'a>(
 /// directory says and the DOS stub. Each table that is not empty is a block of memory that the
 /// caller frees. After a refusal nothing is changed, and nothing is to be freed;
 /// memory is refused (the status 5) only where the file has a header, and room for as many sections
-/// as that says.
+/// as that says; and of a file that can be read only where it has a section, or a table of it an
+/// entry.
 #[unsafe(no_mangle)]
 pub extern "C" fn goblin_pe_raw_open<'a>(
     alloc: Global,
@@ -213,8 +218,8 @@ pub extern "C" fn goblin_pe_raw_open<'a>(
         record { file = file.new; directories = directories.new; tables = tables.new } in
         let opts = options_of options.now in
         Reported result
-        (ReadsInto (pe_header (is_strict opts.parse_mode)) (HasRoom bytes.now) (whole_file opts)
-        bytes.now (λ w. Opens opts bytes.now w old new) (new ≡ old)) }
+        (ReadsInto (pe_header (is_strict opts.parse_mode)) (TakesRecords opts bytes.now)
+        (whole_file opts) bytes.now (λ w. Opens opts bytes.now w old new) (new ≡ old)) }
 {
     let opts = options_of(options);
     match open(alloc, bytes, &opts, file, directories, tables) {

@@ -1,6 +1,6 @@
 //! The Rich header and the records of its entries.
 
-ghost use Rattle.std.specs.Prelude.{◌≡◌, IfErr, IfOk, drop, map, option_map};
+ghost use Rattle.std.specs.Prelude.{◌≡◌, ◌<◌, IfErr, IfOk, OnErr, drop, length, map, option_map};
 ghost use Rattle.goblin_base.specs.Answers.{IsMemory};
 ghost use Rattle.goblin_pe_head.specs.RichHeader.{rich_value};
 ghost use Rattle.goblin_pe_head.specs.RichMetadata.{metadata_items};
@@ -40,6 +40,7 @@ fn item_records(alloc: Global, rich: &RichHeader) -> Result<(Vec<RichMetadata>, 
         (λ made. made.0.items ≡ values_of (entry_items (rich_value rich.now))) }
     ensures rest { IfOk result (λ made. made.1 ≡ rest_of (entry_items (rich_value rich.now))) }
     ensures none { IfOk result (λ made. HasNoIdleBlock made.0) }
+    ensures grown { OnErr result (0 < length (values_of (entry_items (rich_value rich.now)))) }
 {
     let mut records = Vec::new(alloc);
     // No header that was read has more padding than data.
@@ -66,6 +67,7 @@ pub fn entry_records(
         (λ made. made.0.items ≡ entries_in (option_map rich_value rich.now)) }
     ensures said { IfOk result (λ made. made.1 ≡ rich_of (option_map rich_value rich.now)) }
     ensures none { IfOk result (λ made. HasNoIdleBlock made.0) }
+    ensures grown { OnErr result (0 < length (entries_in (option_map rich_value rich.now))) }
 {
     match rich {
         None => {

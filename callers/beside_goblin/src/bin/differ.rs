@@ -8,7 +8,7 @@
 //! status is 1.
 use goblin::pe::export::{ExportDirectoryTable, Reexport};
 use goblin::pe::{PE, header::Header, utils};
-use goblin_pe::{Cause, DirectoryType, Forwarder, Options, Pe};
+use goblin_pe::{Cause, DirectoryType, Forwarder, OptionalHeader, Options, Pe};
 use std::collections::BTreeMap;
 use std::error::Error;
 use std::panic::{AssertUnwindSafe, catch_unwind};
@@ -157,16 +157,22 @@ fn ours(file: &[u8]) -> Result<(Said, Option<usize>), goblin_pe::Error> {
     let mut said: Said = pe.sections().map(|s| section_line!(s.name.0, s)).collect();
     // goblin counts the entries that were kept, this library those of the file
     let (mut library, mut slot, mut kept) = (None, 0, 0);
+    let is_wide = |it: &OptionalHeader| it.standard_fields.magic == 0x20b;
+    let size = if pe.optional_header().is_some_and(is_wide) {
+        8
+    } else {
+        4
+    };
     for x in pe.imports() {
-        let base = x.offset.wrapping_sub(x.slot * x.size);
+        let base = x.slot_rva.wrapping_sub(x.slot * size);
         let is_next = library == Some((x.dll, base)) && x.slot > slot;
         kept = if is_next { kept + 1 } else { 0 };
         (library, slot) = (Some((x.dll, base)), x.slot);
-        let offset = base + kept * x.size;
+        let offset = base + kept * size;
         let (name, ordinal) = (x.name, x.name.ordinal());
         said.push(format!(
             "import {name} {} {ordinal} {offset:x} {:x} {}",
-            x.dll, x.rva, x.size
+            x.dll, x.rva, size
         ));
     }
     // goblin 0.2.1 leaves out what has no file offset

@@ -4,7 +4,8 @@ use Rattle.std.specs.Prelude.{Result}
 use Rattle.goblin_base.specs.declared.error.ErrorOf.{ErrorOf}
 use Rattle.goblin_pe_sect.specs.declared.relocation.base.RelocationBlock.{RelocationBlock}
 use Rattle.goblin_pe_sect.specs.BaseRelocations.{block_item, blocks_left}
-use Rattle.goblin_pe_c.proofs.Making.{items-start, items-next, items-end, items-refused}
+use Rattle.goblin_pe_c.proofs.Growth.{whichever}
+use Rattle.goblin_pe_c.proofs.Making.{items-some, items-start, items-next, items-end, items-refused}
 use Rattle.goblin_pe_c.proofs.block.item_records.Goals as goal
 
 pub blocks-2-init : goal.blocks-2-init
@@ -36,3 +37,8 @@ returns-in-Err-clause-none c = c.blocks-2.invariant.1
 
 pub returns-clause-none : goal.returns-clause-none
 returns-clause-none c = c.blocks-2.invariant.1
+
+pub returns-in_err-push-in-Ok-clause-grown : goal.returns-in_err-push-in-Ok-clause-grown
+returns-in_err-push-in-Ok-clause-grown c =
+    let next = c.in-Some.ensures.steps ∙ ap (λ (x : Result RelocationBlock ErrorOf). block_item x ∷ blocks_left c.next.new.self) c.in-Ok.is in
+    whichever _ _ (items-some _ _ _ _ _ _ c.blocks-2.invariant.0 next)

@@ -7,7 +7,8 @@ use Rattle.goblin_pe_head.specs.RichHeader.{rich_value}
 use Rattle.goblin_pe_head.specs.RichMetadata.{metadata_left}
 use Rattle.goblin_pe_c.specs.RichHeaders.{entry_items}
 use Rattle.goblin_pe_c.proofs.Items.{no-entries}
-use Rattle.goblin_pe_c.proofs.Making.{items-start, items-next, items-end, items-refused}
+use Rattle.goblin_pe_c.proofs.Growth.{whichever}
+use Rattle.goblin_pe_c.proofs.Making.{items-some, items-start, items-next, items-end, items-refused}
 use Rattle.goblin_pe_c.proofs.rich.item_records.Goals as goal
 
 pub returns-then-rich-clause-values : goal.returns-then-rich-clause-values
@@ -49,3 +50,8 @@ returns-in-Err-clause-none c = c.entries.invariant.1
 
 pub returns-clause-none : goal.returns-clause-none
 returns-clause-none c = c.entries.invariant.1
+
+pub returns-in_err-push-in-Ok-clause-grown : goal.returns-in_err-push-in-Ok-clause-grown
+returns-in_err-push-in-Ok-clause-grown c =
+    let next = c.in-Some.ensures.steps ∙ ap (λ (x : Result RichMetadata ErrorOf). x ∷ metadata_left c.next.new.self) c.in-Ok.is in
+    whichever _ _ (items-some _ _ _ _ _ _ c.entries.invariant.0 next)

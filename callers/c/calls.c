@@ -1,0 +1,150 @@
+/* Makes the calls that no other example makes, for each file: calls FILE... The status is 0 where the answers fit one
+   another. What is filled holds anything before. */
+#include "goblin_pe.h"
+
+#include <stdio.h>
+#include <string.h>
+
+static uint8_t bytes[1 << 20];
+static size_t length;
+
+/* Whether bytes at an address are those at its offset, and end with the file. */
+static bool are_mapped(const struct goblin_pe_image *image, size_t rva)
+{
+    struct goblin_pe_text found = { bytes, 77 };
+    size_t offset = 7;
+    if (!goblin_pe_find_offset(image, rva, &offset))
+        return offset == 7 && !goblin_pe_bytes_at(image, rva, 0, &found) && found.length == 77;
+    if (offset >= length)
+        return !goblin_pe_bytes_at(image, rva, 1, &found) && found.length == 77;
+    return !goblin_pe_bytes_at(image, rva, length - offset + 1, &found) && found.length == 77 &&
+           goblin_pe_bytes_at(image, rva, length - offset, &found) && found.bytes == bytes + offset &&
+           found.length == length - offset;
+}
+
+/* Whether the first auxiliary record of a symbol is one of any kind. */
+static bool has_auxiliary(const struct goblin_pe_named_symbol *s)
+{
+    struct goblin_pe_aux_function_definition function;
+    struct goblin_pe_aux_begin_and_end_function begin_or_end;
+    struct goblin_pe_aux_weak_external weak;
+    struct goblin_pe_aux_section_definition section;
+    struct goblin_pe_text file;
+    bool is_there = s->auxiliary.length >= 18;
+    return is_there == goblin_pe_aux_function_definition(s->auxiliary, &function) &&
+           is_there == goblin_pe_aux_begin_and_end_function(s->auxiliary, &begin_or_end) &&
+           is_there == goblin_pe_aux_weak_external(s->auxiliary, &weak) &&
+           is_there == goblin_pe_aux_section_definition(s->auxiliary, &section) &&
+           (!is_there || function.tag_index == weak.tag_index) &&
+           (is_there && s->symbol.storage_class == GOBLIN_PE_IMAGE_SYM_CLASS_FILE) <=
+               goblin_pe_aux_file(s->auxiliary, &file);
+}
+
+/* Whether each symbol is read, one at a time, and has its auxiliary records. */
+static bool has_symbols(const struct goblin_pe_coff_header *header)
+{
+    struct goblin_pe_named_symbol symbol;
+    size_t position = 0, count = 0, next = 0;
+    for (;;) {
+        if (goblin_pe_next_symbols(bytes, length, header, &position, &symbol, 1, &count).status != GOBLIN_PE_OK)
+            return false;
+        if (!count)
+            return next == header->number_of_symbol_table || !header->pointer_to_symbol_table;
+        if (symbol.index != next || position != next + 1 + symbol.symbol.number_of_aux_symbols || !has_auxiliary(&symbol))
+            return false;
+        next = position;
+    }
+}
+
+static bool has_relocations(const struct goblin_pe_section *section)
+{
+    struct goblin_pe_relocation relocations[4];
+    size_t count = 7;
+    if (goblin_pe_read_relocations(bytes, length, section, NULL, 0, &count).status != GOBLIN_PE_OK)
+        return false;
+    return count == section->number_of_relocations &&
+           goblin_pe_read_relocations(bytes, length, section, relocations, 4, &count).status == GOBLIN_PE_OK;
+}
+
+static bool is_object(void)
+{
+    static struct goblin_pe_section sections[100];
+    struct goblin_pe_object object;
+    struct goblin_pe_section_data data;
+    if (goblin_pe_read_object(bytes, length, NULL, &object, sections, 100).status != GOBLIN_PE_OK)
+        return false;
+    for (size_t i = 0; i < object.sections && i < 100; i++)
+        if (!has_relocations(&sections[i]) ||
+            goblin_pe_section_data(bytes, length, &sections[i], &data).status != GOBLIN_PE_OK)
+            return false;
+    return object.sections == object.coff_header.number_of_sections && has_symbols(&object.coff_header);
+}
+
+static bool is_sound(void)
+{
+    struct goblin_pe_damage damage;
+    struct goblin_pe_fault fault = goblin_pe_damage(bytes, length, NULL, &damage);
+    return fault.status == GOBLIN_PE_OK && damage.dos_stub.status == GOBLIN_PE_OK &&
+           damage.section_names.status == GOBLIN_PE_OK && damage.imports.status == GOBLIN_PE_OK &&
+           damage.exports.status == GOBLIN_PE_OK && damage.relocations.status == GOBLIN_PE_OK &&
+           !damage.left_out_libraries && !damage.left_out_entries;
+}
+
+static bool is_image(void)
+{
+    struct goblin_pe_file file;
+    struct goblin_pe_tables tables;
+    if (!is_sound() || goblin_pe_open(bytes, length, NULL, &file, NULL, 0, &tables).status != GOBLIN_PE_OK)
+        return false;
+    struct goblin_pe_image image = goblin_pe_image_of(bytes, length, NULL, &file, &tables);
+    bool is_right = has_symbols(&file.coff_header) && are_mapped(&image, 0) && are_mapped(&image, SIZE_MAX);
+    for (size_t i = 0; i < tables.section_count; i++)
+        is_right &= are_mapped(&image, tables.sections[i].virtual_address) &&
+                    are_mapped(&image, tables.sections[i].virtual_address + tables.sections[i].virtual_size);
+    for (size_t i = 0; i < tables.import_count; i++) {
+        const struct goblin_pe_import *x = &tables.imports[i];
+        struct goblin_pe_text name;
+        is_right &= !x->is_by_name || (goblin_pe_text_at(&image, x->rva + 2, &name) && name.bytes == x->name.bytes &&
+                                       name.length == x->name.length);
+    }
+    goblin_pe_free(&tables);
+    return is_right;
+}
+
+static bool is_te(void)
+{
+    struct goblin_pe_te_header header;
+    struct goblin_pe_section section;
+    section.number_of_relocations = 7;
+    return goblin_pe_read_te(bytes, length, &header, &section, 1).status == GOBLIN_PE_OK &&
+           header.number_of_sections && !section.number_of_relocations;
+}
+
+static bool sets_names(void)
+{
+    struct goblin_pe_section section;
+    memset(&section, 0, sizeof section);
+    bool is_long = goblin_pe_set_name(&section, "ninebytes", 9);
+    bool is_set = goblin_pe_set_name(&section, ".text", 5) && !memcmp(section.name, ".text\0\0\0", 8);
+    bool is_offset = goblin_pe_set_name_offset(&section, 1234).status == GOBLIN_PE_OK;
+    return !is_long && is_set && is_offset && !memcmp(section.name, "/1234\0\0\0", 8) &&
+           goblin_pe_set_name_offset(&section, SIZE_MAX).cause == GOBLIN_PE_CAUSE_NAME_OFFSET && section.name[1] == '1';
+}
+
+int main(int argc, char **argv)
+{
+    if (!sets_names() || goblin_pe_kind(NULL, 0) != GOBLIN_PE_KIND_UNKNOWN)
+        return 4;
+    for (int i = 1; i < argc; i++) {
+        FILE *from = fopen(argv[i], "rb");
+        if (!from)
+            return 3;
+        length = fread(bytes, 1, sizeof bytes, from);
+        fclose(from);
+        uint32_t kind = goblin_pe_kind(bytes, length);
+        bool is_right = kind == GOBLIN_PE_KIND_IMAGE ? is_image() : kind == GOBLIN_PE_KIND_OBJECT ? is_object() : is_te();
+        if (!is_right)
+            return fprintf(stderr, "%s\n", argv[i]), 1;
+    }
+    return 0;
+}

@@ -1,0 +1,246 @@
+/* Loads an image as the Windows loader does, up to the point where its code would run: loader IMAGE LIBRARY...
+   It maps the headers and the sections into memory, applies the base relocations for an address 64 KiB above the
+   preferred one, and resolves each import against the libraries, which it opens the same way, and tells what it
+   finds. A library stands for the imports whose library has the name of its file. The status is 0 where all is
+   resolved. */
+#include "goblin_pe.h"
+
+#include <ctype.h>
+#include <inttypes.h>
+#include <stdio.h>
+#include <stdlib.h>
+#include <string.h>
+
+/* No image takes more memory. */
+#define MOST_BYTES (256u << 20)
+
+struct module {
+    const char *name;
+    uint8_t *bytes;
+    size_t length;
+    struct goblin_pe_file file;
+    struct goblin_pe_tables tables;
+    struct goblin_pe_image image;
+    uint8_t *mapped;
+    size_t size;
+    uint64_t base;
+};
+
+static bool is_wide(const struct module *m)
+{
+    return m->file.optional_header.standard_fields.magic == 0x20b;
+}
+
+static int refused(const struct module *m, struct goblin_pe_fault fault)
+{
+    uint8_t text[160];
+    size_t length = goblin_pe_fault_text(&fault, text, sizeof text);
+    fprintf(stderr, "%s: %.*s\n", m->name, (int)(length < sizeof text ? length : sizeof text), (const char *)text);
+    return 1;
+}
+
+static void put(struct goblin_pe_text text)
+{
+    for (size_t i = 0; i < text.length; i++)
+        putchar(isprint(text.bytes[i]) ? text.bytes[i] : '?');
+}
+
+/* Where a number of so many bytes is mapped; null where it is not in the image. */
+static uint8_t *place_of(const struct module *m, size_t rva, size_t size)
+{
+    return rva < m->size && size <= m->size - rva ? m->mapped + rva : NULL;
+}
+
+static uint64_t number_at(const uint8_t *place, size_t size)
+{
+    uint64_t number = 0;
+    while (size--)
+        number = number << 8 | place[size];
+    return number;
+}
+
+static void put_number(uint8_t *place, size_t size, uint64_t number)
+{
+    for (size_t i = 0; i < size; i++, number >>= 8)
+        place[i] = (uint8_t)number;
+}
+
+/* Reads a file whole; false where it can't be read. */
+static bool read_file(struct module *m, const char *path)
+{
+    FILE *from = fopen(path, "rb");
+    const char *slash = strrchr(path, '/');
+    long length = from && !fseek(from, 0, SEEK_END) ? ftell(from) : -1;
+    m->name = slash ? slash + 1 : path;
+    m->bytes = length < 0 ? NULL : malloc((size_t)length + 1);
+    if (m->bytes) {
+        rewind(from);
+        m->length = fread(m->bytes, 1, (size_t)length, from);
+    }
+    if (from)
+        fclose(from);
+    return m->bytes;
+}
+
+/* Maps the headers and each section; what the file lacks of these is zeros already. */
+static int map(struct module *m)
+{
+    const struct goblin_pe_windows_fields *fields = &m->file.optional_header.windows_fields;
+    size_t headers = fields->size_of_headers < m->length ? fields->size_of_headers : m->length;
+    m->size = fields->size_of_image;
+    m->base = fields->image_base + 0x10000;
+    m->mapped = m->size > MOST_BYTES ? NULL : calloc(m->size + 1, 1);
+    if (!m->mapped || headers > m->size)
+        return fprintf(stderr, "%s: it can't be mapped\n", m->name), 1;
+    memcpy(m->mapped, m->bytes, headers);
+    for (size_t i = 0; i < m->tables.section_count; i++) {
+        const struct goblin_pe_section *s = &m->tables.sections[i];
+        struct goblin_pe_section_data data;
+        struct goblin_pe_fault fault = goblin_pe_section_data(m->bytes, m->length, s, &data);
+        if (fault.status != GOBLIN_PE_OK)
+            return refused(m, fault);
+        size_t end = m->size - (s->virtual_address < m->size ? s->virtual_address : m->size);
+        size_t size = data.bytes.length < end ? data.bytes.length : end;
+        if (size)
+            memcpy(m->mapped + s->virtual_address, data.bytes.bytes, size);
+        printf("section at 0x%x: %zu bytes and %zu zeros\n", s->virtual_address, size, data.zeros);
+    }
+    return 0;
+}
+
+static int open_module(struct module *m, const char *path)
+{
+    struct goblin_pe_fault fault;
+    if (!read_file(m, path))
+        return fprintf(stderr, "%s: it can't be read\n", path), 1;
+    fault = goblin_pe_open(m->bytes, m->length, NULL, &m->file, NULL, 0, &m->tables);
+    if (fault.status != GOBLIN_PE_OK)
+        return refused(m, fault);
+    m->image = goblin_pe_image_of(m->bytes, m->length, NULL, &m->file, &m->tables);
+    printf("%s for machine 0x%x at 0x%" PRIx64 "\n", m->name, m->file.coff_header.machine,
+           m->file.optional_header.windows_fields.image_base + 0x10000);
+    return map(m);
+}
+
+/* Adds to the numbers at the places that the words name how far the image is from its preferred address. */
+static int relocate(struct module *m)
+{
+    uint64_t moved = m->base - m->file.optional_header.windows_fields.image_base;
+    size_t count = 0;
+    for (size_t i = 0; i < m->tables.block_count; i++) {
+        const struct goblin_pe_block *block = &m->tables.blocks[i];
+        for (size_t j = 0; j + 1 < block->words.length; j += 2) {
+            unsigned word = (unsigned)number_at(block->words.bytes + j, 2), type = word >> 12;
+            size_t size = type == GOBLIN_PE_IMAGE_REL_BASED_DIR64 ? 8 : 4;
+            uint8_t *place = place_of(m, block->rva + (size_t)(word & 0xfff), size);
+            if (type == GOBLIN_PE_IMAGE_REL_BASED_ABSOLUTE)
+                continue;
+            if (!place || (size == 4 && type != GOBLIN_PE_IMAGE_REL_BASED_HIGHLOW))
+                return fprintf(stderr, "%s: base relocation of type %u at 0x%x\n", m->name, type, block->rva), 1;
+            put_number(place, size, number_at(place, size) + moved);
+            count++;
+        }
+    }
+    printf("%zu base relocations\n", count);
+    return 0;
+}
+
+static bool is_same_name(struct goblin_pe_text text, const char *name)
+{
+    if (strlen(name) != text.length)
+        return false;
+    for (size_t i = 0; i < text.length; i++)
+        if (tolower(text.bytes[i]) != tolower((unsigned char)name[i]))
+            return false;
+    return true;
+}
+
+static bool is_named(const struct goblin_pe_export *x, struct goblin_pe_text name)
+{
+    return x->has_name && x->name.length == name.length && !memcmp(x->name.bytes, name.bytes, name.length);
+}
+
+/* The export of a library with this name: the hint says where to look first. */
+static const struct goblin_pe_export *export_named(const struct module *library, struct goblin_pe_text name, size_t hint)
+{
+    const struct goblin_pe_tables *tables = &library->tables;
+    if (hint < tables->export_count && is_named(&tables->exports[hint], name))
+        return &tables->exports[hint];
+    for (size_t i = 0; i < tables->export_count; i++)
+        if (is_named(&tables->exports[i], name))
+            return &tables->exports[i];
+    return NULL;
+}
+
+/* The entry of the address table of a library for what is imported; null where there is none. */
+static const struct goblin_pe_export_address *found_in(const struct module *library, const struct goblin_pe_import *import)
+{
+    const struct goblin_pe_tables *tables = &library->tables;
+    size_t ordinal = import->ordinal;
+    if (import->is_by_name) {
+        const struct goblin_pe_export *x = export_named(library, import->name, import->ordinal);
+        if (!x)
+            return NULL;
+        ordinal = x->ordinal;
+    }
+    size_t index = ordinal - tables->export_directory.table.ordinal_base;
+    return index < tables->export_address_count ? &tables->export_addresses[index] : NULL;
+}
+
+/* Resolves an import, and puts the address into its slot. */
+static bool resolve(const struct module *m, const struct goblin_pe_import *import, const struct module *libraries,
+                    size_t count)
+{
+    const struct module *library = NULL;
+    size_t size = is_wide(m) ? 8 : 4;
+    uint8_t *slot = place_of(m, import->slot_rva, size);
+    struct goblin_pe_text forwarder;
+    for (size_t i = 0; i < count && !library; i++)
+        if (is_same_name(import->dll, libraries[i].name))
+            library = &libraries[i];
+    put(import->dll);
+    putchar(' ');
+    if (import->is_by_name)
+        put(import->name);
+    else
+        printf("#%u", import->ordinal);
+    if (!library)
+        return puts(": no such library"), false;
+    const struct goblin_pe_export_address *found = found_in(library, import);
+    if (!found || !found->rva || !slot)
+        return puts(": not exported"), false;
+    if (found->forwards && goblin_pe_text_at(&library->image, found->rva, &forwarder)) {
+        printf(": forwarded to ");
+        put(forwarder);
+        putchar('\n');
+        return true;
+    }
+    put_number(slot, size, library->base + found->rva);
+    printf(": 0x%" PRIx64 " in the slot at 0x%zx\n", number_at(slot, size), import->slot_rva);
+    return true;
+}
+
+static void close_module(struct module *m)
+{
+    goblin_pe_free(&m->tables);
+    free(m->mapped);
+    free(m->bytes);
+}
+
+int main(int argc, char **argv)
+{
+    size_t count = argc > 1 ? (size_t)argc - 1 : 0;
+    struct module *modules = calloc(count + 1, sizeof *modules);
+    int status = !count || !modules ? 2 : 0;
+    for (size_t i = 0; i < count && !status; i++)
+        status = open_module(&modules[i], argv[i + 1]);
+    if (!status)
+        status = relocate(&modules[0]);
+    bool is_resolved = true;
+    for (size_t i = 0; !status && i < modules[0].tables.import_count; i++)
+        is_resolved &= resolve(&modules[0], &modules[0].tables.imports[i], modules + 1, count - 1);
+    for (size_t i = 0; i < count && modules; i++)
+        close_module(&modules[i]);
+    free(modules);
+    return status ? status : !is_resolved;
+}

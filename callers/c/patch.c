@@ -1,0 +1,75 @@
+/* Gives an image another time stamp and a section another name: patch FROM STAMP SECTION NAME TO. It reads the header
+   and the section, changes their fields, writes them back at their places, and reads again what it wrote. */
+#include "goblin_pe.h"
+
+#include <stdio.h>
+#include <stdlib.h>
+#include <string.h>
+
+static uint8_t bytes[16 << 20], header[1 << 20];
+
+static int refused(struct goblin_pe_fault fault)
+{
+    uint8_t text[160];
+    size_t length = goblin_pe_fault_text(&fault, text, sizeof text);
+    fprintf(stderr, "refused: %.*s\n", (int)(length < sizeof text ? length : sizeof text), (const char *)text);
+    return 1;
+}
+
+/* The index of the section with these eight bytes of name, or how many there are. */
+static size_t section_named(const struct goblin_pe_tables *tables, const char *name)
+{
+    size_t i = 0;
+    while (i < tables->section_count && strncmp((const char *)tables->sections[i].name, name, 8) != 0)
+        i++;
+    return i;
+}
+
+/* Changes what was opened, and writes it into the file. */
+static struct goblin_pe_fault write_back(size_t length, struct goblin_pe_file *file,
+                                         const struct goblin_pe_directory *directories,
+                                         const struct goblin_pe_tables *tables, size_t index, char **words)
+{
+    /* The section table follows the optional header, whose end the COFF header says. */
+    size_t table = file->dos_header.pe_pointer + 24u + file->coff_header.size_of_optional_header;
+    struct goblin_pe_section section = tables->sections[index];
+    size_t written;
+    file->coff_header.time_date_stamp = (uint32_t)strtoul(words[0], NULL, 0);
+    if (!goblin_pe_set_name(&section, words[2], strlen(words[2])))
+        return goblin_pe_set_name_offset(&section, SIZE_MAX); /* which no record can hold */
+    /* The stub lies in the file, so the header is written elsewhere first. */
+    struct goblin_pe_fault fault = goblin_pe_write_header(file, directories, file->directories, tables->dos_stub, header,
+                                                          table < sizeof header ? table : sizeof header, &written);
+    if (fault.status != GOBLIN_PE_OK)
+        return fault;
+    memcpy(bytes, header, written);
+    return goblin_pe_write_section(&section, bytes + table + 40 * index, length - table - 40 * index, &written);
+}
+
+int main(int argc, char **argv)
+{
+    struct goblin_pe_file file;
+    struct goblin_pe_directory directories[16];
+    struct goblin_pe_tables tables;
+    FILE *from = argc == 6 ? fopen(argv[1], "rb") : NULL;
+    if (!from)
+        return 2;
+    size_t length = fread(bytes, 1, sizeof bytes, from);
+    fclose(from);
+    struct goblin_pe_fault fault = goblin_pe_open(bytes, length, NULL, &file, directories, 16, &tables);
+    if (fault.status != GOBLIN_PE_OK)
+        return refused(fault);
+    size_t index = section_named(&tables, argv[3]);
+    if (index == tables.section_count)
+        return fprintf(stderr, "there is no such section\n"), goblin_pe_free(&tables), 1;
+    fault = write_back(length, &file, directories, &tables, index, argv + 2);
+    goblin_pe_free(&tables);
+    if (fault.status == GOBLIN_PE_OK)
+        fault = goblin_pe_open(bytes, length, NULL, &file, directories, 16, &tables);
+    if (fault.status != GOBLIN_PE_OK)
+        return refused(fault);
+    printf("%#x %.8s\n", file.coff_header.time_date_stamp, (const char *)tables.sections[index].name);
+    goblin_pe_free(&tables);
+    FILE *to = fopen(argv[5], "wb");
+    return to && fwrite(bytes, 1, length, to) == length && !fclose(to) ? 0 : 3;
+}
