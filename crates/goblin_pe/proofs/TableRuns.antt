@@ -130,20 +130,20 @@ module _ {D Y : Type 0} (format : Format EntryValue) (plain : D → Y)
 pub grown_in_mode : {D : Type 0} (format : Format EntryValue) (bytes : List ℕ) (request : Request)
     (mode : ParseMode) (opts own : ParseOptions) (sections : List Section) (alignment : ℕ)
     (tables : TablesOf D) → own ≡ in_mode mode opts
-    → AreGrown format (is_strict own.parse_mode) own alignment
+    → AreGrown format (is_strict own.parse_mode) own sections alignment
     (file_offset own sections alignment) bytes request tables
-    → AreGrown format (is_strict mode) opts alignment (file_offset opts sections alignment) bytes
-    request tables
+    → AreGrown format (is_strict mode) opts sections alignment
+    (file_offset opts sections alignment) bytes request tables
 grown_in_mode format bytes request mode opts own sections alignment tables is read =
     let of_mode = in_mode mode opts in
     let mapped =
     subst
     (λ (m : ℕ → Option ℕ).
-    AreGrown format (is_strict mode) of_mode alignment m bytes request tables)
+    AreGrown format (is_strict mode) of_mode sections alignment m bytes request tables)
     (map-mode mode opts sections alignment)
     (subst
     (λ (o : ParseOptions).
-    AreGrown format (is_strict o.parse_mode) o alignment (file_offset o sections alignment) bytes
-    request tables)
+    AreGrown format (is_strict o.parse_mode) o sections alignment
+    (file_offset o sections alignment) bytes request tables)
     is read) in
     record { lookup = mapped.lookup; imports = mapped.imports; exports = mapped.exports }

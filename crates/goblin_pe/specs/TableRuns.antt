@@ -11,9 +11,10 @@ use Rattle.goblin_base.specs.Tables.{Format}
 use Rattle.goblin_pe_sect.specs.AddressReadings.{data_at, name_or_none, relocation_data}
 use Rattle.goblin_pe_sect.specs.BaseRelocations.{relocation_bytes}
 use Rattle.goblin_pe_sect.specs.declared.options.ParseOptions.{ParseOptions}
-use Rattle.goblin_pe_sect.specs.WindowIndex.{HasPieces}
+use Rattle.goblin_pe_sect.specs.SectionTable.{Section}
 use Rattle.goblin_pe.specs.declared.laws.order.Request.{Request}
 use Rattle.goblin_pe.specs.declared.laws.order.TablesOf.{TablesOf}
+use Rattle.goblin_pe_tables.specs.Addresses.{TakesMap}
 use Rattle.goblin_pe_tables.specs.ExportReadings.{export_read}
 use Rattle.goblin_pe_tables.specs.Exports.{HasEntries, export_data, export_read_view}
 use Rattle.goblin_pe_tables.specs.ImportDirectory.{HasRecords}
@@ -44,22 +45,23 @@ pub record AreTables {D Y : Type 0} (format : Format EntryValue) (plain : D → 
 -- A reader is refused with Memory only if there is something to keep, or windows or an index of the
 -- sections to prepare; the three readers not listed take no memory.
 pub record AreGrown {D : Type 0} (format : Format EntryValue) (strict : Bool) (opts : ParseOptions)
-    (alignment : ℕ) (offset_of : ℕ → Option ℕ) (bytes : List ℕ) (request : Request)
-    (tables : TablesOf D) : Type 0 where
+    (sections : List Section) (alignment : ℕ) (offset_of : ℕ → Option ℕ) (bytes : List ℕ)
+    (request : Request) (tables : TablesOf D) : Type 0 where
   pub lookup : IfErr tables.lookup
       (λ e.
       IsMemory e
-      → KeepsEntries strict format offset_of bytes request.lookup ⊎ HasPieces opts alignment)
+      → KeepsEntries strict format offset_of bytes request.lookup
+      ⊎ TakesMap opts sections alignment)
   pub imports : IfErr tables.imports
       (λ e.
       IsMemory e
       → IsSomeAnd (offset_of request.imports.virtual_address) (HasRecords bytes)
-      ⊎ HasPieces opts alignment)
+      ⊎ TakesMap opts sections alignment)
   pub exports : IfErr tables.exports
       (λ e.
       IsMemory e
       → IsSomeAnd (export_data offset_of request.exports bytes) HasEntries
-      ⊎ HasPieces opts alignment)
+      ⊎ TakesMap opts sections alignment)
 
 -- The answers of each reader are alike.
 pub record AreAlike {D Y : Type 0} (plain : D → Y) (first second : TablesOf D) : Type 0 where

@@ -1,5 +1,5 @@
 -- Cutting the line of addresses at the begins and ends of windows.
-use Rattle.std.proofs.Common.{◌≡◌, ℕ, ◌+◌, ◌*◌, ◌^◌, ◌<◌, ◌≤◌, List, [], ◌∷◌, ◌++◌, length, slice_get, Some, refl, sym, subst, inl, inr, arith, length-append, eqb}
+use Rattle.std.proofs.Common.{◌≡◌, ℕ, ◌+◌, ◌*◌, ◌^◌, ◌<◌, ◌≤◌, List, [], ◌∷◌, ◌++◌, length, slice_get, Some, sym, subst, inl, inr, arith, length-append, eqb}
 use Rattle.std.specs.List.{Contains, dedup}
 use Rattle.std.specs.List.Sorted.{IsPermutation, IsSorted}
 use Rattle.std.specs.Ordering.{nat_cmp}
@@ -33,24 +33,6 @@ all_more P xs n x here below this k y lt is =
           let one : x ≡ y = cc in
           subst P one this
     ]
-
-only_zero : (sections : List Section) (alignment x : ℕ) → Contains (0 ∷ []) x → IsBorder sections alignment x
-only_zero sections alignment x has =
-    elim (Contains-push_cases [] 0 x has) [
-      | inl none ↦ absurd (omega (arith, none.1))
-      | inr at ↦ inl (sym at)
-    ]
-
--- before the first section the line is cut at 0
-pub cuts_none : (sections : List Section) (alignment : ℕ) → HasCuts sections alignment (0 ∷ []) 0
-cuts_none sections alignment = record {
-  start = (0, omega arith, refl);
-  begins = λ k s lt. absurd (omega arith);
-  ends = λ k s lt. absurd (omega arith);
-  only = only_zero sections alignment;
-  near = λ k s lt. absurd (omega arith);
-  few = omega arith;
-}
 
 pub cuts_empty : (sections : List Section) (alignment : ℕ) (points : List ℕ) (n : ℕ) (s : Section) → HasCuts sections alignment points n → slice_get sections n ≡ Some s → read_size s alignment ≡ 0 → HasCuts sections alignment points (n + 1)
 cuts_empty sections alignment points n s h here empty = record {

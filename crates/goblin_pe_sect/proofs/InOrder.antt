@@ -15,7 +15,7 @@ use Rattle.goblin_pe_sect.specs.declared.options.ParseOptions.{ParseOptions}
 use Rattle.goblin_pe_sect.specs.SectionTable.{Section}
 use Rattle.goblin_pe_sect.specs.declared.windows.owners.Owner.{Owner}
 use Rattle.goblin_pe_sect.specs.declared.windows.owners.Window.{Window}
-use Rattle.goblin_pe_sect.proofs.Cuts.{HasCuts, cuts_none, cuts_empty, cuts_more, cuts_touching, all_borders, near_from}
+use Rattle.goblin_pe_sect.proofs.Cuts.{HasCuts, cuts_empty, cuts_more, cuts_touching, all_borders, near_from}
 use Rattle.goblin_pe_sect.proofs.Halving.{rising_at}
 use Rattle.goblin_pe_sect.proofs.Stretches.{map_same, next_window, owners-sections}
 
@@ -81,14 +81,6 @@ pub record AreInOrder (opts : ParseOptions) (alignment : ℕ) (sections : List S
   pub rising : IsStrictlyIncreasing (begins ++ end ∷ [])
   pub past : (rva : ℕ) → end ≤ rva → find (window_holds rva) (section_windows opts alignment (take n sections)) ≡ None
   pub owned : owners ≡ map (owner_among (section_windows opts alignment (take n sections))) begins
-
-pub in_order_none : (opts : ParseOptions) (alignment : ℕ) (sections : List Section) → AreInOrder opts alignment sections [] [] 0 0
-in_order_none opts alignment sections = record {
-  cuts = cuts_none sections alignment;
-  rising = λ k within. absurd (omega arith);
-  past = λ rva after. refl;
-  owned = refl;
-}
 
 module _ (opts : ParseOptions) (alignment : ℕ) (sections : List Section) (begins : List ℕ) (owners : List (Option Owner)) (end n : ℕ) (s : Section) (h : AreInOrder opts alignment sections begins owners end n) (here : slice_get sections n ≡ Some s) where
   abbrev old : List Window

@@ -1,11 +1,11 @@
 -- What maps the addresses of a file to its offsets.
-use Rattle.std.specs.Prelude.{ℕ, Bool, List, Option}
+use Rattle.std.specs.Prelude.{ℕ, ◌<◌, Bool, List, Option, length}
 use Rattle.goblin_base.specs.declared.permissive.ParseMode.TheVariants.{Strict}
 use Rattle.goblin_pe_sect.specs.declared.options.ParseOptions.{ParseOptions}
 use Rattle.goblin_pe_sect.specs.Mapping.{file_offset}
 use Rattle.goblin_pe_sect.specs.Options.{is_strict}
 use Rattle.goblin_pe_sect.specs.SectionTable.{Section}
-use Rattle.goblin_pe_sect.specs.WindowIndex.{located}
+use Rattle.goblin_pe_sect.specs.WindowIndex.{HasPieces, located}
 use Rattle.goblin_pe_tables.specs.declared.address_map.AddressMap.{AddressMap}
 
 -- how a file's addresses are mapped to its offsets, and how the bytes there are read
@@ -17,6 +17,11 @@ pub record MapOfAddresses : Type 0 where
 abbrev pub map_by : ParseOptions → List Section → ℕ → MapOfAddresses
 map_by opts sections file_alignment =
     record { opts = opts; offset = file_offset opts sections file_alignment }
+
+-- such a map takes memory: there are sections, and their windows cut the addresses into pieces
+abbrev pub TakesMap : ParseOptions → List Section → ℕ → Type 0
+TakesMap opts sections file_alignment =
+    HasPieces opts file_alignment × (0 < length sections)
 
 -- the map that a reader was given
 abbrev pub map_of : AddressMap → MapOfAddresses

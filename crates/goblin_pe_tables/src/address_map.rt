@@ -6,9 +6,9 @@ ghost use Rattle.goblin_base.specs.Reading.{Reads};
 ghost use Rattle.goblin_pe_sect.specs.AddressReadings.{name_or_none};
 ghost use Rattle.goblin_pe_sect.specs.Mapping.{file_offset};
 ghost use Rattle.goblin_base.specs.declared.permissive.ParseMode.TheVariants.{Permissive};
-ghost use Rattle.goblin_pe_tables.specs.Addresses.{map_by, map_of, offset_of, reads_strictly};
-ghost use Rattle.goblin_pe_tables.specs.Addresses.{strict_map};
-ghost use Rattle.goblin_pe_sect.specs.WindowIndex.{HasPieces, located};
+ghost use Rattle.goblin_pe_tables.specs.Addresses.{TakesMap, map_by, map_of, offset_of};
+ghost use Rattle.goblin_pe_tables.specs.Addresses.{reads_strictly, strict_map};
+ghost use Rattle.goblin_pe_sect.specs.WindowIndex.{located};
 
 use goblin_base::Result;
 use goblin_pe_sect::options::{ParseMode, ParseOptions};
@@ -37,8 +37,7 @@ fn index_of(
     ensures mapped { let offset_of = file_offset opts.now sections.now file_alignment in
         IfOk result (λ w. (rva : ℕ) → located w rva ≡ offset_of rva) }
     ensures refused { IfErr result IsMemory }
-    ensures grown { IfErr result
-        (λ e. HasPieces opts.now file_alignment × (0 < length sections.now)) }
+    ensures grown { IfErr result (λ e. TakesMap opts.now sections.now file_alignment) }
 {
     if sections.is_empty() {
         return Ok(WindowIndex::without_pieces(alloc, opts.resolve_rva));
@@ -62,8 +61,7 @@ impl AddressMap {
     ) -> Result<AddressMap>
         ensures made { GivesOrMemory map_of result
             (map_by opts.now sections.now file_alignment) }
-        ensures grown { IfErr result
-            (λ e. HasPieces opts.now file_alignment × (0 < length sections.now)) }
+        ensures grown { IfErr result (λ e. TakesMap opts.now sections.now file_alignment) }
     {
         let index = index_of(alloc, sections, file_alignment, opts)?;
         Ok(AddressMap { opts: *opts, index })

@@ -11,12 +11,11 @@ ghost use Rattle.goblin_base.specs.Answers.{GivesOrMemory, IsMemory};
 ghost use Rattle.goblin_base.specs.Bytes.{text_at};
 ghost use Rattle.goblin_base.specs.Reading.{ReadsOrMemory};
 ghost use Rattle.goblin_pe_sect.specs.Options.{default_options};
-ghost use Rattle.goblin_pe_tables.specs.Addresses.{map_by, map_of, offset_of};
+ghost use Rattle.goblin_pe_tables.specs.Addresses.{TakesMap, map_by, map_of, offset_of};
 ghost use Rattle.goblin_pe_tables.specs.ExportReadings as reading;
 ghost use Rattle.goblin_pe_tables.specs.Exports.{HasEntries, HasExports, export_data, export_row};
 ghost use Rattle.goblin_pe_tables.specs.Exports.{exports, own_exports, rva_of};
 ghost use Rattle.goblin_pe_tables.specs.Forwarders.{forwarder_at, forwarder_value};
-ghost use Rattle.goblin_pe_sect.specs.WindowIndex.{HasPieces};
 
 use crate::address_map::AddressMap;
 use goblin_base::{Result, pread_str};
@@ -136,7 +135,7 @@ impl<'a> ExportData<'a> {
         ensures grown { let m = map_by default_options sections.now file_alignment in
             IfErr result (λ e. IsMemory e →
             IsSomeAnd (export_data (offset_of m) directory bytes.now) HasEntries
-            ⊎ HasPieces default_options file_alignment) }
+            ⊎ TakesMap default_options sections.now file_alignment) }
     {
         let opts = ParseOptions::default();
         ExportData::parse_with_opts(alloc, bytes, directory, sections, file_alignment, &opts)
@@ -166,7 +165,7 @@ impl<'a> ExportData<'a> {
         ensures grown { let m = map_by opts.now sections.now file_alignment in
             IfErr result (λ e. IsMemory e →
             IsSomeAnd (export_data (offset_of m) directory bytes.now) HasEntries
-            ⊎ HasPieces opts.now file_alignment) }
+            ⊎ TakesMap opts.now sections.now file_alignment) }
     {
         let address_map = AddressMap::prepare(alloc, sections, file_alignment, opts)?;
         ExportData::parse_by(alloc, bytes, directory, &address_map)
@@ -340,7 +339,7 @@ impl<'a> Export<'a> {
         ensures empty { length bytes.now ≡ 0 → IsOk result }
         ensures grown { let m = map_by default_options sections.now file_alignment in
             OnErr result (HasExports (offset_of m) bytes.now export_data.now
-            ⊎ HasPieces default_options file_alignment) }
+            ⊎ TakesMap default_options sections.now file_alignment) }
     {
         let opts = ParseOptions::default();
         Export::parse_with_opts(alloc, bytes, export_data, sections, file_alignment, &opts)
@@ -353,7 +352,7 @@ impl<'a> Export<'a> {
     ///
     /// # Errors
     /// Only [`Error::Memory`], never for an empty file, which takes no memory, and otherwise only
-    /// if there is an export or addresses are mapped.
+    /// if there is an export or addresses are mapped by sections.
     #[tactic(auto, unfolding(crate::specs::ExportReadings::exports))]
     pub fn parse_with_opts(
         alloc: Global,
@@ -368,7 +367,7 @@ impl<'a> Export<'a> {
         ensures empty { length bytes.now ≡ 0 → IsOk result }
         ensures grown { let m = map_by opts.now sections.now file_alignment in
             OnErr result (HasExports (offset_of m) bytes.now export_data.now
-            ⊎ HasPieces opts.now file_alignment) }
+            ⊎ TakesMap opts.now sections.now file_alignment) }
     {
         if bytes.is_empty() {
             return Ok(Vec::new(alloc));

@@ -9,8 +9,8 @@ ghost use Rattle.goblin_base.specs.Answers.{IsMemory};
 ghost use Rattle.goblin_base.specs.Reading.{ReadsOrMemory};
 ghost use Rattle.readings.specs.Reads.{mapped};
 ghost use Rattle.goblin_pe_sect.specs.Options.{default_options, is_strict};
-ghost use Rattle.goblin_pe_sect.specs.WindowIndex.{HasPieces};
-ghost use Rattle.goblin_pe_tables.specs.Addresses.{map_by, map_of, offset_of, reads_strictly};
+ghost use Rattle.goblin_pe_tables.specs.Addresses.{TakesMap, map_by, map_of, offset_of};
+ghost use Rattle.goblin_pe_tables.specs.Addresses.{reads_strictly};
 ghost use Rattle.goblin_pe_tables.specs.ImportDirectory.{HasRecords};
 ghost use Rattle.goblin_pe_tables.specs.ImportReadings as reading;
 
@@ -154,7 +154,7 @@ impl<'a> ImportData<'a> {
             (λ e.
             IsMemory e
             → IsSomeAnd (offset_of m directory.virtual_address) (HasRecords bytes.now)
-            ⊎ HasPieces default_options file_alignment) }
+            ⊎ TakesMap default_options sections.now file_alignment) }
     {
         let opts = ParseOptions::default();
         ImportData::parse_with_opts::<T>(alloc, bytes, directory, sections, file_alignment, &opts)
@@ -172,8 +172,8 @@ impl<'a> ImportData<'a> {
     /// In strict mode [`Error::Malformed`] with [`Cause::Unmapped`] if the directory's address has
     /// no file offset, and with [`Cause::ImportRecordEnd`] if it reaches the end of the file; and
     /// as [`SyntheticImportDirectoryEntry::parse_with_opts`] of a record. In both modes
-    /// [`Error::Memory`] if memory is refused; it is asked for only if addresses are mapped or the
-    /// directory has a record.
+    /// [`Error::Memory`] if memory is refused; it is asked for only if addresses are mapped by
+    /// sections or the directory has a record.
     pub fn parse_with_opts<'e, T: Bitfield<'a>>(
         alloc: Global,
         bytes: &'a [u8],
@@ -192,7 +192,7 @@ impl<'a> ImportData<'a> {
             (λ e.
             IsMemory e
             → IsSomeAnd (offset_of m directory.virtual_address) (HasRecords bytes.now)
-            ⊎ HasPieces opts.now file_alignment) }
+            ⊎ TakesMap opts.now sections.now file_alignment) }
     {
         let address_map = AddressMap::prepare(alloc, sections, file_alignment, opts)?;
         ImportData::parse_by::<T>(alloc, bytes, directory, &address_map)

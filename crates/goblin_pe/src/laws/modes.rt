@@ -106,11 +106,11 @@ pub fn mode_tables<'a, 'e, T: Bitfield<'a>, D: TryFromCtx<'a>>(
         AreInModes T.format D.plain D.value_of D.refusal (offset_of m) request.now bytes.now
         result }
     ensures strict_grown { let m = map_by opts.now sections.now file_alignment in
-        AreGrown T.format true opts.now file_alignment (offset_of m) bytes.now request.now
-        result.0 }
+        AreGrown T.format true opts.now sections.now file_alignment (offset_of m) bytes.now
+        request.now result.0 }
     ensures permissive_grown { let m = map_by opts.now sections.now file_alignment in
-        AreGrown T.format false opts.now file_alignment (offset_of m) bytes.now request.now
-        result.1 }
+        AreGrown T.format false opts.now sections.now file_alignment (offset_of m) bytes.now
+        request.now result.1 }
 {
     let strictly = opts.with_parse_mode(ParseMode::Strict);
     let permissively = opts.with_parse_mode(ParseMode::Permissive);

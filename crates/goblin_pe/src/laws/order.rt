@@ -66,8 +66,8 @@ pub(super) fn read_tables<'a, 'e, T: Bitfield<'a>, D: TryFromCtx<'a>>(
         AreTables T.format D.plain D.value_of D.refusal (reads_strictly m) (offset_of m) bytes.now
         request.now result }
     ensures grown { let m = map_by opts.now sections.now file_alignment in
-        AreGrown T.format (reads_strictly m) opts.now file_alignment (offset_of m) bytes.now
-        request.now result }
+        AreGrown T.format (reads_strictly m) opts.now sections.now file_alignment (offset_of m)
+        bytes.now request.now result }
 {
     let lookup = SyntheticImportLookupTableEntry::parse_with_opts::<T>(
         alloc,
@@ -130,11 +130,11 @@ pub fn reorder_whole_tables<'a, 'e, T: Bitfield<'a>, D: TryFromCtx<'a>>(
         AreTables T.format D.plain D.value_of D.refusal (reads_strictly m) (offset_of m) bytes.now
         request.now result.1 }
     ensures first_grown { let m = map_by opts.now first.now file_alignment in
-        AreGrown T.format (reads_strictly m) opts.now file_alignment (offset_of m) bytes.now
-        request.now result.0 }
+        AreGrown T.format (reads_strictly m) opts.now first.now file_alignment (offset_of m)
+        bytes.now request.now result.0 }
     ensures second_grown { let m = map_by opts.now second.now file_alignment in
-        AreGrown T.format (reads_strictly m) opts.now file_alignment (offset_of m) bytes.now
-        request.now result.1 }
+        AreGrown T.format (reads_strictly m) opts.now second.now file_alignment (offset_of m)
+        bytes.now request.now result.1 }
     ensures alike { IsReordering file_alignment first.now second.now
         → AreAlike D.plain result.0 result.1 }
 {

@@ -6,8 +6,8 @@ ghost use Rattle.goblin_base.specs.Answers.{IsMemory};
 ghost use Rattle.goblin_base.specs.Reading.{Reads, ReadsOrMemory};
 ghost use Rattle.readings.specs.Reads.{in_its_place, or_else};
 ghost use Rattle.goblin_pe_sect.specs.Options.{default_options};
-ghost use Rattle.goblin_pe_sect.specs.WindowIndex.{HasPieces};
-ghost use Rattle.goblin_pe_tables.specs.Addresses.{map_by, map_of, offset_of, reads_strictly};
+ghost use Rattle.goblin_pe_tables.specs.Addresses.{TakesMap, map_by, map_of, offset_of};
+ghost use Rattle.goblin_pe_tables.specs.Addresses.{reads_strictly};
 ghost use Rattle.goblin_pe_tables.specs.ImportDirectory.{KeepsImports, address_table_rva};
 ghost use Rattle.goblin_pe_tables.specs.ImportDirectory.{lookup_offset};
 ghost use Rattle.goblin_pe_tables.specs.ImportLookup.{KeepsEntries, entry_view};
@@ -164,7 +164,7 @@ impl<'a> SyntheticImportDirectoryEntry<'a> {
             (λ e.
             IsMemory e
             → KeepsImports true T.format (offset_of m) bytes.now import_directory_entry
-            ⊎ HasPieces default_options file_alignment) }
+            ⊎ TakesMap default_options sections.now file_alignment) }
     {
         let opts = ParseOptions::default();
         SyntheticImportDirectoryEntry::parse_with_opts::<T>(
@@ -192,8 +192,8 @@ impl<'a> SyntheticImportDirectoryEntry<'a> {
     /// [`SyntheticImportLookupTableEntry::parse_with_opts`] where the lookup table is refused. In
     /// both modes [`Error::Malformed`] with [`Cause::Unmapped`] if the address of the address table
     /// has no file offset, and [`Error::Read`] if that table reaches the end of the file.
-    /// [`Error::Memory`] if memory is refused; it is asked for only if addresses are mapped or
-    /// either table keeps an entry.
+    /// [`Error::Memory`] if memory is refused; it is asked for only if addresses are mapped by
+    /// sections or either table keeps an entry.
     pub fn parse_with_opts<'e, T: Bitfield<'a>>(
         alloc: Global,
         bytes: &'a [u8],
@@ -212,7 +212,7 @@ impl<'a> SyntheticImportDirectoryEntry<'a> {
             IsMemory e
             → KeepsImports (reads_strictly m) T.format (offset_of m) bytes.now
             import_directory_entry
-            ⊎ HasPieces opts.now file_alignment) }
+            ⊎ TakesMap opts.now sections.now file_alignment) }
     {
         let address_map = AddressMap::prepare(alloc, sections, file_alignment, opts)?;
         SyntheticImportDirectoryEntry::parse_by::<T>(

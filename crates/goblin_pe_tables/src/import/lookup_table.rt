@@ -8,8 +8,8 @@ ghost use Rattle.goblin_base.specs.Answers.{IsMemory};
 ghost use Rattle.goblin_base.specs.Reading.{Reads, ReadsOrMemory};
 ghost use Rattle.goblin_base.specs.Tables.{is_kept, stop};
 ghost use Rattle.goblin_pe_sect.specs.Options.{default_options, is_strict};
-ghost use Rattle.goblin_pe_sect.specs.WindowIndex.{HasPieces};
-ghost use Rattle.goblin_pe_tables.specs.Addresses.{map_by, map_of, offset_of, reads_strictly};
+ghost use Rattle.goblin_pe_tables.specs.Addresses.{TakesMap, map_by, map_of, offset_of};
+ghost use Rattle.goblin_pe_tables.specs.Addresses.{reads_strictly};
 ghost use Rattle.goblin_pe_tables.specs.ImportLookup.{KeepsEntries};
 ghost use Rattle.goblin_pe_tables.specs.ImportLookup.{entry_slots, lookup_slots};
 ghost use Rattle.goblin_pe_tables.specs.ImportLookup.{entry_view, hint_name_view, kept_view};
@@ -150,7 +150,7 @@ impl<'a> SyntheticImportLookupTableEntry<'a> {
             (λ e.
             IsMemory e
             → KeepsEntries true T.format (offset_of m) bytes.now offset
-            ⊎ HasPieces default_options file_alignment) }
+            ⊎ TakesMap default_options sections.now file_alignment) }
     {
         let opts = ParseOptions::default();
         SyntheticImportLookupTableEntry::parse_with_opts::<T>(
@@ -173,7 +173,7 @@ impl<'a> SyntheticImportLookupTableEntry<'a> {
     /// In strict mode [`Error::Malformed`] with [`Cause::LookupEnd`] if the table reaches the end
     /// of the file, and as [`HintNameTableEntry::parse_with_opts`] where an entry leads to no hint
     /// and name; in permissive mode the table ends there. [`Error::Memory`] if memory is refused;
-    /// it is asked for only if addresses are mapped or an entry is kept.
+    /// it is asked for only if addresses are mapped by sections or an entry is kept.
     pub fn parse_with_opts<'e, T: Bitfield<'a>>(
         alloc: Global,
         bytes: &'a [u8],
@@ -190,7 +190,7 @@ impl<'a> SyntheticImportLookupTableEntry<'a> {
             (λ e.
             IsMemory e
             → KeepsEntries (reads_strictly m) T.format (offset_of m) bytes.now offset
-            ⊎ HasPieces opts.now file_alignment) }
+            ⊎ TakesMap opts.now sections.now file_alignment) }
     {
         let (table, _) = SyntheticImportLookupTableEntry::parse_with_slots::<T>(
             alloc,
@@ -228,7 +228,7 @@ impl<'a> SyntheticImportLookupTableEntry<'a> {
             (λ e.
             IsMemory e
             → KeepsEntries (reads_strictly m) T.format (offset_of m) bytes.now offset
-            ⊎ HasPieces opts.now file_alignment) }
+            ⊎ TakesMap opts.now sections.now file_alignment) }
         ensures slots { let m = map_by opts.now sections.now file_alignment in
             IfOk result
             (λ both.

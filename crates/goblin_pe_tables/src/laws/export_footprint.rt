@@ -5,8 +5,7 @@ ghost use Rattle.std.specs.Prelude.{OnErr, OnOk, length, min};
 ghost use Rattle.std.specs.List.{All};
 ghost use Rattle.goblin_base.specs.Answers.{IsMemory};
 ghost use Rattle.goblin_base.specs.Footprints.{Covers, led_to, positions, stretch_footprint};
-ghost use Rattle.goblin_pe_sect.specs.WindowIndex.{HasPieces};
-ghost use Rattle.goblin_pe_tables.specs.Addresses.{map_by, map_of, offset_of};
+ghost use Rattle.goblin_pe_tables.specs.Addresses.{TakesMap, map_by, map_of, offset_of};
 ghost use Rattle.goblin_pe_tables.specs.ExportReadings as reading;
 
 use crate::address_map::AddressMap;
@@ -245,8 +244,8 @@ pub fn add_exports<'e>(
 /// past the end of the file.
 ///
 /// # Errors
-/// [`Error::Memory`](goblin_base::Error::Memory) only, and only if addresses are mapped or a range
-/// is listed.
+/// [`Error::Memory`](goblin_base::Error::Memory) only, and only if addresses are mapped by
+/// sections or a range is listed.
 pub fn footprint_exports<'e>(
     alloc: Global,
     bytes: &[u8],
@@ -266,7 +265,7 @@ pub fn footprint_exports<'e>(
     ensures refused { IfErr result IsMemory }
     ensures grown { let m = map_by opts.now sections.now file_alignment in
         let footprint = (reading.export_read (offset_of m) directory).reaches bytes.now in
-        OnErr result ((0 < length footprint) ⊎ HasPieces opts.now file_alignment) }
+        OnErr result ((0 < length footprint) ⊎ TakesMap opts.now sections.now file_alignment) }
 {
     let address_map = AddressMap::prepare(alloc, sections, file_alignment, opts)?;
     let mut ranges = Vec::new(alloc);

@@ -3,8 +3,7 @@
 ghost use Rattle.std.specs.Prelude.{◌⊎◌, IfErr, IsSomeAnd};
 ghost use Rattle.goblin_base.specs.Answers.{IsMemory};
 ghost use Rattle.goblin_base.specs.Reading.{ReadsOrMemory, TwinsOrMemory};
-ghost use Rattle.goblin_pe_sect.specs.WindowIndex.{HasPieces};
-ghost use Rattle.goblin_pe_tables.specs.Addresses.{map_by, offset_of};
+ghost use Rattle.goblin_pe_tables.specs.Addresses.{TakesMap, map_by, offset_of};
 ghost use Rattle.goblin_pe_tables.specs.ExportReadings.{export_read};
 ghost use Rattle.goblin_pe_tables.specs.Exports.{HasEntries, export_data, export_read_view};
 
@@ -36,7 +35,7 @@ pub fn read_exports<'a>(
     ensures grown { let m = map_by opts.now sections.now file_alignment in
         IfErr result (λ e. IsMemory e →
         IsSomeAnd (export_data (offset_of m) directory bytes.now) HasEntries
-        ⊎ HasPieces opts.now file_alignment) }
+        ⊎ TakesMap opts.now sections.now file_alignment) }
 {
     let tables = ExportData::parse_with_opts(
         alloc,
@@ -59,7 +58,7 @@ pub fn read_exports<'a>(
 ///
 /// # Errors
 /// For each file as [`ExportData::parse_with_opts`] and [`Export::parse_with_opts`]; memory is
-/// asked for only if the record counts entries or addresses are mapped.
+/// asked for only if the record counts entries or addresses are mapped by sections.
 #[tactic(auto, using(goblin_base::proofs::Readings::twins_or_memory))]
 pub fn twin_exports<'a>(
     alloc: Global,
@@ -75,11 +74,11 @@ pub fn twin_exports<'a>(
     ensures first_grown { let m = map_by opts.now sections.now file_alignment in
         IfErr result.0 (λ e. IsMemory e →
         IsSomeAnd (export_data (offset_of m) directory a.now) HasEntries
-        ⊎ HasPieces opts.now file_alignment) }
+        ⊎ TakesMap opts.now sections.now file_alignment) }
     ensures second_grown { let m = map_by opts.now sections.now file_alignment in
         IfErr result.1 (λ e. IsMemory e →
         IsSomeAnd (export_data (offset_of m) directory b.now) HasEntries
-        ⊎ HasPieces opts.now file_alignment) }
+        ⊎ TakesMap opts.now sections.now file_alignment) }
 {
     let first = read_exports(alloc, a, directory, sections, file_alignment, opts);
     let second = read_exports(alloc, b, directory, sections, file_alignment, opts);

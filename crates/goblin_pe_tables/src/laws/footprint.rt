@@ -5,8 +5,8 @@ ghost use Rattle.std.specs.Prelude.{OnOk, length};
 ghost use Rattle.std.specs.List.{All};
 ghost use Rattle.goblin_base.specs.Answers.{IsMemory};
 ghost use Rattle.goblin_base.specs.Footprints.{Covers, slice_footprint, stretch_footprint};
-ghost use Rattle.goblin_pe_sect.specs.WindowIndex.{HasPieces};
-ghost use Rattle.goblin_pe_tables.specs.Addresses.{map_by, map_of, offset_of, reads_strictly};
+ghost use Rattle.goblin_pe_tables.specs.Addresses.{TakesMap, map_by, map_of, offset_of};
+ghost use Rattle.goblin_pe_tables.specs.Addresses.{reads_strictly};
 ghost use Rattle.goblin_pe_tables.specs.ImportReadings.{import_data, libraries_at, library_of};
 ghost use Rattle.goblin_pe_tables.specs.LookupReadings.{address_table, kept_entry, lookup_table};
 
@@ -216,8 +216,8 @@ pub fn add_imports<'a, 'e, T: Bitfield<'a>>(
 /// and may overlap. None is empty, and none runs past the end of the file.
 ///
 /// # Errors
-/// [`Error::Memory`](goblin_base::Error::Memory) only, and only if addresses are mapped or a range
-/// is listed.
+/// [`Error::Memory`](goblin_base::Error::Memory) only, and only if addresses are mapped by
+/// sections or a range is listed.
 pub fn footprint_imports<'a, 'e, T: Bitfield<'a>>(
     alloc: Global,
     bytes: &'a [u8],
@@ -243,7 +243,7 @@ pub fn footprint_imports<'a, 'e, T: Bitfield<'a>>(
         let rva = directory.virtual_address in
         let footprint =
         (import_data (reads_strictly m) T.format (offset_of m) rva).reaches bytes.now in
-        OnErr result ((0 < length footprint) ⊎ HasPieces opts.now file_alignment) }
+        OnErr result ((0 < length footprint) ⊎ TakesMap opts.now sections.now file_alignment) }
 {
     let address_map = AddressMap::prepare(alloc, sections, file_alignment, opts)?;
     let mut ranges = Vec::new(alloc);

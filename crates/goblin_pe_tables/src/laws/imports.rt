@@ -3,8 +3,7 @@
 ghost use Rattle.std.specs.Prelude.{◌⊎◌, IfErr, IsSomeAnd, map};
 ghost use Rattle.goblin_base.specs.Answers.{IsMemory};
 ghost use Rattle.goblin_base.specs.Reading.{TwinsOrMemory};
-ghost use Rattle.goblin_pe_sect.specs.WindowIndex.{HasPieces};
-ghost use Rattle.goblin_pe_tables.specs.Addresses.{map_by, offset_of, reads_strictly};
+ghost use Rattle.goblin_pe_tables.specs.Addresses.{TakesMap, map_by, offset_of, reads_strictly};
 ghost use Rattle.goblin_pe_tables.specs.ImportDirectory.{HasRecords};
 ghost use Rattle.goblin_pe_tables.specs.ImportLookup.{KeepsEntries, entry_view};
 ghost use Rattle.goblin_pe_tables.specs.ImportReadings.{import_data};
@@ -45,13 +44,13 @@ pub fn twin_lookup<'a, 'e, T: Bitfield<'a>>(
         (λ e.
         IsMemory e
         → KeepsEntries (reads_strictly m) T.format (offset_of m) a.now offset
-        ⊎ HasPieces opts.now file_alignment) }
+        ⊎ TakesMap opts.now sections.now file_alignment) }
     ensures second_grown { let m = map_by opts.now sections.now file_alignment in
         IfErr result.1
         (λ e.
         IsMemory e
         → KeepsEntries (reads_strictly m) T.format (offset_of m) b.now offset
-        ⊎ HasPieces opts.now file_alignment) }
+        ⊎ TakesMap opts.now sections.now file_alignment) }
 {
     let first = SyntheticImportLookupTableEntry::parse_with_opts::<T>(
         alloc,
@@ -101,13 +100,13 @@ pub fn twin_imports<'a, 'e, T: Bitfield<'a>>(
         (λ e.
         IsMemory e
         → IsSomeAnd (offset_of m directory.virtual_address) (HasRecords a.now)
-        ⊎ HasPieces opts.now file_alignment) }
+        ⊎ TakesMap opts.now sections.now file_alignment) }
     ensures second_grown { let m = map_by opts.now sections.now file_alignment in
         IfErr result.1
         (λ e.
         IsMemory e
         → IsSomeAnd (offset_of m directory.virtual_address) (HasRecords b.now)
-        ⊎ HasPieces opts.now file_alignment) }
+        ⊎ TakesMap opts.now sections.now file_alignment) }
 {
     let first = ImportData::parse_with_opts::<T>(
         alloc,
