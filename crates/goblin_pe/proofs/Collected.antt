@@ -1,5 +1,5 @@
 -- What is made of a file's imports, one by one, and of its export tables is made of the file's own value.
-use Rattle.std.proofs.Common.{◌≡◌, ◌∙◌, ℕ, List, map, Bool, true, false}
+use Rattle.std.proofs.Common.{◌≡◌, ◌∙◌, ℕ, List, Bool, true, false}
 use Rattle.std.proofs.Common.{Option, Some, None, refl, ap, inl, inr}
 use Rattle.std.specs.Prelude.{◌⊎◌, option_map}
 use Rattle.goblin_base.specs.declared.error.ErrorOf.{ErrorOf}
@@ -10,13 +10,12 @@ use Rattle.goblin_pe_sect.specs.declared.data_directories.DataDirectory.{DataDir
 use Rattle.goblin_pe_sect.specs.declared.options.ParseOptions.{ParseOptions}
 use Rattle.goblin_pe_sect.specs.SectionTable.{Section}
 use Rattle.goblin_pe_head.specs.PeHeader.{PeHeader}
-use Rattle.goblin_pe_tables.specs.ExportRecords.{ExportRow, ExportTables}
+use Rattle.goblin_pe_tables.specs.ExportRecords.{ExportTables}
 use Rattle.goblin_pe_tables.specs.Imports.{ImportValue}
 use Rattle.goblin_pe.specs.declared.whole.Part.{Part}
-use Rattle.goblin_pe.specs.declared.whole.Part.TheVariants.{Absent, Refused}
-use Rattle.goblin_pe.specs.declared.whole.Part.TheVariants as part
+use Rattle.goblin_pe.specs.declared.whole.Part.TheVariants.{Absent}
 use Rattle.goblin_pe.specs.Whole.{CollectedFileValue, CollectedParts}
-use Rattle.goblin_pe.specs.Whole.{TableParts, collected_exports}
+use Rattle.goblin_pe.specs.Whole.{TableParts}
 use Rattle.goblin_pe.specs.Whole.{collected_file, collected_tables}
 use Rattle.goblin_pe.specs.Whole.{offset_by, part_at, part_map, places_in}
 use Rattle.goblin_pe.specs.Whole.{table_parts, whole_of}

@@ -1,6 +1,5 @@
 -- The exports of a file are the rows of those with their numbers.
 use Rattle.std.proofs.Common.{◌≡◌, ◌∙◌, ℕ, List, map, Bool, true, false, Option, Some, None, refl, sym, ap, subst}
-use Rattle.std.specs.Prelude.{length}
 use Rattle.goblin_base.proofs.Steps.{mapped, same_value, step}
 use Rattle.readings.specs.Reads.{pair_of}
 use Rattle.goblin_pe_sect.specs.declared.data_directories.DataDirectory.{DataDirectory}
@@ -9,14 +8,14 @@ use Rattle.goblin_pe_sect.specs.Options.{is_strict}
 use Rattle.goblin_pe_head.specs.HeaderReadings.{pe_header}
 use Rattle.goblin_pe_tables.specs.ExportReadings.{export_data, export_read}
 use Rattle.goblin_pe_tables.specs.ExportRecords.{ExportRow, ExportTables}
-use Rattle.goblin_pe_tables.specs.ExportWalks.{NumberedExport, numbered_from}
+use Rattle.goblin_pe_tables.specs.ExportWalks.{numbered_from}
 use Rattle.goblin_pe_tables.proofs.ExportWalk.{read_walked}
 use Rattle.goblin_pe.specs.declared.whole.Part.{Part}
 use Rattle.goblin_pe.specs.declared.whole.Part.TheVariants.{Absent, Refused}
 use Rattle.goblin_pe.specs.declared.whole.Part.TheVariants as part
 use Rattle.goblin_pe.proofs.Parts.{part_map-twice}
-use Rattle.goblin_pe.specs.Whole.{WholeFile, export_part, import_parts, numbered_exports, offset_by}
-use Rattle.goblin_pe.specs.Whole.{part_at, part_map, part_of, places_in, relocation_part}
+use Rattle.goblin_pe.specs.Whole.{WholeFile, export_part, numbered_exports, offset_by}
+use Rattle.goblin_pe.specs.Whole.{part_at, part_map, part_of, places_in}
 use Rattle.goblin_pe.specs.Whole.{sections_after, table_parts, whole_file, whole_with}
 
 first-of : {A B : Type 0} (a : Option A) (b : Option B) (x : A × B) → pair_of a b ≡ Some x

@@ -8,7 +8,6 @@ use Rattle.std.proofs.lemmas.List.Sums.{sum_by-append}
 use Rattle.goblin_pe.specs.declared.error.ErrorOf.{ErrorOf}
 use Rattle.goblin_pe.specs.declared.import.WalkedImport.{WalkedImport}
 use Rattle.goblin_pe.specs.declared.whole.imports.FileImports.{FileImports}
-use Rattle.goblin_pe.specs.declared.whole.imports.FileImports.TheVariants.{Narrow, Wide}
 use Rattle.goblin_pe.specs.Answers.{all_of}
 use Rattle.goblin_pe.specs.ImportEntries.{LookupEntry}
 use Rattle.goblin_pe.specs.ImportEntries.LookupEntry.{ByName, ByOrdinal}
@@ -16,20 +15,9 @@ use Rattle.goblin_pe.specs.ImportLookup.{entry_view}
 use Rattle.goblin_pe.specs.ImportWalks.{walked_value}
 use Rattle.goblin_pe.specs.Imports.{ImportValue, import_of}
 use Rattle.goblin_pe.specs.Layouts.{GivesFileImport, IsFileImportsCause, file_imports_left}
-use Rattle.goblin_pe.specs.Walks.{GivesNext}
+use Rattle.goblin_pe.proofs.ImportStarts.{file-given}
 use Rattle.goblin_pe.proofs.Walked.{AtMade, made-all, made-fault, made-more, made-start}
 use Rattle.goblin_pe_caller.specs.Counts.{count_from}
-
--- a call of `next` gives the next import of either width
-gives-next : (s : FileImports) (r : Option (Result WalkedImport ErrorOf)) (t : FileImports) → GivesFileImport s r t → GivesNext walked_value file_imports_left IsFileImportsCause s r t
-gives-next (Narrow s) None (Narrow t) h = h.0
-gives-next (Narrow s) (Some (Ok x)) (Narrow t) h = h.0
-gives-next (Narrow s) (Some (Err e)) (Narrow t) h = h.0
-gives-next (Wide s) None (Wide t) h = h.0
-gives-next (Wide s) (Some (Ok x)) (Wide t) h = h.0
-gives-next (Wide s) (Some (Err e)) (Wide t) h = h.0
-gives-next (Narrow s) r (Wide t) h = absurd h
-gives-next (Wide s) r (Narrow t) h = absurd h
 
 dll-import_of : (dll : List ℕ) (slot offset size : ℕ) (entry : LookupEntry) → (import_of dll slot offset size entry).dll ≡ dll
 unfolding import_of
@@ -80,7 +68,7 @@ module _ (library : List ℕ) (start : FileImports) where
       at-next : (more : ℕ) → more ≡ count_from library (h.items ++ walked_value x ∷ []) → AtCount next more
       at-next more said = record {
         items = h.items ++ walked_value x ∷ [];
-        at = made-more file_imports_left IsFileImportsCause (λ x. x) start now h.items h.at walked_value next r (gives-next now (Some r) next given) x is _ refl;
+        at = made-more file_imports_left IsFileImportsCause (λ x. x) start now h.items h.at walked_value next r (file-given now (Some r) next given).0 x is _ refl;
         said = said;
       }
 
@@ -94,11 +82,11 @@ module _ (library : List ℕ) (start : FileImports) where
     -- all imports have come
     pub count-all : GivesFileImport now None next → option_map (count_from library) (all_of (file_imports_left start)) ≡ Some count
     count-all given =
-        let all = unmapped (all_of (file_imports_left start)) (made-all file_imports_left IsFileImportsCause (λ x. x) start now h.items h.at walked_value next (gives-next now None next given)) in
+        let all = unmapped (all_of (file_imports_left start)) (made-all file_imports_left IsFileImportsCause (λ x. x) start now h.items h.at walked_value next (file-given now None next given).0) in
         ap (option_map (count_from library)) all ∙ ap (λ (n : ℕ). Some n) (sym h.said)
 
     -- they end with a refusal
     pub count-fault : (r : Result WalkedImport ErrorOf) → GivesFileImport now (Some r) next → (e : ErrorOf) → r ≡ Err e → (option_map (count_from library) (all_of (file_imports_left start)) ≡ None) × IsFileImportsCause start e
     count-fault r given e is =
-        let fault = made-fault file_imports_left IsFileImportsCause (λ x. x) start now h.items h.at walked_value next r (gives-next now (Some r) next given) e is in
+        let fault = made-fault file_imports_left IsFileImportsCause (λ x. x) start now h.items h.at walked_value next r (file-given now (Some r) next given).0 e is in
         (ap (option_map (count_from library)) (unmapped-none (all_of (file_imports_left start)) fault.0), fault.1)

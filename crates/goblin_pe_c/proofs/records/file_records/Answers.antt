@@ -3,7 +3,7 @@ use Rattle.std.proofs.lemmas.Result.{err_from_is_err_and}
 use Rattle.goblin_pe_tables.specs.Addresses.{offset_of}
 use Rattle.goblin_pe.specs.Layouts.{layout_map, layout_places}
 use Rattle.goblin_pe.specs.Whole.{collected_exports, collected_imports, export_part}
-use Rattle.goblin_pe.specs.Whole.{import_parts, part_map, relocation_part, table_parts}
+use Rattle.goblin_pe.specs.Whole.{import_parts, relocation_part, table_parts}
 use Rattle.goblin_pe.proofs.Collected.{all-read, first-refused, second-refused, third-refused}
 use Rattle.goblin_pe_c.specs.Exports.{exports_said}
 use Rattle.goblin_pe_c.specs.Imports.{import_said}
