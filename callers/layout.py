@@ -226,7 +226,11 @@ def main():
     callers["c/goblin_pe.h"].update(version(r"#define GOBLIN_PE_INTERFACE (\d+)", text("c/goblin_pe.h")))
     callers["rust/src"].update(version(r"const INTERFACE: u32 = (\d+)", text("rust/src/raw.rs")))
     callers["python/goblin_pe"].update(version(r"INTERFACE = (\d+)", text("python/goblin_pe/_library.py")))
-    passed = failed = 0
+    inline = re.findall(r"^static inline .*?\bgoblin_pe_(\w+)\(", text("c/goblin_pe.h"), re.M)
+    missing = [name for name in ours if name.startswith("goblin_pe_raw_") and name[len("goblin_pe_raw_"):] not in inline]
+    passed, failed = 0, len(missing)
+    for name in missing:
+        print("FAILED: c/goblin_pe.h has %s, but no call over it" % name)
     for path, records in callers.items():
         for name in sorted({*ours, *records}):
             if ours.get(name) and ours.get(name) == records.get(name):

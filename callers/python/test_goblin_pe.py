@@ -18,7 +18,7 @@ import unittest.mock
 
 import goblin_pe
 from goblin_pe import (AuxSectionDefinition, Cause, DirectoryType, Kind, ObjectFile, Options, Pe, ReadFault, Refused, State, Status, Te,
-                       aux_file, aux_of, kind, relocations_of, section_data)
+                       kind)
 from goblin_pe.records import Text
 from goblin_pe.rows import Rows
 
@@ -295,11 +295,11 @@ class Files(unittest.TestCase):
     def test_the_data_of_sections(self):
         data = sample("align16_x64.dll")
         for s in Pe(data).sections:
-            found = section_data(data, s)
+            found = s.data(data)
             self.assertEqual(found.data, data[s.pointer_to_raw_data:][:s.size_of_raw_data])
             self.assertEqual(len(found.data) + found.zeros, max(s.virtual_size, s.size_of_raw_data))
         s = next(it for it in Pe(data).sections if it.size_of_raw_data)
-        self.assertRaises(Refused, section_data, data[:s.pointer_to_raw_data + s.size_of_raw_data - 1], s)
+        self.assertRaises(Refused, s.data, data[:s.pointer_to_raw_data + s.size_of_raw_data - 1])
 
     def test_exports_have_ordinals(self):
         pe = Pe(sample("forwarders_x64.dll"))
@@ -341,14 +341,14 @@ class Files(unittest.TestCase):
             found = ObjectFile(data)
             for s in found.sections:
                 wanted = [struct.unpack_from("<IIH", data, s.pointer_to_relocations + 10 * i) for i in range(s.number_of_relocations)]
-                self.assertEqual([tuple(it) for it in relocations_of(data, s)], wanted)
+                self.assertEqual([tuple(it) for it in s.relocations(data)], wanted)
             for s in found.symbols:
                 self.assertEqual(len(s.auxiliary), 18 * s.number_of_aux_symbols)
                 if s.storage_class == 3 and s.number_of_aux_symbols == 1:
-                    definition = aux_of(s, AuxSectionDefinition)
+                    definition = s.aux(AuxSectionDefinition)
                     self.assertEqual(definition.length, found.sections[s.section_number - 1].size_of_raw_data)
                 elif not s.auxiliary:
-                    self.assertEqual((aux_of(s, AuxSectionDefinition), aux_file(s)), (None, None))
+                    self.assertEqual((s.aux(AuxSectionDefinition), s.aux_file()), (None, None))
         self.assertEqual(Pe(sample("imports_by_name_x64.dll")).symbols, [])
 
     def test_kinds(self):

@@ -37,86 +37,29 @@ callers/build puts it into callers/lib. The variable GOBLIN_PE_SO names another 
 import ctypes as c
 import dataclasses
 import hashlib
-import mmap
 import operator
-import sys
-from typing import Any, Callable, Dict, Iterable, Iterator, List, NamedTuple, Optional, Tuple, Union
+from typing import Any, Callable, Dict, Iterable, Iterator, List, NamedTuple, Optional
 
 from . import records
 from ._imphash import imphash as _imphash
-from ._library import LIB as _LIB, held as _held, text_of as _text_of
+from ._library import LIB as _LIB, Data, held as _held
+from ._refused import Refused, named as _named, refusal as _refusal, test as _test
 from .numbers import Cause, Counted, DirectoryType, Kind, ReadFault, State, Status
 from .records import (AuxBeginAndEndFunction, AuxFunctionDefinition, AuxSectionDefinition, AuxWeakExternal, CoffHeader, DataDirectory,
                       DosHeader, ExportDirectoryTable, OptionalHeader, Relocation, RichMetadata, StandardFields, TeHeader, WindowsFields)
 from .rows import (Block, Export, ExportAddress, ExportDirectory, Import, Range, RichHeader, Rows as _Rows, Section, SectionData,
-                   Symbol)
+                   Symbol, record_of as _section_record, room as _room)
 
-__all__ = ["Pe", "ObjectFile", "Te", "Options", "Refused", "Damage", "Data", "kind", "section_data", "relocations_of", "aux_of",
-           "aux_file", "DosHeader", "CoffHeader", "OptionalHeader", "StandardFields", "WindowsFields", "DataDirectory", "RichHeader",
-           "RichMetadata", "TeHeader", "ExportDirectoryTable", "Section", "SectionData", "Relocation", "Import", "Export",
-           "ExportAddress", "ExportDirectory", "Block", "Symbol", "AuxFunctionDefinition", "AuxBeginAndEndFunction", "AuxWeakExternal",
-           "AuxSectionDefinition", "Range", "State", "Status", "Kind", "Cause", "Counted", "ReadFault", "DirectoryType"]
-
-# The bytes of a file.
-if sys.version_info >= (3, 12):
-    from collections.abc import Buffer as Data
-else:
-    Data = Union[bytes, bytearray, memoryview, mmap.mmap]
-
-
-def _named(kind: Any, number: int) -> Any:
-    # the number by its name, where it has one
-    try:
-        return kind(number)
-    except ValueError:
-        return number
-
-
-class Refused(ValueError):
-    """A call was refused. The error's text is that of the refusal; `status` is a Status, `cause` by the status
-    a Cause, a Counted or a ReadFault, else 0, and `first` and `second` are the numbers of the cause. A number
-    that has no name here is an int."""
-
-    _CAUSES: Dict[int, Any] = {Status.MALFORMED: Cause, Status.TOO_SHORT: Counted, Status.BAD_READ: ReadFault}
-
-    def __init__(self, status: int, cause: int = 0, first: int = 0, second: int = 0):
-        super().__init__(_text_of(records.Fault(status, cause, first, second)))
-        self.status: Union[Status, int] = _named(Status, status)
-        self.cause: Union[Cause, Counted, ReadFault, int] = _named(self._CAUSES.get(self.status, int), cause)
-        self.first, self.second = first, second
-
-    def __reduce__(self) -> Tuple[Any, ...]:
-        # copied and sent between processes by its numbers, which are what it is made of
-        return type(self), (self.status, self.cause, self.first, self.second), self.__dict__
-
-
-def _refusal(fault: records.Fault) -> Optional[Refused]:
-    return Refused(fault.status, fault.cause, fault.first, fault.second) if fault.status else None
-
-
-def _test(fault: records.Fault) -> None:
-    refusal = _refusal(fault)
-    if refusal:
-        raise refusal
-
-
-def _room(kind: Any, count: int) -> Any:
-    # records to be filled; one more than asked for, so that the pointer is never null
-    return (kind * (count + 1))()
-
-
-# Where there is no text.
-_NO_TEXT = records.Text(records.NOWHERE, 0)
-
-
-def _record(s: Section) -> records.Section:
-    # the record of a section, without its name from the string table
-    return records.Section(_NO_TEXT, tuple(s.raw_name.ljust(8, b"\0")[:8]), *s[1:-1], False)
+__all__ = ["Pe", "ObjectFile", "Te", "Options", "Refused", "Damage", "Data", "kind", "DosHeader", "CoffHeader", "OptionalHeader",
+           "StandardFields", "WindowsFields", "DataDirectory", "RichHeader", "RichMetadata", "TeHeader", "ExportDirectoryTable", "Section",
+           "SectionData", "Relocation", "Import", "Export", "ExportAddress", "ExportDirectory", "Block", "Symbol", "AuxFunctionDefinition",
+           "AuxBeginAndEndFunction", "AuxWeakExternal", "AuxSectionDefinition", "Range", "State", "Status", "Kind", "Cause", "Counted",
+           "ReadFault", "DirectoryType"]
 
 
 def _records_of(sections: List[Section]) -> Any:
     # sections, for the mapping of addresses; one more than there are
-    return (records.Section * (len(sections) + 1))(*map(_record, sections))
+    return (records.Section * (len(sections) + 1))(*map(_section_record, sections))
 
 
 def _size(number: int) -> int:
@@ -153,51 +96,6 @@ def kind(data: Data) -> Kind:
     """What a file is, by its first two bytes."""
     with memoryview(data) as view, _held(view) as (calls, address, length):
         return Kind(calls.goblin_pe_raw_kind(address, length))
-
-
-def section_data(data: Data, section: Section) -> SectionData:
-    """The data of a section of the file `data`: its bytes, from the raw pointer as stored, and how many zeros follow them in
-    memory. Refused is raised where the bytes pass the file."""
-    found = records.SectionData()
-    with memoryview(data) as view, _held(view) as (calls, address, length), view.cast("B") as in_bytes:
-        _test(calls.goblin_pe_raw_section_data(address, length, c.byref(_record(section)), c.byref(found)))
-        return SectionData(_Rows(in_bytes, address).text(found.bytes), found.zeros)
-
-
-def relocations_of(data: Data, section: Section) -> List[Relocation]:
-    """The relocations of a section of the object `data`. Refused is raised where the file is too short for them."""
-    count, room = c.c_size_t(), _room(records.laid_out(Relocation), 0)
-    with memoryview(data) as view, _held(view) as (calls, address, length):
-        for _ in range(2):
-            room = _room(records.laid_out(Relocation), count.value)
-            _test(calls.goblin_pe_raw_read_relocations(address, length, c.byref(_record(section)), room, count.value, c.byref(count)))
-    return [records.read(Relocation, it) for it in room[: count.value]]
-
-
-_Aux = Union[AuxFunctionDefinition, AuxBeginAndEndFunction, AuxWeakExternal, AuxSectionDefinition]
-_AUX_CALLS: Dict[Any, Any] = {
-    AuxFunctionDefinition: _LIB.goblin_pe_raw_aux_function_definition,
-    AuxBeginAndEndFunction: _LIB.goblin_pe_raw_aux_begin_and_end_function,
-    AuxWeakExternal: _LIB.goblin_pe_raw_aux_weak_external,
-    AuxSectionDefinition: _LIB.goblin_pe_raw_aux_section_definition,
-}
-
-
-def aux_of(symbol: Symbol, kind: Any) -> Optional[_Aux]:
-    """The first auxiliary record of a symbol as one of the kinds AuxFunctionDefinition, AuxBeginAndEndFunction, AuxWeakExternal
-    and AuxSectionDefinition, by the class of the symbol; None where it has none."""
-    record = records.laid_out(kind)()
-    is_there = _AUX_CALLS[kind](symbol.auxiliary, len(symbol.auxiliary), c.byref(record))
-    found: Optional[_Aux] = records.read(kind, record) if is_there else None
-    return found
-
-
-def aux_file(symbol: Symbol) -> Optional[bytes]:
-    """The name of a source file in the auxiliary records of a symbol of class 103; None where it has none."""
-    name = records.Text()
-    with memoryview(symbol.auxiliary) as view, _held(view) as (calls, address, length):
-        is_there = calls.goblin_pe_raw_aux_file(address, length, c.byref(name))
-        return _Rows(view, address).text(name) if is_there else None
 
 
 class Damage(NamedTuple):
@@ -435,7 +333,7 @@ class Pe:
             if place + 40 > len(out):
                 raise ValueError("there is no room for so many sections")
             room, written = (c.c_uint8 * 40)(), c.c_size_t()
-            _test(_LIB.goblin_pe_raw_write_section(c.byref(_record(s)), room, 40, c.byref(written)))
+            _test(_LIB.goblin_pe_raw_write_section(c.byref(_section_record(s)), room, 40, c.byref(written)))
             out[place: place + 40] = room
             place += 40
         return bytes(out)
@@ -450,7 +348,8 @@ class Pe:
         size, written = self.dos_header.pe_pointer + 512, c.c_size_t()
         room = (c.c_uint8 * size)()
         _test(_LIB.goblin_pe_raw_write_header(c.byref(file), directories, count, self._stub, len(self._stub), room, size, c.byref(written)))
-        return bytes(room[: written.value])
+        lacking = max(0, count - optional.windows_fields.number_of_rva_and_sizes)  # (of sixteen, for which zeros are written)
+        return bytes(room[: written.value - 8 * lacking])
 
 
 class ObjectFile:

@@ -1,12 +1,20 @@
 """The shared library: where it is, its calls, and the memory of what is handed to it."""
 import contextlib
 import ctypes as c
+import mmap
 import os
-from typing import Any, Iterator, List, Tuple, Type
+import sys
+from typing import Any, Iterator, List, Tuple, Type, Union
 
 from .records import (NOWHERE, AuxBeginAndEndFunction, AuxFunctionDefinition, AuxSectionDefinition, AuxWeakExternal, CoffHeader,
                       Damage, Directory, Export, Fault, File, Image, Import, ImportPosition, NamedSymbol, Object, Options, Ranges,
                       Relocation, Section, SectionData, Tables, TeHeader, Text, laid_out)
+
+# The bytes of a file.
+if sys.version_info >= (3, 12):
+    from collections.abc import Buffer as Data
+else:
+    Data = Union[bytes, bytearray, memoryview, mmap.mmap]
 
 # The version of the interface that is declared here.
 INTERFACE = 3

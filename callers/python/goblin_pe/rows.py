@@ -1,10 +1,14 @@
 """What was read of a file, as rows of Python: texts are bytes, and nothing points into the file."""
+import ctypes as c
 import struct
-from typing import List, NamedTuple, Optional, Tuple, Union
+from typing import Any, Dict, List, NamedTuple, Optional, Tuple, Union
 
 from . import records
+from ._library import LIB, Data, held
+from ._refused import test
 from .numbers import Forwards
-from .records import ExportDirectoryTable
+from .records import (AuxBeginAndEndFunction, AuxFunctionDefinition, AuxSectionDefinition, AuxWeakExternal, ExportDirectoryTable,
+                      Relocation)
 
 
 class RichHeader(NamedTuple):
@@ -17,9 +21,16 @@ class RichHeader(NamedTuple):
     end_offset: int
 
 
+class SectionData(NamedTuple):
+    """The data of a section in the file, and how many zeros follow it in memory."""
+
+    data: bytes
+    zeros: int
+
+
 class Section(NamedTuple):
     """A section: its name (that of the string table where it has one, else its eight bytes up to the first NUL), the
-    fields of its record, and the eight bytes of the name in it. section_data and relocations_of read more of it."""
+    fields of its record, and the eight bytes of the name in it."""
 
     name: bytes
     virtual_size: int
@@ -32,6 +43,23 @@ class Section(NamedTuple):
     number_of_linenumbers: int
     characteristics: int
     raw_name: bytes
+
+    def data(self, file: Data) -> SectionData:
+        """Its data in the file: the bytes from the raw pointer as stored, and how many zeros follow them in memory. Refused is
+        raised where the bytes pass the file."""
+        found = records.SectionData()
+        with memoryview(file) as view, held(view) as (calls, address, length), view.cast("B") as in_bytes:
+            test(calls.goblin_pe_raw_section_data(address, length, c.byref(record_of(self)), c.byref(found)))
+            return SectionData(Rows(in_bytes, address).text(found.bytes), found.zeros)
+
+    def relocations(self, file: Data) -> List[Relocation]:
+        """Its relocations in the object. Refused is raised where the file is too short for them."""
+        count, kind = c.c_size_t(), records.laid_out(Relocation)
+        with memoryview(file) as view, held(view) as (calls, address, length):
+            for _ in range(2):
+                found, record = room(kind, count.value), record_of(self)
+                test(calls.goblin_pe_raw_read_relocations(address, length, c.byref(record), found, count.value, c.byref(count)))
+        return [records.read(Relocation, it) for it in found[: count.value]]
 
 
 class Import(NamedTuple):
@@ -96,6 +124,20 @@ class Symbol(NamedTuple):
     number_of_aux_symbols: int
     auxiliary: bytes
 
+    def aux(self, kind: Any) -> Any:
+        """The first auxiliary record as one of the kinds AuxFunctionDefinition, AuxBeginAndEndFunction, AuxWeakExternal and
+        AuxSectionDefinition, by the class of the symbol; None where it has none."""
+        record = records.laid_out(kind)()
+        is_there = AUX_CALLS[kind](self.auxiliary, len(self.auxiliary), c.byref(record))
+        return records.read(kind, record) if is_there else None
+
+    def aux_file(self) -> Optional[bytes]:
+        """The name of a source file in the auxiliary records of a symbol of class 103; None where it has none."""
+        name = records.Text()
+        with memoryview(self.auxiliary) as view, held(view) as (calls, address, length):
+            is_there = calls.goblin_pe_raw_aux_file(address, length, c.byref(name))
+            return Rows(view, address).text(name) if is_there else None
+
 
 class Range(NamedTuple):
     """A range of the file: the offset of its first byte, and how many bytes it has."""
@@ -104,11 +146,26 @@ class Range(NamedTuple):
     length: int
 
 
-class SectionData(NamedTuple):
-    """The data of a section in the file, and how many zeros follow it in memory."""
+# The calls that read auxiliary records.
+AUX_CALLS: Dict[Any, Any] = {
+    AuxFunctionDefinition: LIB.goblin_pe_raw_aux_function_definition,
+    AuxBeginAndEndFunction: LIB.goblin_pe_raw_aux_begin_and_end_function,
+    AuxWeakExternal: LIB.goblin_pe_raw_aux_weak_external,
+    AuxSectionDefinition: LIB.goblin_pe_raw_aux_section_definition,
+}
 
-    data: bytes
-    zeros: int
+# Where there is no text.
+_NO_TEXT = records.Text(records.NOWHERE, 0)
+
+
+def record_of(s: Section) -> records.Section:
+    """The record of a section, without its name from the string table."""
+    return records.Section(_NO_TEXT, tuple(s.raw_name.ljust(8, b"\0")[:8]), *s[1:-1], False)
+
+
+def room(kind: Any, count: int) -> Any:
+    """Records to be filled; one more than asked for, so that the pointer is never null."""
+    return (kind * (count + 1))()
 
 
 class Rows:

@@ -1,0 +1,45 @@
+"""Why a call was refused, as an exception."""
+from typing import Any, Dict, Optional, Tuple, Union
+
+from . import records
+from ._library import text_of
+from .numbers import Cause, Counted, ReadFault, Status
+
+
+def named(kind: Any, number: int) -> Any:
+    """The number by its name, where it has one."""
+    try:
+        return kind(number)
+    except ValueError:
+        return number
+
+
+class Refused(ValueError):
+    """A call was refused. The error's text is that of the refusal; `status` is a Status, `cause` by the status
+    a Cause, a Counted or a ReadFault, else 0, and `first` and `second` are the numbers of the cause. A number
+    that has no name here is an int."""
+
+    __module__ = "goblin_pe"
+    _CAUSES: Dict[int, Any] = {Status.MALFORMED: Cause, Status.TOO_SHORT: Counted, Status.BAD_READ: ReadFault}
+
+    def __init__(self, status: int, cause: int = 0, first: int = 0, second: int = 0):
+        super().__init__(text_of(records.Fault(status, cause, first, second)))
+        self.status: Union[Status, int] = named(Status, status)
+        self.cause: Union[Cause, Counted, ReadFault, int] = named(self._CAUSES.get(self.status, int), cause)
+        self.first, self.second = first, second
+
+    def __reduce__(self) -> Tuple[Any, ...]:
+        # copied and sent between processes by its numbers, which are what it is made of
+        return type(self), (self.status, self.cause, self.first, self.second), self.__dict__
+
+
+def refusal(fault: records.Fault) -> Optional[Refused]:
+    """The refusal that a fault says, where it says one."""
+    return Refused(fault.status, fault.cause, fault.first, fault.second) if fault.status else None
+
+
+def test(fault: records.Fault) -> None:
+    """Raises the refusal of a call, where there is one."""
+    found = refusal(fault)
+    if found:
+        raise found
