@@ -2,6 +2,7 @@
 import functools
 import os
 import sys
+import unittest
 
 from tests import images, programs
 from tests.programs import BY_NAME, CALLERS, CC, FLAGS, IMAGES, OBJECTS, SAMPLES, TERSE, Case, library, milliseconds, need, run, succeed, with_memory
@@ -24,6 +25,13 @@ def built(name, *flags):
     return made
 
 
+def need_flags(*flags):
+    """Skips the test where the compiler does not build programs by these flags."""
+    status, _, _ = run([CC, *flags, "-x", "c", "-o", programs.folder() / "flags", "-"], b"int main(void) { return 0; }\n")
+    if status:
+        raise unittest.SkipTest(f"{CC} lacks one of {flags}")
+
+
 class Programs(Case):
     def test_the_samples_are_listed(self):
         self.assert_lists([built("list")])
@@ -38,6 +46,7 @@ class Programs(Case):
         succeed([built("threads", "-std=c11", "-pthread"), "16", "1", BY_NAME])
 
     def test_threads_under_the_sanitizer_of_races(self):
+        need_flags("-fsanitize=thread")
         succeed([built("threads", "-std=c11", "-pthread", "-fsanitize=thread"), "256", "1", BY_NAME])
 
     def test_each_growth_is_refused(self):
@@ -180,6 +189,7 @@ class Reuse(Case):
 
     def test_with_sanitizers(self):
         """Of the examples; the library itself is built without them."""
+        need_flags(*SANITIZED)
         succeed([built("reuse", *SANITIZED), *self.files])
         succeed([built("calls", *SANITIZED), *self.kinds])
         succeed([built("list", *SANITIZED), "--symbols", OBJECTS[0]])

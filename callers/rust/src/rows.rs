@@ -37,8 +37,9 @@ pub struct Header<'a> {
 }
 
 impl Header<'_> {
-    /// Writes the header from the front of the file on, up to the section table, and returns how many
-    /// bytes that are. Where strict mode read it, these are the bytes of the file.
+    /// Writes the header from the front of the file on, and returns how many bytes it has: all sixteen
+    /// data directories are written, zeros for those that are not there. Where strict mode read it, these
+    /// are the bytes of the file up to the last directory that the file has.
     ///
     /// # Errors
     /// Too little room, or a field that does not fit the width of the optional header; nothing is
