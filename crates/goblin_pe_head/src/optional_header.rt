@@ -136,6 +136,7 @@ fn fields_64(bytes: &[u8]) -> Result<FixedFields>
 }
 
 // The fields that the magic asks for.
+#[inline(always)]
 #[tactic(auto, unfolding(crate::specs::HeaderReadings::fixed_fields))]
 pub(crate) fn fixed_fields(magic: u16, bytes: &[u8]) -> Result<FixedFields>
     ensures value { Reads (λ f. f) result (reading.fixed_fields magic) bytes.now }
@@ -166,6 +167,7 @@ impl TryFromCtx<'_> for OptionalHeader {
     /// [`Error::Read`] if a part runs past the end; [`Error::BadMagic`] of a magic other than
     /// [`MAGIC_32`] and [`MAGIC_64`]; [`Error::Malformed`] with `DirectoryCount` of more than
     /// sixteen directories.
+    #[inline(always)]
     #[tactic(auto, unfolding(crate::specs::HeaderReadings::optional_header))]
     fn try_from_ctx(bytes: &[u8], _endian: Endian) -> Result<(OptionalHeader, usize)> {
         let magic = pread_u16(bytes, 0, Endian::Little)?;

@@ -249,6 +249,7 @@ impl DataDirectories {
     /// # Errors
     /// [`Error::Malformed`] with [`Cause::DirectoryCount`] if there are more than sixteen;
     /// [`Error::Read`] if they run past the end. `offset` is then unchanged.
+    #[inline(always)]
     #[tactic(auto, using(crate::proofs::DirectoryReadings::many_none, crate::proofs::DirectoryReadings::many_cause))]
     pub fn parse(bytes: &[u8], count: usize, offset: &mut usize) -> Result<DataDirectories>
         ensures value { Reads (λ d. d.data_directories) result

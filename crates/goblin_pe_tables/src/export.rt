@@ -45,6 +45,7 @@ fn text_at(bytes: &[u8], offset: Option<usize>) -> Option<&str>
 }
 
 // The forwarder at an offset, where there are both.
+#[inline(never)]
 fn forwarder_at(bytes: &[u8], offset: Option<usize>) -> Option<Reexport<'_>>
     ensures { option_map forwarder_value result
         ≡ option_and_then (λ p. (forwarder_at p).value bytes.now) offset }
@@ -278,6 +279,7 @@ fn add_row<'a>(rows: &mut Vec<Export<'a>>, export: Export<'a>, expected: usize) 
 
 impl<'a> Export<'a> {
     // The export of a name pointer and an address, where the text of a forwarder is there.
+    #[inline(always)]
     #[tactic(auto, unfolding(crate::specs::ExportReadings::row_of, goblin_pe_sect::specs::AddressReadings::name_at))]
     fn of_address(
         bytes: &'a [u8],
@@ -302,6 +304,7 @@ impl<'a> Export<'a> {
 
     // The export of the name pointer at an index, with its entry of the ordinal table, where its
     // ordinal, its address and, of a forwarder, the text are there.
+    #[inline(always)]
     #[tactic(auto, unfolding(crate::specs::ExportReadings::export_row))]
     fn of_pointer<T: Entries>(
         bytes: &'a [u8],

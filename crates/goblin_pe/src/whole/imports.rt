@@ -54,7 +54,7 @@ impl<'a, 'm, 'e> Iterator for FileImports<'a, 'm, 'e> {
 
     ghost remaining = { λ it. at_most (file_imports_bound it) };
 
-    #[inline]
+    #[inline(always)]
     fn next(&mut self) -> Option<ResultOf<'e, WalkedImport<'a>>> {
         match self {
             FileImports::Narrow(imports) => imports.next(),

@@ -51,6 +51,7 @@ fn after_optional_header(pe_pointer: u32, size_of_optional_header: u16) -> usize
 }
 
 // The sections of a file with this header, whose records follow the optional header.
+#[inline(always)]
 #[tactic(auto, unfolding(crate::specs::Whole::sections_after), using(crate::proofs::SectionRoom::sections_answer_takes))]
 pub(super) fn sections_of(
     alloc: Global,
@@ -81,6 +82,7 @@ impl<'a, 'h> Layout<'a, 'h> {
     /// # Errors
     /// As [`CoffHeader::sections_with_opts`](goblin_pe_head::CoffHeader::sections_with_opts); no
     /// memory is asked for where there are no sections.
+    #[inline(always)]
     #[tactic(auto, using(crate::proofs::SectionRoom::sections_counted, crate::proofs::SectionRoom::sections_fit))]
     pub fn of(
         alloc: Global,
@@ -149,6 +151,7 @@ impl<'a, 'h> Layout<'a, 'h> {
     ///
     /// # Errors
     /// In strict mode as [`Imports::of`](crate::import::Imports::of).
+    #[inline(always)]
     pub fn imports<'m, 'e>(&'m self) -> ResultOf<'e, Part<FileImports<'a, 'm, 'e>>>
         ensures walks { let m = layout_map self.now in
             PartWalks file_imports_left IsFileImportsCause (λ xs. xs) result
@@ -183,6 +186,7 @@ impl<'a, 'h> Layout<'a, 'h> {
     ///
     /// # Errors
     /// In strict mode as [`Exports::of`](crate::export::Exports::of).
+    #[inline(always)]
     pub fn exports<'m>(&'m self) -> Result<Part<Exports<'a, 'm>>>
         ensures value { let m = layout_map self.now in
             Reads (part_map walked_exports) result

@@ -84,6 +84,7 @@ impl Places {
     }
 
     // The imports of a directory, as a walk.
+    #[inline(always)]
     #[tactic(auto, unfolding(crate::specs::Whole::entry_format))]
     fn imports_at<'a, 'm, 'e>(
         &self,
@@ -113,6 +114,7 @@ impl Places {
     }
 
     // The imports as a walk, if they were asked for.
+    #[inline(always)]
     #[tactic(auto, unfolding(crate::specs::LayoutPositions::import_start), using(crate::proofs::ImportParts::are_listed))]
     pub(super) fn import_walk<'a, 'm, 'e>(
         &self,
@@ -211,6 +213,7 @@ impl Places {
     }
 
     // The exports as a walk.
+    #[inline(always)]
     #[tactic(auto, unfolding(crate::specs::Whole::export_part, crate::specs::Whole::part_map))]
     pub(super) fn export_walk<'a, 'm>(
         &self,

@@ -69,6 +69,7 @@ impl Default for Header<'_> {
 }
 
 // The stub before the PE signature; where there is none, permissive mode takes the default one.
+#[inline(always)]
 #[tactic(auto, unfolding(crate::specs::HeaderReadings::stub_in))]
 fn stub_in<'a>(bytes: &'a [u8], pe_pointer: u32, opts: &ParseOptions) -> Result<DosStub<'a>>
     ensures { Reads stub_bytes result (reading.stub_in (is_strict opts.now.parse_mode) pe_pointer)
@@ -79,6 +80,7 @@ fn stub_in<'a>(bytes: &'a [u8], pe_pointer: u32, opts: &ParseOptions) -> Result<
 }
 
 // The optional header at an offset, which is there if its size is not 0.
+#[inline(always)]
 #[tactic(auto, unfolding(crate::specs::HeaderReadings::optional_at))]
 fn optional_at(bytes: &[u8], offset: usize, size: u16) -> Result<Option<OptionalHeader>>
     requires { offset ≤ length bytes.now }
@@ -112,6 +114,7 @@ impl<'a> Header<'a> {
     /// As [`DosHeader::parse`]; in strict mode as [`DosStub::parse`]; as [`RichHeader::parse`];
     /// [`Error::Read`] if the COFF header runs past the end of the file; as the reader of
     /// [`OptionalHeader`].
+    #[inline(always)]
     #[tactic(auto, unfolding(crate::specs::HeaderReadings::pe_header, crate::specs::HeaderReadings::header_at, crate::specs::HeaderReadings::rich_header))]
     pub fn parse_with_opts(bytes: &'a [u8], opts: &ParseOptions) -> Result<Self>
         ensures value { Reads header_value result
@@ -142,6 +145,7 @@ impl<'a> Header<'a> {
     }
 
     // Reads the parts from the signature at `offset` on.
+    #[inline(always)]
     #[tactic(auto, unfolding(crate::specs::HeaderReadings::header_at, crate::specs::HeaderReadings::parts_at))]
     fn parse_at(
         bytes: &'a [u8],

@@ -108,6 +108,7 @@ impl<'a> RichHeader<'a> {
     }
 
     // Finds the Rich header before a PE signature.
+    #[inline(always)]
     #[tactic(auto, unfolding(crate::specs::RichReadings::rich_at))]
     pub(super) fn parse_at(bytes: &'a [u8], pe_pointer: u32) -> Result<Option<Self>>
         requires { pe_pointer ≤ length bytes.now }
@@ -276,6 +277,7 @@ impl Iterator for RichMetadataIterator<'_> {
 impl FusedIterator for RichMetadataIterator<'_> {}
 
 // The Rich header in the bytes between the DOS header and the PE signature.
+#[inline(always)]
 #[tactic(auto, unfolding(crate::specs::RichReadings::rich_in))]
 fn rich_in<'a>(stretch: &'a [u8]) -> Result<Option<RichHeader<'a>>>
     requires { length stretch.now + 64 < 2 ^ 32 }

@@ -79,6 +79,7 @@ pub(crate) struct TablesInFile<'a> {
 
 impl<'a> TablesInFile<'a> {
     // The tables that a record leads to.
+    #[inline(always)]
     #[tactic(auto, unfolding(crate::specs::ExportReadings::export_tables, goblin_pe_sect::specs::AddressReadings::name_at), using(crate::proofs::WholeEntries::counted_is, crate::proofs::WholeEntries::entry_count))]
     fn of_record(
         bytes: &'a [u8],
@@ -111,6 +112,7 @@ impl<'a> TablesInFile<'a> {
     }
 
     // The tables that the record at a directory's address leads to, if its counts fit the file.
+    #[inline(always)]
     #[tactic(auto, unfolding(crate::specs::ExportReadings::export_data, crate::specs::ExportReadings::tables_if, crate::specs::ExportReadings::fitting))]
     pub(crate) fn find(
         bytes: &'a [u8],

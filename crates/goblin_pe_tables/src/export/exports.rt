@@ -52,6 +52,7 @@ impl<'a, 'm> Exports<'a, 'm> {
     /// # Errors
     /// As [`ExportData::parse_by`](crate::export::ExportData::parse_by), but never
     /// [`Error::Memory`](goblin_base::Error::Memory).
+    #[inline(always)]
     #[tactic(auto, unfolding(crate::specs::ExportReadings::export_read), using(crate::proofs::ExportWalk::read_walked))]
     pub fn of(
         bytes: &'a [u8],
@@ -127,6 +128,7 @@ impl<'a, 'm> Exports<'a, 'm> {
     }
 
     // The export of the name pointer at an index, where that has one.
+    #[inline(always)]
     #[tactic(auto, unfolding(crate::specs::ExportWalks::numbered_export))]
     fn export_at(&self, index: usize) -> Option<WalkedExport<'a>>
         ensures { let m = map_of self.now.address_map.now in
@@ -155,7 +157,7 @@ impl<'a, 'm> Iterator for Exports<'a, 'm> {
 
     ghost remaining = { λ walk. at_most (exports_bound walk) };
 
-    #[inline]
+    #[inline(always)]
     fn next(&mut self) -> Option<WalkedExport<'a>>
         ensures steps { YieldsFirstBy walked_export exports_left self.old result self.new }
         ensures goes { MakesProgress (λ _. ⊤) (λ walk. at_most (exports_bound walk))

@@ -132,7 +132,7 @@ fn begin_at(slot: Option<usize>, table: Option<usize>) -> Option<usize>
 
 // The import of an entry of the library `dll`, whose lookup table is at the offset `offset` and whose
 // address table is at the address `rva`.
-#[inline]
+#[inline(always)]
 fn import_of<'a, T: Bitfield<'a>>(
     kept: KeptEntry<'a>,
     dll: &'a str,
@@ -284,6 +284,7 @@ impl<'a, 'm> Walk<'a, 'm> {
     }
 
     // The walk from the next library on, once the entries of this one have come.
+    #[inline(never)]
     fn next_library<'e, T: Bitfield<'a>>(&self) -> Option<ResultOf<'e, Walk<'a, 'm>>>
         ensures gives { let m = map_of self.now.address_map.now in
             GivesLibrary (walk_left T.format) (IsWalkCause T.format)
@@ -349,6 +350,7 @@ impl<'a, 'm> Walk<'a, 'm> {
     }
 
     // The next import.
+    #[inline(always)]
     fn next_import<'e, T: Bitfield<'a>>(&mut self) -> Option<ResultOf<'e, WalkedImport<'a>>>
         ensures steps { GivesNext walked_value (walk_left T.format) (IsWalkCause T.format)
             self.old result self.new }
@@ -404,6 +406,7 @@ impl<'a, 'm, 'e, T: Bitfield<'a>> Imports<'a, 'm, 'e, T> {
     /// # Errors
     /// In strict mode [`Error::Malformed`] with [`Cause::Unmapped`] if the directory's address has
     /// no file offset.
+    #[inline(always)]
     pub fn of(
         bytes: &'a [u8],
         directory: DataDirectory,
@@ -500,7 +503,7 @@ impl<'a, 'm, 'e, T: Bitfield<'a>> Iterator for Imports<'a, 'm, 'e, T> {
 
     ghost remaining = { λ it. at_most (imports_bound it) };
 
-    #[inline]
+    #[inline(always)]
     fn next(&mut self) -> Option<ResultOf<'e, WalkedImport<'a>>> {
         self.walk.next_import::<T>()
     }

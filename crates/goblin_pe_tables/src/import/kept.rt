@@ -25,7 +25,7 @@ pub(super) struct KeptEntry<'a> {
 
 // The next entry that a lookup table at `offset` keeps, of the slots from the one at `place` on; the
 // error if one before it is refused, and `None` at the end or without a place.
-#[inline]
+#[inline(always)]
 pub(super) fn next_kept<'a, 'e, T: Bitfield<'a>>(
     bytes: &'a [u8],
     offset: usize,

@@ -98,6 +98,7 @@ pub enum SyntheticImportLookupTableEntry<'a> {
 
 impl<'a> SyntheticImportLookupTableEntry<'a> {
     // What a table keeps of an entry: `None` if it leads nowhere, or in permissive mode to no hint.
+    #[inline(always)]
     #[tactic(auto, unfolding(crate::specs::LookupReadings::kept_entry, crate::specs::LookupReadings::kept_name))]
     pub(super) fn kept<'e, T: Bitfield<'a>>(
         entry: &T,
