@@ -374,6 +374,11 @@ const CUTS: &[(usize, &[Span])] = &[
     (0x247, &[(0x000, 0x160), (0x200, 0x228), (0x240, 0x244)]),
 ];
 
+/// The first bytes of a file, so many.
+fn cut(file: &[u8], len: usize) -> &[u8] {
+    file.get(..len).unwrap_or(file)
+}
+
 /// Of a file whose bytes from 0x292 on are the letter A, 0x400 in all.
 const OF_LETTERS: &[Span] = &[
     (0x000, 0x160),
@@ -425,7 +430,7 @@ fn a_lookup_table_in_the_import_directory_is_reached(rt: HostRuntime) -> Result<
 fn a_file_that_ends_in_a_lookup_table_is_reached(rt: HostRuntime) -> Result<(), Fail> {
     let file = sample(rt.alloc())?;
     for (len, want) in CUTS {
-        assert!(rt; is_reached(rt.alloc(), &file[..*len], want), "{len:#x}");
+        assert!(rt; is_reached(rt.alloc(), cut(&file, *len), want), "{len:#x}");
     }
     Ok(())
 }
@@ -434,7 +439,7 @@ fn a_file_that_ends_in_a_lookup_table_is_reached(rt: HostRuntime) -> Result<(), 
 fn with_letters(alloc: Global) -> Result<Vec<u8>, AllocError> {
     let file = sample(alloc)?;
     let mut letters = vec![in alloc; b'A'; 0x400]?;
-    put(&mut letters, 0, &file[..0x292]);
+    put(&mut letters, 0, cut(&file, 0x292));
     Ok(letters)
 }
 
