@@ -460,6 +460,20 @@ fn objects_and_terse_executables() {
     );
 }
 
+// A walk reads some hundreds of records at once.
+#[test]
+fn more_symbols_than_are_read_at_once() {
+    for count in [0, 255, 256, 257, 600] {
+        let mut bytes = vec![0; 20 + 18 * count];
+        bytes[8] = 20;
+        bytes[12..16].copy_from_slice(&(count as u32).to_le_bytes());
+        bytes.extend([4, 0, 0, 0]);
+        let object = Object::read(&bytes, &Options::default()).unwrap();
+        let indexes = object.symbols().unwrap().map(|s| s.index);
+        assert!(indexes.eq(0..count), "{count}");
+    }
+}
+
 #[test]
 fn refusals() {
     let error = Pe::read(b"", &Options::default()).err().unwrap();
