@@ -1,5 +1,5 @@
 -- Refusals as numbers.
-use Rattle.std.specs.Prelude.{◌≡◌, ◌⊎◌, ℕ, ◌-◌, ◌%◌, ◌^◌, ◌==◌, nat_lt, List, [], ◌∷◌, codes}
+use Rattle.std.specs.Prelude.{◌≡◌, ◌⊎◌, ℕ, ◌-◌, ◌%◌, ◌^◌, ◌==◌, nat_lt, List, [], ◌∷◌, codes, drop, length}
 use Rattle.std.specs.Prelude.{if◌then◌else◌, Option, Some, None, Result, Ok, Err, slice_get}
 use Rattle.std.specs.Prelude.{option_map, ⊤}
 use Rattle.std.specs.Str.{bytes_eq}
@@ -193,6 +193,11 @@ IsNumbered (Malformed (Message text)) = ⊥
 IsNumbered (BufferTooShort count what) = word_of (word_number what.now) ≡ Some what.now
 IsNumbered e = ⊤
 
--- the text of the refusal with these numbers, or no text
+-- the whole text, or one that was cut and ends in three dots; no text where there is none
+abbrev pub IsKept : Option (List ℕ) → List ℕ → Type 0
+IsKept None text = text ≡ []
+IsKept (Some whole) text = (text ≡ whole) ⊎ (drop (length text - 3) text ≡ codes "...")
+
+-- the text of the refusal with these numbers, no text where they are of no refusal
 abbrev pub IsTextOf : PeFault → List ℕ → Type 0
-IsTextOf fault text = (refusal_text fault ≡ Some text) ⊎ (text ≡ [])
+IsTextOf fault text = IsKept (refusal_text fault) text

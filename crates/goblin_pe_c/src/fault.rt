@@ -12,7 +12,7 @@ ghost use Rattle.goblin_pe_c.specs.Filled.{Filled};
 
 use goblin_pe::{Cause, Error, ReadFault};
 use std::alloc::AllocError;
-use std::fmt::{InlineText, Write};
+use std::fmt::InlineText;
 
 // The number of the first cause that numbers say in full.
 const FIRST_CAUSE: u32 = 2;
@@ -20,7 +20,7 @@ const FIRST_CAUSE: u32 = 2;
 // How many causes there are from it on.
 const CAUSES: usize = 33;
 
-// No text of a refusal that numbers say is longer.
+// There is room for so many bytes of a text; of a longer one the last three are dots.
 const TEXT_ROOM: usize = 160;
 
 const _: () = prove!(TEXT_ROOM == 160);
@@ -274,14 +274,14 @@ fn error_of(fault: &PeFault) -> Option<Error>
     })
 }
 
-// The text of the refusal with these numbers, or none.
+// The text of the refusal with these numbers, cut where it has no room; none where they are of no
+// refusal.
 fn text_of(fault: &PeFault) -> InlineText<TEXT_ROOM>
     ensures { IsTextOf fault.now (inline_text result) }
 {
-    let mut text = InlineText::new();
     match error_of(fault) {
-        Some(error) if write!(text, "{error}").is_ok() => text,
-        _ => InlineText::new(),
+        Some(error) => InlineText::of(error),
+        None => InlineText::new(),
     }
 }
 
@@ -296,7 +296,8 @@ fn put_text(text: &mut [u8], whole: &[u8]) -> usize
 }
 
 /// Writes the text of the refusal with these numbers, as far as there is room, and answers how long
-/// the whole text is; 0 where the numbers are of no refusal. It takes no memory.
+/// the whole text is; 0 where the numbers are of no refusal. A text that is too long for a line or
+/// two is cut first, and then ends in three dots. It takes no memory.
 #[unsafe(no_mangle)]
 pub extern "C" fn goblin_pe_raw_fault_text(fault: &PeFault, text: &mut [u8]) -> usize
     ensures { (whole : List ℕ) × IsTextOf fault.now whole × (result ≡ length whole)
