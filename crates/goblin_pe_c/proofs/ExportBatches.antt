@@ -13,7 +13,7 @@ use Rattle.goblin_pe.specs.declared.whole.Part.{Part}
 use Rattle.goblin_pe.specs.declared.whole.Part.TheVariants.{Absent, Refused}
 use Rattle.goblin_pe.specs.declared.whole.Part.TheVariants as part
 use Rattle.goblin_pe_c.specs.declared.export.PeExport.{PeExport}
-use Rattle.goblin_pe_c.specs.Batches.{GivesExports, IsBatch, exports_in}
+use Rattle.goblin_pe_c.specs.Batches.{GivesExports, IsBatch, IsUnread, exports_in}
 use Rattle.goblin_pe_c.specs.Exports.{export_said, export_view}
 use Rattle.goblin_pe_c.proofs.Batches.{AtBatch, batch-end, batch-more, batch-start, left-after, one-after}
 
@@ -107,8 +107,9 @@ module _ (m : MapOfAddresses) (places : TablePlaces) (bytes : List ℕ) (found :
         read ∙ ap (λ (p : Part Exports). Some (part_map walked_exports p)) is in
         subst (λ (v : Option (Part (ExportTables × List ExportRow))). IsSomeAnd v (λ p.
         IsBatch export_view export_said (exports_in m bytes x p) old new count
-        × (exports_in m bytes y p ≡ drop count (exports_in m bytes x p)))) (sym value)
-        (subst (λ (items : List NumberedExport). IsBatch export_view export_said items old new count) left batch, rest ∙ later ∙ ap (λ (items : List NumberedExport). drop count items) left)
+        × (exports_in m bytes y p ≡ drop count (exports_in m bytes x p))
+        × (IsUnread p → y ≡ x))) (sym value)
+        (subst (λ (items : List NumberedExport). IsBatch export_view export_said items old new count) left batch, rest ∙ later ∙ ap (λ (items : List NumberedExport). drop count items) left, λ unread. absurd unread)
 
   nothing : (p : Part (ExportTables × List ExportRow)) → exports_in m bytes x p ≡ []
       → (export_part m.opts (offset_of m) places).value bytes ≡ Some p
@@ -117,8 +118,9 @@ module _ (m : MapOfAddresses) (places : TablePlaces) (bytes : List ℕ) (found :
       let batch = batch-end export_view export_said old [] [] [] old 0 (batch-start export_view export_said old) refl (inr refl) in
       subst (λ (v : Option (Part (ExportTables × List ExportRow))). IsSomeAnd v (λ p.
       IsBatch export_view export_said (exports_in m bytes x p) old old 0
-      × (exports_in m bytes x p ≡ drop 0 (exports_in m bytes x p)))) (sym is)
-      (subst (λ (items : List NumberedExport). IsBatch export_view export_said items old old 0) (sym none) batch, refl)
+      × (exports_in m bytes x p ≡ drop 0 (exports_in m bytes x p))
+      × (IsUnread p → x ≡ x))) (sym is)
+      (subst (λ (items : List NumberedExport). IsBatch export_view export_said items old old 0) (sym none) batch, refl, λ unread. refl)
 
   pub exports-none : (found ≡ Absent) ⊎ (found ≡ Refused)
       → GivesExports m places bytes (record { position = x; records = old }) (record { position = x; records = old }) 0

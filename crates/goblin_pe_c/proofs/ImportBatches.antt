@@ -4,7 +4,9 @@ use Rattle.std.specs.Prelude.{◌==◌, ◌&&◌, if◌then◌else◌, IsSome, I
 use Rattle.std.proofs.lemmas.Bool.{ne_eqb}
 use Rattle.std.proofs.lemmas.List.{length-map}
 use Rattle.goblin_base.specs.declared.error.ErrorOf.{ErrorOf}
+use Rattle.readings.specs.Reads.{given, pick}
 use Rattle.readings.proofs.Walked.{AtWalk, walk-more, walk-start}
+use Rattle.goblin_pe_sect.specs.Options.{is_strict}
 use Rattle.goblin_pe_sect.specs.declared.data_directories.DataDirectory.{DataDirectory}
 use Rattle.goblin_pe_tables.specs.declared.import.imports.ImportPosition.{ImportPosition}
 use Rattle.goblin_pe_tables.specs.declared.import.imports.WalkedImport.{WalkedImport}
@@ -12,7 +14,7 @@ use Rattle.goblin_pe.specs.Addresses.{MapOfAddresses, offset_of}
 use Rattle.goblin_pe.specs.Imports.{ImportValue}
 use Rattle.goblin_pe.specs.ImportWalks.{IsInTable, imports_at, walked_value}
 use Rattle.goblin_pe.specs.LayoutPositions.{IsImportWalk, PartGives, StartsAt}
-use Rattle.goblin_pe.specs.LayoutPositions.{file_imports_at, file_position, import_start}
+use Rattle.goblin_pe.specs.LayoutPositions.{file_imports_at, file_position, import_start, start_by}
 use Rattle.goblin_pe.specs.Layouts.{GivesFileImport, IsFileImportsCause, file_imports_left}
 use Rattle.goblin_pe.specs.Whole.{TablePlaces}
 use Rattle.goblin_pe.specs.declared.whole.Part.{Part}
@@ -22,7 +24,7 @@ use Rattle.goblin_pe.specs.declared.whole.imports.FileImports.{FileImports}
 use Rattle.goblin_pe.proofs.ImportStarts.{file-given, start-there, start-value}
 use Rattle.goblin_pe_c.specs.declared.import.PeImport.{PeImport}
 use Rattle.goblin_pe_c.specs.declared.next.PeImportPosition.{PeImportPosition}
-use Rattle.goblin_pe_c.specs.Batches.{GivesImports, GoesOn, HasImports, IsBatch, IsRefusedNext, imports_from, imports_in}
+use Rattle.goblin_pe_c.specs.Batches.{GivesImports, GoesOn, HasImports, IsBatch, IsEnd, IsRefusedNext, imports_from, imports_in}
 use Rattle.goblin_pe_c.specs.Batches.{position_numbers, position_said, start_value, values_before}
 use Rattle.goblin_pe_c.specs.Imports.{import_said, import_view}
 use Rattle.goblin_pe_c.proofs.Batches.{AtBatch, batch-end, batch-more, batch-none, batch-start, before-all, before-end}
@@ -105,22 +107,44 @@ module _ (m : MapOfAddresses) (places : TablePlaces) (bytes : List ℕ) where
 
 -- ---- where there are none
 
-module _ (m : MapOfAddresses) (places : TablePlaces) (bytes : List ℕ) (p : PeImportPosition) (records : List PeImport) where
+module _ (m : MapOfAddresses) (places : TablePlaces) (bytes : List ℕ) where
+  end-by : (asked : Bool) (directory : Option DataDirectory)
+      → option_map (imports_in m places.magic bytes) ((pick asked (start_by (is_strict m.opts.parse_mode) (offset_of m) (Some None) directory) (given Absent)).value bytes) ≡ Some []
+  unfolding imports_at
+  end-by true (Some d) = refl
+  end-by true None = refl
+  end-by false directory = refl
+
+  -- from the end on nothing comes
+  from-end : imports_from m places bytes (position_numbers None) ≡ Some []
+  unfolding import_start
+  from-end = end-by m.opts.parse_imports places.imports
+
+module _ (m : MapOfAddresses) (places : TablePlaces) (bytes : List ℕ) (p q : PeImportPosition) (records : List PeImport)
+    (asked : 0 < length records → q ≡ position_numbers None) (unasked : length records ≡ 0 → q ≡ p) where
+  none-after : (room : List PeImport) → records ≡ room → imports_from m places bytes p ≡ Some [] → imports_from m places bytes q ≡ Some []
+  none-after [] is here =
+      ap (λ (at : PeImportPosition). imports_from m places bytes at) (unasked (ap (λ (xs : List PeImport). length xs) is)) ∙ here
+  none-after (x ∷ xs) is here =
+      let counted = ap (λ (xs : List PeImport). length xs) is in
+      ap (λ (at : PeImportPosition). imports_from m places bytes at) (asked (omega (arith, counted))) ∙ from-end m places bytes
+
   nothing : (start : Option (Part (Option ImportPosition))) → start_value m places bytes p ≡ start
       → option_map (imports_in m places.magic bytes) start ≡ Some []
-      → GivesImports m places bytes (record { position = p; records = records }) (record { position = p; records = records }) 0
+      → GivesImports m places bytes (record { position = p; records = records }) (record { position = q; records = records }) 0
   nothing start is none =
       let here : imports_from m places bytes p ≡ Some [] = ap (option_map (imports_in m places.magic bytes)) is ∙ none in
       let batch = batch-end import_view import_said records [] [] [] records 0 (batch-start import_view import_said records) refl (inr refl) in
       subst (λ (left : Option (List (Option ImportValue))). IsSomeAnd left (λ left.
       IsBatch import_view import_said (values_before left) records records 0
-      × (imports_from m places bytes p ≡ Some (drop 0 left))
-      × (IsRefusedNext left → length records ≡ 0))) (sym here)
-      (subst (λ (values : List ImportValue). IsBatch import_view import_said values records records 0) (sym (before-end [] refl)) batch, here, λ refused. absurd refused)
+      × (imports_from m places bytes q ≡ Some (drop 0 left))
+      × (IsRefusedNext left → length records ≡ 0)
+      × (IsEnd left records 0 → q ≡ position_numbers None))) (sym here)
+      (subst (λ (values : List ImportValue). IsBatch import_view import_said values records records 0) (sym (before-end [] refl)) batch, none-after records refl here, λ refused. absurd refused, λ end. asked end.1)
 
   none-by : (start : Option (Part (Option ImportPosition))) → start_value m places bytes p ≡ start → (found : Part FileImports)
       → IsSomeAnd start (λ s. PartGives m places.magic bytes s found) → (found ≡ Absent) ⊎ (found ≡ Refused)
-      → GivesImports m places bytes (record { position = p; records = records }) (record { position = p; records = records }) 0
+      → GivesImports m places bytes (record { position = p; records = records }) (record { position = q; records = records }) 0
   none-by None is found gives none = absurd gives
   none-by (Some Absent) is found gives none = nothing (Some Absent) is refl
   none-by (Some Refused) is found gives none = nothing (Some Refused) is refl
@@ -131,7 +155,7 @@ module _ (m : MapOfAddresses) (places : TablePlaces) (bytes : List ℕ) (p : PeI
 
   pub imports-none : (found : Part FileImports)
       → StartsAt m places.magic bytes (import_start m.opts (offset_of m) places (position_said p)) (Ok found) → (found ≡ Absent) ⊎ (found ≡ Refused)
-      → GivesImports m places bytes (record { position = p; records = records }) (record { position = p; records = records }) 0
+      → GivesImports m places bytes (record { position = p; records = records }) (record { position = q; records = records }) 0
   imports-none found starts none = none-by (start_value m places bytes p) refl found starts none
 
 -- ---- the loop
@@ -159,6 +183,7 @@ module _ (m : MapOfAddresses) (places : TablePlaces) (bytes : List ℕ) (start :
     pub batch : IsBatch import_view import_said (values_before (file_imports_left start)) old records count
     pub later : imports_from m places bytes p ≡ Some (drop count (file_imports_left start))
     pub next : IsRefusedNext (file_imports_left start) → length old ≡ 0
+    pub ended : IsEnd (file_imports_left start) old count → p ≡ position_numbers None
 
   module _ (now : FileImports) (p : PeImportPosition) (records : List PeImport) (count : ℕ) (h : AtImports now p records count) where
     pub imports-more : (x : WalkedImport) (next : FileImports) (q : PeImportPosition) (r : PeImport) → GivesFileImport now (Some (Ok x)) next
@@ -177,8 +202,9 @@ module _ (m : MapOfAddresses) (places : TablePlaces) (bytes : List ℕ) (start :
     -- this is left, and is all that comes from the new numbers on
     all-given : (q : PeImportPosition) (rest : List (Option ImportValue)) → file_imports_left now ≡ rest
         → imports_from m places bytes q ≡ Some rest → (length old ≤ count) ⊎ (values_before rest ≡ [])
-        → (count ≡ 0 → IsRefusedNext rest → length old ≡ 0) → AreGiven q records count
-    all-given q rest is comes why begun =
+        → (count ≡ 0 → IsRefusedNext rest → length old ≡ 0) → (rest ≡ [] → count < length old → q ≡ position_numbers None)
+        → AreGiven q records count
+    all-given q rest is comes why begun ends =
         let left : file_imports_left start ≡ map (λ x. Some x) h.values ++ rest =
         h.walk.yielded ∙ ap (λ (items : List (Option ImportValue)). map (λ x. Some x) h.values ++ items) is in
         let some : ImportValue → Option ImportValue = λ x. Some x in
@@ -189,6 +215,7 @@ module _ (m : MapOfAddresses) (places : TablePlaces) (bytes : List ℕ) (start :
           later = comes ∙ ap (λ (items : List (Option ImportValue)). Some items)
               (left-after (map some h.values) rest (file_imports_left start) count counted left);
           next = refused h.values refl left;
+          ended = λ end. ends (left-after (map some h.values) rest (file_imports_left start) count counted left ∙ end.0) end.1;
         }
       where
         refused : (values : List ImportValue) → h.values ≡ values → file_imports_left start ≡ map (λ x. Some x) h.values ++ rest
@@ -206,15 +233,15 @@ module _ (m : MapOfAddresses) (places : TablePlaces) (bytes : List ℕ) (start :
     imports-full full =
         let same = h.at.same in
         all-given p (file_imports_left now) refl h.goes.left (inl (omega (arith, full, same)))
-        (λ none refused. omega (arith, full, same, none))
+        (λ none refused. omega (arith, full, same, none)) (λ none within. absurd (omega (arith, full, same, within)))
 
     -- nothing more comes
     pub imports-end : (next : FileImports) (q : PeImportPosition) → GivesFileImport now None next → GoesOn m places bytes q next
-        → AreGiven q records count
-    imports-end next q given goes =
+        → q ≡ position_numbers None → AreGiven q records count
+    imports-end next q given goes numbers =
         let none = (file-given now None next given).0 in
         all-given q [] none.0 (goes.left ∙ ap (λ (items : List (Option ImportValue)). Some items) none.1) (inr (before-end [] refl))
-        (λ first refused. absurd refused)
+        (λ first refused. absurd refused) (λ none within. numbers)
 
     -- a refusal comes after something
     pub imports-refused : (e : ErrorOf) (next : FileImports) → GivesFileImport now (Some (Err e)) next → count ≢ 0
@@ -222,7 +249,7 @@ module _ (m : MapOfAddresses) (places : TablePlaces) (bytes : List ℕ) (start :
     imports-refused e next given some =
         let one = (file-given now (Some (Err e)) next given).0 in
         all-given p (None ∷ []) one.0 (h.goes.left ∙ ap (λ (items : List (Option ImportValue)). Some items) one.0)
-        (inr (before-refused (None ∷ []) refl)) (λ none refused. absurd (some none))
+        (inr (before-refused (None ∷ []) refl)) (λ none refused. absurd (some none)) (λ none within. absurd (cc none))
 
     -- a refusal comes first
     pub record IsRefused (e : ErrorOf) : Type 0 where

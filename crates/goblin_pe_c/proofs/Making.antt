@@ -1,7 +1,7 @@
 -- Loops that make records in memory of their own.
 use Rattle.std.proofs.Common.{◌≡◌, ℕ, ◌+◌, ◌<◌, ◌≤◌, arith, List, [], ◌∷◌, ◌++◌, length, map, take, ap, sym, ◌∙◌}
 use Rattle.std.specs.Prelude.{slice_index_or, Result, Ok, Err}
-use Rattle.std.proofs.lemmas.List.{append_assoc, append-nil, length-append, map-append, map_more, take_all}
+use Rattle.std.proofs.lemmas.List.{append_assoc, append-nil, length-append, length-map, map-append, map_more, take_all}
 use Rattle.goblin_base.specs.declared.error.ErrorOf.{ErrorOf}
 use Rattle.goblin_pe_c.specs.declared.fault.PeFault.{PeFault}
 use Rattle.goblin_pe_c.specs.Faults.{fault_of, no_fault}
@@ -19,6 +19,11 @@ making-next {R} {A} {B} view of from records new i a r h within is_a is_r pushed
 
 pub making-end : {R A B : Type 0} (view : R → B) (of : A → B) (from : List A) (records : List R) (i : ℕ) → map of (take i from) ≡ map view records → length from ≤ i → map of from ≡ map view records
 making-end view of from records i h end = sym (ap (map of) (take_all i from end)) ∙ h
+
+-- at the end there are as many records as values
+pub making-count : {R A B : Type 0} (view : R → B) (of : A → B) (from : List A) (records : List R) (i : ℕ) → map of (take i from) ≡ map view records → length from ≤ i → length records ≡ length from
+making-count {R} {A} {B} view of from records i h end =
+    sym (length-map records view) ∙ ap (λ (xs : List B). length xs) (sym (making-end view of from records i h end)) ∙ length-map from of
 
 -- ---- the records of items, of which the last may be a refusal
 

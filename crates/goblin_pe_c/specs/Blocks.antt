@@ -6,8 +6,10 @@ use Rattle.goblin_pe.specs.declared.whole.Part.TheVariants.{Absent, Refused}
 use Rattle.goblin_pe.specs.declared.whole.Part.TheVariants as part
 use Rattle.goblin_pe_c.specs.declared.block.PeBlock.{PeBlock}
 use Rattle.goblin_pe_c.specs.declared.block.PeBaseRelocations.{PeBaseRelocations}
+use Rattle.goblin_pe_c.specs.declared.file.State.TheVariants as state
 use Rattle.goblin_pe_c.specs.Faults.{no_fault}
 use Rattle.goblin_pe_c.specs.Items.{rest_of, values_of}
+use Rattle.goblin_pe_c.specs.States.{state_number}
 
 -- what a record holds of a block
 abbrev pub block_view : PeBlock → Block
@@ -21,10 +23,15 @@ blocks_in Refused = []
 
 -- the summary of the base relocations
 abbrev pub relocations_of : Part (List ℕ) → PeBaseRelocations
-relocations_of Absent = record { blocks = record { count = 0; state = 0 }; rest = no_fault }
+relocations_of Absent =
+    record { blocks = record { count = 0; state = state_number state.Absent }; rest = no_fault }
 relocations_of (part.Read directory) =
     record {
-      blocks = record { count = length (values_of (block_items directory 0)); state = 1 };
+      blocks = record {
+        count = length (values_of (block_items directory 0));
+        state = state_number state.Read;
+      };
       rest = rest_of (block_items directory 0);
     }
-relocations_of Refused = record { blocks = record { count = 0; state = 2 }; rest = no_fault }
+relocations_of Refused =
+    record { blocks = record { count = 0; state = state_number state.Refused }; rest = no_fault }

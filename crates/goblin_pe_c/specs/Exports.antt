@@ -12,6 +12,8 @@ use Rattle.goblin_pe.specs.declared.whole.Part.TheVariants.{Absent, Refused}
 use Rattle.goblin_pe.specs.declared.whole.Part.TheVariants as part
 use Rattle.goblin_pe.specs.Whole.{WholeFile, offset_by, part_map, places_in}
 use Rattle.goblin_pe_c.specs.declared.export.ExportRecords.{ExportRecords}
+use Rattle.goblin_pe_c.specs.declared.export.Forwards.{Forwards}
+use Rattle.goblin_pe_c.specs.declared.export.Forwards.TheVariants as forwards
 use Rattle.goblin_pe_c.specs.declared.export.PeExport.{PeExport}
 use Rattle.goblin_pe_c.specs.declared.export_directory.PeExportAddress.{PeExportAddress}
 use Rattle.goblin_pe_c.specs.ExportDirectories.{DirectorySaid, address_said, directory_said}
@@ -38,12 +40,19 @@ pub record ForwarderSaid : Type 0 where
   pub name : List ℕ
   pub ordinal : ℕ
 
+-- the number of a kind
+abbrev pub forwards_number : Forwards → ℕ
+forwards_number forwards.None = 0
+forwards_number forwards.Name = 1
+forwards_number forwards.Ordinal = 2
+
 abbrev pub forwarder_said : Option Forwarder → ForwarderSaid
-forwarder_said None = record { kind = 0; lib = []; name = []; ordinal = 0 }
+forwarder_said None =
+    record { kind = forwards_number forwards.None; lib = []; name = []; ordinal = 0 }
 forwarder_said (Some (ByName name lib)) =
-    record { kind = 1; lib = lib; name = name; ordinal = 0 }
+    record { kind = forwards_number forwards.Name; lib = lib; name = name; ordinal = 0 }
 forwarder_said (Some (ByOrdinal ordinal lib)) =
-    record { kind = 2; lib = lib; name = []; ordinal = ordinal }
+    record { kind = forwards_number forwards.Ordinal; lib = lib; name = []; ordinal = ordinal }
 
 -- the record of an export; what the export does not have is nothing, or 0
 abbrev pub export_said : NumberedExport → ExportSaid

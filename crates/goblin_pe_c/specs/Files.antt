@@ -7,24 +7,18 @@ use Rattle.goblin_pe.specs.PeHeader.{PeHeader}
 use Rattle.goblin_pe.specs.Whole.{WholeFile}
 use Rattle.goblin_pe_c.specs.declared.file.PeTable.{PeTable}
 use Rattle.goblin_pe_c.specs.declared.file.PeFile.{PeFile}
-use Rattle.goblin_pe_c.specs.declared.file.State.{State}
 use Rattle.goblin_pe_c.specs.declared.file.State.TheVariants as state
 use Rattle.goblin_pe_c.specs.Blocks.{relocations_of}
 use Rattle.goblin_pe_c.specs.Directories.{directories_of}
 use Rattle.goblin_pe_c.specs.Headers.{optional_record}
 use Rattle.goblin_pe_c.specs.RichHeaders.{rich_of}
+use Rattle.goblin_pe_c.specs.States.{state_number}
 
 -- the entries of a table, none where it was not read
 abbrev pub entries_of : {A : Type 0} → Part (List A) → List A
 entries_of Absent = []
 entries_of (part.Read entries) = entries
 entries_of Refused = []
-
--- the number of a state
-abbrev pub state_number : State → ℕ
-state_number state.Absent = 0
-state_number state.Read = 1
-state_number state.Refused = 2
 
 -- a table's entries by their number, and how it stands
 abbrev pub table_of : {A : Type 0} → Part (List A) → PeTable

@@ -24,6 +24,7 @@ pub mod Relocations
 pub mod RichHeaders
 pub mod SectionData
 pub mod Sections
+pub mod States
 pub mod Symbols
 pub mod Te
 pub mod Written

@@ -171,14 +171,18 @@ fn read_records<'a, 'm>(
 }
 
 // No records, where no exports are read.
-fn unread_records<'a>(alloc: Global, exports: Part<Vec<PeExport<'a>>>) -> ExportRecords<'a>
+fn unread_records<'a>(
+    alloc: Global,
+    bytes: &'a [u8],
+    exports: Part<Vec<PeExport<'a>>>,
+) -> ExportRecords<'a>
     ensures value { exports_view result ≡ unread_said (part_map export_views exports.entry) }
     ensures none { HasNoIdleBlockIn exports.entry → HaveNoIdleBlocks result }
 {
     ExportRecords {
         exports,
         addresses: Vec::new(alloc),
-        directory: no_directory(),
+        directory: no_directory(bytes),
     }
 }
 
@@ -197,8 +201,8 @@ pub fn export_records<'a>(alloc: Global, layout: &Layout<'a, '_>) -> Result<Expo
         OnErr result (IfSome (read.value layout.now.bytes.now) HasExports) }
 {
     match layout.exports()? {
-        Part::Absent => Ok(unread_records(alloc, Part::Absent)),
+        Part::Absent => Ok(unread_records(alloc, layout.bytes(), Part::Absent)),
         Part::Read(exports) => read_records(alloc, layout.bytes(), exports),
-        Part::Refused => Ok(unread_records(alloc, Part::Refused)),
+        Part::Refused => Ok(unread_records(alloc, layout.bytes(), Part::Refused)),
     }
 }

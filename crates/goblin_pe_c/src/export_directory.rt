@@ -85,11 +85,11 @@ pub fn directory_record<'a>(bytes: &'a [u8], exports: &Exports<'a, '_>) -> PeExp
 }
 
 /// The record where the exports are not read.
-pub fn no_directory<'a>() -> PeExportDirectory<'a>
+pub fn no_directory<'a>(bytes: &'a [u8]) -> PeExportDirectory<'a>
     ensures { directory_view result ≡ no_directory }
 {
     PeExportDirectory {
-        name: &[],
+        name: &bytes[..0],
         table: ExportDirectoryTable::default(),
         has_name: false,
     }

@@ -6,7 +6,8 @@ ghost use Rattle.goblin_pe.specs.Whole.{part_map};
 ghost use Rattle.goblin_pe_c.specs.Blocks.{relocations_of};
 ghost use Rattle.goblin_pe_c.specs.Exports.{export_views};
 ghost use Rattle.goblin_pe_c.specs.Imports.{import_views};
-ghost use Rattle.goblin_pe_c.specs.Files.{state_number, summary, table_of};
+ghost use Rattle.goblin_pe_c.specs.Files.{summary, table_of};
+ghost use Rattle.goblin_pe_c.specs.States.{state_number};
 ghost use Rattle.goblin_pe_c.specs.Opened.{records_view};
 ghost use Rattle.goblin_pe_c.specs.RichHeaders.{rich_of};
 

@@ -1,8 +1,9 @@
 //! The call that tells on which bytes of a file a read of the whole file depends.
 
-ghost use Rattle.std.specs.Prelude.{◌≡◌, ◌<◌, OnErr, length, map};
+ghost use Rattle.std.specs.Prelude.{◌≡◌, ◌<◌, IfOk, OnErr, length, map};
 ghost use Rattle.goblin_base.specs.Answers.{GivesOrMemory};
 ghost use Rattle.goblin_pe.specs.Whole.{whole_file};
+ghost use Rattle.goblin_pe_c.specs.Blocked.{HasNoIdleBlock};
 ghost use Rattle.goblin_pe_c.specs.Calls.{Reported};
 ghost use Rattle.goblin_pe_c.specs.Footprints.{Lists, range_said, range_view};
 ghost use Rattle.goblin_pe_c.specs.Options.{options_of};
@@ -45,6 +46,7 @@ fn range_record(range: &(usize, usize)) -> PeRange
 // The records of ranges, in memory of their own.
 fn range_records(alloc: Global, ranges: &[(usize, usize)]) -> Result<Vec<PeRange>>
     ensures made { GivesOrMemory (λ v. map range_view v.items) result (map range_said ranges.now) }
+    ensures none { IfOk result HasNoIdleBlock }
     ensures grown { OnErr result (0 < length ranges.now) }
 {
     let count = ranges.len();
@@ -53,6 +55,16 @@ fn range_records(alloc: Global, ranges: &[(usize, usize)]) -> Result<Vec<PeRange
         records.push(range_record(&ranges[i]))?;
     }
     Ok(records)
+}
+
+// Hands the ranges over: no ranges have no block, which nobody would free.
+fn handed_over<'a>(records: Vec<PeRange>) -> PeRanges<'a>
+    requires none { HasNoIdleBlock records }
+    ensures { result.ranges.now ≡ records.items }
+{
+    PeRanges {
+        ranges: records.leak(),
+    }
 }
 
 // Lists the ranges of a file's footprint.
@@ -66,9 +78,7 @@ fn list<'a>(
 {
     let footprint = footprint_whole(alloc, bytes, opts)?;
     let records = range_records(alloc, &footprint)?;
-    *ranges = PeRanges {
-        ranges: records.leak(),
-    };
+    *ranges = handed_over(records);
     Ok(())
 }
 

@@ -8,7 +8,7 @@ ghost use Rattle.goblin_pe.specs.Layouts.{IsFileImportsCause, file_imports_left,
 ghost use Rattle.goblin_pe.specs.Layouts.{layout_places};
 ghost use Rattle.goblin_pe.specs.LayoutPositions.{StartsAt, import_start};
 ghost use Rattle.goblin_pe_c.specs.Batches.{ExportBatch, GivesBatch, GivesExports, GivesImports};
-ghost use Rattle.goblin_pe_c.specs.Batches.{GoesOn, ImportBatch, IsBatch, IsExportsFault};
+ghost use Rattle.goblin_pe_c.specs.Batches.{GoesOn, ImportBatch, IsBatch, IsEnd, IsExportsFault};
 ghost use Rattle.goblin_pe_c.specs.Batches.{IsImportsFault, IsRefusedNext, imports_from};
 ghost use Rattle.goblin_pe_c.specs.Batches.{position_numbers, position_said, values_before};
 ghost use Rattle.goblin_pe_c.specs.Calls.{Reported};
@@ -32,7 +32,7 @@ use std::alloc::Global;
 #[derive(Copy, Clone)]
 pub struct PeImportPosition {
     /// The file offset of a library's record in the import directory; the greatest number once the
-    /// end has been reached.
+    /// end has been reached, of a file without imports, too.
     pub record: usize,
     /// The file offset of the slot in its lookup table that is read next, or 0 before the first.
     pub slot: usize,
@@ -101,7 +101,8 @@ fn fill_imports<'a, 'm, 'e>(
         MatchResult result
         (λ count. IsBatch import_view import_said (values_before left) records.old records.new count
         × (imports_from m places bytes position.new ≡ Some (drop count left))
-        × (IsRefusedNext left → length records.old ≡ 0))
+        × (IsRefusedNext left → length records.old ≡ 0)
+        × (IsEnd left records.old count → position.new ≡ position_numbers None))
         (λ e. IsRefusedNext left × IsFileImportsCause imports.entry e × (0 < length records.old)
         × (records.new ≡ records.old) × (position.new ≡ position.old)) }
     ensures refused { IfErr result (λ e. ¬ IsMemory e) }
@@ -125,6 +126,18 @@ fn fill_imports<'a, 'm, 'e>(
     Ok(count)
 }
 
+// The position where there are no imports: the end, if there is room for any.
+fn position_without(position: &PeImportPosition, room: usize) -> PeImportPosition
+    ensures asked { 0 < room → result ≡ position_numbers None }
+    ensures unasked { room ≡ 0 → result ≡ position.now }
+{
+    if room == 0 {
+        *position
+    } else {
+        position_record(None)
+    }
+}
+
 // Fills records with the imports of a file that come next, and answers how many.
 fn next_imports<'a>(
     layout: &Layout<'a, '_>,
@@ -142,7 +155,10 @@ fn next_imports<'a>(
 {
     match imports_at(layout, position)? {
         Part::Read(imports) => fill_imports(layout, imports, position, records),
-        Part::Absent | Part::Refused => Ok(0),
+        Part::Absent | Part::Refused => {
+            *position = position_without(position, records.len());
+            Ok(0)
+        }
     }
 }
 
@@ -240,7 +256,8 @@ fn give_exports<'a>(
 /// Fills `records` with the imports of a file from a position on, as many as there is room for,
 /// says in `count` how many, and leaves in `position` where the next call goes on. With room for
 /// any, a `count` of 0 is the end. Zeros are the position of the first import; a file without an
-/// import directory, or imports that are not asked for, have none.
+/// import directory, or imports that are not asked for, have none. Where nothing is left, and there
+/// is room for more, the position's `record` is then the greatest number, and its `slot` 0.
 ///
 /// Refused, with nothing changed, are a header or sections that the options refuse; in strict mode
 /// an import directory whose address has no offset, if the position is the first; and in strict
@@ -276,7 +293,8 @@ pub extern "C" fn goblin_pe_raw_next_imports<'a>(
 /// Fills `records` with the exports of a file from a position on, as many as there is room for,
 /// says in `count` how many, and leaves in `position` where the next call goes on: the index of the
 /// name pointer that is read next, at first 0. With room for any, a `count` of 0 is the end. A file
-/// without an export directory, and in permissive mode one whose directory is refused, has none.
+/// without an export directory, and in permissive mode one whose directory is refused, has none; the
+/// position then stays.
 ///
 /// Refused, with nothing changed, are a header or sections that the options refuse, and in strict
 /// mode the export directory. Memory as for

@@ -92,7 +92,7 @@ fn made_of<'a>(
     ensures blocks { let v = records_view layout.now records.now in
         IfOk result (λ m. map block_view m.blocks.items ≡ blocks_in v.relocations) }
     ensures none { IfOk result
-        (λ m. HasNoIdleBlock m.rich_entries × HasNoIdleBlock m.blocks) }
+        (λ m. HasNoIdleBlock m.rich_entries × HasNoIdleBlock m.sections × HasNoIdleBlock m.blocks) }
     ensures grown { let v = records_view layout.now records.now in
         OnErr result (0 < length v.sections + length (entries_in v.header.rich_header)
         + length (blocks_in v.relocations)) }
@@ -142,7 +142,8 @@ fn handed_over<'a>(
     exports: ExportRecords<'a>,
     dos_stub: &'a [u8],
 ) -> PeTables<'a>
-    requires none { HasNoIdleBlock made.rich_entries × HasNoIdleBlock made.blocks }
+    requires none { HasNoIdleBlock made.rich_entries × HasNoIdleBlock made.sections
+        × HasNoIdleBlock made.blocks }
     requires no_imports { HasNoIdleBlockIn imports }
     requires no_exports { HaveNoIdleBlocks exports }
     ensures rich_entries { result.rich_entries.now ≡ made.entry.rich_entries.items }

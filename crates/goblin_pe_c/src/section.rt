@@ -1,8 +1,9 @@
 //! The records of sections.
 
-ghost use Rattle.std.specs.Prelude.{◌≡◌, ◌<◌, Bool, IfOk, OnErr, length, map, ℕ, option_map, vec_capacity};
+ghost use Rattle.std.specs.Prelude.{◌≡◌, ◌<◌, Bool, IfOk, OnErr, length, map, ℕ, option_map};
 ghost use Rattle.goblin_pe_sect.specs.Options.{is_strict};
 ghost use Rattle.goblin_base.specs.Answers.{GivesOrMemory};
+ghost use Rattle.goblin_pe_c.specs.Blocked.{HasNoIdleBlock};
 ghost use Rattle.goblin_pe_c.specs.Filled.{Filled, alone};
 ghost use Rattle.goblin_pe_c.specs.Sections.{named_in, real_name_in, section_said};
 
@@ -142,7 +143,7 @@ pub fn section_records<'a>(
         (map (λ s. alone (named_in (is_strict opts.now.parse_mode) bytes.now table s))
         sections.now) }
     ensures grown { OnErr result (0 < length sections.now) }
-    ensures none { IfOk result (λ v. length sections.now ≡ 0 → vec_capacity v ≡ 0) }
+    ensures none { IfOk result HasNoIdleBlock }
 {
     let count = sections.len();
     let mut records = Vec::with_capacity(alloc, count)?;

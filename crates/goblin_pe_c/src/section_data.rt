@@ -46,8 +46,9 @@ fn read_data<'a>(
 /// says, and how many zeros follow them up to the virtual size. There are none where the raw size
 /// is at least that; the bytes are then not cut. It takes no memory.
 ///
-/// A read is refused (the status 4) where the bytes run past the end of the file: by the cause 1 if
-/// they also begin at or past it, else by 2. `contents` is then unchanged.
+/// A read is refused (the status 4) where the bytes run past the end of the file, or begin past it,
+/// even where there are none: by the cause 1 if they begin at or past it, else by 2. `contents` is
+/// then unchanged.
 #[unsafe(no_mangle)]
 pub extern "C" fn goblin_pe_raw_section_data<'a>(
     bytes: &'a [u8],

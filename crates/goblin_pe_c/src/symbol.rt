@@ -179,7 +179,8 @@ fn read_symbols<'a>(
 /// how many these are, and `position` is then the index of the record that is read next. The first
 /// record is read as a symbol, even where it is an auxiliary one of a symbol before it. After the
 /// last symbol, and where the header's pointer to the table is 0, `count` is 0, as it is without
-/// room; the position then stays.
+/// room; the position then stays. Each call reads the whole string table, so room for many symbols
+/// at once saves time.
 ///
 /// It takes no memory. It is refused where the records of the table run past the end of the file or
 /// begin at it (the status 4), where the string table after them has no length of four bytes (4) or

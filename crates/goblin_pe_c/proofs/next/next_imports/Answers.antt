@@ -19,4 +19,4 @@ fill_imports-requires c =
 pub returns-in-Absent : goal.returns-in-Absent
 returns-in-Absent c =
     let l = c.args.layout.now in
-    record { filled = imports-none (layout_map l) (layout_places l) l.bytes.now c.args.position.now c.args.records.now c.in_ok-imports.field-0 c.in_ok-imports.ensures c.in-Absent.is; refused = tt }
+    record { filled = imports-none (layout_map l) (layout_places l) l.bytes.now c.args.position.now c.position_without.result c.args.records.now c.position_without.ensures.asked c.position_without.ensures.unasked c.in_ok-imports.field-0 c.in_ok-imports.ensures c.in-Absent.is; refused = tt }

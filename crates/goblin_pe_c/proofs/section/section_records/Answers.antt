@@ -1,9 +1,9 @@
-use Rattle.std.proofs.Common.{◌≡◌, arith, length}
+use Rattle.std.proofs.Common.{◌≡◌, ◌∙◌, arith, length, sym}
 use Rattle.std.specs.Prelude.{vec_capacity}
 use Rattle.goblin_pe_sect.specs.Options.{is_strict}
 use Rattle.goblin_pe_c.specs.Filled.{alone}
 use Rattle.goblin_pe_c.specs.Sections.{named_in, section_said}
-use Rattle.goblin_pe_c.proofs.Making.{making-start, making-next, making-end}
+use Rattle.goblin_pe_c.proofs.Making.{making-start, making-next, making-end, making-count}
 use Rattle.goblin_pe_c.proofs.section.section_records.Goals as goal
 
 pub records-init : goal.records-init
@@ -17,3 +17,6 @@ records-preserved c =
 
 pub returns-clause-made : goal.returns-clause-made
 returns-clause-made c = making-end _ _ _ _ _ c.records.invariant.0 (omega (arith, c.records-test.false))
+
+pub returns-clause-none : goal.returns-clause-none
+returns-clause-none c = λ none. c.records.invariant.1 (sym (making-count _ _ _ _ _ c.records.invariant.0 (omega (arith, c.records-test.false))) ∙ none)
