@@ -198,7 +198,8 @@ class Reuse(Case):
         super().setUp()
         data, text, program = BY_NAME.read_bytes(), CALLERS / "build", SAMPLES / "program_x64.exe"
         no_header = self.written("no_header.dll", data[:140] + bytes(2) + data[142:])
-        self.files = [program, text, *sorted(SAMPLES.glob("*.dll")), no_header, text, program]
+        no_exports = self.written("no_exports.dll", images.without_directory(data, 0))
+        self.files = [program, text, *sorted(SAMPLES.glob("*.dll")), no_header, no_exports, text, program]
         self.command = [built("reuse", "-std=c99"), *self.files]
         self.kinds = [*IMAGES, *OBJECTS, *TERSE]
 

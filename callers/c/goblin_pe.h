@@ -564,8 +564,8 @@ struct goblin_pe_import {
 
 /* Where a walk over imports goes on; zeros are the beginning. It may be kept, and copied. */
 struct goblin_pe_import_position {
-    /* The file offset of a library's record; SIZE_MAX where a walk has met its end. That the walk has
-       ended is told by the count, not by this. */
+    /* The file offset of a library's record; SIZE_MAX once the end has been reached, also of a file
+       without imports. */
     size_t record;
     /* The file offset of the slot that is read next, or 0 before the library's first. */
     size_t slot;

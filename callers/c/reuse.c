@@ -39,7 +39,7 @@ static bool are_in_file(const struct goblin_pe_tables *tables)
         are_right &= is_export_in_file(&tables->exports[i]);
     for (size_t i = 0; i < tables->block_count; i++)
         are_right &= is_in_file(tables->blocks[i].words);
-    return are_right && (!tables->export_directory.has_name || is_in_file(tables->export_directory.name));
+    return are_right && is_in_file(tables->export_directory.name);
 }
 
 /* Whether each range of the footprint lies in the file. */
