@@ -125,6 +125,10 @@ class Loader(Case):
         self.assert_resolves([(b"fruit.dll", [9, 15, b"Banana"]), (b"nuts.dll", [1])], 1, [
             "fruit.dll #9: not exported", "fruit.dll #15: not exported", "fruit.dll Banana: not exported", "nuts.dll #1: no such library"])
 
+    def test_a_forwarder_without_a_text_is_told(self):
+        self.library.write_bytes(self.library.read_bytes().replace(b"other.#7", b"other.#\xff"))
+        self.assert_resolves([(b"fruit.dll", [13])], 1, ["fruit.dll #13: not exported"])
+
     def test_samples(self):
         for sample in IMAGES:
             with self.subTest(sample=sample.name):
@@ -142,6 +146,20 @@ class Patch(Case):
                 place = data.index(b".text\0\0\0", header)
                 data[header + 8: header + 12], data[place: place + 8] = b"\x78\x56\x34\x12", b".code\0\0\0"
                 self.assertEqual(to.read_bytes(), data)
+
+    def test_an_image_with_few_directories(self):
+        """The section table follows the six directories that it has."""
+        data, to = bytearray(BY_NAME.read_bytes()), self.folder / "patched.dll"
+        header = int.from_bytes(data[0x3C:0x40], "little")
+        directories = header + 24 + 112
+        data[header + 20: header + 22], data[directories - 4] = (112 + 8 * 6).to_bytes(2, "little"), 6
+        data[directories + 8 * 6: directories + 8 * 16] = b""
+        data[0x400 - 80: 0x400 - 80] = bytes(80)
+        image = self.written("few.dll", data)
+        self.assert_runs([built("patch"), image, "0x12345678", ".text", ".code", to], (0, b"0x12345678 .code\n", b""))
+        place = data.index(b".text\0\0\0", header)
+        data[header + 8: header + 12], data[place: place + 8] = b"\x78\x56\x34\x12", b".code\0\0\0"
+        self.assertEqual(to.read_bytes(), data)
 
     def test_a_name_that_is_too_long(self):
         wanted = (1, b"", b"refused: ")
@@ -180,7 +198,8 @@ class Reuse(Case):
         super().setUp()
         data, text, program = BY_NAME.read_bytes(), CALLERS / "build", SAMPLES / "program_x64.exe"
         no_header = self.written("no_header.dll", data[:140] + bytes(2) + data[142:])
-        self.files = [program, text, *sorted(SAMPLES.glob("*.dll")), no_header, text, program]
+        no_exports = self.written("no_exports.dll", images.without_directory(data, 0))
+        self.files = [program, text, *sorted(SAMPLES.glob("*.dll")), no_header, no_exports, text, program]
         self.command = [built("reuse", "-std=c99"), *self.files]
         self.kinds = [*IMAGES, *OBJECTS, *TERSE]
 

@@ -8,6 +8,13 @@
 static uint8_t bytes[1 << 20];
 static size_t length;
 
+/* Whether a text lies in the file, or at its end where it has no bytes. */
+static bool is_in_file(struct goblin_pe_text text)
+{
+    size_t offset = (size_t)((uintptr_t)text.bytes - (uintptr_t)bytes);
+    return offset <= length && text.length <= length - offset;
+}
+
 /* Whether bytes at an address are those at its offset, and end with the file. */
 static bool are_mapped(const struct goblin_pe_image *image, size_t rva)
 {
@@ -52,6 +59,8 @@ static bool has_symbols(const struct goblin_pe_coff_header *header)
             return next == header->number_of_symbol_table || !header->pointer_to_symbol_table;
         if (symbol.index != next || position != next + 1 + symbol.symbol.number_of_aux_symbols || !has_auxiliary(&symbol))
             return false;
+        if (!is_in_file(symbol.name) || !is_in_file(symbol.auxiliary))
+            return false;
         next = position;
     }
 }
@@ -75,7 +84,8 @@ static bool is_object(void)
         return false;
     for (size_t i = 0; i < object.sections && i < 100; i++)
         if (!has_relocations(&sections[i]) ||
-            goblin_pe_section_data(bytes, length, &sections[i], &data).status != GOBLIN_PE_OK)
+            goblin_pe_section_data(bytes, length, &sections[i], &data).status != GOBLIN_PE_OK ||
+            !is_in_file(data.bytes) || !is_in_file(sections[i].real_name))
             return false;
     return object.sections == object.coff_header.number_of_sections && has_symbols(&object.coff_header);
 }
@@ -125,9 +135,10 @@ static bool sets_names(void)
     struct goblin_pe_section section;
     memset(&section, 0, sizeof section);
     bool is_long = goblin_pe_set_name(&section, "ninebytes", 9);
+    bool is_zero = goblin_pe_set_name_offset(&section, 0).status == GOBLIN_PE_OK && !section.real_name.bytes;
     bool is_set = goblin_pe_set_name(&section, ".text", 5) && !memcmp(section.name, ".text\0\0\0", 8);
     bool is_offset = goblin_pe_set_name_offset(&section, 1234).status == GOBLIN_PE_OK;
-    return !is_long && is_set && is_offset && !memcmp(section.name, "/1234\0\0\0", 8) &&
+    return !is_long && is_zero && is_set && is_offset && !memcmp(section.name, "/1234\0\0\0", 8) &&
            goblin_pe_set_name_offset(&section, SIZE_MAX).cause == GOBLIN_PE_CAUSE_NAME_OFFSET && section.name[1] == '1';
 }
 

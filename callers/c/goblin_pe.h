@@ -32,8 +32,8 @@
    How much memory a file may take is for the caller to limit, as a small file may list much: its
    libraries may share one table of imports. 32 KiB can list a million imports, and 256 KiB 104 million,
    7 GB of records. Where no limit can be set, open with parse_imports false, and walk over the imports by
-   goblin_pe_next_imports, with parse_imports true: it takes memory for the sections alone, and gives it
-   back; stop when it is enough.
+   goblin_pe_next_imports, with parse_imports true: it takes memory for the sections and what maps the
+   addresses, and gives it back; stop when it is enough.
 
    The fields are those of the crate goblin_pe_c and of the libraries below it, in the same order, and so
    are the numbers; callers/layout.py compares them. In C++ a record with the name of a call, such as
@@ -564,7 +564,8 @@ struct goblin_pe_import {
 
 /* Where a walk over imports goes on; zeros are the beginning. It may be kept, and copied. */
 struct goblin_pe_import_position {
-    /* The file offset of a library's record; SIZE_MAX where the end has been reached. */
+    /* The file offset of a library's record; SIZE_MAX once the end has been reached, also of a file
+       without imports. */
     size_t record;
     /* The file offset of the slot that is read next, or 0 before the library's first. */
     size_t slot;
@@ -991,6 +992,22 @@ static inline void *goblin_pe_nowhere(void)
 #define GOBLIN_PE_SOME(kind, pointer) ((pointer) ? (pointer) : (kind *)goblin_pe_nowhere())
 #define GOBLIN_PE_BYTES(pointer) GOBLIN_PE_SOME(const uint8_t, pointer)
 
+/* The record of a section, and an image, without null pointers. */
+static inline struct goblin_pe_section goblin_pe_sound_section(const struct goblin_pe_section *section)
+{
+    struct goblin_pe_section sound = *section;
+    sound.real_name.bytes = GOBLIN_PE_BYTES(sound.real_name.bytes);
+    return sound;
+}
+
+static inline struct goblin_pe_image goblin_pe_sound_image(const struct goblin_pe_image *image)
+{
+    struct goblin_pe_image sound = *image;
+    sound.bytes.bytes = GOBLIN_PE_BYTES(sound.bytes.bytes);
+    sound.sections = GOBLIN_PE_SOME(const struct goblin_pe_section, sound.sections);
+    return sound;
+}
+
 /* What a file is, by its first two bytes: a goblin_pe_kind. */
 static inline uint32_t goblin_pe_kind(const uint8_t *bytes, size_t length)
 {
@@ -1061,9 +1078,9 @@ static inline void goblin_pe_free_ranges(struct goblin_pe_ranges *ranges)
    room for, says in `count` how many, and leaves in `position` where the next call goes on. The count 0
    without a refusal is the end, where there is room; so it is of a file without imports, where these are not
    asked for, and where permissive mode passes over a refused directory. In strict mode the walk ends with a
-   refusal where goblin_pe_open has one; what comes before it is given first. Each call reads the header and the
-   sections anew, so room for some hundreds is better than for one. Memory is taken for the sections and what
-   maps the addresses, and given back. */
+   refusal where goblin_pe_open has one for its imports; what comes before it is given first. Each call reads the
+   header and the sections anew, so room for some hundreds is better than for one. Memory is taken for the sections
+   and what maps the addresses, and given back. */
 static inline struct goblin_pe_fault goblin_pe_next_imports(
     const uint8_t *bytes, size_t length, const struct goblin_pe_options *options,
     struct goblin_pe_import_position *position, struct goblin_pe_import *imports, size_t room, size_t *count)
@@ -1111,8 +1128,8 @@ static inline struct goblin_pe_fault goblin_pe_read_te(
    how many, and leaves in `position` the index of the record that is read next. The count 0 without a refusal
    is the end, where there is room; so it is of a file without a symbol table. The record at the position is
    read as a symbol, even where it is an auxiliary one of the symbol before it. Refused is a file that is too
-   short for its symbol table or the string table after it, and one whose string table is not UTF-8. No memory
-   is taken. */
+   short for its symbol table or the string table after it, and one whose string table is not UTF-8. Each call
+   reads the whole string table, so room for some hundreds is better than for one. No memory is taken. */
 static inline struct goblin_pe_fault goblin_pe_next_symbols(
     const uint8_t *bytes, size_t length, const struct goblin_pe_coff_header *header, size_t *position,
     struct goblin_pe_named_symbol *symbols, size_t room, size_t *count)
@@ -1158,22 +1175,26 @@ static inline bool goblin_pe_aux_file(struct goblin_pe_text auxiliary, struct go
 
 /* Reads the relocations of a section of an object: says in `count` how many there are, and fills as many
    records as there is room for. These are as many as the section's record says, at most 65,535. Refused is a
-   file that is too short for them. No memory is taken. */
+   file that is too short for them, and one in which they begin at or past the end, even where there are none.
+   No memory is taken. */
 static inline struct goblin_pe_fault goblin_pe_read_relocations(
     const uint8_t *bytes, size_t length, const struct goblin_pe_section *section,
     struct goblin_pe_relocation *relocations, size_t room, size_t *count)
 {
+    struct goblin_pe_section sound = goblin_pe_sound_section(section);
     return goblin_pe_raw_read_relocations(
-        GOBLIN_PE_BYTES(bytes), length, section, GOBLIN_PE_SOME(struct goblin_pe_relocation, relocations), room, count);
+        GOBLIN_PE_BYTES(bytes), length, &sound, GOBLIN_PE_SOME(struct goblin_pe_relocation, relocations), room, count);
 }
 
 /* The data of a section: its bytes in the file, from its raw pointer as stored, and how many zeros follow
    them up to the size in memory; none where the file has at least as many bytes, which are not cut then.
-   Refused is a file that is too short for it. No memory is taken. */
+   Refused is a file that is too short for it, and one in which it begins past the end, even where it has no
+   bytes. No memory is taken. */
 static inline struct goblin_pe_fault goblin_pe_section_data(
     const uint8_t *bytes, size_t length, const struct goblin_pe_section *section, struct goblin_pe_section_data *data)
 {
-    return goblin_pe_raw_section_data(GOBLIN_PE_BYTES(bytes), length, section, data);
+    struct goblin_pe_section sound = goblin_pe_sound_section(section);
+    return goblin_pe_raw_section_data(GOBLIN_PE_BYTES(bytes), length, &sound, data);
 }
 
 /* What maps the addresses of an image that was opened. */
@@ -1196,14 +1217,16 @@ static inline struct goblin_pe_image goblin_pe_image_of(
    offsets, it is the address itself. It can lie past the file's end. */
 static inline bool goblin_pe_find_offset(const struct goblin_pe_image *image, size_t rva, size_t *offset)
 {
-    return goblin_pe_raw_find_offset(image, rva, offset);
+    struct goblin_pe_image sound = goblin_pe_sound_image(image);
+    return goblin_pe_raw_find_offset(&sound, rva, offset);
 }
 
 /* The text at an address, up to its NUL or the end of the file, and whether there is one: the address has an
    offset in the file, and UTF-8 stands there. */
 static inline bool goblin_pe_text_at(const struct goblin_pe_image *image, size_t rva, struct goblin_pe_text *text)
 {
-    return goblin_pe_raw_text_at(image, rva, text);
+    struct goblin_pe_image sound = goblin_pe_sound_image(image);
+    return goblin_pe_raw_text_at(&sound, rva, text);
 }
 
 /* So many bytes at an address, and whether there are as many: the address has an offset in the file, and
@@ -1211,14 +1234,19 @@ static inline bool goblin_pe_text_at(const struct goblin_pe_image *image, size_t
 static inline bool goblin_pe_bytes_at(
     const struct goblin_pe_image *image, size_t rva, size_t size, struct goblin_pe_text *bytes)
 {
-    return goblin_pe_raw_bytes_at(image, rva, size, bytes);
+    struct goblin_pe_image sound = goblin_pe_sound_image(image);
+    return goblin_pe_raw_bytes_at(&sound, rva, size, bytes);
 }
 
 /* Writes the header of an image to the front of `out`, and says in `written` how many bytes it has: the DOS
    header, the stub, the PE signature, the COFF header, and an optional header with sixteen data directories
    unless file->directories is 0. Where strict mode read them, these are the bytes of the file up to the last
-   of its directories. The stub may not lie in `out`. Refused are a magic that is neither of the two, a field
-   that does not fit an optional header for 32 bits, and too little room; nothing is written then. */
+   of its directories, and zeros for those that it lacks of sixteen. In the file the section table may stand
+   where these zeros are. So write elsewhere, and copy at most the first pe_pointer + 24 + size_of_optional_header
+   bytes into the file, as callers/c/patch.c does. The signature follows the stub, whatever pe_pointer says:
+   where permissive mode replaced the stub, the headers after it do not stand at their places. The stub may not
+   lie in `out`. Refused are a magic that is neither of the two, a field that does not fit an optional header for
+   32 bits, and too little room; nothing is written then. */
 static inline struct goblin_pe_fault goblin_pe_write_header(
     const struct goblin_pe_file *file, const struct goblin_pe_directory *directories, size_t directory_count,
     struct goblin_pe_text stub, uint8_t *out, size_t room, size_t *written)
@@ -1233,7 +1261,8 @@ static inline struct goblin_pe_fault goblin_pe_write_header(
 static inline struct goblin_pe_fault goblin_pe_write_section(
     const struct goblin_pe_section *section, uint8_t *out, size_t room, size_t *written)
 {
-    return goblin_pe_raw_write_section(section, GOBLIN_PE_SOME(uint8_t, out), room, written);
+    struct goblin_pe_section sound = goblin_pe_sound_section(section);
+    return goblin_pe_raw_write_section(&sound, GOBLIN_PE_SOME(uint8_t, out), room, written);
 }
 
 /* Puts a short name, of at most eight bytes, into the record of a section, which has none from the string
@@ -1256,7 +1285,10 @@ static inline bool goblin_pe_set_name(struct goblin_pe_section *section, const c
    Refused is an offset that they can't hold. */
 static inline struct goblin_pe_fault goblin_pe_set_name_offset(struct goblin_pe_section *section, size_t offset)
 {
-    return goblin_pe_raw_set_name_offset(section, offset);
+    struct goblin_pe_section sound = goblin_pe_sound_section(section);
+    struct goblin_pe_fault fault = goblin_pe_raw_set_name_offset(&sound, offset);
+    memcpy(section->name, sound.name, sizeof section->name);
+    return fault;
 }
 
 /* Writes the text of a refusal, without a NUL, as far as there is room, and answers how long the whole

@@ -207,9 +207,9 @@ static bool resolve(const struct module *m, const struct goblin_pe_import *impor
     if (!library)
         return puts(": no such library"), false;
     const struct goblin_pe_export_address *found = found_in(library, import);
-    if (!found || !found->rva || !slot)
+    if (!found || !found->rva || !slot || (found->forwards && !goblin_pe_text_at(&library->image, found->rva, &forwarder)))
         return puts(": not exported"), false;
-    if (found->forwards && goblin_pe_text_at(&library->image, found->rva, &forwarder)) {
+    if (found->forwards) {
         printf(": forwarded to ");
         put(forwarder);
         putchar('\n');

@@ -37,12 +37,13 @@ static struct goblin_pe_fault write_back(size_t length, struct goblin_pe_file *f
     file->coff_header.time_date_stamp = (uint32_t)strtoul(words[0], NULL, 0);
     if (!goblin_pe_set_name(&section, words[2], strlen(words[2])))
         return goblin_pe_set_name_offset(&section, SIZE_MAX); /* which no record can hold */
-    /* The stub lies in the file, so the header is written elsewhere first. */
+    /* The stub lies in the file, so the header is written elsewhere first; and where the file has fewer than sixteen
+       directories, the zeros for the others would pass the section table. */
     struct goblin_pe_fault fault = goblin_pe_write_header(file, directories, file->directories, tables->dos_stub, header,
-                                                          table < sizeof header ? table : sizeof header, &written);
+                                                          sizeof header, &written);
     if (fault.status != GOBLIN_PE_OK)
         return fault;
-    memcpy(bytes, header, written);
+    memcpy(bytes, header, written < table ? written : table);
     return goblin_pe_write_section(&section, bytes + table + 40 * index, length - table - 40 * index, &written);
 }
 

@@ -9,22 +9,37 @@
 static uint8_t bytes[1 << 20], written[1 << 20];
 static size_t length;
 
-/* Whether a text lies in the file; one of no bytes may lie anywhere. */
+/* Whether a text lies in the file, or at its end where it has no bytes. */
 static bool is_in_file(struct goblin_pe_text text)
 {
-    size_t offset = (size_t)(text.bytes - bytes);
-    return !text.length || (offset < length && text.length <= length - offset);
+    size_t offset = (size_t)((uintptr_t)text.bytes - (uintptr_t)bytes);
+    return offset <= length && text.length <= length - offset;
+}
+
+static bool is_export_in_file(const struct goblin_pe_export *x)
+{
+    return is_in_file(x->name) && is_in_file(x->forward_lib) && is_in_file(x->forward_name);
+}
+
+static bool is_section_in_file(const struct goblin_pe_section *s)
+{
+    struct goblin_pe_section_data data;
+    return is_in_file(s->real_name) &&
+           (goblin_pe_section_data(bytes, length, s, &data).status != GOBLIN_PE_OK || is_in_file(data.bytes));
 }
 
 static bool are_in_file(const struct goblin_pe_tables *tables)
 {
+    bool are_right = is_in_file(tables->dos_stub);
+    for (size_t i = 0; i < tables->section_count; i++)
+        are_right &= is_section_in_file(&tables->sections[i]);
     for (size_t i = 0; i < tables->import_count; i++)
-        if (!is_in_file(tables->imports[i].name) || !is_in_file(tables->imports[i].dll))
-            return false;
+        are_right &= is_in_file(tables->imports[i].name) && is_in_file(tables->imports[i].dll);
     for (size_t i = 0; i < tables->export_count; i++)
-        if (!is_in_file(tables->exports[i].name) || !is_in_file(tables->exports[i].forward_lib))
-            return false;
-    return is_in_file(tables->export_directory.name) && is_in_file(tables->dos_stub);
+        are_right &= is_export_in_file(&tables->exports[i]);
+    for (size_t i = 0; i < tables->block_count; i++)
+        are_right &= is_in_file(tables->blocks[i].words);
+    return are_right && is_in_file(tables->export_directory.name);
 }
 
 /* Whether each range of the footprint lies in the file. */

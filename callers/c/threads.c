@@ -9,6 +9,23 @@
 static uint8_t bytes[1 << 20];
 static size_t length;
 
+/* The calls that take memory beside that which opens: whether each is granted. */
+static bool makes_the_other_calls(void)
+{
+    struct goblin_pe_damage damage;
+    struct goblin_pe_ranges ranges = { 0 };
+    struct goblin_pe_import_position position = { 0, 0 };
+    struct goblin_pe_import import;
+    struct goblin_pe_export export;
+    size_t place = 0, count;
+    bool is_granted = goblin_pe_damage(bytes, length, NULL, &damage).status == GOBLIN_PE_OK;
+    is_granted &= goblin_pe_footprint(bytes, length, NULL, &ranges).status == GOBLIN_PE_OK;
+    goblin_pe_free_ranges(&ranges);
+    is_granted &= goblin_pe_next_imports(bytes, length, NULL, &position, &import, 1, &count).status == GOBLIN_PE_OK;
+    is_granted &= goblin_pe_next_exports(bytes, length, NULL, &place, &export, 1, &count).status == GOBLIN_PE_OK;
+    return is_granted;
+}
+
 static void *reads(void *imports_wanted)
 {
     for (int i = 0; i < 200; i++) {
@@ -17,7 +34,7 @@ static void *reads(void *imports_wanted)
         struct goblin_pe_fault fault = goblin_pe_open(bytes, length, NULL, &file, NULL, 0, &tables);
         size_t found = tables.import_count;
         goblin_pe_free(&tables);
-        if (fault.status != GOBLIN_PE_OK || found != *(const size_t *)imports_wanted)
+        if (fault.status != GOBLIN_PE_OK || found != *(const size_t *)imports_wanted || !makes_the_other_calls())
             return NULL;
     }
     return imports_wanted;

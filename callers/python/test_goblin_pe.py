@@ -323,6 +323,20 @@ class Files(unittest.TestCase):
                                  (5, optional, b".code", pe.sections[1:]))
                 self.assertEqual(len(pe.write()), len(data))
 
+    def test_what_does_not_fit_a_field_is_not_written(self):
+        data = sample("imports_by_name_x64.dll")
+        pe = Pe(data)
+        fields, section = pe.optional_header.windows_fields, pe.sections[0]
+        for wrong in (2**32, -1):
+            self.assertRaises(OverflowError, pe.write, pe.coff_header._replace(time_date_stamp=wrong))
+            optional = pe.optional_header._replace(windows_fields=fields._replace(check_sum=wrong))
+            self.assertRaises(OverflowError, pe.write, None, optional)
+            self.assertRaises(OverflowError, pe.write, None, None, [section._replace(virtual_size=wrong)])
+            self.assertRaises(OverflowError, section._replace(pointer_to_raw_data=wrong).data, data)
+        self.assertRaises(ValueError, pe.write, None, None, [section._replace(raw_name=b"ninebytes")])
+        header = data.index(b"PE\0\0")
+        self.assertRaises(ValueError, Pe(data[:header + 20] + bytes(2) + data[header + 22:]).write, None, pe.optional_header)
+
     def test_a_header_inside_the_dos_header(self):
         data = bytearray(sample("imports_by_name_x64.dll"))
         header = data.index(b"PE\0\0")

@@ -320,8 +320,11 @@ class Pe:
     def write(self, coff_header: Optional[CoffHeader] = None, optional_header: Optional[OptionalHeader] = None,
               sections: Optional[Iterable[Section]] = None) -> bytes:
         """The file with these in place of its own: the headers up to the section table, and the records of sections, each
-        with its raw_name. Refused is raised where a header can't be written, and ValueError where the sections pass the
-        file, and where permissive mode replaced the DOS stub."""
+        with its raw_name. Refused is raised where a header can't be written, OverflowError where a number does not fit its
+        field, and ValueError where the sections pass the file, where permissive mode replaced the DOS stub, and where an
+        optional header is given of which the file has none."""
+        if optional_header is not None and self.optional_header is None:
+            raise ValueError("the file has no optional header")
         coff = self.coff_header if coff_header is None else coff_header
         optional = self._header if optional_header is None else optional_header
         with memoryview(self._bytes()) as view, view.cast("B") as in_bytes:
@@ -343,8 +346,11 @@ class Pe:
             raise ValueError("permissive mode replaced the DOS stub, so the headers can't be written at their places")
         count, none = 16 if self.optional_header else 0, DataDirectory(0, 0)
         directories = (records.Directory * 16)(*(
-            records.Directory(0, self.data_directories.get(index, none), index in self.data_directories) for index in range(16)))
-        file = records.File(optional_header=optional, directories=count, dos_header=self.dos_header, coff_header=coff)
+            records.Directory(0, records.record_of(DataDirectory, self.data_directories.get(index, none)), index in self.data_directories)
+            for index in range(16)))
+        file = records.File(
+            optional_header=records.record_of(OptionalHeader, optional), directories=count,
+            dos_header=records.record_of(DosHeader, self.dos_header), coff_header=records.record_of(CoffHeader, coff))
         size, written = self.dos_header.pe_pointer + 512, c.c_size_t()
         room = (c.c_uint8 * size)()
         _test(_LIB.goblin_pe_raw_write_header(c.byref(file), directories, count, self._stub, len(self._stub), room, size, c.byref(written)))

@@ -48,6 +48,20 @@ def read(header: Type[_Kind], record: Any) -> _Kind:
     return header(*_FIELDS[header](record))
 
 
+def test_widths(values: Any, stored: Any) -> None:
+    """Raises OverflowError where the fields of a record do not hold the values that were put into them: a number that does
+    not fit its field is cut."""
+    if values != stored:
+        raise OverflowError("a number does not fit its field: %r" % (values,))
+
+
+def record_of(kind: Any, header: Any) -> Any:
+    """The record of a header. OverflowError is raised where a number does not fit its field."""
+    record = laid_out(kind)(*header)
+    test_widths(header, read(kind, record))
+    return record
+
+
 def _converted(convert: Any, field: Any) -> property:
     # a field whose value is another one than ctypes gives
     return property(lambda record: convert(field.__get__(record)), field.__set__)

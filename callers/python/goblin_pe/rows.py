@@ -1,5 +1,6 @@
 """What was read of a file, as rows of Python: texts are bytes, and nothing points into the file."""
 import ctypes as c
+import operator
 import struct
 from typing import Any, Dict, List, NamedTuple, Optional, Tuple, Union
 
@@ -30,7 +31,8 @@ class SectionData(NamedTuple):
 
 class Section(NamedTuple):
     """A section: its name (that of the string table where it has one, else its eight bytes up to the first NUL), the
-    fields of its record, and the eight bytes of the name in it."""
+    fields of its record, and the eight bytes of the name in it. Where a number was put into it that does not fit its field,
+    what reads or writes by it raises OverflowError, and ValueError where its raw_name has more than eight bytes."""
 
     name: bytes
     virtual_size: int
@@ -46,14 +48,15 @@ class Section(NamedTuple):
 
     def data(self, file: Data) -> SectionData:
         """Its data in the file: the bytes from the raw pointer as stored, and how many zeros follow them in memory. Refused is
-        raised where the bytes pass the file."""
+        raised where the bytes pass the file, and where they begin past its end, even if there are none."""
         found = records.SectionData()
         with memoryview(file) as view, held(view) as (calls, address, length), view.cast("B") as in_bytes:
             test(calls.goblin_pe_raw_section_data(address, length, c.byref(record_of(self)), c.byref(found)))
             return SectionData(Rows(in_bytes, address).text(found.bytes), found.zeros)
 
     def relocations(self, file: Data) -> List[Relocation]:
-        """Its relocations in the object. Refused is raised where the file is too short for them."""
+        """Its relocations in the object. Refused is raised where the file is too short for them, and where they begin at or
+        past its end, even if there are none."""
         count, kind = c.c_size_t(), records.laid_out(Relocation)
         with memoryview(file) as view, held(view) as (calls, address, length):
             for _ in range(2):
@@ -154,13 +157,20 @@ AUX_CALLS: Dict[Any, Any] = {
     AuxSectionDefinition: LIB.goblin_pe_raw_aux_section_definition,
 }
 
+# The numbers in the record of a section.
+_NUMBERS = operator.attrgetter(*Section._fields[1:-1])
+
 # Where there is no text.
 _NO_TEXT = records.Text(records.NOWHERE, 0)
 
 
 def record_of(s: Section) -> records.Section:
     """The record of a section, without its name from the string table."""
-    return records.Section(_NO_TEXT, tuple(s.raw_name.ljust(8, b"\0")[:8]), *s[1:-1], False)
+    if len(s.raw_name) > 8:
+        raise ValueError("a raw_name has at most eight bytes: %r" % (s.raw_name,))
+    record = records.Section(_NO_TEXT, tuple(s.raw_name.ljust(8, b"\0")), *s[1:-1], False)
+    records.test_widths(s[1:-1], _NUMBERS(record))
+    return record
 
 
 def room(kind: Any, count: int) -> Any:

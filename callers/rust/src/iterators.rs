@@ -124,7 +124,26 @@ impl DoubleEndedIterator for DataDirectories<'_> {
 impl FusedIterator for DataDirectories<'_> {}
 
 // How many records a walk reads at once.
-const BATCH: usize = 64;
+const BATCH: usize = 256;
+
+// Where a walk goes on.
+trait Position: Default {
+    // Whether nothing follows the batch of so many records that ended here.
+    fn is_end(&self, count: usize) -> bool;
+}
+
+impl Position for raw::ImportPosition {
+    // (a batch that is not full may come before a refusal)
+    fn is_end(&self, count: usize) -> bool {
+        count == 0 || self.record == usize::MAX
+    }
+}
+
+impl Position for usize {
+    fn is_end(&self, count: usize) -> bool {
+        count < BATCH
+    }
+}
 
 // Records that are read some at a time, each time by the same call from where the last one ended.
 #[derive(Clone)]
@@ -135,15 +154,20 @@ struct Batches<T, P> {
     count: usize,
 }
 
-impl<T: Copy, P: Default> Batches<T, P> {
-    // From the beginning, with no record read yet.
+impl<T: Copy, P: Position> Batches<T, P> {
+    // From the beginning: as after a full batch, of which all is taken.
     fn new(empty: T) -> Self {
         Batches {
             records: [empty; BATCH],
             position: P::default(),
-            next: 0,
-            count: 0,
+            next: BATCH,
+            count: BATCH,
         }
+    }
+
+    // Whether the records that were read are taken, and others may follow.
+    fn is_taken(&self) -> bool {
+        self.next == self.count && !self.position.is_end(self.count)
     }
 
     // Reads the next records, which answers whether it was refused.
@@ -189,19 +213,14 @@ macro_rules! walks {
             fn next(&mut self) -> Option<Result<$item, Error>> {
                 let (bytes, options) = (self.bytes, &self.options);
                 let batches = self.batches.as_mut()?;
-                if batches.next == batches.count {
+                if batches.is_taken() {
                     let filled = batches.fill(|position, records, count| $call(bytes, options, position, records, count));
                     if let Err(error) = filled {
                         self.batches = None;
                         return Some(Err(error));
                     }
                 }
-                let record = batches.pop();
-                let item = record.map(|it| Ok(<$item>::from(it)));
-                if item.is_none() {
-                    self.batches = None;
-                }
-                item
+                batches.pop().map(|it| Ok(<$item>::from(it)))
             }
         }
 
@@ -255,8 +274,7 @@ impl<'a> Iterator for Symbols<'a> {
     type Item = Symbol<'a>;
 
     fn next(&mut self) -> Option<Symbol<'a>> {
-        let is_read = self.batches.next == self.batches.count && self.batches.count != 0;
-        if is_read && self.fill().is_err() {
+        if self.batches.is_taken() && self.fill().is_err() {
             // (what is refused is so at the first call)
             return None;
         }

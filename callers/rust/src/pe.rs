@@ -13,7 +13,9 @@ use crate::numbers::{DirectoryType, Part};
 use crate::raw::{
     self, CoffHeader, DataDirectory, DosHeader, OptionalHeader, Options, RichMetadata,
 };
-use crate::rows::{Damage, Export, ExportAddress, ExportDirectory, Header, RichHeader, Section};
+use crate::rows::{
+    Damage, Export, ExportAddress, ExportDirectory, Header, RichHeader, Section, section_table,
+};
 use crate::text::Text;
 
 impl From<raw::Table> for Part {
@@ -21,9 +23,6 @@ impl From<raw::Table> for Part {
         Part::try_from(table.state).unwrap_or(Part::Refused)
     }
 }
-
-// The size of the PE signature and of the COFF header, in bytes.
-const SIGNATURE_AND_COFF_HEADER: usize = 24;
 
 /// An image that was read. A copy has tables of its own; where memory for them is refused, the process ends
 /// as it does for a [`Vec`].
@@ -154,8 +153,7 @@ impl<'a> Pe<'a> {
 
     /// The sections.
     pub fn sections(&self) -> Sections<'_, 'a> {
-        let size = usize::from(self.file.coff_header.size_of_optional_header);
-        let table = self.file.dos_header.pe_pointer as usize + SIGNATURE_AND_COFF_HEADER + size;
+        let table = section_table(&self.file.dos_header, &self.file.coff_header);
         Sections::at(self.bytes, table, self.section_records())
     }
 

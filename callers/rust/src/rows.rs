@@ -14,19 +14,21 @@ use std::fmt;
 /// The header of an image, which can be changed and written.
 ///
 /// ```no_run
-/// # let mut bytes = vec![0];
+/// # let bytes = vec![0];
 /// let pe = goblin_pe::Pe::read(&bytes, &goblin_pe::Options::default())?;
 /// let mut header = pe.header();
 /// header.coff_header.time_date_stamp = 0;
-/// let mut out = bytes.clone();
-/// header.write(&mut out)?;
+/// let (mut out, table) = (bytes.clone(), header.section_table());
+/// let mut written = vec![0; table + 256];
+/// let size = header.write(&mut written)?.min(table);
+/// out[..size].copy_from_slice(&written[..size]);
 /// # Ok::<(), goblin_pe::Error>(())
 /// ```
 #[derive(Clone, Copy, Debug, PartialEq, Eq, Hash)]
 pub struct Header<'a> {
-    /// The DOS header, which says where the PE signature is written.
+    /// The DOS header.
     pub dos_header: DosHeader,
-    /// The bytes after the DOS header, up to the PE signature.
+    /// The bytes after the DOS header, which the PE signature follows where it is written.
     pub dos_stub: Text<'a>,
     /// The COFF header.
     pub coff_header: CoffHeader,
@@ -37,9 +39,19 @@ pub struct Header<'a> {
 }
 
 impl Header<'_> {
-    /// Writes the header from the front of the file on, and returns how many bytes it has: all sixteen
-    /// data directories are written, zeros for those that are not there. Where strict mode read it, these
-    /// are the bytes of the file up to the last directory that the file has.
+    /// The file offset of the section table, which follows the optional header.
+    pub fn section_table(&self) -> usize {
+        section_table(&self.dos_header, &self.coff_header)
+    }
+
+    /// Writes the header to the front of `out`, and returns how many bytes it has: all sixteen data
+    /// directories are written, zeros for those that are not there. Where strict mode read it, these are
+    /// the bytes of the file up to the last directory that the file has. In the file the section table may
+    /// stand where the zeros are: so write elsewhere, and copy at most the bytes before
+    /// [`section_table`](Header::section_table) into the file.
+    ///
+    /// The PE signature follows the stub, whatever `pe_pointer` says: where permissive mode replaced the
+    /// stub, the headers after it do not stand at their places.
     ///
     /// # Errors
     /// Too little room, or a field that does not fit the width of the optional header; nothing is
@@ -64,6 +76,15 @@ impl Header<'_> {
         Error::test(fault)?;
         Ok(written)
     }
+}
+
+// The size of the PE signature and of the COFF header, in bytes.
+const SIGNATURE_AND_COFF_HEADER: usize = 24;
+
+// The file offset of the section table of an image.
+pub(crate) fn section_table(dos_header: &DosHeader, coff_header: &CoffHeader) -> usize {
+    let size = usize::from(coff_header.size_of_optional_header);
+    dos_header.pe_pointer as usize + SIGNATURE_AND_COFF_HEADER + size
 }
 
 /// What strict mode would refuse of an image, part by part, each for itself: `None` is no damage.
@@ -207,7 +228,8 @@ impl<'a> Section<'a> {
     /// raw pointer as stored.
     ///
     /// # Errors
-    /// [`ErrorKind::Read`](crate::ErrorKind::Read) where the data passes the file.
+    /// [`ErrorKind::Read`](crate::ErrorKind::Read) where the data passes the file, and where it begins
+    /// past the end, even if there is none.
     ///
     /// ```no_run
     /// # let bytes = [];
@@ -227,7 +249,8 @@ impl<'a> Section<'a> {
     /// The relocations of a section of the object `bytes`.
     ///
     /// # Errors
-    /// Why they were refused; memory may be.
+    /// Why they were refused; memory may be. So they are where they begin at or past the end, even if
+    /// there are none.
     ///
     /// ```no_run
     /// # let bytes = [];

@@ -282,6 +282,25 @@ fn headers_and_sections_are_written_back() {
     }
 }
 
+// The section table follows the six directories that the image has.
+#[test]
+fn a_header_with_few_directories_is_written_back() {
+    let mut bytes = sample("imports_by_name_x64.dll");
+    let header = number(&bytes, 0x3c, 4) as usize;
+    let directories = header + 24 + 112;
+    (bytes[header + 20], bytes[header + 21]) = (112 + 6 * 8, 0);
+    bytes[directories - 4] = 6;
+    bytes.splice(0x400..0x400, [0; 10 * 8]);
+    bytes.drain(directories + 6 * 8..directories + 16 * 8);
+    let pe = Pe::read(&bytes, &Options::default()).unwrap();
+    let table = pe.header().section_table();
+    assert_eq!(bytes[table..table + 8], *b".text\0\0\0");
+    let mut out = vec![0; table + 256];
+    let written = pe.write_header(&mut out).unwrap();
+    assert_eq!(written, table + 10 * 8);
+    assert_eq!(out[..table], bytes[..table]);
+}
+
 #[test]
 fn long_names_are_set_by_their_place() {
     let bytes = sample("imports_by_name_x64.dll");
@@ -439,6 +458,20 @@ fn objects_and_terse_executables() {
         (te.header().signature, te.sections().len()),
         (0x5A56, usize::from(bytes[4]))
     );
+}
+
+// A walk reads some hundreds of records at once.
+#[test]
+fn more_symbols_than_are_read_at_once() {
+    for count in [0, 255, 256, 257, 600] {
+        let mut bytes = vec![0; 20 + 18 * count];
+        bytes[8] = 20;
+        bytes[12..16].copy_from_slice(&(count as u32).to_le_bytes());
+        bytes.extend([4, 0, 0, 0]);
+        let object = Object::read(&bytes, &Options::default()).unwrap();
+        let indexes = object.symbols().unwrap().map(|s| s.index);
+        assert!(indexes.eq(0..count), "{count}");
+    }
 }
 
 #[test]

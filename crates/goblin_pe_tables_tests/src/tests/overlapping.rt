@@ -6,9 +6,10 @@ use fixture::sample::{ALIGNMENT, directory, put_all, section};
 use goblin_base::{Endian, Record};
 use goblin_pe_sect::utils::find_offset;
 use goblin_pe_sect::{ParseOptions, RawPointerRule, SectionTable};
-use goblin_pe_tables::export::{Export, ExportData};
+use goblin_pe_tables::address_map::AddressMap;
+use goblin_pe_tables::export::{Export, ExportData, Exports};
 use goblin_pe_tables::import::{
-    ImportData, ImportDirectoryEntry, ImportLookupTable, SyntheticImportDirectoryEntry,
+    ImportData, ImportDirectoryEntry, ImportLookupTable, Imports, SyntheticImportDirectoryEntry,
     SyntheticImportLookupTableEntry,
 };
 use std::alloc::{AllocError, Global};
@@ -150,6 +151,36 @@ fn are_exports_read(
     Ok(is_right && tables.name == Some(held.name))
 }
 
+/// Whether the walk over the imports finds what this section has.
+fn is_import_walked(file: &[u8], address_map: &AddressMap, held: &Held) -> bool {
+    let imports = Imports::<u32>::of(file, directory(0x1000, 40), address_map);
+    matches!(
+        imports.map(|mut imports| imports.next()),
+        Ok(Some(Ok(import))) if import.dll == held.name && is_entry(&import.entry, held)
+    )
+}
+
+/// Whether the walk over the exports does.
+fn is_export_walked(file: &[u8], address_map: &AddressMap, held: &Held) -> bool {
+    let exports = Exports::of(file, directory(0x1100, 40), address_map);
+    matches!(
+        exports.map(|mut exports| exports.next()),
+        Ok(Some(walked)) if walked.export.name == Some(held.name) && walked.export.rva == held.export
+    )
+}
+
+/// Whether both walks do.
+fn are_walked(
+    alloc: Global,
+    file: &[u8],
+    sections: &[SectionTable],
+    opts: &ParseOptions,
+    held: &Held,
+) -> goblin_base::Result<bool> {
+    let address_map = AddressMap::prepare(alloc, sections, ALIGNMENT, opts)?;
+    Ok(is_import_walked(file, &address_map, held) && is_export_walked(file, &address_map, held))
+}
+
 /// Whether all readers find what this section has.
 fn are_read(
     alloc: Global,
@@ -163,7 +194,8 @@ fn are_read(
             && are_imports_read(alloc, file, sections, opts, held)?
             && is_library_read(alloc, file, sections, opts, held)?
             && is_import_data_read(alloc, file, sections, opts, held)?
-            && are_exports_read(alloc, file, sections, opts, held)?,
+            && are_exports_read(alloc, file, sections, opts, held)?
+            && are_walked(alloc, file, sections, opts, held)?,
     )
 }
 

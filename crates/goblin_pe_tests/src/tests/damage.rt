@@ -111,3 +111,55 @@ fn an_export_directory_that_passes_the_file_is_told(rt: HostRuntime) -> Result<(
     assert!(rt; is_told(rt.alloc(), &file, &wanted));
     Ok(())
 }
+
+#[test]
+fn base_relocations_that_pass_the_file_are_told(rt: HostRuntime) -> Result<(), Fail> {
+    let file = sample_with(rt.alloc(), 0xE0, b"\xF8\x10\0\0\x09")?;
+    let wanted = Damage {
+        relocations: Some(Error::Malformed(Cause::RelocRange(0x2F8, 9))),
+        ..SOUND
+    };
+    assert!(rt; is_told(rt.alloc(), &file, &wanted));
+    Ok(())
+}
+
+/// The sample file with an import whose hint would pass the file.
+fn without_a_hint(alloc: Global) -> Result<Vec<u8>, AllocError> {
+    sample_with(alloc, 0x240, b"\xFF\x10")
+}
+
+#[test]
+fn an_import_without_a_hint_is_told(rt: HostRuntime) -> Result<(), Fail> {
+    let file = without_a_hint(rt.alloc())?;
+    let wanted = Damage {
+        imports: Some(Error::Malformed(Cause::HintEntry(0x2FF))),
+        left_out: LeftOut {
+            libraries: 0,
+            entries: 1,
+        },
+        ..SOUND
+    };
+    assert!(rt; is_told(rt.alloc(), &file, &wanted));
+    Ok(())
+}
+
+#[test]
+fn nothing_is_told_of_imports_that_are_not_asked_for(rt: HostRuntime) -> Result<(), Fail> {
+    let file = without_a_hint(rt.alloc())?;
+    let opts = in_mode(ParseMode::Permissive).with_parse_imports(false);
+    let told = Whole::damage(rt.alloc(), &file, &opts);
+    assert!(rt; matches!(&told, Ok(damage) if is_same(damage, &SOUND)));
+    Ok(())
+}
+
+#[test]
+fn strict_mode_refuses_a_file_for_its_stub_and_for_a_name(rt: HostRuntime) -> Result<(), Fail> {
+    let strict = in_mode(ParseMode::Strict);
+    let file = without_room_for_a_stub(rt.alloc())?;
+    let told = Whole::damage(rt.alloc(), &file, &strict);
+    assert!(rt; matches!(&told, Err(Error::Malformed(Cause::StubBeforeStart(0x10)))));
+    let file = sample_named(rt.alloc(), b"/\xFF\0\0\0\0\0\0")?;
+    let told = Whole::damage(rt.alloc(), &file, &strict);
+    assert!(rt; matches!(&told, Err(Error::Malformed(Cause::NameText))));
+    Ok(())
+}

@@ -3,8 +3,8 @@
 use super::modes::are_wholes;
 use super::sample::{is_export_read, is_header, is_import_data, is_lookup};
 use fixture::sample::{
-    ALIGNMENT, EXPORTS, IMPORTS, LOOKUP, MODES, SAMPLE_LEN, in_mode, put_all, sample,
-    sample_section, sample_with,
+    ALIGNMENT, EXPORTS, IMPORTS, LOOKUP, MODES, in_mode, put, put_all, sample, sample_section,
+    sample_with,
 };
 use goblin_base::{ParseMode, ResultOf};
 use goblin_pe::import::ImportData;
@@ -14,7 +14,7 @@ use goblin_pe::laws::{
 };
 use goblin_pe_sect::ParseOptions;
 use goblin_pe_tables_tests::rows::Short;
-use std::alloc::Global;
+use std::alloc::{AllocError, Global};
 use std::test::Fail;
 
 /// Positions, by where they begin and where they end.
@@ -60,9 +60,12 @@ fn is_in(spans: &[Span], place: usize) -> bool {
         .any(|(begin, end)| *begin <= place && place < *end)
 }
 
-/// Whether both hold the same positions of a file of the sample's length.
+/// More bytes than a file here has.
+const MOST: usize = 0x401;
+
+/// Whether both hold the same positions.
 fn are_the_same(spans: &[Span], want: &[Span]) -> bool {
-    (0..SAMPLE_LEN + 1).all(|place| is_in(spans, place) == is_in(want, place))
+    (0..MOST).all(|place| is_in(spans, place) == is_in(want, place))
 }
 
 fn flip(file: &mut [u8], place: usize) {
@@ -323,6 +326,12 @@ fn the_footprint_of_a_whole_file_is_listed(rt: HostRuntime) -> Result<(), Fail> 
 /// earlier ones lead.
 const CHANGES: &[(&str, usize, &[u8], &[Span])] = &[
     ("another signature", 0x00, b"ZM", &[(0x000, 0x044)]),
+    (
+        "a Terse Executable's signature",
+        0x00,
+        b"VZ",
+        &[(0x000, 0x044)],
+    ),
     ("a pointer past the end", 0x3D, b"\x10", &[(0x000, 0x040)]),
     ("no optional header", 0x54, b"\0", &[(0x000, 0x080)]),
     ("another magic", 0x58, b"\x07", &[(0x000, 0x05A)]),
@@ -334,11 +343,50 @@ const CHANGES: &[(&str, usize, &[u8], &[Span])] = &[
         &[(0x000, 0x2F0)],
     ),
     (
+        "19 sections, 11 in the file",
+        0x46,
+        b"\x13",
+        &[(0x000, 0x2F0)],
+    ),
+    (
         "a name without a number",
         0x138,
         b"/a\0\0\0\0",
         &[(0x000, 0x160)],
     ),
+];
+
+/// Of these the whole file is reached but for other entries of the lookup table and other texts.
+const OF_ANOTHER_LOOKUP: &[Span] = &[
+    (0x000, 0x160),
+    (0x200, 0x228),
+    (0x260, 0x26C),
+    (0x280, 0x286),
+    (0x2A0, 0x2DC),
+    (0x2E0, 0x2E6),
+    (0x2F0, 0x2F2),
+];
+
+/// The first bytes of the sample file, so many, and what is reached of them: the records of the import directory, and the
+/// slots of its lookup table that are whole.
+const CUTS: &[(usize, &[Span])] = &[
+    (0x248, &[(0x000, 0x160), (0x200, 0x228), (0x240, 0x248)]),
+    (0x247, &[(0x000, 0x160), (0x200, 0x228), (0x240, 0x244)]),
+];
+
+/// The first bytes of a file, so many.
+fn cut(file: &[u8], len: usize) -> &[u8] {
+    file.get(..len).unwrap_or(file)
+}
+
+/// Of a file whose bytes from 0x292 on are the letter A, 0x400 in all.
+const OF_LETTERS: &[Span] = &[
+    (0x000, 0x160),
+    (0x200, 0x228),
+    (0x240, 0x24C),
+    (0x260, 0x26C),
+    (0x280, 0x286),
+    (0x290, 0x400),
 ];
 
 /// Of these the whole file is reached as before, and what the bytes lead to.
@@ -368,6 +416,37 @@ fn a_refused_file_is_reached_as_far_as_its_parts_lead(rt: HostRuntime) -> Result
     }
     assert!(rt; is_reached(alloc, b"", &[]));
     assert!(rt; is_reached(alloc, b"MZ", &[(0, 2)]));
+    Ok(())
+}
+
+#[test]
+fn a_lookup_table_in_the_import_directory_is_reached(rt: HostRuntime) -> Result<(), Fail> {
+    let file = sample_with(rt.alloc(), 0x200, b"\0\x10\0\0")?;
+    assert!(rt; is_reached(rt.alloc(), &file, OF_ANOTHER_LOOKUP));
+    Ok(())
+}
+
+#[test]
+fn a_file_that_ends_in_a_lookup_table_is_reached(rt: HostRuntime) -> Result<(), Fail> {
+    let file = sample(rt.alloc())?;
+    for (len, want) in CUTS {
+        assert!(rt; is_reached(rt.alloc(), cut(&file, *len), want), "{len:#x}");
+    }
+    Ok(())
+}
+
+/// The sample file with the letter A from 0x292 on, 0x400 bytes in all.
+fn with_letters(alloc: Global) -> Result<Vec<u8>, AllocError> {
+    let file = sample(alloc)?;
+    let mut letters = vec![in alloc; b'A'; 0x400]?;
+    put(&mut letters, 0, cut(&file, 0x292));
+    Ok(letters)
+}
+
+#[test]
+fn a_text_without_a_nul_is_reached_to_the_end(rt: HostRuntime) -> Result<(), Fail> {
+    let file = with_letters(rt.alloc())?;
+    assert!(rt; is_reached(rt.alloc(), &file, OF_LETTERS));
     Ok(())
 }
 
