@@ -1,5 +1,5 @@
 -- A loop that fills records with the exports of a file from a position on.
-use Rattle.std.proofs.Common.{◌≡◌, ◌⊎◌, ℕ, ◌+◌, ◌<◌, ◌≤◌, List, [], ◌∷◌, ◌++◌, length, drop, set, ap, refl, subst, sym, arith, ◌∙◌, inl, inr}
+use Rattle.std.proofs.Common.{◌≡◌, ◌⊎◌, ℕ, zero, suc, ◌+◌, ◌<◌, ◌≤◌, List, [], ◌∷◌, ◌++◌, length, drop, set, ap, refl, subst, sym, arith, ◌∙◌, inl, inr}
 use Rattle.std.specs.Prelude.{IsSomeAnd, Option, None, Some}
 use Rattle.std.specs.Iterator.{YieldsFirstBy}
 use Rattle.goblin_pe_tables.specs.declared.export.exports.Exports.{Exports}
@@ -13,7 +13,7 @@ use Rattle.goblin_pe.specs.declared.whole.Part.{Part}
 use Rattle.goblin_pe.specs.declared.whole.Part.TheVariants.{Absent, Refused}
 use Rattle.goblin_pe.specs.declared.whole.Part.TheVariants as part
 use Rattle.goblin_pe_c.specs.declared.export.PeExport.{PeExport}
-use Rattle.goblin_pe_c.specs.Batches.{GivesExports, IsBatch, IsUnread, exports_in}
+use Rattle.goblin_pe_c.specs.Batches.{GivesExports, IsBatch, exports_in}
 use Rattle.goblin_pe_c.specs.Exports.{export_said, export_view}
 use Rattle.goblin_pe_c.proofs.Batches.{AtBatch, batch-end, batch-more, batch-start, left-after, one-after}
 
@@ -94,22 +94,31 @@ module _ (m : MapOfAddresses) (places : TablePlaces) (bytes : List ℕ) (found :
         ap (λ (n : MapOfAddresses). numbered_from (offset_of n) walk.bytes.now (walked_tables walk) y) over.0.1
         ∙ ap (λ (b : List ℕ). numbered_from (offset_of m) b (walked_tables walk) y) over.0.0
 
+    -- what comes from the position that is left
+    later-there : (now next : Exports) (y : ℕ) → KeepsOver walk now → KeepsOver now next → (from count : ℕ)
+        → exports_left next ≡ drop count (numbered_from (offset_of m) bytes (walked_tables walk) from)
+        → (0 < count → exports_left next ≡ exports_at next y) → (count ≡ 0 → y ≡ from)
+        → numbered_from (offset_of m) bytes (walked_tables walk) y ≡ drop count (numbered_from (offset_of m) bytes (walked_tables walk) from)
+    later-there now next y over_now over_next from zero later at stays =
+        ap (λ (z : ℕ). numbered_from (offset_of m) bytes (walked_tables walk) z) (stays refl)
+    later-there now next y over_now over_next from (suc count) later at stays =
+        sym (at (omega arith) ∙ at-over now next y over_next ∙ at-over walk now y over_now ∙ from-there y) ∙ later
+
     pub exports-given : (now next : Exports) (y count : ℕ) (new : List PeExport) → exports_left now ≡ exports_at walk x → KeepsOver walk now
         → IsBatch export_view export_said (exports_left now) old new count → exports_left next ≡ drop count (exports_left now)
-        → KeepsOver now next → exports_left next ≡ exports_at next y
+        → KeepsOver now next → (0 < count → exports_left next ≡ exports_at next y) → (count ≡ 0 → y ≡ x)
         → GivesExports m places bytes (record { position = x; records = old }) (record { position = y; records = new }) count
     unfolding part_map
-    exports-given now next y count new begun over_now batch later over_next at =
+    exports-given now next y count new begun over_now batch later over_next at stays =
         let left : exports_left now ≡ numbered_from (offset_of m) bytes (walked_tables walk) x = begun ∙ from-there x in
-        let rest : numbered_from (offset_of m) bytes (walked_tables walk) y ≡ exports_left next =
-        sym (at ∙ at-over now next y over_next ∙ at-over walk now y over_now ∙ from-there y) in
+        let rest = later-there now next y over_now over_next x count (later ∙ ap (λ (items : List NumberedExport). drop count items) left) at stays in
         let value : (export_part m.opts (offset_of m) places).value bytes ≡ Some (part.Read (walked_exports walk)) =
         read ∙ ap (λ (p : Part Exports). Some (part_map walked_exports p)) is in
         subst (λ (v : Option (Part (ExportTables × List ExportRow))). IsSomeAnd v (λ p.
         IsBatch export_view export_said (exports_in m bytes x p) old new count
         × (exports_in m bytes y p ≡ drop count (exports_in m bytes x p))
-        × (IsUnread p → y ≡ x))) (sym value)
-        (subst (λ (items : List NumberedExport). IsBatch export_view export_said items old new count) left batch, rest ∙ later ∙ ap (λ (items : List NumberedExport). drop count items) left, λ unread. absurd unread)
+        × (count ≡ 0 → y ≡ x))) (sym value)
+        (subst (λ (items : List NumberedExport). IsBatch export_view export_said items old new count) left batch, rest, stays)
 
   nothing : (p : Part (ExportTables × List ExportRow)) → exports_in m bytes x p ≡ []
       → (export_part m.opts (offset_of m) places).value bytes ≡ Some p
@@ -119,8 +128,8 @@ module _ (m : MapOfAddresses) (places : TablePlaces) (bytes : List ℕ) (found :
       subst (λ (v : Option (Part (ExportTables × List ExportRow))). IsSomeAnd v (λ p.
       IsBatch export_view export_said (exports_in m bytes x p) old old 0
       × (exports_in m bytes x p ≡ drop 0 (exports_in m bytes x p))
-      × (IsUnread p → x ≡ x))) (sym is)
-      (subst (λ (items : List NumberedExport). IsBatch export_view export_said items old old 0) (sym none) batch, refl, λ unread. refl)
+      × (◌≡◌ {A = ℕ} 0 0 → x ≡ x))) (sym is)
+      (subst (λ (items : List NumberedExport). IsBatch export_view export_said items old old 0) (sym none) batch, refl, λ none. refl)
 
   pub exports-none : (found ≡ Absent) ⊎ (found ≡ Refused)
       → GivesExports m places bytes (record { position = x; records = old }) (record { position = x; records = old }) 0

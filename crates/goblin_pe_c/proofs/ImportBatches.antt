@@ -139,8 +139,9 @@ module _ (m : MapOfAddresses) (places : TablePlaces) (bytes : List ℕ) (p q : P
       IsBatch import_view import_said (values_before left) records records 0
       × (imports_from m places bytes q ≡ Some (drop 0 left))
       × (IsRefusedNext left → length records ≡ 0)
-      × (IsEnd left records 0 → q ≡ position_numbers None))) (sym here)
-      (subst (λ (values : List ImportValue). IsBatch import_view import_said values records records 0) (sym (before-end [] refl)) batch, none-after records refl here, λ refused. absurd refused, λ end. asked end.1)
+      × (IsEnd left records 0 → q ≡ position_numbers None)
+      × (length records ≡ 0 → q ≡ p))) (sym here)
+      (subst (λ (values : List ImportValue). IsBatch import_view import_said values records records 0) (sym (before-end [] refl)) batch, none-after records refl here, λ refused. absurd refused, λ end. asked end.1, unasked)
 
   none-by : (start : Option (Part (Option ImportPosition))) → start_value m places bytes p ≡ start → (found : Part FileImports)
       → IsSomeAnd start (λ s. PartGives m places.magic bytes s found) → (found ≡ Absent) ⊎ (found ≡ Refused)
@@ -184,6 +185,7 @@ module _ (m : MapOfAddresses) (places : TablePlaces) (bytes : List ℕ) (start :
     pub later : imports_from m places bytes p ≡ Some (drop count (file_imports_left start))
     pub next : IsRefusedNext (file_imports_left start) → length old ≡ 0
     pub ended : IsEnd (file_imports_left start) old count → p ≡ position_numbers None
+    pub stays : length old ≡ 0 → p ≡ from
 
   module _ (now : FileImports) (p : PeImportPosition) (records : List PeImport) (count : ℕ) (h : AtImports now p records count) where
     pub imports-more : (x : WalkedImport) (next : FileImports) (q : PeImportPosition) (r : PeImport) → GivesFileImport now (Some (Ok x)) next
@@ -203,8 +205,8 @@ module _ (m : MapOfAddresses) (places : TablePlaces) (bytes : List ℕ) (start :
     all-given : (q : PeImportPosition) (rest : List (Option ImportValue)) → file_imports_left now ≡ rest
         → imports_from m places bytes q ≡ Some rest → (length old ≤ count) ⊎ (values_before rest ≡ [])
         → (count ≡ 0 → IsRefusedNext rest → length old ≡ 0) → (rest ≡ [] → count < length old → q ≡ position_numbers None)
-        → AreGiven q records count
-    all-given q rest is comes why begun ends =
+        → (length old ≡ 0 → q ≡ from) → AreGiven q records count
+    all-given q rest is comes why begun ends stays =
         let left : file_imports_left start ≡ map (λ x. Some x) h.values ++ rest =
         h.walk.yielded ∙ ap (λ (items : List (Option ImportValue)). map (λ x. Some x) h.values ++ items) is in
         let some : ImportValue → Option ImportValue = λ x. Some x in
@@ -216,6 +218,7 @@ module _ (m : MapOfAddresses) (places : TablePlaces) (bytes : List ℕ) (start :
               (left-after (map some h.values) rest (file_imports_left start) count counted left);
           next = refused h.values refl left;
           ended = λ end. ends (left-after (map some h.values) rest (file_imports_left start) count counted left ∙ end.0) end.1;
+          stays = stays;
         }
       where
         refused : (values : List ImportValue) → h.values ≡ values → file_imports_left start ≡ map (λ x. Some x) h.values ++ rest
@@ -228,20 +231,29 @@ module _ (m : MapOfAddresses) (places : TablePlaces) (bytes : List ℕ) (start :
             let here : file_imports_left start ≡ map (λ x. Some x) (x ∷ xs) ++ rest = left ∙ ap (λ (xs : List ImportValue). map (λ x. Some x) xs ++ rest) some in
             absurd (subst (λ (items : List (Option ImportValue)). IsRefusedNext items) here first)
 
+    -- without room nothing has come
+    stay : length old ≡ 0 → p ≡ from
+    stay none =
+        let fits = h.at.fits in
+        h.first (omega (arith, fits, none))
+
     -- there is no more room
     pub imports-full : length records ≤ count → AreGiven p records count
     imports-full full =
         let same = h.at.same in
         all-given p (file_imports_left now) refl h.goes.left (inl (omega (arith, full, same)))
         (λ none refused. omega (arith, full, same, none)) (λ none within. absurd (omega (arith, full, same, within)))
+        (λ none. stay none)
 
     -- nothing more comes
     pub imports-end : (next : FileImports) (q : PeImportPosition) → GivesFileImport now None next → GoesOn m places bytes q next
-        → q ≡ position_numbers None → AreGiven q records count
-    imports-end next q given goes numbers =
+        → q ≡ position_numbers None → count < length records → AreGiven q records count
+    imports-end next q given goes numbers within =
+        let same = h.at.same in
         let none = (file-given now None next given).0 in
         all-given q [] none.0 (goes.left ∙ ap (λ (items : List (Option ImportValue)). Some items) none.1) (inr (before-end [] refl))
         (λ first refused. absurd refused) (λ none within. numbers)
+        (λ none. absurd (omega (arith, same, within, none)))
 
     -- a refusal comes after something
     pub imports-refused : (e : ErrorOf) (next : FileImports) → GivesFileImport now (Some (Err e)) next → count ≢ 0
@@ -250,6 +262,7 @@ module _ (m : MapOfAddresses) (places : TablePlaces) (bytes : List ℕ) (start :
         let one = (file-given now (Some (Err e)) next given).0 in
         all-given p (None ∷ []) one.0 (h.goes.left ∙ ap (λ (items : List (Option ImportValue)). Some items) one.0)
         (inr (before-refused (None ∷ []) refl)) (λ none refused. absurd (some none)) (λ none within. absurd (cc none))
+        (λ none. stay none)
 
     -- a refusal comes first
     pub record IsRefused (e : ErrorOf) : Type 0 where

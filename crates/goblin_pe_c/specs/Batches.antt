@@ -110,7 +110,7 @@ pub record ImportBatch : Type 0 where
 
 -- The records hold the imports from the old position on, up to a refusal, and from the new one on
 -- come the others; the very next is no refusal, if there is room for any. Where nothing is left, and
--- there is room for more, the new position is the end.
+-- there is room for more, the new position is the end; without room the position stays.
 abbrev pub GivesImports : MapOfAddresses → TablePlaces → List ℕ → ImportBatch → ImportBatch → ℕ
     → Type 0
 GivesImports m places bytes old new count =
@@ -118,7 +118,8 @@ GivesImports m places bytes old new count =
     IsBatch import_view import_said (values_before left) old.records new.records count
     × (imports_from m places bytes new.position ≡ Some (drop count left))
     × (IsRefusedNext left → length old.records ≡ 0)
-    × (IsEnd left old.records count → new.position ≡ position_numbers None))
+    × (IsEnd left old.records count → new.position ≡ position_numbers None)
+    × (length old.records ≡ 0 → new.position ≡ old.position))
 
 -- The start of the imports is refused, or else the very next import, and there is room for it.
 abbrev pub IsImportsFault : MapOfAddresses → TablePlaces → List ℕ → ImportBatch → ErrorOf → Type 0
@@ -152,14 +153,8 @@ pub record ExportBatch : Type 0 where
   pub position : ℕ
   pub records : List PeExport
 
--- there is no table, or it is refused and passed over
-abbrev pub IsUnread : {A : Type 0} → Part A → Type 0
-IsUnread Absent = ⊤
-IsUnread (part.Read x) = ⊥
-IsUnread Refused = ⊤
-
 -- The records hold the exports from the old position on, and from the new one on come the others.
--- Where no table is read, the position stays.
+-- Where there are none, the position stays.
 abbrev pub GivesExports : MapOfAddresses → TablePlaces → List ℕ → ExportBatch → ExportBatch → ℕ
     → Type 0
 GivesExports m places bytes old new count =
@@ -167,7 +162,7 @@ GivesExports m places bytes old new count =
     let left = exports_in m bytes old.position p in
     IsBatch export_view export_said left old.records new.records count
     × (exports_in m bytes new.position p ≡ drop count left)
-    × (IsUnread p → new.position ≡ old.position))
+    × (count ≡ 0 → new.position ≡ old.position))
 
 -- the export directory is refused
 abbrev pub IsExportsFault : MapOfAddresses → TablePlaces → List ℕ → ErrorOf → Type 0

@@ -296,8 +296,8 @@ fn put_text(text: &mut [u8], whole: &[u8]) -> usize
 }
 
 /// Writes the text of the refusal with these numbers, as far as there is room, and answers how long
-/// the whole text is; 0 where the numbers are of no refusal. A text that is too long for a line or
-/// two is cut first, and then ends in three dots. It takes no memory.
+/// the whole text is; 0 where the numbers are of no refusal. The whole text is the refusal's, or one
+/// that was cut and ends in three dots. It takes no memory.
 #[unsafe(no_mangle)]
 pub extern "C" fn goblin_pe_raw_fault_text(fault: &PeFault, text: &mut [u8]) -> usize
     ensures { (whole : List ℕ) × IsTextOf fault.now whole × (result ≡ length whole)

@@ -3,7 +3,7 @@
 ghost use Rattle.std.specs.Prelude.{◌≡◌, ◌<◌, IfErr, MatchResult, Some, drop, length};
 ghost use Rattle.goblin_base.specs.Answers.{IsMemory};
 ghost use Rattle.goblin_pe_tables.specs.Addresses.{offset_of};
-ghost use Rattle.goblin_pe_tables.specs.ExportWalks.{KeepsOver, exports_left};
+ghost use Rattle.goblin_pe_tables.specs.ExportWalks.{KeepsOver, exports_at, exports_left};
 ghost use Rattle.goblin_pe.specs.Layouts.{IsFileImportsCause, file_imports_left, layout_map};
 ghost use Rattle.goblin_pe.specs.Layouts.{layout_places};
 ghost use Rattle.goblin_pe.specs.LayoutPositions.{StartsAt, import_start};
@@ -102,7 +102,8 @@ fn fill_imports<'a, 'm, 'e>(
         (λ count. IsBatch import_view import_said (values_before left) records.old records.new count
         × (imports_from m places bytes position.new ≡ Some (drop count left))
         × (IsRefusedNext left → length records.old ≡ 0)
-        × (IsEnd left records.old count → position.new ≡ position_numbers None))
+        × (IsEnd left records.old count → position.new ≡ position_numbers None)
+        × (length records.old ≡ 0 → position.new ≡ position.old))
         (λ e. IsRefusedNext left × IsFileImportsCause imports.entry e × (0 < length records.old)
         × (records.new ≡ records.old) × (position.new ≡ position.old)) }
     ensures refused { IfErr result (λ e. ¬ IsMemory e) }
@@ -206,6 +207,18 @@ fn fill_exports<'a, 'm>(
     count
 }
 
+// The position after so many exports; it stays where none came.
+fn position_after(position: usize, exports: &Exports, count: usize) -> usize
+    ensures stays { count ≡ 0 → result ≡ position }
+    ensures later { 0 < count → exports_left exports.now ≡ exports_at exports.now result }
+{
+    if count == 0 {
+        position
+    } else {
+        exports.position()
+    }
+}
+
 // Fills records with the exports of a file that come next, and answers how many.
 fn next_exports<'a>(
     layout: &Layout<'a, '_>,
@@ -224,7 +237,7 @@ fn next_exports<'a>(
         Part::Read(exports) => {
             let mut exports = exports.from_position(*position);
             let count = fill_exports(layout.bytes(), &mut exports, records);
-            *position = exports.position();
+            *position = position_after(*position, &exports, count);
             Ok(count)
         }
         Part::Absent | Part::Refused => Ok(0),
@@ -257,7 +270,8 @@ fn give_exports<'a>(
 /// says in `count` how many, and leaves in `position` where the next call goes on. With room for
 /// any, a `count` of 0 is the end. Zeros are the position of the first import; a file without an
 /// import directory, or imports that are not asked for, have none. Where nothing is left, and there
-/// is room for more, the position's `record` is then the greatest number, and its `slot` 0.
+/// is room for more, the position's `record` is then the greatest number, and its `slot` 0; without
+/// room the position stays.
 ///
 /// Refused, with nothing changed, are a header or sections that the options refuse; in strict mode
 /// an import directory whose address has no offset, if the position is the first; and in strict
@@ -292,9 +306,9 @@ pub extern "C" fn goblin_pe_raw_next_imports<'a>(
 
 /// Fills `records` with the exports of a file from a position on, as many as there is room for,
 /// says in `count` how many, and leaves in `position` where the next call goes on: the index of the
-/// name pointer that is read next, at first 0. With room for any, a `count` of 0 is the end. A file
-/// without an export directory, and in permissive mode one whose directory is refused, has none; the
-/// position then stays.
+/// name pointer that is read next, at first 0. With room for any, a `count` of 0 is the end; the
+/// position then stays. A file without an export directory, and in permissive mode one whose
+/// directory is refused, has none.
 ///
 /// Refused, with nothing changed, are a header or sections that the options refuse, and in strict
 /// mode the export directory. Memory as for

@@ -29,7 +29,7 @@ returns-in-Some-Err-2-clause-filled c =
     let next = c.next.new.self in
     let is = subst (λ (r : Result WalkedImport ErrorOf). GivesFileImport now (Some r) next) c.in-Some-Err.field-0-is c.in-Some-Err.ensures.steps in
     let given = imports-refused (layout_map l) (layout_places l) l.bytes.now c.args.imports c.args.position.now c.args.records.now now c.imports.position c.imports.records c.imports.count c.imports.invariant c.in-Some-Err.error next is c.if-count-eq0.false in
-    (given.batch, given.later, given.next, given.ended)
+    (given.batch, given.later, given.next, given.ended, given.stays)
 
 pub returns-in-None-clause-filled : goal.returns-in-None-clause-filled
 returns-in-None-clause-filled c =
@@ -41,11 +41,11 @@ returns-in-None-clause-filled c =
     let kept = file-kept m places.magic l.bytes.now now None next c.in-None.ensures.steps c.imports.invariant.goes.walk in
     let none = (file-given now None next c.in-None.ensures.steps).0 in
     let goes = goes-end m places l.bytes.now c.position_record-in-None.result next kept.0 c.imports.invariant.goes.asked none.1 c.position_record-in-None.ensures in
-    let given = imports-end m places l.bytes.now c.args.imports c.args.position.now c.args.records.now now c.imports.position c.imports.records c.imports.count c.imports.invariant next c.position_record-in-None.result c.in-None.ensures.steps goes c.position_record-in-None.ensures in
-    (given.batch, given.later, given.next, given.ended)
+    let given = imports-end m places l.bytes.now c.args.imports c.args.position.now c.args.records.now now c.imports.position c.imports.records c.imports.count c.imports.invariant next c.position_record-in-None.result c.in-None.ensures.steps goes c.position_record-in-None.ensures c.imports-test.true in
+    (given.batch, given.later, given.next, given.ended, given.stays)
 
 pub returns-clause-filled : goal.returns-clause-filled
 returns-clause-filled c =
     let l = c.args.layout.now in
     let given = imports-full (layout_map l) (layout_places l) l.bytes.now c.args.imports c.args.position.now c.args.records.now c.imports.imports c.imports.position c.imports.records c.imports.count c.imports.invariant c.imports-test.false in
-    (given.batch, given.later, given.next, given.ended)
+    (given.batch, given.later, given.next, given.ended, given.stays)
