@@ -117,6 +117,12 @@ class Loader(Case):
             "FRUIT.DLL Elder: 0x180013050 in the slot at 0x2070", "FRUIT.DLL #10: 0x180013010 in the slot at 0x2078",
             "FRUIT.DLL #11: 0x180013020 in the slot at 0x2080", "FRUIT.DLL Apple: 0x180013010 in the slot at 0x2088"])
 
+    def test_a_library_without_names(self):
+        self.library.write_bytes(images.library(b"fruit.dll", [(None, 0x3010), (None, 0x3020)], base=5))
+        self.assert_resolves([(b"fruit.dll", [6, 5, b"Apple", 7])], 1, [
+            "fruit.dll #6: 0x180013020 in the slot at 0x2068", "fruit.dll #5: 0x180013010 in the slot at 0x2070",
+            "fruit.dll Apple: not exported", "fruit.dll #7: not exported"])
+
     def test_forwarders_are_told(self):
         self.assert_resolves([(b"fruit.dll", [b"Cherry", 13])], 0, [
             "fruit.dll Cherry: forwarded to other.Pear", "fruit.dll #13: forwarded to other.#7"])

@@ -194,7 +194,7 @@ class Rows:
     def section(self, s: records.Section) -> Section:
         """The row of a section."""
         name = self.text(s.real_name) if s.has_real_name else bytes(s.name).split(b"\0")[0]
-        return Section(name, *(getattr(s, field) for field in Section._fields[1:-1]), bytes(s.name))
+        return Section._make((name, *(getattr(s, field) for field in Section._fields[1:-1]), bytes(s.name)))
 
     def imported(self, x: records.Import) -> Import:
         """The row of an import."""
@@ -220,4 +220,5 @@ class Rows:
     def symbol(self, s: records.NamedSymbol) -> Symbol:
         """The row of a symbol."""
         name = self.text(s.name) if s.has_name else None
-        return Symbol(s.index, name, *(getattr(s.symbol, field) for field in Symbol._fields[2:-1]), self.text(s.auxiliary))
+        numbers = (getattr(s.symbol, field) for field in Symbol._fields[2:-1])
+        return Symbol._make((s.index, name, *numbers, self.text(s.auxiliary)))
