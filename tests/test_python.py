@@ -39,12 +39,16 @@ def is_out_of_memory(error: Refused) -> bool:
     return error.status == Status.NO_MEMORY
 
 """
-READS_BUFFERS = """import mmap, goblin_pe
+READS_BUFFERS = """import array, ctypes, mmap, pickle, goblin_pe
 data = bytearray(b"VZ")
-with mmap.mmap(-1, 2) as mapped, mmap.mmap(-1, 2, access=mmap.ACCESS_READ) as read_only:
-    for buffer, is_held in ((bytes(data), 0), (memoryview(bytes(data)), 0), (read_only, 0), (data, 1), (memoryview(data), 1),
-                            (memoryview(data).toreadonly(), 1), (mapped, 1)):
-        assert goblin_pe.Te(buffer).header.signature == is_held, buffer
+mapped, read_only = mmap.mmap(-1, 2), mmap.mmap(-1, 2, access=mmap.ACCESS_READ)
+free = [bytes(data), memoryview(bytes(data)), memoryview(memoryview(bytes(data))), read_only, memoryview(read_only)]
+writable = [data, array.array("B", data), (ctypes.c_char * 2)(), mapped]
+views = [memoryview(it).cast("B").toreadonly() for it in writable]
+views += [pickle.PickleBuffer(it) for it in views]
+for buffers, is_held in (free, 0), (writable, 1), (views, 1), ([memoryview(it) for it in views], 1):
+    for it in buffers:
+        assert goblin_pe.Te(it).header.signature == is_held, it
 """
 
 

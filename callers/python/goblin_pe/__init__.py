@@ -16,10 +16,13 @@ relocations, objects with their symbols, and Terse Executables.
 `python -m goblin_pe FILE` lists a file, and with --json many of them.
 
 Pe, ObjectFile and Te read bytes, a memoryview, a mapped file or any other buffer that lies in one piece, and copy
-none of it; Options say how. The bytes must not change meanwhile: no thread of Python runs while bytes are read into
-which one could write, as those of a bytearray; else threads run on. What was read is Python's own: it stays when the
-buffer is gone. Texts are bytes. Addresses (rva) are relative to the image's base, offsets are file offsets, both in
-bytes. `kind` tells what a file is.
+none of it; Options say how. What was read is Python's own: it stays when the buffer is gone. Texts are bytes. Addresses
+(rva) are relative to the image's base, offsets are file offsets, both in bytes. `kind` tells what a file is.
+
+The bytes must not change while the library reads them. Other threads of Python run on meanwhile only where the bytes are
+those of a `bytes` object or of a file mapped with ACCESS_READ, or of a memoryview of these. No thread of Python runs
+while it reads any other buffer, as a bytearray or a writable mapping: also not where the buffer is a view for reading,
+since its bytes could be written past it. A mapped file must not be written or cut meanwhile, by whatever way.
 
 A file of 256 KiB can have more than 100 million imports. Where memory can't be limited, read it by
 Options(parse_imports=False) and use Pe.walk_imports, which keeps none of them.

@@ -110,18 +110,23 @@ _release_buffer.restype, _release_buffer.argtypes = None, [c.POINTER(_Buffer)]
 
 
 def _is_writable(view: memoryview) -> bool:
-    # whether the bytes can be written into, be it past this view of them; so it is where nobody can tell
-    try:
-        with memoryview(view.obj) as owner:
-            return not (view.readonly and owner.readonly)
-    except TypeError:
-        return True
+    # whether a thread could write into the bytes, be it past this view of them: the owner of the bytes tells. Only bytes
+    # and a file that is mapped for reading are known never to let it; a view that another library makes may be for
+    # reading, and its bytes not.
+    owner = view.obj
+    while isinstance(owner, memoryview):
+        owner = owner.obj
+    if isinstance(owner, mmap.mmap):
+        with memoryview(owner) as whole:
+            return not whole.readonly
+    return not isinstance(owner, bytes)
 
 
 @contextlib.contextmanager
 def held(view: memoryview) -> Iterator[Tuple[c.CDLL, int, int]]:
     """The calls to make with the bytes of a buffer, their address and their length. The bytes are not copied, and stay
-    where they are meanwhile. Where a thread could write into them, the calls let none run."""
+    where they are meanwhile. Where a thread could write into them, be it past this view of them, the calls let none
+    run."""
     buffer = _Buffer()
     _get_buffer(view, c.byref(buffer), 0)
     try:
