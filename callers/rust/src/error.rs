@@ -41,6 +41,12 @@ impl Error {
     }
 
     /// What kind of refusal it is.
+    ///
+    /// ```no_run
+    /// # let bytes = [];
+    /// let error = goblin_pe::Te::read(&bytes).unwrap_err();
+    /// let is_out_of_memory = error.kind() == goblin_pe::ErrorKind::Memory;
+    /// ```
     pub fn kind(&self) -> ErrorKind {
         ErrorKind::try_from(self.0.status).unwrap_or(ErrorKind::Unknown)
     }
@@ -58,16 +64,34 @@ impl Error {
     }
 
     /// What is wrong with the file, where the kind is [`ErrorKind::Malformed`].
+    ///
+    /// ```no_run
+    /// # let bytes = [];
+    /// let refused = goblin_pe::Pe::read(&bytes, &goblin_pe::Options::default()).err();
+    /// let is_image = refused.and_then(|it| it.named_cause()) != Some(goblin_pe::Cause::DosMagic);
+    /// ```
     pub fn named_cause(&self) -> Option<Cause> {
         self.named(ErrorKind::Malformed)
     }
 
     /// What the file is too short for, where the kind is [`ErrorKind::BufferTooShort`].
+    ///
+    /// ```no_run
+    /// # let bytes = [];
+    /// let error = goblin_pe::Te::read(&bytes).unwrap_err();
+    /// println!("too short for {:?}", error.counted());
+    /// ```
     pub fn counted(&self) -> Option<Counted> {
         self.named(ErrorKind::BufferTooShort)
     }
 
     /// Why a read was refused, where the kind is [`ErrorKind::Read`].
+    ///
+    /// ```no_run
+    /// # let bytes = [];
+    /// let error = goblin_pe::Te::read(&bytes).unwrap_err();
+    /// let is_cut = error.read_fault().is_some();
+    /// ```
     pub fn read_fault(&self) -> Option<ReadFault> {
         self.named(ErrorKind::Read)
     }

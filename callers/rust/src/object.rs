@@ -35,6 +35,13 @@ impl<'a> Object<'a> {
     ///
     /// # Errors
     /// Why it was refused.
+    ///
+    /// ```no_run
+    /// # let bytes = [];
+    /// let object = goblin_pe::Object::read(&bytes, &goblin_pe::Options::default())?;
+    /// println!("{object:?}");
+    /// # Ok::<(), goblin_pe::Error>(())
+    /// ```
     pub fn read(bytes: &'a [u8], options: &Options) -> Result<Object<'a>, Error> {
         let mut object = raw::Object::default();
         Error::test(raw::read_object(bytes, options, &mut object, &mut []))?;
@@ -48,11 +55,25 @@ impl<'a> Object<'a> {
     }
 
     /// The COFF header.
+    ///
+    /// ```no_run
+    /// # let bytes = [];
+    /// let object = goblin_pe::Object::read(&bytes, &goblin_pe::Options::default())?;
+    /// let is_for_x64 = object.coff_header().machine == 0x8664;
+    /// # Ok::<(), goblin_pe::Error>(())
+    /// ```
     pub fn coff_header(&self) -> &CoffHeader {
         &self.object.coff_header
     }
 
     /// The sections.
+    ///
+    /// ```no_run
+    /// # let bytes = [];
+    /// let object = goblin_pe::Object::read(&bytes, &goblin_pe::Options::default())?;
+    /// let names: Vec<_> = object.sections().map(|s| s.name).collect();
+    /// # Ok::<(), goblin_pe::Error>(())
+    /// ```
     pub fn sections(&self) -> Sections<'_, 'a> {
         let size = usize::from(self.object.coff_header.size_of_optional_header);
         Sections::at(self.bytes, COFF_HEADER + size, &self.sections)
@@ -74,6 +95,13 @@ impl<'a> Object<'a> {
     ///
     /// # Errors
     /// A file that is too short for the symbol table or its string table.
+    ///
+    /// ```no_run
+    /// # let bytes = [];
+    /// let object = goblin_pe::Object::read(&bytes, &goblin_pe::Options::default())?;
+    /// let undefined = object.symbols()?.filter(|it| it.section_number == 0).count();
+    /// # Ok::<(), goblin_pe::Error>(())
+    /// ```
     pub fn symbols(&self) -> Result<Symbols<'a>, Error> {
         Symbols::of(self.bytes, self.coff_header())
     }

@@ -79,21 +79,49 @@ impl<'a> Pe<'a> {
     }
 
     /// The DOS header.
+    ///
+    /// ```no_run
+    /// # let bytes = [];
+    /// let pe = goblin_pe::Pe::read(&bytes, &goblin_pe::Options::default())?;
+    /// println!("the PE signature stands at {:#x}", pe.dos_header().pe_pointer);
+    /// # Ok::<(), goblin_pe::Error>(())
+    /// ```
     pub fn dos_header(&self) -> &DosHeader {
         &self.file.dos_header
     }
 
     /// The COFF header.
+    ///
+    /// ```no_run
+    /// # let bytes = [];
+    /// let pe = goblin_pe::Pe::read(&bytes, &goblin_pe::Options::default())?;
+    /// let is_library = pe.coff_header().characteristics & 0x2000 != 0;
+    /// # Ok::<(), goblin_pe::Error>(())
+    /// ```
     pub fn coff_header(&self) -> &CoffHeader {
         &self.file.coff_header
     }
 
     /// The optional header; `None` where the file has none, and then it has no tables.
+    ///
+    /// ```no_run
+    /// # let bytes = [];
+    /// let pe = goblin_pe::Pe::read(&bytes, &goblin_pe::Options::default())?;
+    /// let subsystem = pe.optional_header().map(|it| it.windows_fields.subsystem);
+    /// # Ok::<(), goblin_pe::Error>(())
+    /// ```
     pub fn optional_header(&self) -> Option<&OptionalHeader> {
         (self.file.coff_header.size_of_optional_header != 0).then_some(&self.file.optional_header)
     }
 
     /// The Rich header; `None` where the file has none.
+    ///
+    /// ```no_run
+    /// # let bytes = [];
+    /// let pe = goblin_pe::Pe::read(&bytes, &goblin_pe::Options::default())?;
+    /// let key = pe.rich_header().map(|it| it.key);
+    /// # Ok::<(), goblin_pe::Error>(())
+    /// ```
     pub fn rich_header(&self) -> Option<RichHeader> {
         let rich = &self.file.rich_header;
         rich.is_present.then_some(RichHeader {
@@ -121,6 +149,15 @@ impl<'a> Pe<'a> {
 
     /// Why the rest that follows the entries of the Rich header is no entry; `None` where there is
     /// no rest.
+    ///
+    /// ```no_run
+    /// # let bytes = [];
+    /// let pe = goblin_pe::Pe::read(&bytes, &goblin_pe::Options::default())?;
+    /// if let Some(error) = pe.rich_rest() {
+    ///     println!("{} entries, then {error}", pe.rich_entries().len());
+    /// }
+    /// # Ok::<(), goblin_pe::Error>(())
+    /// ```
     pub fn rich_rest(&self) -> Option<Error> {
         Error::of(self.file.rich_header.rest)
     }
@@ -142,6 +179,15 @@ impl<'a> Pe<'a> {
 
     /// The data directories that are there, as pairs (index, directory), by rising index; an index
     /// below 15 is that of a [`DirectoryType`].
+    ///
+    /// ```no_run
+    /// # let bytes = [];
+    /// let pe = goblin_pe::Pe::read(&bytes, &goblin_pe::Options::default())?;
+    /// for (index, directory) in pe.data_directories() {
+    ///     println!("{index}: {} bytes at {:#x}", directory.size, directory.virtual_address);
+    /// }
+    /// # Ok::<(), goblin_pe::Error>(())
+    /// ```
     pub fn data_directories(&self) -> DataDirectories<'_> {
         DataDirectories(self.directory_records().iter().enumerate())
     }
@@ -152,6 +198,13 @@ impl<'a> Pe<'a> {
     }
 
     /// The sections.
+    ///
+    /// ```no_run
+    /// # let bytes = [];
+    /// let pe = goblin_pe::Pe::read(&bytes, &goblin_pe::Options::default())?;
+    /// let size: u64 = pe.sections().map(|s| u64::from(s.size_of_raw_data)).sum();
+    /// # Ok::<(), goblin_pe::Error>(())
+    /// ```
     pub fn sections(&self) -> Sections<'_, 'a> {
         let table = section_table(&self.file.dos_header, &self.file.coff_header);
         Sections::at(self.bytes, table, self.section_records())
@@ -175,6 +228,13 @@ impl<'a> Pe<'a> {
     }
 
     /// How the imports stand.
+    ///
+    /// ```no_run
+    /// # let bytes = [];
+    /// let pe = goblin_pe::Pe::read(&bytes, &goblin_pe::Options::default())?;
+    /// println!("{:?}: {} imports", pe.import_table(), pe.imports().len());
+    /// # Ok::<(), goblin_pe::Error>(())
+    /// ```
     pub fn import_table(&self) -> Part {
         Part::from(self.file.imports)
     }
@@ -221,6 +281,13 @@ impl<'a> Pe<'a> {
     }
 
     /// How the exports stand.
+    ///
+    /// ```no_run
+    /// # let bytes = [];
+    /// let pe = goblin_pe::Pe::read(&bytes, &goblin_pe::Options::default())?;
+    /// println!("{:?}: {} exports", pe.export_table(), pe.exports().len());
+    /// # Ok::<(), goblin_pe::Error>(())
+    /// ```
     pub fn export_table(&self) -> Part {
         Part::from(self.file.exports)
     }
@@ -239,6 +306,15 @@ impl<'a> Pe<'a> {
     }
 
     /// A walk over the exports, in constant memory, which reads the file as it goes on.
+    ///
+    /// ```no_run
+    /// # let bytes = [];
+    /// let pe = goblin_pe::Pe::read(&bytes, &goblin_pe::Options::default())?;
+    /// for export in pe.walk_exports() {
+    ///     println!("{}", export?.name.unwrap_or_default());
+    /// }
+    /// # Ok::<(), goblin_pe::Error>(())
+    /// ```
     pub fn walk_exports(&self) -> WalkExports<'a> {
         WalkExports::of(self.bytes, self.options)
     }
@@ -278,6 +354,13 @@ impl<'a> Pe<'a> {
 
     /// The entries of the export address table, by rising ordinals; an address of 0 is that of an ordinal
     /// that is not used.
+    ///
+    /// ```no_run
+    /// # let bytes = [];
+    /// let pe = goblin_pe::Pe::read(&bytes, &goblin_pe::Options::default())?;
+    /// let used = pe.export_addresses().filter(|it| it.rva != 0).count();
+    /// # Ok::<(), goblin_pe::Error>(())
+    /// ```
     pub fn export_addresses(&self) -> ExportAddresses<'_> {
         let base = self.ordinal_base();
         let records = self.tables.export_addresses.get();
@@ -289,6 +372,13 @@ impl<'a> Pe<'a> {
     }
 
     /// The record of the exports; `None` where these were not read.
+    ///
+    /// ```no_run
+    /// # let bytes = [];
+    /// let pe = goblin_pe::Pe::read(&bytes, &goblin_pe::Options::default())?;
+    /// let name = pe.export_directory().and_then(|it| it.name);
+    /// # Ok::<(), goblin_pe::Error>(())
+    /// ```
     pub fn export_directory(&self) -> Option<ExportDirectory<'a>> {
         let directory = &self.tables.export_directory;
         (self.export_table() == Part::Read).then(|| ExportDirectory {
@@ -316,11 +406,27 @@ impl<'a> Pe<'a> {
     }
 
     /// How the base relocations stand.
+    ///
+    /// ```no_run
+    /// # let bytes = [];
+    /// let pe = goblin_pe::Pe::read(&bytes, &goblin_pe::Options::default())?;
+    /// let can_be_moved = pe.relocation_table() == goblin_pe::Part::Read;
+    /// # Ok::<(), goblin_pe::Error>(())
+    /// ```
     pub fn relocation_table(&self) -> Part {
         Part::from(self.file.relocations.blocks)
     }
 
     /// The blocks of base relocations.
+    ///
+    /// ```no_run
+    /// # let bytes = [];
+    /// let pe = goblin_pe::Pe::read(&bytes, &goblin_pe::Options::default())?;
+    /// for block in pe.blocks() {
+    ///     println!("{} relocations from {:#x}", block.words().len(), block.rva);
+    /// }
+    /// # Ok::<(), goblin_pe::Error>(())
+    /// ```
     pub fn blocks(&self) -> Blocks<'_, 'a> {
         Blocks(self.tables.blocks.get().iter())
     }
@@ -398,6 +504,14 @@ impl<'a> Pe<'a> {
     }
 
     /// The header, to be changed and written.
+    ///
+    /// ```no_run
+    /// # let bytes = [];
+    /// let pe = goblin_pe::Pe::read(&bytes, &goblin_pe::Options::default())?;
+    /// let mut header = pe.header();
+    /// header.coff_header.time_date_stamp = 0;
+    /// # Ok::<(), goblin_pe::Error>(())
+    /// ```
     pub fn header(&self) -> Header<'a> {
         let mut data_directories = [None; 16];
         for (index, directory) in self.data_directories() {
@@ -416,6 +530,14 @@ impl<'a> Pe<'a> {
     ///
     /// # Errors
     /// Too little room; nothing is written then.
+    ///
+    /// ```no_run
+    /// # let bytes = [];
+    /// let pe = goblin_pe::Pe::read(&bytes, &goblin_pe::Options::default())?;
+    /// let mut out = vec![0; pe.header().section_table() + 256];
+    /// let size = pe.write_header(&mut out)?;
+    /// # Ok::<(), goblin_pe::Error>(())
+    /// ```
     pub fn write_header(&self, out: &mut [u8]) -> Result<usize, Error> {
         self.header().write(out)
     }

@@ -40,6 +40,13 @@ pub struct Header<'a> {
 
 impl Header<'_> {
     /// The file offset of the section table, which follows the optional header.
+    ///
+    /// ```no_run
+    /// # let bytes = [];
+    /// let pe = goblin_pe::Pe::read(&bytes, &goblin_pe::Options::default())?;
+    /// let table = bytes.get(pe.header().section_table()..);
+    /// # Ok::<(), goblin_pe::Error>(())
+    /// ```
     pub fn section_table(&self) -> usize {
         section_table(&self.dos_header, &self.coff_header)
     }
@@ -56,6 +63,14 @@ impl Header<'_> {
     /// # Errors
     /// Too little room, or a field that does not fit the width of the optional header; nothing is
     /// written then.
+    ///
+    /// ```no_run
+    /// # let bytes = [];
+    /// let pe = goblin_pe::Pe::read(&bytes, &goblin_pe::Options::default())?;
+    /// let mut out = [0; 1024];
+    /// let size = pe.header().write(&mut out)?;
+    /// # Ok::<(), goblin_pe::Error>(())
+    /// ```
     pub fn write(&self, out: &mut [u8]) -> Result<usize, Error> {
         let directories = self.data_directories.map(|it| raw::Directory {
             end: 0,
@@ -108,6 +123,13 @@ pub struct Damage {
 
 impl Damage {
     /// The parts that are damaged, as pairs (name of the field, why).
+    ///
+    /// ```no_run
+    /// # let bytes = [];
+    /// let pe = goblin_pe::Pe::read(&bytes, &goblin_pe::Options::default())?;
+    /// let is_damaged = pe.damage()?.parts().next().is_some();
+    /// # Ok::<(), goblin_pe::Error>(())
+    /// ```
     pub fn parts(&self) -> impl Iterator<Item = (&'static str, Error)> + use<> {
         let parts = [
             ("dos_stub", self.dos_stub),
@@ -275,6 +297,16 @@ impl<'a> Section<'a> {
     ///
     /// # Errors
     /// An offset that no record can hold; nothing is changed then.
+    ///
+    /// ```no_run
+    /// # let bytes = [];
+    /// let object = goblin_pe::Object::read(&bytes, &goblin_pe::Options::default())?;
+    /// if let Some(mut section) = object.sections().next() {
+    ///     section.set_name_offset(4)?;
+    ///     assert_eq!(section.raw_name, *b"/4\0\0\0\0\0\0");
+    /// }
+    /// # Ok::<(), goblin_pe::Error>(())
+    /// ```
     pub fn set_name_offset(&mut self, offset: usize) -> Result<(), Error> {
         let mut section = self.record();
         Error::test(raw::set_name_offset(&mut section, offset))?;
@@ -336,6 +368,13 @@ impl<'a> Imported<'a> {
     }
 
     /// The ordinal; of an import by name, the hint.
+    ///
+    /// ```no_run
+    /// # let bytes = [];
+    /// let pe = goblin_pe::Pe::read(&bytes, &goblin_pe::Options::default())?;
+    /// let ordinals: Vec<_> = pe.imports().map(|import| import.name.ordinal()).collect();
+    /// # Ok::<(), goblin_pe::Error>(())
+    /// ```
     pub fn ordinal(&self) -> u16 {
         match *self {
             Imported::Name { hint, .. } => hint,
@@ -535,26 +574,70 @@ pub struct Symbol<'a> {
 impl<'a> Symbol<'a> {
     /// The first auxiliary record, of a symbol that defines a function; `None` where it has none, as
     /// in the calls below.
+    ///
+    /// ```no_run
+    /// # let bytes = [];
+    /// let object = goblin_pe::Object::read(&bytes, &goblin_pe::Options::default())?;
+    /// for symbol in object.symbols()? {
+    ///     let size = symbol.aux_function_definition().map(|it| it.total_size);
+    /// }
+    /// # Ok::<(), goblin_pe::Error>(())
+    /// ```
     pub fn aux_function_definition(&self) -> Option<AuxFunctionDefinition> {
         raw::aux_function_definition(self.auxiliary)
     }
 
     /// The first auxiliary record, of a symbol of a function's start or end.
+    ///
+    /// ```no_run
+    /// # let bytes = [];
+    /// let object = goblin_pe::Object::read(&bytes, &goblin_pe::Options::default())?;
+    /// for symbol in object.symbols()? {
+    ///     let line = symbol.aux_begin_and_end_function().map(|it| it.line_number);
+    /// }
+    /// # Ok::<(), goblin_pe::Error>(())
+    /// ```
     pub fn aux_begin_and_end_function(&self) -> Option<AuxBeginAndEndFunction> {
         raw::aux_begin_and_end_function(self.auxiliary)
     }
 
     /// The first auxiliary record, of a symbol that another may replace.
+    ///
+    /// ```no_run
+    /// # let bytes = [];
+    /// let object = goblin_pe::Object::read(&bytes, &goblin_pe::Options::default())?;
+    /// for symbol in object.symbols()?.filter(|it| it.storage_class == 105) {
+    ///     let default = symbol.aux_weak_external().map(|it| it.tag_index);
+    /// }
+    /// # Ok::<(), goblin_pe::Error>(())
+    /// ```
     pub fn aux_weak_external(&self) -> Option<AuxWeakExternal> {
         raw::aux_weak_external(self.auxiliary)
     }
 
     /// The first auxiliary record, of a symbol that defines a section.
+    ///
+    /// ```no_run
+    /// # let bytes = [];
+    /// let object = goblin_pe::Object::read(&bytes, &goblin_pe::Options::default())?;
+    /// for symbol in object.symbols()?.filter(|it| it.storage_class == 3) {
+    ///     let length = symbol.aux_section_definition().map(|it| it.length);
+    /// }
+    /// # Ok::<(), goblin_pe::Error>(())
+    /// ```
     pub fn aux_section_definition(&self) -> Option<AuxSectionDefinition> {
         raw::aux_section_definition(self.auxiliary)
     }
 
     /// The name of a source file, of a symbol of class 103.
+    ///
+    /// ```no_run
+    /// # let bytes = [];
+    /// let object = goblin_pe::Object::read(&bytes, &goblin_pe::Options::default())?;
+    /// let mut symbols = object.symbols()?;
+    /// let source = symbols.find_map(|it| it.aux_file().filter(|_| it.storage_class == 103));
+    /// # Ok::<(), goblin_pe::Error>(())
+    /// ```
     pub fn aux_file(&self) -> Option<Text<'a>> {
         raw::aux_file(self.auxiliary).map(Text)
     }

@@ -31,6 +31,13 @@ impl<'a> Te<'a> {
     ///
     /// # Errors
     /// Why it was refused.
+    ///
+    /// ```no_run
+    /// # let bytes = [];
+    /// let te = goblin_pe::Te::read(&bytes)?;
+    /// println!("{te:?}");
+    /// # Ok::<(), goblin_pe::Error>(())
+    /// ```
     pub fn read(bytes: &'a [u8]) -> Result<Te<'a>, Error> {
         let mut header = TeHeader::default();
         let mut sections = records(raw::Section::EMPTY, u8::MAX.into())?;
@@ -44,11 +51,25 @@ impl<'a> Te<'a> {
     }
 
     /// The header.
+    ///
+    /// ```no_run
+    /// # let bytes = [];
+    /// let te = goblin_pe::Te::read(&bytes)?;
+    /// let stripped = te.header().stripped_size;
+    /// # Ok::<(), goblin_pe::Error>(())
+    /// ```
     pub fn header(&self) -> &TeHeader {
         &self.header
     }
 
     /// The sections.
+    ///
+    /// ```no_run
+    /// # let bytes = [];
+    /// let te = goblin_pe::Te::read(&bytes)?;
+    /// let names: Vec<_> = te.sections().map(|s| s.name).collect();
+    /// # Ok::<(), goblin_pe::Error>(())
+    /// ```
     pub fn sections(&self) -> Sections<'_, 'a> {
         Sections::at(self.bytes, HEADER, &self.sections)
     }
