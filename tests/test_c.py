@@ -1,15 +1,25 @@
 """The library for callers in C and C++."""
 import functools
 import os
+import re
 import sys
 import unittest
 
 from tests import images, programs
-from tests.programs import BY_NAME, CALLERS, CC, FLAGS, IMAGES, OBJECTS, SAMPLES, TERSE, Case, library, milliseconds, need, run, succeed, with_memory
+from tests.programs import BY_NAME, CALLERS, CC, FLAGS, IMAGES, OBJECTS, SAMPLES, TERSE, TOP, Case, library, milliseconds, need, run, succeed, with_memory
 
 
 STRICT = ["-pedantic", "-Wcast-qual", "-Wconversion"]
+VALGRIND = ["valgrind", "-q", "--error-exitcode=9", "--leak-check=full"]
 SANITIZED = ("-std=c11", "-g", "-fsanitize=address,undefined", "-fno-sanitize-recover=all")
+# What stands around the program of the README.
+README = b"""#include "goblin_pe.h"
+void map_sections(const struct goblin_pe_section *sections, size_t count);
+void load(const uint8_t *bytes, size_t length);
+void load(const uint8_t *bytes, size_t length)
+{
+%s}
+"""
 
 
 def setUpModule():
@@ -67,6 +77,10 @@ class Programs(Case):
         succeed(["c++", "-std=c++11", *FLAGS, *STRICT, "-o", program, CALLERS / "c/interface.cc", library() / "libgoblin_pe.a"])
         succeed([program])
 
+    def test_the_program_of_the_readme(self):
+        program, = re.findall(r"(?s)```c\n(.*?)```", (TOP / "README.md").read_text("utf-8"))
+        source = self.written("readme.c", README % program.encode())
+        succeed([CC, "-std=c11", *FLAGS, *STRICT, "-I", library(), "-c", "-o", self.folder / "readme.o", source])
 
     def test_the_constants_are_those_of_the_libraries(self):
         made = succeed([sys.executable, "-c", "import constants; print(constants.header(), end='')"], cwd=CALLERS)
@@ -103,14 +117,22 @@ class Loader(Case):
         exports = [(b"Apple", 0x3010), (None, 0x3020), (b"Cherry", b"other.Pear"), (None, b"other.#7"), (b"Elder", 0x3050)]
         self.library = self.written("Fruit.dll", images.library(b"fruit.dll", exports, base=10))
 
-    def assert_resolves(self, imports, status, wanted):
+    def resolved(self, imports, status, *others):
+        """What the loader tells of the imports of an image, over the library and others."""
         image = self.written("image.exe", images.importer(imports, relocated=3))
-        out = "\n".join(["image.exe for machine 0x8664 at 0x180010000", "section at 0x1000: 512 bytes and 1536 zeros", *self.SECTIONS,
-                         "Fruit.dll for machine 0x8664 at 0x180010000", "section at 0x1000: 512 bytes and 0 zeros", "3 base relocations",
-                         *wanted, ""])
-        self.assert_runs([built("loader"), image, self.library], (status, out.encode(), b""))
+        found, out, said = run([built("loader"), image, self.library, *others])
+        self.assertEqual((found, said), (status, b""), out)
+        return out.decode().splitlines()
 
-    SECTIONS = ["section at 0x2000: 512 bytes and 0 zeros", "section at 0x3000: 512 bytes and 0 zeros"]
+    def assert_resolves(self, imports, status, wanted, *others):
+        told = self.resolved(imports, status, *others)
+        self.assertEqual(told[told.index("3 base relocations") + 1:], wanted)
+
+    def test_what_is_mapped_is_told(self):
+        self.assertEqual(self.resolved([], 0), [
+            "image.exe for machine 0x8664 at 0x180010000", "section at 0x1000: 512 bytes and 1536 zeros",
+            "section at 0x2000: 512 bytes and 0 zeros", "section at 0x3000: 512 bytes and 0 zeros",
+            "Fruit.dll for machine 0x8664 at 0x180010000", "section at 0x1000: 512 bytes and 0 zeros", "3 base relocations"])
 
     def test_imports_by_name_and_by_ordinal(self):
         self.assert_resolves([(b"FRUIT.DLL", [b"Elder", 10, 11, b"Apple"])], 0, [
@@ -123,17 +145,71 @@ class Loader(Case):
             "fruit.dll #6: 0x180013020 in the slot at 0x2068", "fruit.dll #5: 0x180013010 in the slot at 0x2070",
             "fruit.dll Apple: not exported", "fruit.dll #7: not exported"])
 
-    def test_forwarders_are_told(self):
-        self.assert_resolves([(b"fruit.dll", [b"Cherry", 13])], 0, [
-            "fruit.dll Cherry: forwarded to other.Pear", "fruit.dll #13: forwarded to other.#7"])
+    def test_forwarders_lead_to_other_libraries(self):
+        """By name and by ordinal, and on to a third library."""
+        other = self.written("other.dll", images.library(b"other.dll", [(b"Pear", b"THIRD.#2"), (None, b"third.Quince")], base=6))
+        third = self.written("Third.DLL", images.library(b"third.dll", [(b"Quince", 0x4010), (b"Rowan", 0x4020)]))
+        imports = [(b"fruit.dll", [b"Cherry", 13, b"Elder"]), (b"other", [b"Pear"])]
+        self.assert_resolves(imports, 0, [
+            "fruit.dll Cherry, forwarded to other Pear, forwarded to THIRD #2: 0x180014020 in the slot at 0x2078",
+            "fruit.dll #13, forwarded to other #7, forwarded to third Quince: 0x180014010 in the slot at 0x2080",
+            "fruit.dll Elder: 0x180013050 in the slot at 0x2088",
+            "other Pear, forwarded to THIRD #2: 0x180014020 in the slot at 0x20b8"], other, third)
+        self.assert_resolves(imports[:1], 1, [
+            "fruit.dll Cherry, forwarded to other Pear, forwarded to THIRD #2: no such library",
+            "fruit.dll #13, forwarded to other #7, forwarded to third Quince: no such library",
+            "fruit.dll Elder: 0x180013050 in the slot at 0x2078"], other)
+        third.write_bytes(images.library(b"third.dll", [(b"Quince", 0)]))
+        self.assert_resolves(imports[:1], 1, [
+            "fruit.dll Cherry, forwarded to other Pear, forwarded to THIRD #2: not exported",
+            "fruit.dll #13, forwarded to other #7, forwarded to third Quince: not exported",
+            "fruit.dll Elder: 0x180013050 in the slot at 0x2078"], other, third)
+
+    def test_a_ring_of_forwarders_is_refused(self):
+        other = self.written("other.dll", images.library(b"other.dll", [(b"Pear", b"fruit.Cherry")]))
+        ring = ", forwarded to other Pear, forwarded to fruit Cherry" * 4
+        self.assert_resolves([(b"fruit.dll", [b"Cherry", b"Elder"])], 1, [
+            "fruit.dll Cherry" + ring + ": too many forwarders", "fruit.dll Elder: 0x180013050 in the slot at 0x2068"], other)
+
+    def test_eight_forwarders_are_followed(self):
+        """In one library, each leads to the next."""
+        chain = [(b"%c" % it, b"Fruit.%c" % (it + 1)) for it in b"ABCDEFGHI"] + [(b"J", 0x3010)]
+        self.library.write_bytes(images.library(b"fruit.dll", chain))
+        way = "".join(", forwarded to Fruit %c" % it for it in b"CDEFGHIJ")
+        self.assert_resolves([(b"fruit.dll", [b"B", b"A"])], 1, [
+            "fruit.dll B" + way + ": 0x180013010 in the slot at 0x2058",
+            "fruit.dll A, forwarded to Fruit B" + way.replace(", forwarded to Fruit J", ": too many forwarders")])
+
+    def test_forwarders_of_a_sample(self):
+        """It asks WS2_32 for the ordinal 3, and NTDLL for a name."""
+        self.library = SAMPLES / "forwarders_x64.dll"
+        sockets = self.written("ws2_32.dll", images.library(b"ws2_32.dll", [(None, 0x3010), (b"closesocket", 0x3020)], base=2))
+        system = self.written("ntdll.dll", images.library(b"ntdll.dll", [(b"RtlZeroMemory", 0x3030)]))
+        self.assert_resolves([(b"forwarders_x64.dll", [b"fo", b"fwd", b"answer"])], 0, [
+            "forwarders_x64.dll fo, forwarded to WS2_32 #3: 0x180013020 in the slot at 0x2070",
+            "forwarders_x64.dll fwd, forwarded to NTDLL RtlZeroMemory: 0x180013030 in the slot at 0x2078",
+            "forwarders_x64.dll answer: 0x180011000 in the slot at 0x2080"], sockets, system)
+
+    def test_imports_of_samples(self):
+        """Of 64 and of 32 bits, whose slots have eight and four bytes."""
+        exports = [(b"GetTickCount", 0x3010), (b"GetTickCount@0", 0x3020)]
+        kernel = self.written("Kernel32.dll", images.library(b"KERNEL32.dll", exports, base=901))
+        for name, wanted in (("imports_by_name_x64.dll", "GetTickCount: 0x180013010"), ("imports_by_ordinal_x64.dll", "#901: 0x180013010"),
+                             ("imports_by_name_x86.dll", "GetTickCount@0: 0x80013020"), ("imports_by_ordinal_x86.dll", "#901: 0x80013010")):
+            with self.subTest(name):
+                told = succeed([built("loader"), SAMPLES / name, kernel]).splitlines()
+                self.assertRegex(told[-1], f"^KERNEL32.dll {wanted} in the slot at 0x20[0-9a-f]{{2}}$")
 
     def test_what_is_not_there_is_told(self):
         self.assert_resolves([(b"fruit.dll", [9, 15, b"Banana"]), (b"nuts.dll", [1])], 1, [
             "fruit.dll #9: not exported", "fruit.dll #15: not exported", "fruit.dll Banana: not exported", "nuts.dll #1: no such library"])
 
-    def test_a_forwarder_without_a_text_is_told(self):
-        self.library.write_bytes(self.library.read_bytes().replace(b"other.#7", b"other.#\xff"))
-        self.assert_resolves([(b"fruit.dll", [13])], 1, ["fruit.dll #13: not exported"])
+    def test_a_forwarder_that_leads_nowhere_is_told(self):
+        image = self.library.read_bytes()
+        for text in (b"other.#\xff", b"other.#x", b"other.#\0", b"other.\0", b"other#7\0", b"\0"):
+            with self.subTest(text=text):
+                self.library.write_bytes(image.replace(b"other.#7", text.ljust(8, b"\0")))
+                self.assert_resolves([(b"fruit.dll", [13])], 1, ["fruit.dll #13: its forwarder can't be read"])
 
     def test_samples(self):
         for sample in IMAGES:
@@ -208,6 +284,8 @@ class Reuse(Case):
         self.files = [program, text, *sorted(SAMPLES.glob("*.dll")), no_header, no_exports, text, program]
         self.command = [built("reuse", "-std=c99"), *self.files]
         self.kinds = [*IMAGES, *OBJECTS, *TERSE]
+        self.loaded = [self.written("image.exe", images.importer([(b"fruit.dll", [b"Apple", 1])], relocated=3)),
+                       self.written("fruit.dll", images.library(b"fruit.dll", [(b"Apple", b"fruit.#2"), (None, 0x3010)]))]
 
     def test_each_file_is_read_or_refused(self):
         succeed(self.command)
@@ -219,18 +297,21 @@ class Reuse(Case):
         succeed([built("calls", *SANITIZED), *self.kinds])
         succeed([built("list", *SANITIZED), "--symbols", OBJECTS[0]])
         succeed([built("patch", *SANITIZED), BY_NAME, "1", ".text", ".code", self.folder / "patched.dll"])
-        image = self.written("image.exe", images.importer([(b"fruit.dll", [b"Apple", 1])], relocated=3))
-        succeed([built("loader", *SANITIZED), image, self.written("fruit.dll", images.library(b"fruit.dll", [(b"Apple", 0x3010)]))])
+        succeed([built("loader", *SANITIZED), *self.loaded])
 
     def test_under_valgrind(self):
         need("valgrind")
         lists = [built("list")]
         for name, command in (("opened, refused, freed and opened again", self.command),
                               ("each call", [built("calls"), *self.kinds]),
-                              ("loaded", [built("loader"), SAMPLES / "forwarders_x64.dll"]),
+                              ("loaded", [built("loader"), *self.loaded]),
+                              ("patched", [built("patch"), BY_NAME, "1", ".text", ".code", self.folder / "patched.dll"]),
                               ("an image", [*lists, BY_NAME]),
                               ("an object", [*lists, "--symbols", SAMPLES / "object_x64.obj"]),
                               ("a Terse Executable", [*lists, "--te", SAMPLES / "firmware_x64.te"]),
                               ("permissive", [*lists, "--permissive", SAMPLES / "forwarders_x86.dll"])):
             with self.subTest(name):
-                succeed(["valgrind", "-q", "--error-exitcode=9", "--leak-check=full", *command])
+                succeed([*VALGRIND, *command])
+        with self.subTest("refused"):
+            status, _, said = run([*VALGRIND, *lists, CALLERS / "build"])
+            self.assertEqual((status, said[:9]), (1, b"refused: "))

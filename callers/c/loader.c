@@ -1,8 +1,8 @@
 /* Loads an image as the Windows loader does, up to the point where its code would run: loader IMAGE LIBRARY...
    It maps the headers and the sections into memory, applies the base relocations for an address 64 KiB above the
    preferred one, and resolves each import against the libraries, which it opens the same way, and tells what it
-   finds. A library stands for the imports whose library has the name of its file. The status is 0 where all is
-   resolved. */
+   finds. A library stands for the imports whose library has the name of its file, with or without the ending .dll.
+   Forwarders are followed through the libraries. The status is 0 where all is resolved. */
 #include "goblin_pe.h"
 
 #include <ctype.h>
@@ -14,6 +14,9 @@
 /* No image takes more memory. */
 #define MOST_BYTES (256u << 20)
 
+/* An import goes through no more forwarders: they may lead in a ring. */
+#define MOST_FORWARDERS 8
+
 struct module {
     const char *name;
     uint8_t *bytes;
@@ -24,6 +27,15 @@ struct module {
     uint8_t *mapped;
     size_t size;
     uint64_t base;
+};
+
+/* What a library is asked for: a name, with a hint where to look first, or else an ordinal. */
+struct wanted {
+    struct goblin_pe_text library;
+    struct goblin_pe_text name;
+    size_t ordinal;
+    size_t hint;
+    bool is_by_name;
 };
 
 static bool is_wide(const struct module *m)
@@ -145,12 +157,15 @@ static int relocate(struct module *m)
     return 0;
 }
 
-static bool is_same_name(struct goblin_pe_text text, const char *name)
+/* Whether a file has the name of a library, whose ending .dll may be left out. */
+static bool is_library(const char *file, struct goblin_pe_text name)
 {
-    if (strlen(name) != text.length)
+    static const char ending[] = ".dll";
+    size_t length = strlen(file), most = name.length + strlen(ending);
+    if (length != name.length && length != most)
         return false;
-    for (size_t i = 0; i < text.length; i++)
-        if (tolower(text.bytes[i]) != tolower((unsigned char)name[i]))
+    for (size_t i = 0; i < length; i++)
+        if (tolower((unsigned char)file[i]) != tolower(i < name.length ? name.bytes[i] : ending[i - name.length]))
             return false;
     return true;
 }
@@ -172,13 +187,13 @@ static const struct goblin_pe_export *export_named(const struct module *library,
     return NULL;
 }
 
-/* The entry of the address table of a library for what is imported; null where there is none. */
-static const struct goblin_pe_export_address *found_in(const struct module *library, const struct goblin_pe_import *import)
+/* The entry of the address table of a library for what is wanted; null where there is none. */
+static const struct goblin_pe_export_address *found_in(const struct module *library, const struct wanted *wanted)
 {
     const struct goblin_pe_tables *tables = &library->tables;
-    size_t ordinal = import->ordinal;
-    if (import->is_by_name) {
-        const struct goblin_pe_export *x = export_named(library, import->name, import->ordinal);
+    size_t ordinal = wanted->ordinal;
+    if (wanted->is_by_name) {
+        const struct goblin_pe_export *x = export_named(library, wanted->name, wanted->hint);
         if (!x)
             return NULL;
         ordinal = x->ordinal;
@@ -187,35 +202,71 @@ static const struct goblin_pe_export_address *found_in(const struct module *libr
     return index < tables->export_address_count ? &tables->export_addresses[index] : NULL;
 }
 
+/* What the text of a forwarder asks for: LIBRARY.NAME or LIBRARY.#ORDINAL. False where it is neither. */
+static bool forwarded_to(struct goblin_pe_text text, struct wanted *wanted)
+{
+    const uint8_t *dot = text.length ? memchr(text.bytes, '.', text.length) : NULL;
+    if (!dot)
+        return false;
+    size_t length = (size_t)(dot - text.bytes);
+    struct goblin_pe_text rest = { dot + 1, text.length - length - 1 };
+    *wanted = (struct wanted) { .library = { text.bytes, length }, .name = rest, .is_by_name = true };
+    if (!rest.length || rest.bytes[0] != '#')
+        return rest.length;
+    wanted->is_by_name = false;
+    for (size_t i = 1; i < rest.length; i++) {
+        if (!isdigit(rest.bytes[i]) || wanted->ordinal > UINT16_MAX)
+            return false;
+        wanted->ordinal = 10 * wanted->ordinal + (size_t)(rest.bytes[i] - '0');
+    }
+    return rest.length > 1;
+}
+
+/* Finds the address of what is wanted, be it through forwarders, and tells the way there, or why there is none. */
+static bool find(struct wanted wanted, const struct module *libraries, size_t count, uint64_t *address)
+{
+    for (size_t forwarders = 0;; forwarders++) {
+        const struct module *library = NULL;
+        struct goblin_pe_text text;
+        for (size_t i = 0; i < count && !library; i++)
+            if (is_library(libraries[i].name, wanted.library))
+                library = &libraries[i];
+        put(wanted.library);
+        putchar(' ');
+        if (wanted.is_by_name)
+            put(wanted.name);
+        else
+            printf("#%zu", wanted.ordinal);
+        if (!library)
+            return puts(": no such library"), false;
+        const struct goblin_pe_export_address *found = found_in(library, &wanted);
+        if (!found || !found->rva)
+            return puts(": not exported"), false;
+        if (!found->forwards) {
+            *address = library->base + found->rva;
+            return true;
+        }
+        if (!goblin_pe_text_at(&library->image, found->rva, &text) || !forwarded_to(text, &wanted))
+            return puts(": its forwarder can't be read"), false;
+        if (forwarders == MOST_FORWARDERS)
+            return puts(": too many forwarders"), false;
+        printf(", forwarded to ");
+    }
+}
+
 /* Resolves an import, and puts the address into its slot. */
 static bool resolve(const struct module *m, const struct goblin_pe_import *import, const struct module *libraries,
                     size_t count)
 {
-    const struct module *library = NULL;
+    struct wanted wanted = { import->dll, import->name, import->ordinal, import->ordinal, import->is_by_name };
     size_t size = is_wide(m) ? 8 : 4;
     uint8_t *slot = place_of(m, import->slot_rva, size);
-    struct goblin_pe_text forwarder;
-    for (size_t i = 0; i < count && !library; i++)
-        if (is_same_name(import->dll, libraries[i].name))
-            library = &libraries[i];
-    put(import->dll);
-    putchar(' ');
-    if (import->is_by_name)
-        put(import->name);
-    else
-        printf("#%u", import->ordinal);
-    if (!library)
-        return puts(": no such library"), false;
-    const struct goblin_pe_export_address *found = found_in(library, import);
-    if (!found || !found->rva || !slot || (found->forwards && !goblin_pe_text_at(&library->image, found->rva, &forwarder)))
-        return puts(": not exported"), false;
-    if (found->forwards) {
-        printf(": forwarded to ");
-        put(forwarder);
-        putchar('\n');
-        return true;
-    }
-    put_number(slot, size, library->base + found->rva);
+    uint64_t address;
+    if (!find(wanted, libraries, count, &address))
+        return false;
+    if (!slot)
+        return puts(": its slot is not in the image"), false;
+    put_number(slot, size, address);
     printf(": 0x%" PRIx64 " in the slot at 0x%zx\n", number_at(slot, size), import->slot_rva);
     return true;
 }
