@@ -1,11 +1,16 @@
-"""The packages for machines without the prover, each installed where nothing of the repository is in reach."""
+"""The packages for machines without the prover, each installed and used where nothing of the repository is in reach."""
 import functools
 import hashlib
+import os
 import platform
 import shutil
+import zipfile
 
-from tests.programs import BY_NAME, CALLERS, CC, CRATES, FLAGS, Case, environment, folder, library, need, succeed
+from tests.programs import BY_NAME, CALLERS, CC, CRATES, FLAGS, TOP, Case, environment, folder, library, need, run, succeed
 from tests.test_install import CARGO, LISTED, python
+
+# What stands before a command so that it finds an empty folder in the place of the repository.
+AWAY = ["unshare", "-rm", "sh", "-c", 'mount -t tmpfs none "$0" && cd / && exec "$@"', str(TOP)]
 
 
 def setUpModule():
@@ -26,7 +31,26 @@ def package(ending):
     return made
 
 
+@functools.cache
+def away():
+    """AWAY, or no words where the machine lets nobody hide a folder."""
+    return AWAY if shutil.which("unshare") and not run([*AWAY, "true"])[0] else []
+
+
+def status_of(package):
+    """What dpkg says of a package of this machine, as it keeps it for an installed one."""
+    words = "Package: ${Package}\\nStatus: install ok installed\\nArchitecture: ${Architecture}\\nVersion: ${Version}\\n"
+    return succeed(["dpkg-query", "-W", "-f", words + "Maintainer: nobody\\nDescription: here\\n\\n", package])
+
+
 class Packages(Case):
+    def setUp(self):
+        super().setUp()
+        self.sample = self.written("some.dll", BY_NAME.read_bytes())
+
+    def assert_is_listed_by(self, *command, **how):
+        self.assert_runs([*away(), *command, self.sample], LISTED, cwd="/", **how)
+
     def unpacked(self):
         """The tar, unpacked in the folder of the test."""
         shutil.unpack_archive(package(".tar.gz"), self.folder)
@@ -34,11 +58,18 @@ class Packages(Case):
         return made
 
     def assert_links(self, **where):
-        """The example, built as pkg-config tells, has to list over the shared library."""
-        words = succeed(["pkg-config", "--cflags", "--libs", "goblin_pe"], env=environment(**where)).split()
-        succeed([CC, "-std=c99", *FLAGS, "-o", self.folder / "list", CALLERS / "c/list.c", *words])
+        """The example, built as pkg-config tells, has to list over the shared library, and over the archive."""
+        example = shutil.copy(CALLERS / "c/list.c", self.folder)
         shared, = (it.parent for it in self.folder.rglob("libgoblin_pe.so.*"))
-        self.assert_runs([self.folder / "list", BY_NAME], LISTED, env={"LD_LIBRARY_PATH": str(shared)})
+        for flags, told, env in ([], [], {"LD_LIBRARY_PATH": str(shared)}), (["-static"], ["--static"], {}):
+            words = succeed([*away(), "pkg-config", "--cflags", "--libs", *told, "goblin_pe"], env=environment(**where)).split()
+            succeed([*away(), CC, "-std=c99", *FLAGS, *flags, "-o", self.folder / "list", example, *words])
+            self.assert_is_listed_by(self.folder / "list", env=env)
+
+    def test_the_repository_is_out_of_reach(self):
+        if not away():
+            self.skipTest("no unshare that hides a folder: the packages were used with the repository in reach")
+        self.assertEqual(succeed([*away(), "ls", "-A", TOP]), "")
 
     def test_they_are_packed_again_to_the_byte(self):
         first, second = ({it.name: it.read_bytes() for it in packed(name).iterdir()} for name in ("packages", "again"))
@@ -49,6 +80,7 @@ class Packages(Case):
         text = (self.unpacked() / "PROVED").read_text("utf-8")
         self.assertIn(succeed(["git", "-C", CALLERS, "rev-parse", "HEAD"]).strip(), text)
         self.assertIn(hashlib.sha256((library() / "libgoblin_pe.a").read_bytes()).hexdigest() + "  libgoblin_pe.a\n", text)
+        self.assertEqual(zipfile.ZipFile(package(".whl")).read("goblin_pe/PROVED").decode(), text)
         for crate in ("goblin_base", "goblin_pe_c"):  # as the text tells
             listed = text[text.index("cd crates/CRATE"):].replace("CRATE", crate)
             self.assertIn("%s  %s\n" % (succeed(["sh", "-c", listed], cwd=CRATES.parent).split()[0], crate), text)
@@ -56,8 +88,8 @@ class Packages(Case):
     def test_the_wheel(self):
         made = self.folder / "environment"
         succeed([python(), "-m", "venv", made])
-        succeed([made / "bin/pip", "install", "-q", "--no-index", package(".whl")], cwd="/", env={})
-        self.assert_runs([made / "bin/python", "-m", "goblin_pe", BY_NAME], LISTED, cwd="/", env={})
+        succeed([*away(), made / "bin/pip", "install", "-q", "--no-index", package(".whl")], cwd="/", env={})
+        self.assert_is_listed_by(made / "bin/python", "-m", "goblin_pe", env={})
 
     def test_the_library_of_the_tar(self):
         need("pkg-config")
@@ -68,18 +100,28 @@ class Packages(Case):
         crate, user = self.unpacked() / "rust", self.folder / "user"
         shutil.rmtree(crate.parent / "lib")  # it has the archive inside
         succeed(["cargo", "new", "-q", "--vcs", "none", user])
-        shutil.copy(CALLERS / "rust/examples/list.rs", user / "src/main.rs")
-        succeed(["cargo", "add", "-q", "--offline", "--path", crate], cwd=user)
-        succeed([*CARGO[:-1], "build"], cwd=user, env=environment(PKG_CONFIG_LIBDIR="/", CARGO_TARGET_DIR=str(self.folder / "target")))
-        self.assert_runs([self.folder / "target/debug/user", BY_NAME], LISTED)
+        shutil.copy(crate / "examples/list.rs", user / "src/main.rs")
+        manifest, env = ["--manifest-path", user / "Cargo.toml"], environment(PKG_CONFIG_LIBDIR="/", CARGO_TARGET_DIR=str(self.folder / "target"))
+        succeed([*away(), "cargo", "add", "-q", "--offline", *manifest, "--path", crate], env=env)
+        succeed([*away(), *CARGO[:-1], "build", *manifest], env=env)
+        self.assert_is_listed_by(self.folder / "target/debug/user")
 
     def test_the_package_for_debian(self):
-        need("dpkg-deb", "pkg-config")
-        succeed(["dpkg-deb", "-x", package(".deb"), self.folder])
-        self.assertEqual(succeed(["dpkg-deb", "-f", package(".deb"), "Package"]), "goblin-pe\n")
-        self.assert_links(PKG_CONFIG_LIBDIR=str(self.folder / "usr/lib/pkgconfig"), PKG_CONFIG_SYSROOT_DIR=str(self.folder))
-        modules = self.folder / "usr/lib/python3/dist-packages"
-        self.assert_runs([python(), "-B", "-m", "goblin_pe", BY_NAME], LISTED, cwd="/", env={"PYTHONPATH": str(modules)})
+        """Installed by dpkg into a root that has nothing but the C library of this machine, as dpkg sees it."""
+        need("dpkg", "dpkg-deb", "pkg-config")
+        if not away():
+            self.skipTest("no unshare that hides a folder, and lets dpkg install")
+        root, made = self.folder / "root", package(".deb")
+        (root / "var/lib/dpkg").mkdir(parents=True)
+        (root / "var/lib/dpkg/status").write_text(status_of("libc6") + "\n", "utf-8")
+        env = environment(PATH=os.environ["PATH"] + ":/usr/sbin:/sbin")
+        succeed([*away(), "dpkg", "--root", root, "--log=/dev/null", "-i", made], env=env)
+        self.assertEqual(succeed(["dpkg-query", "--admindir", root / "var/lib/dpkg", "-W", "-f", "${Status}", "goblin-pe"]), "install ok installed")
+        self.assertEqual(succeed(["dpkg", "--root", root, "--verify", "goblin-pe"]), "")
+        text = (root / "usr/share/doc/goblin-pe/PROVED").read_text("utf-8")
+        self.assertIn(hashlib.sha256((root / "usr/lib/libgoblin_pe.a").read_bytes()).hexdigest(), text)
+        self.assert_links(PKG_CONFIG_LIBDIR=str(root / "usr/lib/pkgconfig"), PKG_CONFIG_SYSROOT_DIR=str(root))
+        modules = root / "usr/lib/python3/dist-packages"
+        self.assert_is_listed_by(python(), "-B", "-m", "goblin_pe", env={"PYTHONPATH": str(modules)})
         if platform.machine() == "x86_64":
-            self.assertEqual(succeed(["dpkg-deb", "-f", package(".deb"), "Architecture"]), "amd64\n")
-        succeed(["sh", "-c", 'cd "$0" && dpkg-deb --ctrl-tarfile "$1" | tar xO md5sums | md5sum --quiet -c', self.folder, package(".deb")])
+            self.assertEqual(succeed(["dpkg-deb", "-f", made, "Architecture"]), "amd64\n")
