@@ -130,12 +130,17 @@ def importer(imports, relocated=0):
     return headers + raw
 
 
-def without_directory(image, index):
-    """The image for 64 bits without one of its data directories."""
+def with_directory(image, index, address, size):
+    """The image for 64 bits with one of its data directories at another address, of another size."""
     image = bytearray(image)
     signature, = struct.unpack_from("<I", image, 0x3C)
-    struct.pack_into("<II", image, signature + 0x88 + 8 * index, 0, 0)
+    struct.pack_into("<II", image, signature + 0x88 + 8 * index, address, size)
     return image
+
+
+def without_directory(image, index):
+    """The image for 64 bits without one of its data directories."""
+    return with_directory(image, index, 0, 0)
 
 
 def pointers_to_nowhere(count):

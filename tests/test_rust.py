@@ -3,7 +3,8 @@ import functools
 import pathlib
 import shutil
 
-from tests.programs import CALLERS, IMAGES, SAMPLES, Case, environment, folder, library, need, run, succeed
+from tests import images
+from tests.programs import BY_NAME, CALLERS, IMAGES, SAMPLES, Case, beside, environment, folder, library, need, run, succeed
 
 REGISTRY = pathlib.Path("/usr/share/cargo/registry")
 
@@ -20,9 +21,9 @@ def cargo(verb, *words, **more):
 
 
 @functools.cache
-def example():
-    cargo("build", "--example", "list")
-    return folder() / "target/debug/examples/list"
+def example(name):
+    cargo("build", "--example", name)
+    return folder() / "target/debug/examples" / name
 
 
 class Crate(Case):
@@ -30,10 +31,24 @@ class Crate(Case):
         cargo("test")
 
     def test_the_samples_are_listed(self):
-        self.assert_lists([example()])
+        self.assert_lists([example("list")])
 
     def test_too_little_memory_is_told(self):
-        self.assert_says_no_memory([example()])
+        self.assert_says_no_memory([example("list")])
+
+    def test_files_are_scanned_by_threads(self):
+        """Each has a line, in the order of the words: it counts what stands in the listing beside a sample."""
+        data = BY_NAME.read_bytes()
+        damaged, lost = self.written("damaged.dll", images.with_directory(data, 0, 0x9000, 40)), self.folder / "lost.dll"
+        files = [*IMAGES, *IMAGES, damaged, CALLERS / "build", lost]
+        lines = succeed([example("scan"), *files]).splitlines()
+        for sample, line in zip(IMAGES * 2, lines):
+            listed = beside(sample, "permissive").splitlines()
+            imports, exports = (sum(it.startswith(kind) for it in listed) for kind in (b"import ", b"export "))
+            self.assertEqual(line, f"{sample}: {imports} imports, {exports} exports")
+        self.assertEqual(len(lines), len(files))
+        for line, wanted in zip(lines[-3:], (f"{damaged}: 1 imports, 0 exports, exports: .", f"{CALLERS}/build: refused: .", f"{lost}: read failed: .")):
+            self.assertRegex(line, f"^{wanted}")
 
     def test_its_documentation(self):
         cargo("doc", RUSTDOCFLAGS="-D warnings")
