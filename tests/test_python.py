@@ -6,7 +6,9 @@ import re
 import subprocess
 import sys
 
-from tests.programs import BY_NAME, CALLERS, CC, FLAGS, IMAGES, OBJECTS, SAMPLES, Case, beside, environment, library, need, run, succeed
+from tests import images
+from tests.programs import (BY_NAME, CALLERS, CC, FLAGS, IMAGES, OBJECTS, SAMPLES, TERSE, TOP, Case, beside, environment, library, need, run,
+                            succeed)
 
 PYTHON = [sys.executable, "-X", "dev"]
 LISTS = [*PYTHON, "-m", "goblin_pe"]
@@ -31,7 +33,7 @@ from goblin_pe import DataDirectory, Options, Pe, Refused, State, Status
 def names(data: bytes) -> Optional[List[bytes]]:
     pe = Pe(data, Options(is_permissive=True))
     directories: Dict[int, DataDirectory] = pe.data_directories
-    if pe.import_table == State.REFUSED or not directories or pe.optional_header is None:
+    if pe.export_table == State.REFUSED or not directories or pe.optional_header is None:
         return None
     return [x.dll + b"." + (x.name or b"%d" % x.ordinal) for x in pe.imports]
 
@@ -39,6 +41,33 @@ def is_out_of_memory(error: Refused) -> bool:
     return error.status == Status.NO_MEMORY
 
 """
+# What analysts do: each file of a folder is looked at by threads; then each is changed and written, and read again.
+TRIAGE = """import concurrent.futures, mmap, os, sys
+from goblin_pe import Kind, Options, Pe, Refused, kind
+
+def triaged(name):
+    with open(os.path.join(sys.argv[1], name), "rb") as file, mmap.mmap(file.fileno(), 0, access=mmap.ACCESS_READ) as data:
+        if kind(data) != Kind.IMAGE:
+            return name, kind(data).name.lower()
+        try:
+            with Pe(data, Options(is_permissive=True)) as pe:
+                damaged = [part for part, refused in zip(pe.damage._fields[:5], pe.damage) if refused]
+                section = pe.sections[0]._replace(raw_name=b".patched")
+                written = pe.write(pe.coff_header._replace(time_date_stamp=7), sections=[section, *pe.sections[1:]])
+                again = Pe(written, Options(is_permissive=True))
+        except Refused as refused:
+            return name, str(refused)
+        patched = again.coff_header.time_date_stamp, again.sections[0].name, sum(a != b for a, b in zip(data[:], written)) <= 12
+        assert (patched, again.imports, len(data)) == ((7, b".patched", True), pe.imports, len(written))
+        return name, pe.imphash(), *damaged
+
+with concurrent.futures.ThreadPoolExecutor(8) as threads:
+    for told in threads.map(triaged, sorted(os.listdir(sys.argv[1]))):
+        print(*told, sep=",")
+"""
+# The hashes of imports as pefile 2023.2.7 tells them; those of the other samples are empty.
+HASHES = {"imports_by_name_x64.dll": "27abfd9cfda7519d5efb3f08a2a4f3ce", "imports_by_name_x86.dll": "5fd9bbcd68e633c2417c6dd0c112ae23",
+          "imports_by_ordinal_x64.dll": "149d2e96f294661822cac53bee31923e", "imports_by_ordinal_x86.dll": "149d2e96f294661822cac53bee31923e"}
 READS_BUFFERS = """import array, ctypes, mmap, pickle, goblin_pe
 data = bytearray(b"VZ")
 mapped, read_only = mmap.mmap(-1, 2), mmap.mmap(-1, 2, access=mmap.ACCESS_READ)
@@ -79,6 +108,16 @@ class Package(Case):
                 for kind in ("section", "import", "export", "block"):
                     self.assertEqual(len(found[kind + "s"]), sum(it.startswith(kind + " ") for it in listed), kind)
 
+    def test_a_folder_is_triaged(self):
+        names = {"damaged.dll": "," + HASHES[BY_NAME.name] + ",exports", "refused.dll": ",the DOS header leads to 0x5a4d in place of the PE signature"}
+        self.written("damaged.dll", images.with_directory(BY_NAME.read_bytes(), 0, 0x9000, 40))
+        self.written("refused.dll", b"MZ" + bytes(100))
+        for kind, samples in ("object", OBJECTS), ("te", TERSE), (None, IMAGES):
+            for it in samples:
+                names[self.written(it.name, it.read_bytes()).name] = "," + (kind or HASHES.get(it.name, ""))
+        told = succeed([*PYTHON, "-c", TRIAGE, self.folder], env=self.env).splitlines()
+        self.assertEqual(told, [name + it for name, it in sorted(names.items())])
+
     def test_what_json_has_of_a_file(self):
         image, lost = self.written("no.dll", b"no image"), self.folder / "lost.dll"
         status, out, said = run([*LISTS, "--json", BY_NAME, image, lost], env=self.env)
@@ -104,11 +143,20 @@ class Package(Case):
             self.assertEqual(told.read(1000), b"\r1 of 2 files\r2 of 2 files\r\n")
 
     def test_the_programs_of_its_readme(self):
-        programs = re.findall(r"(?s)```python\n(.*?)```", (CALLERS / "python/README.md").read_text("utf-8"))
+        told = self.told_by(CALLERS / "python/README.md")
+        self.assertEqual(told[:3], ["b'KERNEL32.dll' b'GetTickCount'", "x86-64", "b'.text' 1.23"])
+        self.assertEqual(told[-1], "0 []")
+
+    def test_the_program_of_the_readme_of_all(self):
+        first, last = self.told_by(TOP / "README.md")
+        self.assertEqual(first, "b'KERNEL32.dll' b'GetTickCount'")
+        self.assertRegex(last, "^None [0-9a-f]{64}$")
+
+    def told_by(self, readme):
+        """What the programs of a text print, of a file that they name."""
+        programs = re.findall(r"(?s)```python\n(.*?)```", readme.read_text("utf-8"))
         self.written("some.dll", BY_NAME.read_bytes())
-        told = succeed([*PYTHON, "-c", "\n".join(programs)], env=self.env, cwd=self.folder)
-        self.assertEqual(told.splitlines()[:3], ["b'KERNEL32.dll' b'GetTickCount'", "x86-64", "b'.text' 1.23"])
-        self.assertEqual(told.splitlines()[-1], "0 []")
+        return succeed([sys.executable, "-c", "\n".join(programs)], env=self.env, cwd=self.folder).splitlines()
 
     def test_fields_of_headers(self):
         succeed([*PYTHON, CALLERS / "python/fields.py", *IMAGES], env=self.env)

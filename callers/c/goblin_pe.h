@@ -69,7 +69,8 @@ enum goblin_pe_kind {
 };
 
 /* The state of a table: the file has none or it was not asked for, it was read, or it is refused and
-   was passed over. */
+   was passed over. Imports are never passed over: in permissive mode they count as read, with what
+   could be read of them, perhaps nothing. goblin_pe_damage tells what that leaves out. */
 enum goblin_pe_state { GOBLIN_PE_ABSENT, GOBLIN_PE_READ, GOBLIN_PE_REFUSED };
 
 /* What an export forwards to. */

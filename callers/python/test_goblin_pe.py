@@ -286,6 +286,19 @@ class Files(unittest.TestCase):
         damage = Pe(data, Options(is_permissive=True)).damage
         self.assertEqual((str(damage.imports), damage[:2], damage[3:]), (str(caught.exception), (None, None), (None, None, 0, 0)))
 
+    def test_what_permissive_mode_counts_as_read(self):
+        data = sample("imports_by_name_x64.dll")
+        signature, = struct.unpack_from("<I", data, 0x3C)
+        for kind, state, entries in ((DirectoryType.EXPORT_TABLE, "export_table", "exports"), (DirectoryType.IMPORT_TABLE, "import_table", "imports"),
+                                     (DirectoryType.BASE_RELOCATION_TABLE, "relocation_table", "blocks")):
+            damaged = bytearray(data)
+            struct.pack_into("<I", damaged, signature + 0x88 + 8 * kind, 0x9000)
+            self.assertRaises(Refused, Pe, damaged)
+            pe = Pe(damaged, Options(is_permissive=True))
+            wanted = State.READ if entries == "imports" else State.REFUSED
+            self.assertEqual((getattr(pe, state), getattr(pe, entries)), (wanted, []))
+            self.assertEqual([it is not None for it in pe.damage[2:5]].count(True), 1)
+
     def test_what_stands_at_an_address(self):
         data = sample("imports_by_name_x64.dll")
         pe = Pe(data)

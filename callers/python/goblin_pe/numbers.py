@@ -14,7 +14,8 @@ class Number(enum.IntEnum):
 
 class State(Number):
     """The state of a table: the file has none or it was not asked for, it was read, or it is refused and was
-    passed over."""
+    passed over. Imports are never passed over: in permissive mode they count as read, with what could be read of them,
+    perhaps nothing. Pe.damage tells what that leaves out."""
 
     ABSENT = 0
     READ = 1

@@ -44,7 +44,9 @@ numbers! {
         Absent = 0,
         /// It was read, and may be empty.
         Read = 1,
-        /// The file has it, and it is damaged; permissive mode passed over that.
+        /// The file has it, and it is damaged; permissive mode passed over that. Imports are never so: in
+        /// permissive mode they count as read, with what could be read of them, perhaps nothing.
+        /// [`Pe::damage`](crate::Pe::damage) tells what that leaves out.
         Refused = 2,
     }
 

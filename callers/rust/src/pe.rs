@@ -33,8 +33,8 @@ impl From<raw::Table> for Part {
 /// let bytes = std::fs::read("some.dll")?;
 /// let pe = Pe::read(&bytes, &Options::permissive())?;
 /// println!("for machine {:#x}", pe.coff_header().machine);
-/// if pe.import_table() == Part::Refused {
-///     println!("its imports are damaged");
+/// if pe.export_table() == Part::Refused {
+///     println!("its exports are damaged");
 /// }
 /// # Ok::<(), std::io::Error>(())
 /// ```
