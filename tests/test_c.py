@@ -298,6 +298,8 @@ class Reuse(Case):
         succeed([built("list", *SANITIZED), "--symbols", OBJECTS[0]])
         succeed([built("patch", *SANITIZED), BY_NAME, "1", ".text", ".code", self.folder / "patched.dll"])
         succeed([built("loader", *SANITIZED), *self.loaded])
+        status, _, said = run([built("list", *SANITIZED), CALLERS / "build"])
+        self.assertEqual((status, said[:9]), (1, b"refused: "))
 
     def test_under_valgrind(self):
         need("valgrind")

@@ -307,8 +307,10 @@ class Files(unittest.TestCase):
 
     def test_the_data_of_sections(self):
         data = sample("align16_x64.dll")
-        for s in Pe(data).sections:
+        pe = Pe(data)
+        for s in pe.sections:
             found = s.data(data)
+            self.assertEqual(pe.section_data(s), found)
             self.assertEqual(found.data, data[s.pointer_to_raw_data:][:s.size_of_raw_data])
             self.assertEqual(len(found.data) + found.zeros, max(s.virtual_size, s.size_of_raw_data))
         s = next(it for it in Pe(data).sections if it.size_of_raw_data)

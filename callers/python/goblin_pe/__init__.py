@@ -264,6 +264,10 @@ class Pe:
             is_there = calls.goblin_pe_raw_bytes_at(c.byref(image), _size(rva), _size(size), c.byref(text))
             return _Rows(in_bytes, address).text(text) if is_there else None
 
+    def section_data(self, section: Section) -> SectionData:
+        """The data of one of its sections, and how many zeros follow it in memory; see Section.data."""
+        return section.data(self._bytes())
+
     def walk_imports(self) -> Iterator[Import]:
         """The imports one by one, of which none is kept: also where the options left them out. In strict mode Refused is
         raised where it would be of the list, after what comes before."""

@@ -84,11 +84,26 @@ impl<'a> Object<'a> {
     /// ```no_run
     /// # let bytes = [];
     /// let object = goblin_pe::Object::read(&bytes, &goblin_pe::Options::default())?;
-    /// let code = object.section_by_name(".text").map(|s| s.data(&bytes));
+    /// let has_directives = object.section_by_name(".drectve").is_some();
     /// # Ok::<(), goblin_pe::Error>(())
     /// ```
     pub fn section_by_name(&self, name: impl AsRef<[u8]>) -> Option<Section<'a>> {
         self.sections().find(|s| s.name == *name.as_ref())
+    }
+
+    /// The data of one of its sections, and how many zeros follow it in memory; see [`Section::data`].
+    ///
+    /// # Errors
+    /// Where the data passes the file, and where it begins past the end, even if there is none.
+    ///
+    /// ```no_run
+    /// # let bytes = [];
+    /// let object = goblin_pe::Object::read(&bytes, &goblin_pe::Options::default())?;
+    /// let code = object.section_by_name(".text").map(|s| object.section_data(&s)).transpose()?;
+    /// # Ok::<(), goblin_pe::Error>(())
+    /// ```
+    pub fn section_data(&self, section: &Section) -> Result<(&'a [u8], usize), Error> {
+        section.data(self.bytes)
     }
 
     /// The symbols, which are read as the walk goes on.

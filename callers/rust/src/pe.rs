@@ -216,11 +216,27 @@ impl<'a> Pe<'a> {
     /// # use goblin_pe::{Options, Pe};
     /// # let bytes = [];
     /// let pe = Pe::read(&bytes, &Options::default())?;
-    /// let resources = pe.section_by_name(".rsrc").map(|s| s.data(&bytes));
+    /// let is_packed = pe.section_by_name("UPX0").is_some();
     /// # Ok::<(), goblin_pe::Error>(())
     /// ```
     pub fn section_by_name(&self, name: impl AsRef<[u8]>) -> Option<Section<'a>> {
         self.sections().find(|s| s.name == *name.as_ref())
+    }
+
+    /// The data of one of its sections, and how many zeros follow it in memory; see [`Section::data`].
+    ///
+    /// # Errors
+    /// Where the data passes the file, and where it begins past the end, even if there is none.
+    ///
+    /// ```no_run
+    /// # use goblin_pe::{Options, Pe};
+    /// # let bytes = [];
+    /// let pe = Pe::read(&bytes, &Options::default())?;
+    /// let resources = pe.section_by_name(".rsrc").map(|s| pe.section_data(&s)).transpose()?;
+    /// # Ok::<(), goblin_pe::Error>(())
+    /// ```
+    pub fn section_data(&self, section: &Section) -> Result<(&'a [u8], usize), Error> {
+        section.data(self.bytes)
     }
 
     fn section_records(&self) -> &[raw::Section<'a>] {

@@ -247,7 +247,7 @@ impl<'a> Section<'a> {
     }
 
     /// The pair (data in the file `bytes`, how many zeros follow it in memory). The data begins at the
-    /// raw pointer as stored.
+    /// raw pointer as stored. [`Pe::section_data`](crate::Pe::section_data) takes the bytes that were read.
     ///
     /// # Errors
     /// [`ErrorKind::Read`](crate::ErrorKind::Read) where the data passes the file, and where it begins

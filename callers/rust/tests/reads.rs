@@ -145,7 +145,8 @@ fn the_data_of_a_section_begins_at_its_raw_pointer() {
         let bytes = sample(name);
         let pe = Pe::read(&bytes, &Options::permissive()).unwrap();
         for s in pe.sections() {
-            let (data, zeros) = s.data(&bytes).unwrap();
+            let (data, zeros) = pe.section_data(&s).unwrap();
+            assert_eq!(s.data(&bytes), Ok((data, zeros)));
             assert_eq!(place(&bytes, data), s.pointer_to_raw_data as usize);
             assert_eq!(data.len(), s.size_of_raw_data as usize);
             let grown = s.virtual_size.max(s.size_of_raw_data);
@@ -156,7 +157,7 @@ fn the_data_of_a_section_begins_at_its_raw_pointer() {
     let cut = &bytes[..bytes.len() - 1];
     let pe = Pe::read(cut, &Options::permissive()).unwrap();
     let last = pe.sections().next_back().unwrap();
-    let error = last.data(cut).unwrap_err();
+    let error = pe.section_data(&last).unwrap_err();
     assert_eq!(error.read_fault(), Some(ReadFault::TooBig));
 }
 
