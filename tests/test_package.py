@@ -2,6 +2,7 @@
 import functools
 import hashlib
 import os
+import pathlib
 import platform
 import shutil
 import zipfile
@@ -19,11 +20,16 @@ def setUpModule():
 
 
 @functools.cache
-def packed(name):
+def packed(name, callers=CALLERS):
     """A folder with the packages, made once for each name."""
     made = folder() / name
-    succeed([CALLERS / "package", made], env=environment(GOBLIN_PE_LIB=str(library()), SOURCE_DATE_EPOCH="1700000000"))
+    succeed([callers / "package", made], env=environment(GOBLIN_PE_LIB=str(library()), SOURCE_DATE_EPOCH="1700000000"))
     return made
+
+
+def without_what_is_made(at, names):
+    """What of a folder of the repository is not copied."""
+    return {it for it in names if it in ("out", "target", "__pycache__") or pathlib.Path(at, it) == CALLERS / "lib"}
 
 
 def package(ending):
@@ -72,9 +78,14 @@ class Packages(Case):
         self.assertEqual(succeed([*away(), "ls", "-A", TOP]), "")
 
     def test_they_are_packed_again_to_the_byte(self):
-        first, second = ({it.name: it.read_bytes() for it in packed(name).iterdir()} for name in ("packages", "again"))
+        """In this folder, and in a copy of the repository."""
+        shutil.copytree(TOP, self.folder / "another", symlinks=True, ignore=without_what_is_made)
+        folders = packed("packages"), packed("again"), packed("another", self.folder / "another/callers")
+        first, *others = ({it.name: it.read_bytes() for it in made.iterdir()} for made in folders)
         self.assertEqual(len(first), 3)
-        self.assertTrue(first == second)
+        for other in others:
+            self.assertEqual(sorted(other), sorted(first))
+            self.assertEqual([name for name in first if other[name] != first[name]], [])
 
     def test_what_was_proved_is_told(self):
         text = (self.unpacked() / "PROVED").read_text("utf-8")
