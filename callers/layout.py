@@ -1,9 +1,9 @@
 #!/usr/bin/env python3
-"""Compares the records of the crate goblin_pe_c, and those of the libraries that stand in them, with those that
+"""Compares the records of the crate goblin_pe_calls, and those of the libraries that stand in them, with those that
 the callers declare: the same names, with the same fields in the same order and of the same types. Compares also the
 numbers that stand in the records, each with its name: those of the code, and of the enums of the callers; and the
-calls, by what they take and answer, and the version of their interface. The last line says how many passed and
-failed."""
+calls of goblin_pe_c, by what they take and answer, and the version of their interface. The last line says how many
+passed and failed."""
 import glob
 import os
 import re
@@ -11,7 +11,6 @@ import sys
 
 HERE = os.path.dirname(os.path.abspath(__file__))
 CRATES = os.path.join(HERE, "../crates")
-CRATE = os.path.join(CRATES, "goblin_pe_c/src")
 NUMBERS = {"uint8_t": "u8", "uint16_t": "u16", "uint32_t": "u32", "uint64_t": "u64", "int16_t": "i16", "size_t": "usize", "bool": "bool"}
 # The records of the libraries that callers see.
 LIBRARIES = ("DosHeader", "CoffHeader", "StandardFields", "WindowsFields64", "DataDirectory", "TeHeader", "RichMetadata",
@@ -24,6 +23,10 @@ PYTHON = {"c.c_uint8": "u8", "c.c_uint16": "u16", "c.c_uint32": "u32", "c.c_uint
 def text(*path):
     with open(os.path.join(HERE, *path), encoding="utf-8") as file:
         return file.read()
+
+
+def code_of(crate):
+    return "".join(text(it) for it in sorted(glob.glob(os.path.join(CRATES, crate, "src/**/*.rt"), recursive=True)))
 
 
 def camel(name):
@@ -49,7 +52,7 @@ def rust_records(source, slices):
 
 
 def own_records():
-    """The records of goblin_pe_c, and those of the libraries that callers see."""
+    """The records of goblin_pe_calls, and those of the libraries that callers see."""
     records = {name: fields for path in glob.glob(os.path.join(CRATES, "*/src/**/*.rt"), recursive=True)
                for name, fields in rust_records(text(path), {"&'a [u8]"}).items()}
     return {named(name): fields for name, fields in records.items() if name.startswith("Pe") or name in LIBRARIES}
@@ -111,7 +114,7 @@ def enum_of(name, source):
 
 
 def own_numbers(source):
-    """The numbers by their names, as the code of goblin_pe_c gives them, and those of directories by their place."""
+    """The numbers by their names, as the code of goblin_pe_calls gives them, and those of directories by their place."""
     words = re.findall(r'what == "([\w ]+)" \{\s+(\d+)', source)
     kinds = re.search(r"const KINDS: .*?= \[(.*?)\];", text(CRATES, "goblin_pe_sect/src/data_directories.rt"), re.S).group(1)
     return {
@@ -124,7 +127,7 @@ def own_numbers(source):
     }
 
 
-# What a caller names otherwise than goblin_pe_c does, and the prefixes of the names in C.
+# What a caller names otherwise than goblin_pe_calls does, and the prefixes of the names in C.
 STATUSES = {"TOO_SHORT": "BUFFER_TOO_SHORT", "BAD_READ": "READ", "NO_MEMORY": "MEMORY"}
 FORWARDS = {"NO_FORWARDER": "NONE", "NOTHING": "NONE", "FORWARDS_NAME": "NAME", "FORWARDS_ORDINAL": "ORDINAL"}
 RUST = {"Part": "State", "ErrorKind": "Status"}
@@ -163,7 +166,7 @@ def python_numbers(source):
 
 
 def own_calls(source):
-    """The calls of a file of goblin_pe_c, each as what it answers and takes; a slice is a pointer and a count."""
+    """The calls of goblin_pe_c, each as what it answers and takes; a slice is a pointer and a count."""
     found = re.findall(r'pub extern "C" fn goblin_pe_(\w+)\((.*?)\) -> (\w+)$', re.sub(r"<'[^>]*>", "", source), re.S | re.M)
     def kinds(taken):
         for kind in re.findall(r"\w+: ([^,\n]+)", taken):
@@ -207,8 +210,8 @@ def version(pattern, source):
 
 
 def main():
-    source = "".join(text(it) for it in sorted(glob.glob(os.path.join(CRATE, "**/*.rt"), recursive=True)))
-    ours = {**own_records(), **own_numbers(source), **own_calls(source), **version(r"fn goblin_pe_interface\(\).*?\{\n +(\d+)", source)}
+    numbers, calls = code_of("goblin_pe_calls"), code_of("goblin_pe_c")
+    ours = {**own_records(), **own_numbers(numbers), **own_calls(calls), **version(r"fn goblin_pe_interface\(\).*?\{\n +(\d+)", calls)}
     callers = {
         "c/goblin_pe.h": c_records(text("c/goblin_pe.h")),
         "rust/src": rust_records(text("rust/src/raw.rs"), {"Slice<'a>"}),

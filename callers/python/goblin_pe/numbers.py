@@ -1,5 +1,5 @@
 """The numbers in the library's records, by name. callers/layout.py compares them with those of the crate
-goblin_pe_c."""
+goblin_pe_calls."""
 import enum
 
 

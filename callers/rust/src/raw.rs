@@ -1,5 +1,6 @@
 //! The library's interface, and all that is unsafe. The records' fields are those of the crate
-//! `goblin_pe_c` and of the libraries below it, in the same order; callers/layout.py compares them.
+//! `goblin_pe_calls` and of the libraries below it, in the same order; callers/layout.py compares
+//! them.
 
 use std::alloc::{Layout, handle_alloc_error};
 use std::marker::PhantomData;

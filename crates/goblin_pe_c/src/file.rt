@@ -1,123 +1,203 @@
-//! What a call says of the file as a whole.
+//! The calls that read a whole file.
 
-ghost use Rattle.std.specs.Prelude.{◌≡◌, length};
-ghost use Rattle.goblin_pe_head.specs.PeHeader.{header_value};
-ghost use Rattle.goblin_pe.specs.Whole.{part_map};
-ghost use Rattle.goblin_pe_c.specs.Blocks.{relocations_of};
-ghost use Rattle.goblin_pe_c.specs.Exports.{export_views};
-ghost use Rattle.goblin_pe_c.specs.Imports.{import_views};
-ghost use Rattle.goblin_pe_c.specs.Files.{summary, table_of};
-ghost use Rattle.goblin_pe_c.specs.States.{state_number};
-ghost use Rattle.goblin_pe_c.specs.Opened.{records_view};
-ghost use Rattle.goblin_pe_c.specs.RichHeaders.{rich_of};
+ghost use Rattle.std.specs.Prelude.{◌≡◌};
+ghost use Rattle.goblin_pe_sect.specs.Options.{is_strict};
+ghost use Rattle.goblin_pe_head.specs.HeaderReadings.{pe_header};
+ghost use Rattle.goblin_pe.specs.Whole.{layout, whole_file};
+ghost use Rattle.goblin_pe_calls.specs.Batches.{ExportBatch, GivesBatch, GivesExports, GivesImports};
+ghost use Rattle.goblin_pe_calls.specs.Batches.{ImportBatch, IsExportsFault, IsImportsFault};
+ghost use Rattle.goblin_pe_calls.specs.Calls.{ReadsInto, Reported};
+ghost use Rattle.goblin_pe_calls.specs.Damages.{TakesSectionsBy, TellsDamage};
+ghost use Rattle.goblin_pe_calls.specs.Footprints.{Lists};
+ghost use Rattle.goblin_pe_calls.specs.Growth.{TakesRecords};
+ghost use Rattle.goblin_pe_calls.specs.Kinds.{kind_number, kind_of};
+ghost use Rattle.goblin_pe_calls.specs.Opened.{Opened, Opens};
+ghost use Rattle.goblin_pe_calls.specs.Options.{options_of};
 
-use crate::block::PeBaseRelocations;
-use crate::directory::directories_of;
-use crate::export::PeExport;
-use crate::headers::{PeOptionalHeader, optional_record};
-use crate::import::PeImport;
-use crate::records::FileRecords;
-use crate::rich::PeRichHeader;
-use goblin_pe::header::{CoffHeader, DosHeader};
-use goblin_pe::{Layout, Part};
+use goblin_pe_calls::damage::{self, PeDamage};
+use goblin_pe_calls::directory::PeDirectory;
+use goblin_pe_calls::export::PeExport;
+use goblin_pe_calls::fault::{PeFault, fault_of, no_fault};
+use goblin_pe_calls::file::PeFile;
+use goblin_pe_calls::footprint::{self, PeRanges};
+use goblin_pe_calls::import::PeImport;
+use goblin_pe_calls::kind;
+use goblin_pe_calls::next::{self, PeImportPosition};
+use goblin_pe_calls::open::{self, PeTables};
+use goblin_pe_calls::options::{PeOptions, options_of};
+use std::alloc::Global;
 
-/// How a table of the file stands.
-#[derive(Copy, Clone)]
-pub enum State {
-    /// The file has no such table, or it was not asked for.
-    Absent = 0,
-    /// It was read.
-    Read = 1,
-    /// It is refused and was passed over, as permissive mode does.
-    Refused = 2,
+/// The version of this interface. It is raised where a record or a call changes.
+#[unsafe(no_mangle)]
+pub extern "C" fn goblin_pe_interface() -> u32
+    ensures { result ≡ 3 }
+{
+    3
 }
 
-/// A table of the file.
-#[repr(C)]
-#[derive(Copy, Clone)]
-pub struct PeTable {
-    /// How many entries it has, whatever the room.
-    pub count: usize,
-    /// How it stands, as a [`State`]: 0 the file has no such table, 1 it was read, 2 it is refused
-    /// and was passed over.
-    pub state: u32,
+/// What a file is, by its first two bytes alone, as a [`Kind`](goblin_pe_calls::kind::Kind): 1 an
+/// image, if they are `MZ`; 2 an object, if they are the number of a machine that the library has a
+/// constant for, other than that of any machine, 0; 3 a Terse Executable, if they are `VZ`; else 0.
+/// It does not tell whether the file can be read.
+#[unsafe(no_mangle)]
+pub extern "C" fn goblin_pe_raw_kind(bytes: &[u8]) -> u32
+    ensures { result ≡ kind_number (kind_of bytes.now) }
+{
+    kind::kind_of(bytes) as u32
 }
 
-impl PeTable {
-    /// A table of so many entries that stands so.
-    pub fn new(count: usize, state: State) -> PeTable
-        ensures { result ≡ record { count = count; state = state_number state } }
-    {
-        PeTable {
-            count,
-            state: state as u32,
-        }
+/// Reads a whole file once: says in `file` what it is, fills the records of its data directories as
+/// far as there is room, and puts into `tables` its Rich header's entries, sections, imports,
+/// exports, export addresses and base relocation blocks, all of them, with what the export
+/// directory says and the DOS stub. Each table that is not empty is a block of memory that the
+/// caller frees. After a refusal nothing is changed, and nothing is to be freed;
+/// memory is refused (the status 5) only where the file has a header, and room for as many sections
+/// as that says; and of a file that can be read only where it has a section, or a table of it an
+/// entry.
+#[unsafe(no_mangle)]
+pub extern "C" fn goblin_pe_raw_open<'a>(
+    alloc: Global,
+    bytes: &'a [u8],
+    options: &PeOptions,
+    file: &mut PeFile,
+    directories: &mut [PeDirectory],
+    tables: &mut PeTables<'a>,
+) -> PeFault
+    ensures { let old : Opened =
+        record { file = file.old; directories = directories.old; tables = tables.old } in
+        let new : Opened =
+        record { file = file.new; directories = directories.new; tables = tables.new } in
+        let opts = options_of options.now in
+        Reported result
+        (ReadsInto (pe_header (is_strict opts.parse_mode)) (TakesRecords opts bytes.now)
+        (whole_file opts) bytes.now (λ w. Opens opts bytes.now w old new) (new ≡ old)) }
+{
+    let opts = options_of(options);
+    match open::open(alloc, bytes, &opts, file, directories, tables) {
+        Ok(()) => no_fault(),
+        Err(error) => fault_of(&error),
     }
 }
 
-/// The file as a whole.
-#[repr(C)]
-#[derive(Copy, Clone)]
-pub struct PeFile {
-    /// The optional header.
-    pub optional_header: PeOptionalHeader,
-    /// How many data directories there are, whatever the room: sixteen, or none where there is no
-    /// optional header.
-    pub directories: usize,
-    /// How many sections there are, whatever the room.
-    pub sections: usize,
-    /// The imports.
-    pub imports: PeTable,
-    /// The exports.
-    pub exports: PeTable,
-    /// The base relocations.
-    pub relocations: PeBaseRelocations,
-    /// The Rich header.
-    pub rich_header: PeRichHeader,
-    /// The DOS header.
-    pub dos_header: DosHeader,
-    /// The COFF header.
-    pub coff_header: CoffHeader,
-}
-
-// How a table of records stands.
-#[tactic(auto, unfolding(goblin_pe::specs::Whole::part_map))]
-fn table_of<T>(table: &Part<Vec<T>>) -> PeTable
-    ensures { result ≡ table_of (part_map (λ v. v.items) table.now) }
+/// Fills `records` with the imports of a file from a position on, as many as there is room for,
+/// says in `count` how many, and leaves in `position` where the next call goes on. With room for
+/// any, a `count` of 0 is the end. Zeros are the position of the first import; a file without an
+/// import directory, or imports that are not asked for, have none. Where nothing is left, and there
+/// is room for more, the position's `record` is then the greatest number, and its `slot` 0; without
+/// room the position stays.
+///
+/// Refused, with nothing changed, are a header or sections that the options refuse; in strict mode
+/// an import directory whose address has no offset, if the position is the first; and in strict
+/// mode the very next import, if there is room for it. Imports that come before a refusal are
+/// given, and the next call is refused. Memory (the status 5) is refused only of a file that has
+/// sections, and room for as many as its header says: it is taken for these and the map of
+/// addresses, and given back before the call returns.
+#[unsafe(no_mangle)]
+pub extern "C" fn goblin_pe_raw_next_imports<'a>(
+    alloc: Global,
+    bytes: &'a [u8],
+    options: &PeOptions,
+    position: &mut PeImportPosition,
+    records: &mut [PeImport<'a>],
+    count: &mut usize,
+) -> PeFault
+    ensures { let opts = options_of options.now in
+        let old : ImportBatch = record { position = position.old; records = records.old } in
+        let new : ImportBatch = record { position = position.new; records = records.new } in
+        Reported result
+        (GivesBatch opts bytes.now
+        (λ m places. GivesImports m places bytes.now old new count.new)
+        (λ m places. IsImportsFault m places bytes.now old)
+        ((new ≡ old) × (count.new ≡ count.old))) }
 {
-    match table {
-        Part::Absent => PeTable::new(0, State::Absent),
-        Part::Read(records) => PeTable::new(records.len(), State::Read),
-        Part::Refused => PeTable::new(0, State::Refused),
+    let opts = options_of(options);
+    match next::give_imports(alloc, bytes, &opts, position, records, count) {
+        Ok(()) => no_fault(),
+        Err(error) => fault_of(&error),
     }
 }
 
-/// What is said of a file as a whole: with what is said of its base relocations and its Rich header.
-#[inline(always)]
-pub fn file_of<'a>(
-    layout: &Layout<'a, '_>,
-    records: &FileRecords<'a>,
-    relocations: PeBaseRelocations,
-    rich_header: PeRichHeader,
-) -> PeFile
-    requires relocations { let v = records_view layout.now records.now in
-        relocations ≡ relocations_of v.relocations }
-    requires rich_header { rich_header ≡ rich_of (header_value layout.now.header.now).rich_header }
-    ensures { let v = records_view layout.now records.now in
-        result
-        ≡ summary v.header (length v.sections) (table_of v.imports) (table_of v.exports.exports)
-        v.relocations }
+/// Fills `records` with the exports of a file from a position on, as many as there is room for,
+/// says in `count` how many, and leaves in `position` where the next call goes on: the index of the
+/// name pointer that is read next, at first 0. With room for any, a `count` of 0 is the end; the
+/// position then stays. A file without an export directory, and in permissive mode one whose
+/// directory is refused, has none.
+///
+/// Refused, with nothing changed, are a header or sections that the options refuse, and in strict
+/// mode the export directory. Memory as for
+/// [`goblin_pe_raw_next_imports`](crate::file::goblin_pe_raw_next_imports).
+#[unsafe(no_mangle)]
+pub extern "C" fn goblin_pe_raw_next_exports<'a>(
+    alloc: Global,
+    bytes: &'a [u8],
+    options: &PeOptions,
+    position: &mut usize,
+    records: &mut [PeExport<'a>],
+    count: &mut usize,
+) -> PeFault
+    ensures { let opts = options_of options.now in
+        let old : ExportBatch = record { position = position.old; records = records.old } in
+        let new : ExportBatch = record { position = position.new; records = records.new } in
+        Reported result
+        (GivesBatch opts bytes.now
+        (λ m places. GivesExports m places bytes.now old new count.new)
+        (λ m places. IsExportsFault m places bytes.now)
+        ((new ≡ old) × (count.new ≡ count.old))) }
 {
-    let header = layout.header();
-    PeFile {
-        optional_header: optional_record(&header.optional_header),
-        directories: directories_of(&header.optional_header).len(),
-        sections: layout.sections().len(),
-        imports: table_of(&records.imports),
-        exports: table_of(&records.exports.exports),
-        relocations,
-        rich_header,
-        dos_header: header.dos_header,
-        coff_header: header.coff_header,
+    let opts = options_of(options);
+    match next::give_exports(alloc, bytes, &opts, position, records, count) {
+        Ok(()) => no_fault(),
+        Err(error) => fault_of(&error),
+    }
+}
+
+/// Tells in `damage` what strict mode would refuse of a file, part by part, where its header and
+/// its sections are read as the options say. Each part is read for itself: damage of one says
+/// nothing of the others. A file without damage is one that strict mode reads.
+///
+/// No table is listed: memory is taken for the sections and for what maps the addresses, and given
+/// back before the call returns. Refused are a header or sections that these options refuse, and
+/// memory (the status 5), this only of a file that has sections, and room for as many as its header
+/// says. After a refusal nothing is changed.
+#[unsafe(no_mangle)]
+pub extern "C" fn goblin_pe_raw_damage(
+    alloc: Global,
+    bytes: &[u8],
+    options: &PeOptions,
+    damage: &mut PeDamage,
+) -> PeFault
+    ensures { let opts = options_of options.now in
+        Reported result
+        (ReadsInto (pe_header (is_strict opts.parse_mode)) (TakesSectionsBy bytes.now) (layout opts)
+        bytes.now
+        (λ l. TellsDamage opts l.0 l.1 bytes.now damage.new) (damage.new ≡ damage.old)) }
+{
+    match damage::tell(alloc, bytes, &options_of(options), damage) {
+        Ok(()) => no_fault(),
+        Err(error) => fault_of(&error),
+    }
+}
+
+/// Puts into `ranges` the positions of a file on which a read of the whole file by these options
+/// depends: of two files of one length with the same bytes there, both have the same header,
+/// sections and tables, or both are refused, not always for the same cause. A file that is refused
+/// has a footprint, too.
+///
+/// The ranges come in no order and may overlap; none is empty, and none passes the file. They are a
+/// block of memory that the caller frees, if there is one. Refused is memory alone (the status 5),
+/// only where there is a range to list, and then nothing is changed.
+#[unsafe(no_mangle)]
+pub extern "C" fn goblin_pe_raw_footprint<'a>(
+    alloc: Global,
+    bytes: &[u8],
+    options: &PeOptions,
+    ranges: &mut PeRanges<'a>,
+) -> PeFault
+    ensures { let footprint = (whole_file (options_of options.now)).reaches bytes.now in
+        Reported result (Lists footprint ranges.old ranges.new) }
+{
+    match footprint::list(alloc, bytes, &options_of(options), ranges) {
+        Ok(()) => no_fault(),
+        Err(error) => fault_of(&error),
     }
 }

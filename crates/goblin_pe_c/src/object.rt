@@ -1,130 +1,26 @@
-//! The call that reads an object.
+//! The calls that read an object, a Terse Executable, symbols and relocations.
 
-ghost use Rattle.std.specs.Prelude.{◌+◌, ◌≡◌, IfErr, IsSomeAnd, Some, map};
-ghost use Rattle.goblin_base.specs.Answers.{IsMemory};
-ghost use Rattle.goblin_base.specs.Reading.{ReadsOrMemory};
+ghost use Rattle.std.specs.Prelude.{◌≡◌};
 ghost use Rattle.goblin_pe_sect.specs.Options.{is_strict};
-ghost use Rattle.goblin_pe_c.specs.Calls.{ReadsInto, Reported};
-ghost use Rattle.goblin_pe_c.specs.Filled.{Filled, alone};
-ghost use Rattle.goblin_pe_c.specs.Objects.{ObjectRecords, SaysObject, TakesMemory, object_file};
-ghost use Rattle.goblin_pe_c.specs.Objects.{object_header, object_record, object_sections};
-ghost use Rattle.goblin_pe_c.specs.Options.{options_of};
-ghost use Rattle.goblin_pe_c.specs.Sections.{section_said};
+ghost use Rattle.goblin_pe_head.specs.TeReadings.{te_header};
+ghost use Rattle.goblin_pe_calls.specs.Calls.{ReadsInto, ReadsWithout, Reported};
+ghost use Rattle.goblin_pe_calls.specs.Objects.{ObjectRecords, SaysObject, TakesMemory, object_file};
+ghost use Rattle.goblin_pe_calls.specs.Objects.{object_header};
+ghost use Rattle.goblin_pe_calls.specs.Options.{options_of};
+ghost use Rattle.goblin_pe_calls.specs.Relocations.{RelocationRecords, SaysRelocations};
+ghost use Rattle.goblin_pe_calls.specs.Relocations.{relocations_of};
+ghost use Rattle.goblin_pe_calls.specs.Sections.{section_view};
+ghost use Rattle.goblin_pe_calls.specs.Symbols.{SaysSymbols, SymbolRecords, symbol_tables};
 
-use crate::fault::{PeFault, fault_of, no_fault};
-use crate::options::{PeOptions, options_of};
-use crate::section::{PeSection, fill_sections};
-use goblin_pe::Result;
-use goblin_pe::header::{CoffHeader, SIZEOF_COFF_HEADER};
-use goblin_pe::options::ParseOptions;
-use goblin_pe::section_table::SectionTable;
+use goblin_pe::header::CoffHeader;
+use goblin_pe::relocation::Relocation;
+use goblin_pe_calls::fault::{PeFault, fault_of, no_fault};
+use goblin_pe_calls::object::{self, PeObject};
+use goblin_pe_calls::options::{PeOptions, options_of};
+use goblin_pe_calls::relocation::read_relocations;
+use goblin_pe_calls::section::PeSection;
+use goblin_pe_calls::symbol::{PeNamedSymbol, read_symbols};
 use std::alloc::Global;
-use std::marker::Model;
-
-/// An object as a whole.
-#[repr(C)]
-#[derive(Copy, Clone)]
-pub struct PeObject {
-    /// How many sections there are, whatever the room.
-    pub sections: usize,
-    /// The COFF header.
-    pub coff_header: CoffHeader,
-}
-
-// An object.
-#[derive(Drop)]
-struct Object {
-    header: CoffHeader,
-    sections: Vec<SectionTable>,
-}
-
-impl Model for Object {
-    ghost use Rattle.goblin_pe_c.specs.Objects.{ObjectFile};
-
-    ghost Value = { ObjectFile };
-
-    ghost view = { λ x. record { header = x.header; sections = x.sections.items } };
-}
-
-// The sections of an object with this header, whose records follow the optional header.
-#[tactic(auto, using(crate::proofs::Refusals::sections_take))]
-fn sections_of(
-    alloc: Global,
-    bytes: &[u8],
-    header: &CoffHeader,
-    opts: &ParseOptions,
-) -> Result<Vec<SectionTable>>
-    ensures value { let strict = is_strict opts.now.parse_mode in
-        ReadsOrMemory (λ v. v.items) result (object_sections strict header.now) bytes.now }
-    ensures grown { IfErr result (λ e. IsMemory e → TakesMemory bytes.now header.now) }
-{
-    let mut offset = after_optional_header(header.size_of_optional_header);
-    header.sections_with_opts(alloc, bytes, &mut offset, opts)
-}
-
-// The file offset at which the optional header of an object ends.
-fn after_optional_header(size_of_optional_header: u16) -> usize
-    ensures { result ≡ 20 + size_of_optional_header }
-{
-    SIZEOF_COFF_HEADER + size_of_optional_header as usize
-}
-
-impl Object {
-    // Reads the COFF header at the front of a file, and the sections that it leads to.
-    #[tactic(auto, unfolding(crate::specs::Objects::object_file), using(crate::proofs::Refusals::header_there))]
-    fn read(alloc: Global, bytes: &[u8], opts: &ParseOptions) -> Result<Object>
-        ensures value { let strict = is_strict opts.now.parse_mode in
-            ReadsOrMemory (λ x. x) result (object_file strict) bytes.now }
-        ensures grown { IfErr result
-            (λ e. IsMemory e → IsSomeAnd (object_header.value bytes.now) (TakesMemory bytes.now)) }
-    {
-        let header = CoffHeader::parse(bytes, &mut 0)?;
-        let sections = sections_of(alloc, bytes, &header, opts)?;
-        Ok(Object { header, sections })
-    }
-}
-
-// Fills what is asked for of an object that was read.
-fn fill<'a>(
-    whole: &Object,
-    bytes: &'a [u8],
-    opts: &ParseOptions,
-    object: &mut PeObject,
-    sections: &mut [PeSection<'a>],
-)
-    requires { (object_file (is_strict opts.now.parse_mode)).value bytes.now ≡ Some whole.now }
-    ensures object { object.new ≡ object_record whole.now }
-    ensures sections { Filled section_said (map alone whole.now.sections) sections.old
-        sections.new }
-{
-    let table = whole.header.symbols_end();
-    fill_sections(sections, bytes, &whole.sections, table, opts);
-    *object = PeObject {
-        sections: whole.sections.len(),
-        coff_header: whole.header,
-    };
-}
-
-// Reads an object and fills what is asked for.
-fn read<'a>(
-    alloc: Global,
-    bytes: &'a [u8],
-    opts: &ParseOptions,
-    object: &mut PeObject,
-    sections: &mut [PeSection<'a>],
-) -> Result<()>
-    ensures { let old : ObjectRecords =
-        record { object = object.old; sections = sections.old } in
-        let new : ObjectRecords =
-        record { object = object.new; sections = sections.new } in
-        let strict = is_strict opts.now.parse_mode in
-        ReadsInto object_header (TakesMemory bytes.now) (object_file strict) bytes.now
-        (λ x. SaysObject x old new) (new ≡ old) result }
-{
-    let whole = Object::read(alloc, bytes, opts)?;
-    fill(&whole, bytes, opts, object, sections);
-    Ok(())
-}
 
 /// Reads an object, which begins with a COFF header: says in `object` what it is, and fills the
 /// records of its sections as far as there is room. Its symbols are a call of their own. After a
@@ -148,7 +44,67 @@ pub extern "C" fn goblin_pe_raw_read_object<'a>(
         (λ x. SaysObject x old new) (new ≡ old)) }
 {
     let opts = options_of(options);
-    match read(alloc, bytes, &opts, object, sections) {
+    match object::read(alloc, bytes, &opts, object, sections) {
+        Ok(()) => no_fault(),
+        Err(error) => fault_of(&error),
+    }
+}
+
+/// Fills records of the symbols of an image or an object, which its COFF header leads to, from the
+/// record at the index `position` on: as many as there are and as there is room for. `count` says
+/// how many these are, and `position` is then the index of the record that is read next. The first
+/// record is read as a symbol, even where it is an auxiliary one of a symbol before it. After the
+/// last symbol, and where the header's pointer to the table is 0, `count` is 0, as it is without
+/// room; the position then stays. Each call reads the whole string table, so room for many symbols
+/// at once saves time.
+///
+/// It takes no memory. It is refused where the records of the table run past the end of the file or
+/// begin at it (the status 4), where the string table after them has no length of four bytes (4) or
+/// one below 4 (the cause 12) or runs past the end of the file (20), and where its texts are not
+/// UTF-8 (the status 4). Nothing is then changed.
+#[unsafe(no_mangle)]
+pub extern "C" fn goblin_pe_raw_next_symbols<'a>(
+    alloc: Global,
+    bytes: &'a [u8],
+    header: &CoffHeader,
+    position: &mut usize,
+    records: &mut [PeNamedSymbol<'a>],
+    count: &mut usize,
+) -> PeFault
+    ensures { let old : SymbolRecords =
+        record { position = position.old; records = records.old; count = count.old } in
+        let new : SymbolRecords =
+        record { position = position.new; records = records.new; count = count.new } in
+        Reported result
+        (ReadsWithout (symbol_tables header.now) bytes.now (λ x. SaysSymbols x old new)
+        (new ≡ old)) }
+{
+    match read_symbols(alloc, bytes, header, position, records, count) {
+        Ok(()) => no_fault(),
+        Err(error) => fault_of(&error),
+    }
+}
+
+/// Reads the relocations of a section of an object, fills the records as far as there is room, and
+/// says in `count` how many there are: as many as the section's record says, 65,535 at most. It
+/// takes no memory.
+///
+/// A read is refused (the status 4) where they run past the end of the file, or begin at or past
+/// it, even where there are none. Nothing is then changed.
+#[unsafe(no_mangle)]
+pub extern "C" fn goblin_pe_raw_read_relocations(
+    bytes: &[u8],
+    section: &PeSection,
+    records: &mut [Relocation],
+    count: &mut usize,
+) -> PeFault
+    ensures { let old : RelocationRecords = record { records = records.old; count = count.old } in
+        let new : RelocationRecords = record { records = records.new; count = count.new } in
+        Reported result
+        (ReadsWithout (relocations_of (section_view section.now)) bytes.now
+        (λ x. SaysRelocations x old new) (new ≡ old)) }
+{
+    match read_relocations(bytes, section, records, count) {
         Ok(()) => no_fault(),
         Err(error) => fault_of(&error),
     }

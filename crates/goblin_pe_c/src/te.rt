@@ -1,86 +1,15 @@
 //! The call that reads a Terse Executable.
 
-ghost use Rattle.std.specs.Prelude.{◌≡◌, IfErr, IsSomeAnd, Some, map};
-ghost use Rattle.goblin_base.specs.Answers.{IsMemory};
-ghost use Rattle.goblin_base.specs.Reading.{ReadsOrMemory};
+ghost use Rattle.std.specs.Prelude.{◌≡◌};
 ghost use Rattle.goblin_pe_head.specs.TeReadings.{te_header};
-ghost use Rattle.goblin_pe_c.specs.Calls.{ReadsInto, Reported};
-ghost use Rattle.goblin_pe_c.specs.Filled.{Filled, alone};
-ghost use Rattle.goblin_pe_c.specs.Sections.{section_said};
-ghost use Rattle.goblin_pe_c.specs.Te.{SaysImage, TakesMemory, TeRecords, te_file};
+ghost use Rattle.goblin_pe_calls.specs.Calls.{ReadsInto, Reported};
+ghost use Rattle.goblin_pe_calls.specs.Te.{SaysImage, TakesMemory, TeRecords, te_file};
 
-use crate::fault::{PeFault, fault_of, no_fault};
-use crate::section::{PeSection, fill_sections};
-use goblin_pe::Result;
 use goblin_pe::header::TeHeader;
-use goblin_pe::options::ParseOptions;
-use goblin_pe::section_table::SectionTable;
+use goblin_pe_calls::fault::{PeFault, fault_of, no_fault};
+use goblin_pe_calls::section::PeSection;
+use goblin_pe_calls::te;
 use std::alloc::Global;
-use std::marker::Model;
-
-// A Terse Executable.
-#[derive(Drop)]
-struct Image {
-    header: TeHeader,
-    sections: Vec<SectionTable>,
-}
-
-impl Model for Image {
-    ghost use Rattle.goblin_pe_c.specs.Te.{TeImage};
-
-    ghost Value = { TeImage };
-
-    ghost view = { λ x. record { header = x.header; sections = x.sections.items } };
-}
-
-impl Image {
-    // Reads the header at the front of a file, and the sections that follow it.
-    #[tactic(auto, unfolding(crate::specs::Te::te_file, goblin_pe_head::specs::TeReadings::te_image), using(crate::proofs::Refusals::te_header_there, crate::proofs::Refusals::te_sections_take))]
-    fn read(alloc: Global, bytes: &[u8]) -> Result<Image>
-        ensures value { ReadsOrMemory (λ x. x) result te_file bytes.now }
-        ensures grown { IfErr result
-            (λ e. IsMemory e → IsSomeAnd ((te_header 0).value bytes.now) (TakesMemory bytes.now)) }
-    {
-        let mut offset = 0;
-        let header = TeHeader::parse(bytes, &mut offset)?;
-        let sections = header.sections(alloc, bytes, &mut offset)?;
-        Ok(Image { header, sections })
-    }
-}
-
-// Fills what is asked for of an image that was read.
-fn fill<'a>(image: &Image, bytes: &'a [u8], header: &mut TeHeader, sections: &mut [PeSection<'a>])
-    requires { te_file.value bytes.now ≡ Some image.now }
-    ensures header { header.new ≡ image.now.header }
-    ensures sections { Filled section_said (map alone image.now.sections) sections.old
-        sections.new }
-{
-    *header = image.header;
-    fill_sections(
-        sections,
-        bytes,
-        &image.sections,
-        0,
-        &ParseOptions::default(),
-    );
-}
-
-// Reads an image and fills what is asked for.
-fn read<'a>(
-    alloc: Global,
-    bytes: &'a [u8],
-    header: &mut TeHeader,
-    sections: &mut [PeSection<'a>],
-) -> Result<()>
-    ensures { let old : TeRecords = record { header = header.old; sections = sections.old } in
-        let new : TeRecords = record { header = header.new; sections = sections.new } in
-        ReadsInto (te_header 0) (TakesMemory bytes.now) te_file bytes.now
-        (λ x. SaysImage x old new) (new ≡ old) result }
-{
-    let image = Image::read(alloc, bytes)?;
-    fill(&image, bytes, header, sections);
-    Ok(())
-}
 
 /// Reads the header at the front of a Terse Executable and the sections that follow it, and fills
 /// the records of sections as far as there is room; `header` says how many there are. The signature
@@ -99,7 +28,7 @@ pub extern "C" fn goblin_pe_raw_read_te<'a>(
         (ReadsInto (te_header 0) (TakesMemory bytes.now) te_file bytes.now
         (λ x. SaysImage x old new) (new ≡ old)) }
 {
-    match read(alloc, bytes, header, sections) {
+    match te::read(alloc, bytes, header, sections) {
         Ok(()) => no_fault(),
         Err(error) => fault_of(&error),
     }

@@ -7,102 +7,17 @@ ghost use Rattle.goblin_base.specs.Bytes.{overwritten};
 ghost use Rattle.goblin_base.specs.Record.{encoding};
 ghost use Rattle.goblin_pe_sect.specs.SectionReadings.{SectionWritesBack};
 ghost use Rattle.goblin_pe_sect.specs.SectionTable.{section_fields};
-ghost use Rattle.goblin_pe_head.specs.PeHeader.{IsUnwrittenPart, header_bytes, header_value};
-ghost use Rattle.goblin_pe_c.specs.Calls.{Reported};
-ghost use Rattle.goblin_pe_c.specs.Sections.{section_view};
-ghost use Rattle.goblin_pe_c.specs.Written.{Output, SetsName, WritesOut, entries_said, entry_said};
-ghost use Rattle.goblin_pe_c.specs.Written.{OpenedWritesBack, header_said, optional_said};
+ghost use Rattle.goblin_pe_head.specs.PeHeader.{IsUnwrittenPart, header_bytes};
+ghost use Rattle.goblin_pe_calls.specs.Calls.{Reported};
+ghost use Rattle.goblin_pe_calls.specs.Sections.{section_view};
+ghost use Rattle.goblin_pe_calls.specs.Written.{OpenedWritesBack, Output, SetsName, WritesOut};
+ghost use Rattle.goblin_pe_calls.specs.Written.{header_said, optional_said};
 
-use crate::directory::PeDirectory;
-use crate::fault::{PeFault, fault_of, no_fault};
-use crate::file::PeFile;
-use crate::mapping::section_of;
-use crate::section::PeSection;
-use goblin_pe::data_directories::{DataDirectories, DataDirectory};
-use goblin_pe::header::{DosStub, Header, PE_MAGIC};
-use goblin_pe::optional_header::OptionalHeader;
-use goblin_pe::section_table::SectionTable;
-use goblin_pe::{Endian, Result};
-
-// How many entries a table of data directories has.
-const DIRECTORIES: usize = 16;
-
-// The entry that a record says.
-fn entry_said(directory: &PeDirectory) -> Option<(usize, DataDirectory)>
-    ensures { result ≡ entry_said directory.now }
-{
-    if directory.is_present {
-        Some((directory.end, directory.directory))
-    } else {
-        None
-    }
-}
-
-// The entries that records say: the first sixteen, and none in place of those that are not there.
-fn entries_said(directories: &[PeDirectory]) -> [Option<(usize, DataDirectory)>; DIRECTORIES]
-    ensures { result ≡ entries_said directories.now }
-{
-    let mut entries = [None; DIRECTORIES];
-    let count = directories.len().min(DIRECTORIES);
-    'records: for i in 0..count {
-        entries[i] = entry_said(&directories[i]);
-    }
-    entries
-}
-
-// The optional header, which is there if it has directories.
-fn optional_said(file: &PeFile, directories: &[PeDirectory]) -> Option<OptionalHeader>
-    ensures { result ≡ optional_said file.now directories.now }
-{
-    if file.directories == 0 {
-        return None;
-    }
-    let data_directories = DataDirectories {
-        data_directories: entries_said(directories),
-    };
-    Some(OptionalHeader {
-        standard_fields: file.optional_header.standard_fields,
-        windows_fields: file.optional_header.windows_fields,
-        data_directories,
-    })
-}
-
-// The header that records say, its Rich header part of the stub.
-fn header_said<'a>(file: &PeFile, directories: &[PeDirectory], stub: &'a [u8]) -> Header<'a>
-    ensures value { header_value result ≡ header_said file.now directories.now stub.now }
-    ensures optional { result.optional_header ≡ optional_said file.now directories.now }
-{
-    Header {
-        dos_header: file.dos_header,
-        dos_stub: DosStub { bytes: stub },
-        rich_header: None,
-        signature: PE_MAGIC,
-        coff_header: file.coff_header,
-        optional_header: optional_said(file, directories),
-    }
-}
-
-// Writes a header, and says how many bytes it takes.
-fn write_header(
-    file: &PeFile,
-    directories: &[PeDirectory],
-    stub: &[u8],
-    out: &mut [u8],
-    written: &mut usize,
-) -> Result<()>
-    ensures { let old : Output = record { out = out.old; written = written.old } in
-        let new : Output = record { out = out.new; written = written.new } in
-        let made = header_bytes Little (header_said file.now directories.now stub.now) in
-        WritesOut (option_and_then (overwritten out.old 0) made)
-        (λ size. IsSomeAnd made (λ bytes. size ≡ length bytes))
-        (FirstFault made (IsUnwrittenPart (optional_said file.now directories.now))
-        (λ bytes. IsSliceFault out.old 0 (length bytes)))
-        old new result }
-{
-    let header = header_said(file, directories, stub);
-    *written = header.try_into_ctx(out, Endian::Little)?;
-    Ok(())
-}
+use goblin_pe_calls::directory::PeDirectory;
+use goblin_pe_calls::fault::{PeFault, fault_of, no_fault};
+use goblin_pe_calls::file::PeFile;
+use goblin_pe_calls::section::PeSection;
+use goblin_pe_calls::write::{set_name_offset, write_header, write_section};
 
 /// Writes the header that `file`, the records of its data directories and the bytes of its DOS stub
 /// say to the front of `out`, and puts into `written` how many bytes it takes: the DOS header, the
@@ -117,7 +32,6 @@ fn write_header(
 /// Refused are, in this order, an optional header of unknown magic, one for 32 bits with a Windows
 /// field that does not fit, and where there is no room; nothing is changed then.
 #[unsafe(no_mangle)]
-#[tactic(auto, using(crate::proofs::WrittenBack::opened_back))]
 pub extern "C" fn goblin_pe_raw_write_header(
     file: &PeFile,
     directories: &[PeDirectory],
@@ -142,25 +56,12 @@ pub extern "C" fn goblin_pe_raw_write_header(
     }
 }
 
-// Writes the record of a section, and says how many bytes it takes.
-fn write_record(section: &SectionTable, out: &mut [u8], written: &mut usize) -> Result<()>
-    ensures written { let old : Output = record { out = out.old; written = written.old } in
-        let new : Output = record { out = out.new; written = written.new } in
-        WritesOut (overwritten out.old 0 (encoding Little (section_fields section.now)))
-        (λ size. size ≡ 40) (IsSliceFault out.old 0 40) old new result }
-    ensures back { SectionWritesBack }
-{
-    *written = section.try_into_ctx(out, Endian::Little)?;
-    Ok(())
-}
-
 /// Writes the record of a section, with the eight bytes of its name, to the front of `out`, and
 /// puts its size, 40, into `written`. Numbers are little-endian. The name from the string table is
 /// not part of the record. A section that was read is written as its record stands in the file.
 ///
 /// Refused is where there is no room; nothing is changed then.
 #[unsafe(no_mangle)]
-#[tactic(auto, unfolding(goblin_pe_sect::specs::SectionTable::section_fields))]
 pub extern "C" fn goblin_pe_raw_write_section(
     section: &PeSection,
     out: &mut [u8],
@@ -173,20 +74,10 @@ pub extern "C" fn goblin_pe_raw_write_section(
         (λ size. size ≡ 40) (IsSliceFault out.old 0 40) old new) }
     ensures back { SectionWritesBack }
 {
-    match write_record(&section_of(section), out, written) {
+    match write_section(section, out, written) {
         Ok(()) => no_fault(),
         Err(error) => fault_of(&error),
     }
-}
-
-// Sets the eight bytes of a section's name.
-fn set_name_offset(section: &mut PeSection, offset: usize) -> Result<()>
-    ensures { SetsName offset section.old section.new result }
-{
-    let mut table = section_of(section);
-    table.set_name_offset(offset)?;
-    section.name = table.name;
-    Ok(())
 }
 
 /// Sets the eight bytes of a section's name to say that the name is at `offset` in the string

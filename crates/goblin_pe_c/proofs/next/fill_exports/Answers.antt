@@ -1,6 +1,0 @@
-use Rattle.goblin_pe_c.proofs.ExportBatches.{exports-more}
-use Rattle.goblin_pe_c.proofs.next.fill_exports.Goals as goal
-
-pub exports-preserved : goal.exports-preserved
-exports-preserved c =
-    exports-more c.args.exports.now c.args.records.now c.exports.exports c.exports.records c.exports.count c.exports.invariant c.in-Some.export c.next.new.self c.export_record.result c.in-Some.ensures.steps c.in-Some.ensures.over c.exports-test.true c.export_record.ensures

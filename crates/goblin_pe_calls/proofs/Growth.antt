@@ -1,0 +1,192 @@
+-- Memory is asked for only where a table has an entry.
+use Rattle.std.proofs.Common.{◌≡◌, ◌<◌, ◌+◌, ◌++◌, ◌∷◌, [], ℕ, List, Option, Some, None, Result, Ok, Err}
+use Rattle.std.proofs.Common.{ap, arith, length, map, refl, subst, suc, sym, zero}
+use Rattle.std.specs.Prelude.{IfSome, IsSomeAnd, OnErr, option_map}
+use Rattle.std.proofs.lemmas.List.{length-append, length-map}
+use Rattle.goblin_base.specs.declared.error.ErrorOf.{ErrorOf}
+use Rattle.goblin_base.specs.Answers.{◌>>=◌, all_of}
+use Rattle.goblin_base.specs.Reading.{Reading}
+use Rattle.goblin_base.proofs.Steps.{same_value}
+use Rattle.readings.specs.Reads.{pair_of}
+use Rattle.goblin_pe.specs.Walks.{GivesNext, IsWalkOf}
+use Rattle.goblin_pe_sect.specs.declared.options.ParseOptions.{ParseOptions}
+use Rattle.goblin_pe_sect.specs.Options.{is_strict}
+use Rattle.goblin_pe_sect.specs.SectionTable.{Section}
+use Rattle.goblin_pe_head.specs.HeaderReadings.{pe_header}
+use Rattle.goblin_pe_head.specs.PeHeader.{PeHeader, header_value}
+use Rattle.goblin_pe_head.specs.declared.header.pe_header.Header.{Header}
+use Rattle.goblin_pe_tables.specs.Addresses.{MapOfAddresses, map_by, offset_of}
+use Rattle.goblin_pe.specs.declared.whole.layout.Layout.{Layout}
+use Rattle.goblin_pe.specs.Layouts.{IsLayoutOf, layout_map, layout_places}
+use Rattle.goblin_pe.specs.SectionRoom.{HasRoom}
+use Rattle.goblin_pe.specs.declared.whole.Part.{Part}
+use Rattle.goblin_pe.specs.declared.whole.Part.TheVariants as part
+use Rattle.goblin_pe.specs.Imports.{ImportValue}
+use Rattle.goblin_pe.specs.Whole.{AreListed, TableParts, TablePlaces, WholeFile, import_list}
+use Rattle.goblin_pe.specs.Whole.{import_parts, offset_by, places_in, sections_after, table_parts}
+use Rattle.goblin_pe.specs.Whole.{whole_file, whole_of, whole_with}
+use Rattle.goblin_pe.proofs.Layouts.{tables-value}
+use Rattle.goblin_pe.proofs.Walked.{AtMade}
+use Rattle.goblin_pe_calls.specs.Blocks.{blocks_in}
+use Rattle.goblin_pe_calls.specs.Growth.{HasEntries, HasRecords, HasTables, TakesRecords}
+use Rattle.goblin_pe_calls.specs.Opened.{RecordsOfFile}
+use Rattle.goblin_pe_calls.specs.RichHeaders.{entries_in}
+use Rattle.goblin_pe_calls.proofs.Opened.{IsOf}
+
+-- what holds of every answer
+pub whichever : {A E : Type 0} (P : Type 0) (result : Result A E) → P → OnErr result P
+whichever P (Ok x) h = tt
+whichever P (Err e) h = h
+
+-- ---- walks
+
+-- where a walk has another item, or a refusal, something was to come at first
+pub walk-begun : {S A B X : Type 0} (left : S → List (Option A)) (IsCause : S → ErrorOf → Type 0)
+    (item : A → B) (start now : S) (made : List B) → AtMade left IsCause item start now made
+    → (view : X → A) (next : S) (r : Result X ErrorOf) → GivesNext view left IsCause now (Some r) next
+    → 0 < length (left start)
+walk-begun left IsCause item start now made h view next (Ok x) given =
+    omega (arith, ap length h.at.yielded, length-append (map (λ y. Some y) h.items) (left now), ap length given.0)
+walk-begun left IsCause item start now made h view next (Err e) given =
+    omega (arith, ap length h.at.yielded, length-append (map (λ y. Some y) h.items) (left now), ap length given.0)
+
+-- where records were made of what came before, the same
+pub records-begun : {A B : Type 0} (f : A → B) (made : List B) (start now more : List A) (x : A)
+    → made ++ map f now ≡ map f start → now ≡ x ∷ more → 0 < length start
+records-begun f made start now more x h is =
+    omega (arith, ap length h, length-append made (map f now), length-map now f, length-map start f, ap length is)
+
+first-some : {A : Type 0} (a : A) (rest : Option (List A)) (xs : List A)
+    → (rest >>= (λ ys. Some (a ∷ ys))) ≡ Some xs → 0 < length xs
+first-some a None xs is = absurd cc
+first-some a (Some ys) xs is = omega (arith, ap length (same_value (a ∷ ys) xs is))
+
+collected-some : {A : Type 0} (items : List (Option A)) (xs : List A) → all_of items ≡ Some xs
+    → 0 < length items → 0 < length xs
+unfolding all_of
+collected-some [] xs is some = absurd (omega (arith, some))
+collected-some (None ∷ items) xs is some = absurd cc
+collected-some (Some a ∷ items) xs is some = first-some a (all_of items) xs is
+
+gathered-some : {A : Type 0} (items : List (Option A)) (o : Option (List A)) → all_of items ≡ o
+    → 0 < length items → IfSome (option_map (λ xs. part.Read xs) o) HasEntries
+gathered-some items None is some = tt
+gathered-some items (Some xs) is some = collected-some items xs is some
+
+-- a walk of which something is to come is over a table with an entry, or over a refused one
+pub walk-entries : {A : Type 0} (reading : Reading (Part (List A))) (bytes : List ℕ)
+    (items : List (Option A)) (IsCause : ErrorOf → Type 0)
+    → IsWalkOf (λ xs. part.Read xs) reading bytes items IsCause → 0 < length items
+    → IfSome (reading.value bytes) HasEntries
+walk-entries {A} reading bytes items IsCause walk some =
+    subst (λ (o : Option (Part (List A))). IfSome o HasEntries) walk.value
+    (gathered-some items (all_of items) refl some)
+
+-- ---- the imports with their libraries
+
+second-entries : {A B : Type 0} (o : Option (A × Part (List B)))
+    → IfSome (option_map (λ read. read.1) o) HasEntries → IfSome o (λ read. HasEntries read.1)
+second-entries None h = tt
+second-entries (Some read) h = h
+
+pub parts_entries : (opts : ParseOptions) (offset_of : ℕ → Option ℕ) (places : TablePlaces)
+    (bytes : List ℕ) → AreListed opts offset_of places bytes
+    → IfSome ((import_list opts offset_of places).value bytes) HasEntries
+    → IfSome ((import_parts opts offset_of places).value bytes) (λ read. HasEntries read.1)
+parts_entries opts offset_of places bytes listed h =
+    second-entries ((import_parts opts offset_of places).value bytes)
+    (subst (λ (o : Option (Part (List ImportValue))). IfSome o HasEntries) listed.value h)
+
+-- ---- three reads side by side
+
+pub first-told : {A B C : Type 0} (P : A → Type 0) (Q : (A × B) × C → Type 0) (a : Option A)
+    (b : Option B) (c : Option C) → ((all : (A × B) × C) → P all.0.0 → Q all)
+    → IfSome a P → IfSome (pair_of (pair_of a b) c) Q
+first-told P Q None b c then h = tt
+first-told P Q (Some x) None c then h = tt
+first-told P Q (Some x) (Some y) None then h = tt
+first-told P Q (Some x) (Some y) (Some z) then h = then ((x, y), z) h
+
+pub second-told : {A B C : Type 0} (P : B → Type 0) (Q : (A × B) × C → Type 0) (a : Option A)
+    (b : Option B) (c : Option C) → ((all : (A × B) × C) → P all.0.1 → Q all)
+    → IfSome b P → IfSome (pair_of (pair_of a b) c) Q
+second-told P Q None b c then h = tt
+second-told P Q (Some x) None c then h = tt
+second-told P Q (Some x) (Some y) None then h = tt
+second-told P Q (Some x) (Some y) (Some z) then h = then ((x, y), z) h
+
+pub third-none : {A B C : Type 0} (Q : (A × B) × C → Type 0) (a : Option A) (b : Option B)
+    (c : Option C) → c ≡ None → IfSome (pair_of (pair_of a b) c) Q
+third-none Q None b c is = tt
+third-none Q (Some x) None c is = tt
+third-none Q (Some x) (Some y) None is = tt
+third-none Q (Some x) (Some y) (Some z) is = absurd cc
+
+-- ---- a whole file
+
+by-sections : (h : PeHeader) (sections : Option (List Section)) (tables : List Section → Option TableParts)
+    → 0 < h.coff_header.number_of_sections
+    → IfSome (sections >>= (λ s. option_map (whole_of h s) (tables s))) HasRecords
+by-sections h None tables some = tt
+by-sections h (Some s) tables some = elim (tables s) as (λ o. IfSome (option_map (whole_of h s) o) HasRecords) [
+  | None ↦ tt
+  | Some parts ↦ omega (arith, some)
+]
+
+by-tables : (h : PeHeader) (s : List Section) (tables : Option TableParts)
+    → IfSome tables HasTables → IfSome (option_map (whole_of h s) tables) HasRecords
+by-tables h s None some = tt
+by-tables h s (Some parts) some = omega (arith, some)
+
+module _ (opts : ParseOptions) (bytes : List ℕ) (h : PeHeader)
+    (header : (pe_header (is_strict opts.parse_mode)).value bytes ≡ Some h) where
+  pub sections-kept : 0 < h.coff_header.number_of_sections
+      → IfSome ((whole_file opts).value bytes) HasRecords
+  unfolding whole_file whole_with
+  sections-kept some =
+      rw header (by-sections h ((sections_after (is_strict opts.parse_mode) h).value bytes)
+      (λ s. (table_parts opts (offset_by opts s (places_in h.optional_header)) (places_in h.optional_header)).value bytes) some)
+
+  pub tables-kept : (s : List Section)
+      → (sections_after (is_strict opts.parse_mode) h).value bytes ≡ Some s
+      → IfSome ((table_parts opts (offset_by opts s (places_in h.optional_header)) (places_in h.optional_header)).value bytes) HasTables
+      → IfSome ((whole_file opts).value bytes) HasRecords
+  unfolding whole_with
+  tables-kept s sections some =
+      rw (tables-value opts bytes h header s sections) (by-tables h s _ some)
+
+  pub takes-records : HasRoom bytes h → IfSome ((whole_file opts).value bytes) HasRecords
+      → IsSomeAnd ((pe_header (is_strict opts.parse_mode)).value bytes) (TakesRecords opts bytes)
+  takes-records room kept =
+      subst (λ (o : Option PeHeader). IsSomeAnd o (TakesRecords opts bytes)) (sym header) (room, kept)
+
+-- what is read by a layout is read of its file
+pub layout-kept : (opts : ParseOptions) (bytes : List ℕ) (h : Header)
+    → (pe_header (is_strict opts.parse_mode)).value bytes ≡ Some (header_value h) → (l : Layout)
+    → (sections_after (is_strict opts.parse_mode) (header_value h)).value bytes ≡ Some l.sections.items
+    → IsLayoutOf opts bytes h l
+    → IfSome ((table_parts (layout_map l).opts (offset_of (layout_map l)) (layout_places l)).value l.bytes.now) HasTables
+    → IfSome ((whole_file opts).value bytes) HasRecords
+layout-kept opts bytes h header l sections of some =
+    let places = places_in h.optional_header in
+    let m = map_by opts l.sections.items places.file_alignment in
+    tables-kept opts bytes (header_value h) header l.sections.items sections
+    (subst (λ (file : List ℕ). IfSome ((table_parts m.opts (offset_of m) places).value file) HasTables) of.over
+    (subst (λ (at : TablePlaces). IfSome ((table_parts m.opts (offset_of m) at).value l.bytes.now) HasTables) of.placed
+    (subst (λ (m : MapOfAddresses). IfSome ((table_parts m.opts (offset_of m) (layout_places l)).value l.bytes.now) HasTables) of.mapped some)))
+
+by-counts : (count sections others : ℕ) → (0 < sections → 0 < count) → 0 < sections + others
+    → 0 < count + others
+by-counts count zero others counted some = omega (arith, some)
+by-counts count (suc sections) others counted some = omega (arith, counted (omega arith))
+
+-- the sections, the entries of the Rich header and the blocks of a file that was read
+pub made-kept : (opts : ParseOptions) (bytes : List ℕ) (v : RecordsOfFile) → IsOf opts bytes v
+    → (0 < length v.sections → 0 < v.header.coff_header.number_of_sections)
+    → 0 < length v.sections + length (entries_in v.header.rich_header) + length (blocks_in v.relocations)
+    → IfSome ((whole_file opts).value bytes) HasRecords
+made-kept opts bytes v of counted some =
+    let others = length (entries_in v.header.rich_header) + length (blocks_in v.relocations) in
+    let n = by-counts v.header.coff_header.number_of_sections (length v.sections) others counted (omega (arith, some)) in
+    subst (λ (o : Option WholeFile). IfSome o HasRecords) (sym of.read)
+    (rw (of.header, of.relocations) (omega (arith, n)))

@@ -1,0 +1,39 @@
+-- Sections of a Terse Executable that were read have their names from the front of the file.
+use Rattle.std.proofs.Common.{◌≡◌, ℕ, ◌+◌, ◌*◌, true, List, map, refl, ap, subst, ◌∙◌}
+use Rattle.std.specs.Prelude.{Some, option_map}
+use Rattle.goblin_base.proofs.Steps.{mapped, step}
+use Rattle.goblin_pe_sect.specs.SectionReadings.{section_at}
+use Rattle.goblin_pe_sect.specs.SectionTable.{Section}
+use Rattle.goblin_pe_head.specs.declared.header.te.TeHeader.{TeHeader}
+use Rattle.goblin_pe_head.specs.TeHeader.{displacement, section_adjusted, section_moved}
+use Rattle.goblin_pe_head.specs.TeReadings.{te_header, te_image, te_sections_at}
+use Rattle.goblin_pe_calls.specs.Sections.{named_in}
+use Rattle.goblin_pe_calls.specs.Te.{TeImage, te_file}
+use Rattle.goblin_pe_calls.proofs.Named.{all-kept, section-named}
+
+-- what moves a section leaves its name
+moved-named : (bytes : List ℕ) (d : ℕ) (s : Section) → named_in true bytes 0 (section_adjusted d s) ≡ section_adjusted d (named_in true bytes 0 s)
+unfolding section_adjusted
+moved-named bytes d s = refl
+
+one-named : (bytes : List ℕ) (d p : ℕ) (s : Section) → option_map (section_moved (Some d)) ((section_at true 0 p).value bytes) ≡ Some s → named_in true bytes 0 s ≡ s
+one-named bytes d p s h =
+    let m = mapped ((section_at true 0 p).value bytes) (section_moved (Some d)) s h in
+    subst (λ (x : Section). named_in true bytes 0 x ≡ x) m.made (moved-named bytes d m.value ∙ ap (section_adjusted d) (section-named true 0 bytes p m.value m.is))
+
+sections-named : (h : TeHeader) (bytes : List ℕ) (p : ℕ) (sections : List Section) → (te_sections_at h p).value bytes ≡ Some sections → map (named_in true bytes 0) sections ≡ sections
+unfolding te_sections_at
+sections-named h bytes p sections is =
+    let s = step (displacement h) _ sections is in
+    all-kept (named_in true bytes 0) (λ i. option_map (section_moved (Some s.value)) ((section_at true 0 (p + 40 * i)).value bytes)) h.number_of_sections 0 sections
+    (λ i x is. one-named bytes s.value (p + 40 * i) x is)
+    s.then
+
+pub image-named : (bytes : List ℕ) (x : TeImage) → te_file.value bytes ≡ Some x → map (named_in true bytes 0) x.sections ≡ x.sections
+unfolding te_file te_image
+image-named bytes x h =
+    let all = mapped ((te_image 0).value bytes) (λ (both : TeHeader × List Section). record { header = both.0; sections = both.1 }) x h in
+    let s1 = step ((te_header 0).value bytes) _ all.value all.is in
+    let s2 = mapped ((te_sections_at s1.value 40).value bytes) (λ (sections : List Section). (s1.value, sections)) all.value s1.then in
+    subst (λ (y : TeImage). map (named_in true bytes 0) y.sections ≡ y.sections) all.made
+    (subst (λ (both : TeHeader × List Section). map (named_in true bytes 0) both.1 ≡ both.1) s2.made (sections-named s1.value bytes 40 s2.value s2.is))

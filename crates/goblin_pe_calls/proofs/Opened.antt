@@ -1,0 +1,176 @@
+-- The records that were collected of a file are those of its imports and its exports.
+use Rattle.std.proofs.Common.{◌≡◌, ◌∙◌, ℕ, List, map, Option, Some, None, refl, sym, ap, subst}
+use Rattle.std.specs.Global.{Global}
+use Rattle.std.specs.Prelude.{option_map, Result, Ok, Err, Vec}
+use Rattle.std.proofs.lemmas.List.{length-map}
+use Rattle.goblin_base.specs.declared.error.ErrorOf.{ErrorOf}
+use Rattle.goblin_base.specs.Answers.{IsMemory}
+use Rattle.goblin_base.specs.Reading.{ReadsOrMemory}
+use Rattle.goblin_base.proofs.Steps as steps
+use Rattle.readings.specs.Reads.{mapped}
+use Rattle.goblin_pe_sect.specs.declared.options.ParseOptions.{ParseOptions}
+use Rattle.goblin_pe_sect.specs.BaseRelocations.{relocation_bytes}
+use Rattle.goblin_pe_sect.specs.Options.{is_strict}
+use Rattle.goblin_pe_sect.specs.SectionTable.{Section}
+use Rattle.goblin_pe_head.specs.declared.header.pe_header.Header.{Header}
+use Rattle.goblin_pe_head.specs.HeaderReadings.{pe_header}
+use Rattle.goblin_pe_head.specs.PeHeader.{PeHeader, header_value}
+use Rattle.goblin_pe_tables.specs.ExportRecords.{ExportTables}
+use Rattle.goblin_pe_tables.specs.ExportWalks.{numbered_from}
+use Rattle.goblin_pe_tables.specs.Addresses.{MapOfAddresses, map_by, offset_of}
+use Rattle.goblin_pe.specs.declared.whole.Part.{Part}
+use Rattle.goblin_pe.specs.declared.whole.Part.TheVariants.{Absent, Refused}
+use Rattle.goblin_pe.specs.declared.whole.Part.TheVariants as part
+use Rattle.goblin_pe.specs.declared.whole.layout.Layout.{Layout}
+use Rattle.goblin_pe.specs.Layouts.{IsLayoutOf, layout_map, layout_places}
+use Rattle.goblin_pe.specs.Whole.{TableParts, TablePlaces, WholeFile, collected_file, collected_tables}
+use Rattle.goblin_pe.specs.Whole.{offset_by}
+use Rattle.goblin_pe.specs.Whole.{part_map, places_in, sections_after, table_parts, whole_file}
+use Rattle.goblin_pe.specs.Whole.{whole_of, whole_with}
+use Rattle.goblin_pe.proofs.Collected.{file_read, unmapped}
+use Rattle.goblin_pe.proofs.Layouts.{tables-cause, tables-value}
+use Rattle.goblin_pe.proofs.NumberedExports.{rows_of_file}
+use Rattle.goblin_pe_calls.specs.declared.records.FileRecords.{FileRecords}
+use Rattle.goblin_pe_calls.specs.Exports.{ExportsSaid, export_said, exports_said, exports_view}
+use Rattle.goblin_pe_calls.specs.Exports.{file_exports}
+use Rattle.goblin_pe_calls.specs.Files.{entries_of, table_of}
+use Rattle.goblin_pe_calls.specs.Imports.{import_said, import_views}
+use Rattle.goblin_pe_calls.specs.Opened.{RecordsOfFile, records_of_file, records_view, tables_view}
+
+-- ---- tables by what is made of each entry
+
+table-same : {A B : Type 0} (p : Part (List A)) (q : Part (List B)) (f : A → B)
+    → part_map (map f) p ≡ q → table_of p ≡ table_of q
+unfolding part_map
+table-same Absent q f is = rw (← is) refl
+table-same (part.Read xs) q f is = rw (← is, length-map xs f) refl
+table-same Refused q f is = rw (← is) refl
+
+-- a table has as many records as it has views
+pub table-viewed : {A B : Type 0} (view : A → B) (p : Part (Vec A Global))
+    → table_of (part_map (λ (v : Vec A Global). v.items) p)
+    ≡ table_of (part_map (λ (v : Vec A Global). map view v.items) p)
+unfolding part_map
+table-viewed view Absent = refl
+table-viewed view (part.Read v) = rw (length-map v.items view) refl
+table-viewed view Refused = refl
+
+entries-same : {A B : Type 0} (p : Part (List A)) (q : Part (List B)) (f : A → B)
+    → part_map (map f) p ≡ q → map f (entries_of p) ≡ entries_of q
+unfolding part_map
+entries-same Absent q f is = rw (← is) refl
+entries-same (part.Read xs) q f is = rw (← is) refl
+entries-same Refused q f is = rw (← is) refl
+
+-- there are as many records of exports as rows
+rows-table : (offset_of : ℕ → Option ℕ) (bytes : List ℕ) (tables : Part ExportTables)
+    → table_of (part_map (map (λ x. x.row)) (part_map (λ t. numbered_from offset_of bytes t 0) tables))
+    ≡ table_of (exports_said offset_of bytes tables).exports
+unfolding part_map
+rows-table offset_of bytes Absent = refl
+rows-table offset_of bytes (part.Read tables) =
+    let exports = numbered_from offset_of bytes tables 0 in
+    rw (length-map exports (λ x. x.row), length-map exports export_said) refl
+rows-table offset_of bytes Refused = refl
+
+-- ---- a file whose records were collected
+
+-- The file of which these are the records.
+pub record IsOf (opts : ParseOptions) (bytes : List ℕ) (v : RecordsOfFile) : Type 0 where
+  pub whole : WholeFile
+  pub read : (whole_file opts).value bytes ≡ Some whole
+  pub header : whole.header ≡ v.header
+  pub sections : whole.sections ≡ v.sections
+  pub relocations : whole.relocations ≡ v.relocations
+  pub imports : map import_said (entries_of whole.imports) ≡ entries_of v.imports
+  pub exports : file_exports opts bytes whole ≡ v.exports
+  pub imports_table : table_of whole.imports ≡ table_of v.imports
+  pub exports_table : table_of whole.exports ≡ table_of v.exports.exports
+
+pub file-of-records : (opts : ParseOptions) (bytes : List ℕ) (v : RecordsOfFile)
+    → option_map (records_of_file opts bytes) ((whole_file opts).value bytes) ≡ Some v
+    → IsOf opts bytes v
+file-of-records opts bytes v is =
+    let m = steps.mapped ((whole_file opts).value bytes) (records_of_file opts bytes) v is in
+    let w = m.value in
+    let imports : part_map (map import_said) w.imports ≡ v.imports =
+    ap (λ (x : RecordsOfFile). x.imports) m.made in
+    let exports : file_exports opts bytes w ≡ v.exports =
+    ap (λ (x : RecordsOfFile). x.exports) m.made in
+    record {
+      whole = w;
+      read = m.is;
+      header = ap (λ (x : RecordsOfFile). x.header) m.made;
+      sections = ap (λ (x : RecordsOfFile). x.sections) m.made;
+      relocations = ap (λ (x : RecordsOfFile). x.relocations) m.made;
+      imports = entries-same w.imports v.imports import_said imports;
+      exports = exports;
+      imports_table = table-same w.imports v.imports import_said imports;
+      exports_table =
+          ap table_of (rows_of_file opts bytes w m.is)
+          ∙ rows-table (offset_by opts w.sections (places_in w.header.optional_header)) bytes w.export_data
+          ∙ ap (λ (x : ExportsSaid). table_of x.exports) exports;
+    }
+
+-- ---- the records of a file's tables
+
+-- what is collected of a file with these sections
+collected-whole : (opts : ParseOptions) (bytes : List ℕ) (h : PeHeader) (s : List Section)
+    (tables : Option TableParts)
+    → option_map (records_of_file opts bytes) (option_map (whole_of h s) tables)
+    ≡ option_map (collected_file import_said (exports_said (offset_by opts s (places_in h.optional_header)) bytes))
+    (option_map (whole_of h s) tables)
+collected-whole opts bytes h s None = refl
+collected-whole opts bytes h s (Some tables) = refl
+
+module _ (opts : ParseOptions) (bytes : List ℕ) (h : Header)
+    (header : (pe_header (is_strict opts.parse_mode)).value bytes ≡ Some (header_value h))
+    (l : Layout) (sections : (sections_after (is_strict opts.parse_mode) (header_value h)).value bytes
+    ≡ Some l.sections.items) (of : IsLayoutOf opts bytes h l) where
+  abbrev places : TablePlaces
+  places = places_in h.optional_header
+
+  abbrev MakesTables : Result FileRecords ErrorOf → MapOfAddresses → TablePlaces → List ℕ → Type 0
+  MakesTables result m at file =
+      ReadsOrMemory tables_view result
+      (mapped (collected_tables import_said (exports_said (offset_of m) file))
+      (table_parts m.opts (offset_of m) at)) file
+
+  makes : (result : Result FileRecords ErrorOf)
+      → MakesTables result (layout_map l) (layout_places l) l.bytes.now
+      → MakesTables result (map_by opts l.sections.items places.file_alignment) places bytes
+  makes result made =
+      let m = map_by opts l.sections.items places.file_alignment in
+      subst (λ (file : List ℕ). MakesTables result m places file) of.over
+      (subst (λ (at : TablePlaces). MakesTables result m at l.bytes.now) of.placed
+      (subst (λ (m : MapOfAddresses). MakesTables result m (layout_places l) l.bytes.now) of.mapped made))
+
+  -- they are those of the file
+  pub records-read : (r : FileRecords)
+      → MakesTables (Ok r) (layout_map l) (layout_places l) l.bytes.now
+      → option_map (records_of_file opts bytes) ((whole_file opts).value bytes)
+      ≡ Some (records_view l r)
+  unfolding whole_with
+  records-read r made =
+      ap (option_map (records_of_file opts bytes)) (tables-value opts bytes (header_value h) header l.sections.items sections)
+      ∙ collected-whole opts bytes (header_value h) l.sections.items _
+      ∙ file_read import_said (exports_said (offset_by opts l.sections.items places) bytes) opts (header_value h) l.sections.items bytes (tables_view r) (makes (Ok r) made)
+      ∙ ap (λ (x : Header). Some (record {
+        header = header_value x;
+        sections = l.sections.items;
+        imports = part_map import_views r.imports;
+        exports = exports_view r.exports;
+        relocations = part_map relocation_bytes r.relocations;
+      })) (sym of.after)
+
+  -- and a file is refused as they are
+  pub records-refused : (e : ErrorOf)
+      → MakesTables (Err e) (layout_map l) (layout_places l) l.bytes.now → ¬ IsMemory e
+      → ((whole_file opts).value bytes ≡ None) × (whole_file opts).IsCause bytes e
+  unfolding whole_with
+  records-refused e made other =
+      let none = makes (Err e) made other in (
+        tables-value opts bytes (header_value h) header l.sections.items sections
+            ∙ ap (option_map (whole_of (header_value h) l.sections.items)) (unmapped _ _ none.0),
+        tables-cause opts bytes (header_value h) header l.sections.items sections e none.1,
+      )

@@ -1,0 +1,51 @@
+use Rattle.std.proofs.Common.{◌<◌, ◌^◌, None, Some, Ok, Result, length, arith, subst}
+use Rattle.goblin_base.specs.declared.error.ErrorOf.{ErrorOf}
+use Rattle.goblin_pe_tables.specs.declared.import.imports.WalkedImport.{WalkedImport}
+use Rattle.goblin_pe.specs.Layouts.{GivesFileImport, layout_map, layout_places}
+use Rattle.goblin_pe.proofs.ImportStarts.{file-given, file-kept}
+use Rattle.goblin_pe_calls.proofs.ImportBatches.{goes-after, goes-end, imports-end, imports-full, imports-more, imports-refused}
+use Rattle.goblin_pe_calls.proofs.next.fill_imports.Goals as goal
+
+pub imports-preserved : goal.imports-preserved
+imports-preserved c =
+    let l = c.args.layout.now in
+    let m = layout_map l in
+    let places = layout_places l in
+    let bytes = l.bytes.now in
+    let now = c.imports.imports in
+    let next = c.next.new.self in
+    let x = c.in-Some-Ok.import in
+    let is = subst (λ (r : Result WalkedImport ErrorOf). GivesFileImport now (Some r) next) c.in-Some-Ok.field-0-is c.in-Some-Ok.ensures.steps in
+    let kept = file-kept m places.magic bytes now (Some (Ok x)) next is c.imports.invariant.goes.walk in
+    let fits = c.bytes.type_inv in
+    let most : length bytes < 2 ^ 63 = rw (← c.bytes.ensures) (omega (arith, fits)) in
+    let goes = goes-after m places bytes c.position_record.result c.position.result next most kept.0 c.imports.invariant.goes.asked c.position.ensures.is kept.1 (c.position.ensures.left m places.magic bytes kept.0) c.position_record.ensures in
+    imports-more m places bytes c.args.imports c.args.position.now c.args.records.now now c.imports.position c.imports.records c.imports.count c.imports.invariant x next c.position_record.result c.import_record.result is goes c.imports-test.true c.import_record.ensures
+
+pub returns-in-Some-Err-2-clause-filled : goal.returns-in-Some-Err-2-clause-filled
+returns-in-Some-Err-2-clause-filled c =
+    let l = c.args.layout.now in
+    let now = c.imports.imports in
+    let next = c.next.new.self in
+    let is = subst (λ (r : Result WalkedImport ErrorOf). GivesFileImport now (Some r) next) c.in-Some-Err.field-0-is c.in-Some-Err.ensures.steps in
+    let given = imports-refused (layout_map l) (layout_places l) l.bytes.now c.args.imports c.args.position.now c.args.records.now now c.imports.position c.imports.records c.imports.count c.imports.invariant c.in-Some-Err.error next is c.if-count-eq0.false in
+    (given.batch, given.later, given.next, given.ended, given.stays)
+
+pub returns-in-None-clause-filled : goal.returns-in-None-clause-filled
+returns-in-None-clause-filled c =
+    let l = c.args.layout.now in
+    let m = layout_map l in
+    let places = layout_places l in
+    let now = c.imports.imports in
+    let next = c.next.new.self in
+    let kept = file-kept m places.magic l.bytes.now now None next c.in-None.ensures.steps c.imports.invariant.goes.walk in
+    let none = (file-given now None next c.in-None.ensures.steps).0 in
+    let goes = goes-end m places l.bytes.now c.position_record-in-None.result next kept.0 c.imports.invariant.goes.asked none.1 c.position_record-in-None.ensures in
+    let given = imports-end m places l.bytes.now c.args.imports c.args.position.now c.args.records.now now c.imports.position c.imports.records c.imports.count c.imports.invariant next c.position_record-in-None.result c.in-None.ensures.steps goes c.position_record-in-None.ensures c.imports-test.true in
+    (given.batch, given.later, given.next, given.ended, given.stays)
+
+pub returns-clause-filled : goal.returns-clause-filled
+returns-clause-filled c =
+    let l = c.args.layout.now in
+    let given = imports-full (layout_map l) (layout_places l) l.bytes.now c.args.imports c.args.position.now c.args.records.now c.imports.imports c.imports.position c.imports.records c.imports.count c.imports.invariant c.imports-test.false in
+    (given.batch, given.later, given.next, given.ended, given.stays)

@@ -1,0 +1,8 @@
+-- The records hold the imports that have come so far.
+use Rattle.goblin_pe.specs.Layouts.{layout_map, layout_places}
+use Rattle.goblin_pe_calls.proofs.ImportBatches.{AtImports}
+use Rattle.goblin_pe_calls.proofs.next.fill_imports.Given as goal
+
+abbrev pub invariant-imports : goal.invariant-imports
+invariant-imports l =
+    AtImports (layout_map l.layout) (layout_places l.layout) l.layout.bytes.now l.initial.imports l.initial.position l.initial.records l.imports l.position l.records l.count

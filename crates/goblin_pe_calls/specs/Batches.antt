@@ -1,0 +1,187 @@
+-- Batches: as many records of what comes from a position on as there is room for.
+use Rattle.std.specs.Prelude.{◌≡◌, ℕ, ◌==◌, ◌&&◌, ◌<◌, ⊤, true, if◌then◌else◌, List, [], ◌∷◌, map, drop, take}
+use Rattle.std.specs.Prelude.{length, min, Option, Some, None, option_map, Result, Ok, Err, IsSome, IsSomeAnd}
+use Rattle.std.specs.Prelude.{unwrap_or}
+use Rattle.goblin_base.specs.declared.error.ErrorOf.{ErrorOf}
+use Rattle.goblin_base.specs.Answers.{FirstFault, IsMemory}
+use Rattle.goblin_pe_sect.specs.declared.options.ParseOptions.{ParseOptions}
+use Rattle.goblin_pe_sect.specs.Options.{is_strict}
+use Rattle.goblin_pe_sect.specs.SectionTable.{Section}
+use Rattle.goblin_pe_tables.specs.declared.import.imports.ImportPosition.{ImportPosition}
+use Rattle.goblin_pe.specs.Addresses.{MapOfAddresses, map_by, offset_of}
+use Rattle.goblin_pe.specs.ExportRecords.{ExportRow, ExportTables}
+use Rattle.goblin_pe.specs.ExportWalks.{NumberedExport, numbered_from}
+use Rattle.goblin_pe.specs.HeaderReadings.{pe_header}
+use Rattle.goblin_pe.specs.Imports.{ImportValue}
+use Rattle.goblin_pe.specs.LayoutPositions.{IsFileFaultAt, IsImportWalk, file_imports_at}
+use Rattle.goblin_pe.specs.LayoutPositions.{import_start}
+use Rattle.goblin_pe.specs.Layouts.{file_imports_left}
+use Rattle.goblin_pe.specs.PeHeader.{PeHeader}
+use Rattle.goblin_pe.specs.Whole.{TablePlaces, export_part, layout, places_in}
+use Rattle.goblin_pe.specs.declared.whole.Part.{Part}
+use Rattle.goblin_pe.specs.declared.whole.Part.TheVariants.{Absent, Refused}
+use Rattle.goblin_pe.specs.declared.whole.Part.TheVariants as part
+use Rattle.goblin_pe.specs.declared.whole.imports.FileImports.{FileImports}
+use Rattle.goblin_pe_calls.specs.declared.export.PeExport.{PeExport}
+use Rattle.goblin_pe_calls.specs.declared.import.PeImport.{PeImport}
+use Rattle.goblin_pe_calls.specs.declared.next.PeImportPosition.{PeImportPosition}
+use Rattle.goblin_pe_calls.specs.Damages.{TakesSectionsBy}
+use Rattle.goblin_pe_calls.specs.Exports.{export_said, export_view}
+use Rattle.goblin_pe_calls.specs.Filled.{Filled}
+use Rattle.goblin_pe_calls.specs.Imports.{import_said, import_view}
+
+-- ---- what a batch holds
+
+-- the values up to the first refusal
+unfoldable pub values_before : {A : Type 0} → List (Option A) → List A
+values_before [] = []
+values_before (Some x ∷ items) = x ∷ values_before items
+values_before (None ∷ items) = []
+
+-- the very next is a refusal
+abbrev pub IsRefusedNext : {A : Type 0} → List (Option A) → Type 0
+IsRefusedNext [] = ⊥
+IsRefusedNext (Some x ∷ items) = ⊥
+IsRefusedNext (None ∷ items) = ⊤
+
+-- nothing is left, and there is room for more
+abbrev pub IsEnd : {A R : Type 0} → List A → List R → ℕ → Type 0
+IsEnd left records count = (drop count left ≡ []) × (count < length records)
+
+-- The records hold what comes next, as far as there is room, and the others are the caller's own.
+pub record IsBatch {R A B : Type 0} (view : R → B) (said : A → B) (next : List A)
+    (old new : List R) (count : ℕ) : Type 0 where
+  pub counted : count ≡ min (length old) (length next)
+  pub filled : Filled view (map said (take count next)) old new
+
+-- the map of addresses of a file with this header and these sections
+abbrev pub map_in : ParseOptions → PeHeader × List Section → MapOfAddresses
+map_in opts l = map_by opts l.1 (places_in l.0.optional_header).file_alignment
+
+-- ---- imports
+
+-- the position that these numbers say; none is the beginning
+abbrev pub position_said : PeImportPosition → Option (Option ImportPosition)
+position_said p =
+    if p.«record» == 0 && p.slot == 0 then None
+    else if p.«record» == 0xFFFFFFFFFFFFFFFF then Some None
+    else Some (Some (record {
+      «record» = p.«record»;
+      slot = if p.slot == 0 then None else Some p.slot;
+    }))
+
+-- the numbers of a position
+abbrev pub position_numbers : Option ImportPosition → PeImportPosition
+position_numbers None = record { «record» = 0xFFFFFFFFFFFFFFFF; slot = 0 }
+position_numbers (Some at) = record { «record» = at.«record»; slot = unwrap_or at.slot 0 }
+
+-- the imports from where they start
+abbrev pub imports_in : MapOfAddresses → ℕ → List ℕ → Part (Option ImportPosition)
+    → List (Option ImportValue)
+imports_in m magic bytes Absent = []
+imports_in m magic bytes (part.Read position) = file_imports_at m magic bytes position
+imports_in m magic bytes Refused = []
+
+-- which cause is true if the very next of them is refused
+abbrev pub IsFaultIn : MapOfAddresses → ℕ → List ℕ → Part (Option ImportPosition) → ErrorOf
+    → Type 0
+IsFaultIn m magic bytes Absent e = ⊥
+IsFaultIn m magic bytes (part.Read position) e =
+    IsRefusedNext (file_imports_at m magic bytes position)
+    × IsFileFaultAt m magic bytes position e
+IsFaultIn m magic bytes Refused e = ⊥
+
+-- where the imports of a file start
+abbrev pub start_value : MapOfAddresses → TablePlaces → List ℕ → PeImportPosition
+    → Option (Part (Option ImportPosition))
+start_value m places bytes p =
+    (import_start m.opts (offset_of m) places (position_said p)).value bytes
+
+-- the imports of a file from a position on
+abbrev pub imports_from : MapOfAddresses → TablePlaces → List ℕ → PeImportPosition
+    → Option (List (Option ImportValue))
+imports_from m places bytes p =
+    option_map (imports_in m places.magic bytes) (start_value m places bytes p)
+
+-- what a caller passes, to be gone on with
+pub record ImportBatch : Type 0 where
+  pub position : PeImportPosition
+  pub records : List PeImport
+
+-- The records hold the imports from the old position on, up to a refusal, and from the new one on
+-- come the others; the very next is no refusal, if there is room for any. Where nothing is left, and
+-- there is room for more, the new position is the end; without room the position stays.
+abbrev pub GivesImports : MapOfAddresses → TablePlaces → List ℕ → ImportBatch → ImportBatch → ℕ
+    → Type 0
+GivesImports m places bytes old new count =
+    IsSomeAnd (imports_from m places bytes old.position) (λ left.
+    IsBatch import_view import_said (values_before left) old.records new.records count
+    × (imports_from m places bytes new.position ≡ Some (drop count left))
+    × (IsRefusedNext left → length old.records ≡ 0)
+    × (IsEnd left old.records count → new.position ≡ position_numbers None)
+    × (length old.records ≡ 0 → new.position ≡ old.position))
+
+-- The start of the imports is refused, or else the very next import, and there is room for it.
+abbrev pub IsImportsFault : MapOfAddresses → TablePlaces → List ℕ → ImportBatch → ErrorOf → Type 0
+IsImportsFault m places bytes old e =
+    let start = import_start m.opts (offset_of m) places (position_said old.position) in
+    FirstFault (start.value bytes) (start.IsCause bytes)
+    (λ s e. (0 < length old.records) × IsFaultIn m places.magic bytes s e) e
+
+-- a file has imports, and they are asked for
+abbrev pub HasImports : ParseOptions → TablePlaces → Type 0
+HasImports opts places = (opts.parse_imports ≡ true) × IsSome places.imports
+
+-- The walk gives the imports of a file from a position on.
+pub record GoesOn (m : MapOfAddresses) (places : TablePlaces) (bytes : List ℕ)
+    (p : PeImportPosition) (imports : FileImports) : Type 0 where
+  pub walk : IsImportWalk m places.magic bytes imports
+  pub asked : HasImports m.opts places
+  pub left : imports_from m places bytes p ≡ Some (file_imports_left imports)
+
+-- ---- exports
+
+-- the exports of tables from a name pointer on
+abbrev pub exports_in : MapOfAddresses → List ℕ → ℕ → Part (ExportTables × List ExportRow)
+    → List NumberedExport
+exports_in m bytes x Absent = []
+exports_in m bytes x (part.Read read) = numbered_from (offset_of m) bytes read.0 x
+exports_in m bytes x Refused = []
+
+-- what a caller passes, to be gone on with
+pub record ExportBatch : Type 0 where
+  pub position : ℕ
+  pub records : List PeExport
+
+-- The records hold the exports from the old position on, and from the new one on come the others.
+-- Where there are none, the position stays.
+abbrev pub GivesExports : MapOfAddresses → TablePlaces → List ℕ → ExportBatch → ExportBatch → ℕ
+    → Type 0
+GivesExports m places bytes old new count =
+    IsSomeAnd ((export_part m.opts (offset_of m) places).value bytes) (λ p.
+    let left = exports_in m bytes old.position p in
+    IsBatch export_view export_said left old.records new.records count
+    × (exports_in m bytes new.position p ≡ drop count left)
+    × (count ≡ 0 → new.position ≡ old.position))
+
+-- the export directory is refused
+abbrev pub IsExportsFault : MapOfAddresses → TablePlaces → List ℕ → ErrorOf → Type 0
+IsExportsFault m places bytes e =
+    let read = export_part m.opts (offset_of m) places in
+    (read.value bytes ≡ None) × read.IsCause bytes e
+
+-- ---- a call
+
+-- A call has given what comes next in a file; or its header or sections are refused, or what comes
+-- next, or memory for the sections, and everything is unchanged.
+abbrev pub GivesBatch : ParseOptions → List ℕ → (MapOfAddresses → TablePlaces → Type 0)
+    → (MapOfAddresses → TablePlaces → ErrorOf → Type 0) → Type 0 → Result Unit ErrorOf → Type 0
+GivesBatch opts bytes Gives IsFault Left (Ok x) =
+    IsSomeAnd ((layout opts).value bytes)
+    (λ l. Gives (map_in opts l) (places_in l.0.optional_header))
+GivesBatch opts bytes Gives IsFault Left (Err e) =
+    (¬ IsMemory e → FirstFault ((layout opts).value bytes) ((layout opts).IsCause bytes)
+    (λ l. IsFault (map_in opts l) (places_in l.0.optional_header)) e)
+    × (IsMemory e → IsSomeAnd ((pe_header (is_strict opts.parse_mode)).value bytes)
+    (TakesSectionsBy bytes))
+    × Left

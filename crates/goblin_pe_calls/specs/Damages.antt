@@ -1,0 +1,38 @@
+-- The record of a file's damage.
+use Rattle.std.specs.Prelude.{◌≡◌, ℕ, List, Option, None, Some}
+use Rattle.goblin_base.specs.declared.error.ErrorOf.{ErrorOf}
+use Rattle.goblin_pe_sect.specs.declared.options.ParseOptions.{ParseOptions}
+use Rattle.goblin_pe_sect.specs.SectionTable.{Section}
+use Rattle.goblin_pe.specs.Damages.{IsDamaged}
+use Rattle.goblin_pe.specs.PeHeader.{PeHeader}
+use Rattle.goblin_pe.specs.SectionRoom.{TakesSections}
+use Rattle.goblin_pe.specs.declared.whole.damage.Damage.{Damage}
+use Rattle.goblin_pe_calls.specs.declared.damage.PeDamage.{PeDamage}
+use Rattle.goblin_pe_calls.specs.declared.fault.PeFault.{PeFault}
+use Rattle.goblin_pe_calls.specs.Faults.{fault_of, no_fault}
+
+-- the numbers of a part's damage
+abbrev pub part_fault : Option ErrorOf → PeFault
+part_fault None = no_fault
+part_fault (Some e) = fault_of e
+
+-- the record of a damage
+abbrev pub damage_record : Damage → PeDamage
+damage_record d = record {
+  dos_stub = part_fault d.dos_stub;
+  section_names = part_fault d.section_names;
+  imports = part_fault d.imports;
+  exports = part_fault d.exports;
+  relocations = part_fault d.relocations;
+  left_out_libraries = d.left_out.libraries;
+  left_out_entries = d.left_out.entries;
+}
+
+-- the record tells the damage of a file with this header and these sections
+abbrev pub TellsDamage : ParseOptions → PeHeader → List Section → List ℕ → PeDamage → Type 0
+TellsDamage opts h sections bytes told =
+    (d : Damage) × IsDamaged opts h sections bytes d × (told ≡ damage_record d)
+
+-- memory is taken for the sections of a file with this header
+abbrev pub TakesSectionsBy : List ℕ → PeHeader → Type 0
+TakesSectionsBy bytes h = TakesSections h.coff_header.number_of_sections bytes

@@ -1,0 +1,132 @@
+-- The records of exports, as definitions.
+use Rattle.std.specs.Prelude.{ℕ, Bool, List, [], Option, Some, None, Vec, map, unwrap_or}
+use Rattle.std.specs.Global.{Global}
+use Rattle.std.specs.Option.{is_some}
+use Rattle.goblin_pe_sect.specs.declared.options.ParseOptions.{ParseOptions}
+use Rattle.goblin_pe.specs.ExportRecords.{ExportTables}
+use Rattle.goblin_pe.specs.ExportWalks.{NumberedExport, numbered_from}
+use Rattle.goblin_pe.specs.Forwarders.{Forwarder}
+use Rattle.goblin_pe.specs.Forwarders.Forwarder.{ByName, ByOrdinal}
+use Rattle.goblin_pe.specs.declared.whole.Part.{Part}
+use Rattle.goblin_pe.specs.declared.whole.Part.TheVariants.{Absent, Refused}
+use Rattle.goblin_pe.specs.declared.whole.Part.TheVariants as part
+use Rattle.goblin_pe.specs.Whole.{WholeFile, offset_by, part_map, places_in}
+use Rattle.goblin_pe_calls.specs.declared.export.ExportRecords.{ExportRecords}
+use Rattle.goblin_pe_calls.specs.declared.export.Forwards.{Forwards}
+use Rattle.goblin_pe_calls.specs.declared.export.Forwards.TheVariants as forwards
+use Rattle.goblin_pe_calls.specs.declared.export.PeExport.{PeExport}
+use Rattle.goblin_pe_calls.specs.declared.export_directory.PeExportAddress.{PeExportAddress}
+use Rattle.goblin_pe_calls.specs.ExportDirectories.{DirectorySaid, address_said, directory_said}
+use Rattle.goblin_pe_calls.specs.ExportDirectories.{directory_view, no_directory}
+
+-- a record of an export, its slices as lists
+pub record ExportSaid : Type 0 where
+  pub name : List ℕ
+  pub forward_lib : List ℕ
+  pub forward_name : List ℕ
+  pub forward_ordinal : ℕ
+  pub ordinal : ℕ
+  pub hint : ℕ
+  pub offset : ℕ
+  pub rva : ℕ
+  pub has_name : Bool
+  pub has_offset : Bool
+  pub forwards : ℕ
+
+-- a forwarder's numbers and texts: its kind, its library, and its name or its ordinal there
+pub record ForwarderSaid : Type 0 where
+  pub kind : ℕ
+  pub lib : List ℕ
+  pub name : List ℕ
+  pub ordinal : ℕ
+
+-- the number of a kind
+abbrev pub forwards_number : Forwards → ℕ
+forwards_number forwards.None = 0
+forwards_number forwards.Name = 1
+forwards_number forwards.Ordinal = 2
+
+abbrev pub forwarder_said : Option Forwarder → ForwarderSaid
+forwarder_said None =
+    record { kind = forwards_number forwards.None; lib = []; name = []; ordinal = 0 }
+forwarder_said (Some (ByName name lib)) =
+    record { kind = forwards_number forwards.Name; lib = lib; name = name; ordinal = 0 }
+forwarder_said (Some (ByOrdinal ordinal lib)) =
+    record { kind = forwards_number forwards.Ordinal; lib = lib; name = []; ordinal = ordinal }
+
+-- the record of an export; what the export does not have is nothing, or 0
+abbrev pub export_said : NumberedExport → ExportSaid
+export_said x = record {
+  name = unwrap_or x.row.name [];
+  forward_lib = (forwarder_said x.row.reexport).lib;
+  forward_name = (forwarder_said x.row.reexport).name;
+  forward_ordinal = (forwarder_said x.row.reexport).ordinal;
+  ordinal = x.ordinal;
+  hint = x.hint;
+  offset = unwrap_or x.row.offset 0;
+  rva = x.row.rva;
+  has_name = is_some x.row.name;
+  has_offset = is_some x.row.offset;
+  forwards = (forwarder_said x.row.reexport).kind;
+}
+
+-- what a record holds
+abbrev pub export_view : PeExport → ExportSaid
+export_view x = record {
+  name = x.name.now;
+  forward_lib = x.forward_lib.now;
+  forward_name = x.forward_name.now;
+  forward_ordinal = x.forward_ordinal;
+  ordinal = x.ordinal;
+  hint = x.hint;
+  offset = x.offset;
+  rva = x.rva;
+  has_name = x.has_name;
+  has_offset = x.has_offset;
+  forwards = x.forwards;
+}
+
+-- what a list of records holds
+abbrev pub export_views : Vec PeExport Global → List ExportSaid
+export_views records = map export_view records.items
+
+-- ---- what an export directory leads to
+
+-- records of what the export directory of a file leads to, their slices as lists
+pub record ExportsSaid : Type 0 where
+  pub exports : Part (List ExportSaid)
+  pub addresses : List PeExportAddress
+  pub directory : DirectorySaid
+
+-- where no exports are read there are no records, and zeros
+abbrev pub unread_said : Part (List ExportSaid) → ExportsSaid
+unread_said exports = record { exports = exports; addresses = []; directory = no_directory }
+
+-- the records of these tables, and of the exports that they list
+abbrev pub read_said : ExportTables → List NumberedExport → ExportsSaid
+read_said tables exports = record {
+  exports = part.Read (map export_said exports);
+  addresses = map address_said tables.export_address_table;
+  directory = directory_said tables;
+}
+
+-- the records of the tables in a file whose addresses are mapped so
+abbrev pub exports_said : (ℕ → Option ℕ) → List ℕ → Part ExportTables → ExportsSaid
+exports_said offset_of bytes Absent = unread_said Absent
+exports_said offset_of bytes (part.Read tables) =
+    read_said tables (numbered_from offset_of bytes tables 0)
+exports_said offset_of bytes Refused = unread_said Refused
+
+-- those of a file
+abbrev pub file_exports : ParseOptions → List ℕ → WholeFile → ExportsSaid
+file_exports opts bytes w =
+    exports_said (offset_by opts w.sections (places_in w.header.optional_header)) bytes
+    w.export_data
+
+-- what the records hold
+abbrev pub exports_view : ExportRecords → ExportsSaid
+exports_view x = record {
+  exports = part_map export_views x.exports;
+  addresses = x.addresses.items;
+  directory = directory_view x.directory;
+}

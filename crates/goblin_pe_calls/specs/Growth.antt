@@ -1,0 +1,45 @@
+-- Where a call that keeps records of a file takes memory.
+use Rattle.std.specs.Prelude.{ℕ, ◌+◌, ◌<◌, List, IfSome, length}
+use Rattle.goblin_pe_sect.specs.declared.options.ParseOptions.{ParseOptions}
+use Rattle.goblin_pe.specs.declared.whole.Part.{Part}
+use Rattle.goblin_pe.specs.ExportRecords.{ExportRow, ExportTables}
+use Rattle.goblin_pe.specs.PeHeader.{PeHeader}
+use Rattle.goblin_pe.specs.SectionRoom.{HasRoom}
+use Rattle.goblin_pe.specs.Whole.{TableParts, WholeFile, part_map, whole_file}
+use Rattle.goblin_pe_calls.specs.Blocks.{blocks_in}
+use Rattle.goblin_pe_calls.specs.Files.{entries_of}
+use Rattle.goblin_pe_calls.specs.RichHeaders.{entries_in}
+
+-- a table has an entry
+abbrev pub HasEntries : {A : Type 0} → Part (List A) → Type 0
+HasEntries table = 0 < length (entries_of table)
+
+-- how many exports and export addresses there are
+abbrev pub export_count : Part ExportTables → Part (List ExportRow) → ℕ
+export_count tables exports =
+    length (entries_of exports)
+    + length (entries_of (part_map (λ t. t.export_address_table) tables))
+
+-- there is one of these
+abbrev pub HasExports : Part (ExportTables × List ExportRow) → Type 0
+HasExports read = 0 < export_count (part_map (λ r. r.0) read) (part_map (λ r. r.1) read)
+
+-- there is an import, an export or an export address
+abbrev pub HasTables : TableParts → Type 0
+HasTables parts =
+    0 < length (entries_of parts.0.0.1)
+    + export_count (part_map (λ r. r.0) parts.0.1) (part_map (λ r. r.1) parts.0.1)
+
+-- A file of which records are kept: its header says that there are sections, or one of its tables
+-- has an entry.
+abbrev pub HasRecords : WholeFile → Type 0
+HasRecords w =
+    0 < w.header.coff_header.number_of_sections + length (entries_in w.header.rich_header)
+    + (length (entries_of w.imports) + export_count w.export_data w.exports)
+    + length (blocks_in w.relocations)
+
+-- Memory is taken for a file with this header: it has room for as many sections as that says, and
+-- if the file can be read, records of it are kept.
+abbrev pub TakesRecords : ParseOptions → List ℕ → PeHeader → Type 0
+TakesRecords opts bytes h =
+    HasRoom bytes h × IfSome ((whole_file opts).value bytes) HasRecords

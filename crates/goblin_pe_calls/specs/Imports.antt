@@ -1,0 +1,43 @@
+-- The records of imports, as definitions.
+use Rattle.std.specs.Prelude.{ℕ, Bool, List, [], Vec, if◌then◌else◌, map}
+use Rattle.std.specs.Global.{Global}
+use Rattle.goblin_pe.specs.Imports.{ImportValue}
+use Rattle.goblin_pe_calls.specs.declared.import.PeImport.{PeImport}
+
+-- a record of an import, its slices as lists
+pub record ImportSaid : Type 0 where
+  pub name : List ℕ
+  pub dll : List ℕ
+  pub slot_rva : ℕ
+  pub rva : ℕ
+  pub slot : ℕ
+  pub ordinal : ℕ
+  pub is_by_name : Bool
+
+-- the record of an import, which is by name where its name is in the file; by ordinal it has none
+abbrev pub import_said : ImportValue → ImportSaid
+import_said x = record {
+  name = if x.is_borrowed then x.name else [];
+  dll = x.dll;
+  slot_rva = x.offset;
+  rva = x.rva;
+  slot = x.slot;
+  ordinal = x.ordinal;
+  is_by_name = x.is_borrowed;
+}
+
+-- what a record holds
+abbrev pub import_view : PeImport → ImportSaid
+import_view x = record {
+  name = x.name.now;
+  dll = x.dll.now;
+  slot_rva = x.slot_rva;
+  rva = x.rva;
+  slot = x.slot;
+  ordinal = x.ordinal;
+  is_by_name = x.is_by_name;
+}
+
+-- what a list of records holds
+abbrev pub import_views : Vec PeImport Global → List ImportSaid
+import_views records = map import_view records.items

@@ -1,0 +1,75 @@
+//! What strict mode would refuse of a file.
+
+ghost use Rattle.std.specs.Prelude.{◌≡◌};
+ghost use Rattle.goblin_pe_sect.specs.Options.{is_strict};
+ghost use Rattle.goblin_pe_head.specs.HeaderReadings.{pe_header};
+ghost use Rattle.goblin_pe.specs.Whole.{layout};
+ghost use Rattle.goblin_pe_calls.specs.Calls.{ReadsInto};
+ghost use Rattle.goblin_pe_calls.specs.Damages.{TakesSectionsBy, TellsDamage, damage_record, part_fault};
+
+use crate::fault::{PeFault, fault_of, no_fault};
+use goblin_pe::options::ParseOptions;
+use goblin_pe::{Damage, Error, Result, Whole};
+use std::alloc::Global;
+
+/// What strict mode would refuse of a file, part by part: for each part a fault of the status 0
+/// where strict mode would read it, or the file has no such part; else why not.
+#[repr(C)]
+#[derive(Copy, Clone)]
+pub struct PeDamage {
+    /// The DOS stub.
+    pub dos_stub: PeFault,
+    /// The names of the sections.
+    pub section_names: PeFault,
+    /// The imports, if they are asked for.
+    pub imports: PeFault,
+    /// The exports.
+    pub exports: PeFault,
+    /// The base relocations: their directory, not its blocks.
+    pub relocations: PeFault,
+    /// How many libraries permissive mode leaves out of the imports: those without an address
+    /// table.
+    pub left_out_libraries: usize,
+    /// How many entries of the other libraries it leaves out.
+    pub left_out_entries: usize,
+}
+
+// The numbers of a part's damage.
+fn part_fault(damage: &Option<Error>) -> PeFault
+    ensures { result ≡ part_fault damage.now }
+{
+    match damage {
+        Some(error) => fault_of(error),
+        None => no_fault(),
+    }
+}
+
+// The record of a file's damage.
+fn damage_record(damage: &Damage) -> PeDamage
+    ensures { result ≡ damage_record damage.now }
+{
+    PeDamage {
+        dos_stub: part_fault(&damage.dos_stub),
+        section_names: part_fault(&damage.section_names),
+        imports: part_fault(&damage.imports),
+        exports: part_fault(&damage.exports),
+        relocations: part_fault(&damage.relocations),
+        left_out_libraries: damage.left_out.libraries,
+        left_out_entries: damage.left_out.entries,
+    }
+}
+
+/// Puts into `damage` what strict mode would refuse of a file whose header and sections are read by
+/// these options.
+///
+/// # Errors
+/// What these options refuse of the header or the sections, and memory; nothing is then changed.
+pub fn tell(alloc: Global, bytes: &[u8], opts: &ParseOptions, damage: &mut PeDamage) -> Result<()>
+    ensures { ReadsInto (pe_header (is_strict opts.now.parse_mode)) (TakesSectionsBy bytes.now)
+        (layout opts.now) bytes.now
+        (λ l. TellsDamage opts.now l.0 l.1 bytes.now damage.new) (damage.new ≡ damage.old) result }
+{
+    let told = Whole::damage(alloc, bytes, opts)?;
+    *damage = damage_record(&told);
+    Ok(())
+}

@@ -1,0 +1,220 @@
+//! The records of exports.
+
+ghost use Rattle.std.specs.Prelude.{◌≡◌, ◌≤◌, ◌<◌, ◌+◌, ◌++◌, ◌∷◌, [], IfOk, IfSome, OnErr, OnOk};
+ghost use Rattle.std.specs.Prelude.{length, map};
+ghost use Rattle.std.specs.Iterator.{YieldsFirstBy};
+ghost use Rattle.goblin_base.specs.Answers.{GivesOrMemory};
+ghost use Rattle.goblin_base.specs.Reading.{ReadsOrMemory};
+ghost use Rattle.goblin_pe.specs.Reads.{mapped};
+ghost use Rattle.goblin_pe_tables.specs.Addresses.{offset_of};
+ghost use Rattle.goblin_pe_tables.specs.ExportWalks.{KeepsOver, exports_left, walked_export};
+ghost use Rattle.goblin_pe_tables.specs.ExportWalks.{walked_tables};
+ghost use Rattle.goblin_pe.specs.Layouts.{layout_map, layout_places};
+ghost use Rattle.goblin_pe.specs.Whole.{collected_exports, export_part, part_map};
+ghost use Rattle.goblin_pe_calls.specs.Blocked.{HasNoIdleBlock, HasNoIdleBlockIn, HaveNoIdleBlocks};
+ghost use Rattle.goblin_pe_calls.specs.Exports.{export_said, export_view, export_views, exports_said};
+ghost use Rattle.goblin_pe_calls.specs.Exports.{exports_view, read_said, unread_said};
+ghost use Rattle.goblin_pe_calls.specs.Growth.{HasExports};
+
+use crate::export_directory::{
+    PeExportAddress, PeExportDirectory, address_records, directory_record, no_directory,
+};
+use crate::room::make_room;
+use goblin_pe::export::{Exports, Reexport, WalkedExport};
+use goblin_pe::{Layout, Part, Result};
+use std::alloc::Global;
+
+// How an export names what it stands for in another library.
+#[derive(Copy, Clone)]
+enum Forwards {
+    // It stands for nothing there.
+    None = 0,
+    Name = 1,
+    Ordinal = 2,
+}
+
+/// An export.
+#[repr(C)]
+#[derive(Copy, Clone)]
+pub struct PeExport<'a> {
+    /// The export's name, where it can be read.
+    pub name: &'a [u8],
+    /// Of a forwarder the library, without its ending.
+    pub forward_lib: &'a [u8],
+    /// Of a forwarder by name the name in that library.
+    pub forward_name: &'a [u8],
+    /// Of a forwarder by ordinal the ordinal in that library.
+    pub forward_ordinal: usize,
+    /// Its own ordinal: the index of its address, and the ordinal base added.
+    pub ordinal: usize,
+    /// The index of its name pointer: what imports by name give as a hint.
+    pub hint: usize,
+    /// The file offset of `rva`, where it has one; else 0. Where the options say that addresses are
+    /// offsets, `rva` itself.
+    pub offset: usize,
+    /// The export's address, relative to the image's base; of a forwarder that of its text.
+    pub rva: usize,
+    /// Whether the name can be read.
+    pub has_name: bool,
+    /// Whether `rva` has a file offset: a section maps it and the file alignment is a power of two,
+    /// or the options say that addresses are offsets.
+    pub has_offset: bool,
+    /// 0 no forwarder, 1 a forwarder by name, 2 a forwarder by ordinal.
+    pub forwards: u8,
+}
+
+/// The record of an export of these bytes.
+#[inline(always)]
+pub fn export_record<'a>(bytes: &'a [u8], walked: &WalkedExport<'a>) -> PeExport<'a>
+    ensures { export_view result ≡ export_said (walked_export walked.now) }
+{
+    let none = &bytes[..0];
+    let export = &walked.export;
+    let (forwards, lib, name, ordinal): (Forwards, &'a [u8], &'a [u8], usize) =
+        match &export.reexport {
+            None => (Forwards::None, none, none, 0),
+            Some(Reexport::DLLName { export, lib }) => {
+                (Forwards::Name, lib.as_bytes(), export.as_bytes(), 0)
+            }
+            Some(Reexport::DLLOrdinal { ordinal, lib }) => {
+                (Forwards::Ordinal, lib.as_bytes(), none, *ordinal)
+            }
+        };
+    PeExport {
+        name: match export.name {
+            Some(name) => name.as_bytes(),
+            None => none,
+        },
+        forward_lib: lib,
+        forward_name: name,
+        forward_ordinal: ordinal,
+        ordinal: walked.ordinal,
+        hint: walked.hint,
+        offset: export.offset.unwrap_or(0),
+        rva: export.rva,
+        has_name: export.name.is_some(),
+        has_offset: export.offset.is_some(),
+        forwards: forwards as u8,
+    }
+}
+
+/// The records of a file's exports, and of what the export directory leads to.
+#[derive(Drop)]
+pub struct ExportRecords<'a> {
+    /// The exports.
+    pub exports: Part<Vec<PeExport<'a>>>,
+    /// The entries of the export address table; none where the exports are not read.
+    pub addresses: Vec<PeExportAddress>,
+    /// What the export directory says; zeros where the exports are not read.
+    pub directory: PeExportDirectory<'a>,
+}
+
+// For at most so many records room is made first.
+const MOST_FIRST: usize = 32;
+
+// Adds the record of an export. Room for so many more is made at first.
+fn push_export<'a>(
+    records: &mut Vec<PeExport<'a>>,
+    bytes: &'a [u8],
+    export: &WalkedExport<'a>,
+    expected: usize,
+) -> Result<()>
+    requires few { expected ≤ 32 }
+    ensures value { let made = export_said (walked_export export.now) ∷ [] in
+        GivesOrMemory (λ _. map export_view records.new.items) result
+        (map export_view records.old.items ++ made) }
+    ensures kept { OnOk result (HasNoIdleBlock records.new) }
+{
+    make_room(records, expected)?;
+    records.push(export_record(bytes, export))?;
+    Ok(())
+}
+
+/// The export that comes next. Loops call this, as `next` itself has a clause more than its trait,
+/// and a loop that calls it is then not proved.
+#[inline(always)]
+pub fn next_export<'a, 'm>(exports: &mut Exports<'a, 'm>) -> Option<WalkedExport<'a>>
+    ensures steps { YieldsFirstBy walked_export exports_left exports.old result exports.new }
+    ensures over { KeepsOver exports.old exports.new }
+{
+    exports.next()
+}
+
+// The records of the exports that a walk gives.
+fn records_of<'a, 'm>(
+    alloc: Global,
+    bytes: &'a [u8],
+    mut exports: Exports<'a, 'm>,
+) -> Result<Vec<PeExport<'a>>>
+    ensures value { GivesOrMemory export_views result
+        (map export_said (exports_left exports.entry)) }
+    ensures none { IfOk result HasNoIdleBlock }
+    ensures grown { OnErr result (0 < length (exports_left exports.entry)) }
+{
+    let expected = exports.size_hint().1.unwrap_or(MOST_FIRST).min(MOST_FIRST);
+    let mut records = Vec::new(alloc);
+    'exports: while let Some(export) = next_export(&mut exports) {
+        push_export(&mut records, bytes, &export, expected)?;
+    }
+    Ok(records)
+}
+
+// The records of the exports of a walk, and of what the export directory leads to.
+#[tactic(auto, unfolding(goblin_pe::specs::Whole::part_map))]
+fn read_records<'a, 'm>(
+    alloc: Global,
+    bytes: &'a [u8],
+    exports: Exports<'a, 'm>,
+) -> Result<ExportRecords<'a>>
+    ensures value { GivesOrMemory exports_view result
+        (read_said (walked_tables exports.entry) (exports_left exports.entry)) }
+    ensures none { IfOk result HaveNoIdleBlocks }
+    ensures grown { let addresses = (walked_tables exports.entry).export_address_table in
+        OnErr result (0 < length (exports_left exports.entry) + length addresses) }
+{
+    let directory = directory_record(bytes, &exports);
+    let addresses = address_records(alloc, &exports)?;
+    let exports = records_of(alloc, bytes, exports)?;
+    Ok(ExportRecords {
+        exports: Part::Read(exports),
+        addresses,
+        directory,
+    })
+}
+
+// No records, where no exports are read.
+fn unread_records<'a>(
+    alloc: Global,
+    bytes: &'a [u8],
+    exports: Part<Vec<PeExport<'a>>>,
+) -> ExportRecords<'a>
+    ensures value { exports_view result ≡ unread_said (part_map export_views exports.entry) }
+    ensures none { HasNoIdleBlockIn exports.entry → HaveNoIdleBlocks result }
+{
+    ExportRecords {
+        exports,
+        addresses: Vec::new(alloc),
+        directory: no_directory(bytes),
+    }
+}
+
+/// The records of a file's exports, in the order of the name pointers, and of what the export
+/// directory leads to.
+#[tactic(auto, unfolding(goblin_pe::specs::Whole::part_map))]
+pub fn export_records<'a>(alloc: Global, layout: &Layout<'a, '_>) -> Result<ExportRecords<'a>>
+    ensures value { let m = layout_map layout.now in
+        ReadsOrMemory exports_view result
+        (mapped (collected_exports (exports_said (offset_of m) layout.now.bytes.now))
+        (export_part m.opts (offset_of m) (layout_places layout.now)))
+        layout.now.bytes.now }
+    ensures none { IfOk result HaveNoIdleBlocks }
+    ensures grown { let m = layout_map layout.now in
+        let read = export_part m.opts (offset_of m) (layout_places layout.now) in
+        OnErr result (IfSome (read.value layout.now.bytes.now) HasExports) }
+{
+    match layout.exports()? {
+        Part::Absent => Ok(unread_records(alloc, layout.bytes(), Part::Absent)),
+        Part::Read(exports) => read_records(alloc, layout.bytes(), exports),
+        Part::Refused => Ok(unread_records(alloc, layout.bytes(), Part::Refused)),
+    }
+}

@@ -1,0 +1,83 @@
+//! On which bytes of a file a read of the whole file depends.
+
+ghost use Rattle.std.specs.Prelude.{◌≡◌, ◌<◌, IfOk, OnErr, length, map};
+ghost use Rattle.goblin_base.specs.Answers.{GivesOrMemory};
+ghost use Rattle.goblin_pe.specs.Whole.{whole_file};
+ghost use Rattle.goblin_pe_calls.specs.Blocked.{HasNoIdleBlock};
+ghost use Rattle.goblin_pe_calls.specs.Footprints.{Lists, range_said, range_view};
+
+use goblin_pe::Result;
+use goblin_pe::laws::footprint_whole;
+use goblin_pe::options::ParseOptions;
+use std::alloc::Global;
+
+/// A range of the file.
+#[repr(C)]
+#[derive(Copy, Clone)]
+pub struct PeRange {
+    /// The file offset of its first byte.
+    pub offset: usize,
+    /// How many bytes it has: at least one.
+    pub length: usize,
+}
+
+/// Ranges of the file: a block of memory of its own, or none where there is no range.
+#[repr(C)]
+#[derive(Copy, Clone)]
+pub struct PeRanges<'a> {
+    /// The ranges.
+    pub ranges: &'a [PeRange],
+}
+
+// The record of the positions from the first number on and before the second.
+fn range_record(range: &(usize, usize)) -> PeRange
+    ensures { range_view result ≡ range_said range.now }
+{
+    PeRange {
+        offset: range.0,
+        length: range.1.saturating_sub(range.0),
+    }
+}
+
+// The records of ranges, in memory of their own.
+fn range_records(alloc: Global, ranges: &[(usize, usize)]) -> Result<Vec<PeRange>>
+    ensures made { GivesOrMemory (λ v. map range_view v.items) result (map range_said ranges.now) }
+    ensures none { IfOk result HasNoIdleBlock }
+    ensures grown { OnErr result (0 < length ranges.now) }
+{
+    let count = ranges.len();
+    let mut records = Vec::with_capacity(alloc, count)?;
+    'records: for i in 0..count {
+        records.push(range_record(&ranges[i]))?;
+    }
+    Ok(records)
+}
+
+// Hands the ranges over: no ranges have no block, which nobody would free.
+fn handed_over<'a>(records: Vec<PeRange>) -> PeRanges<'a>
+    requires none { HasNoIdleBlock records }
+    ensures { result.ranges.now ≡ records.items }
+{
+    PeRanges {
+        ranges: records.leak(),
+    }
+}
+
+/// Puts into `ranges` the positions of a file on which a read of the whole file by these options
+/// depends.
+///
+/// # Errors
+/// Only [`Error::Memory`](goblin_pe::Error::Memory); nothing is then changed.
+pub fn list<'a>(
+    alloc: Global,
+    bytes: &[u8],
+    opts: &ParseOptions,
+    ranges: &mut PeRanges<'a>,
+) -> Result<()>
+    ensures { Lists ((whole_file opts.now).reaches bytes.now) ranges.old ranges.new result }
+{
+    let footprint = footprint_whole(alloc, bytes, opts)?;
+    let records = range_records(alloc, &footprint)?;
+    *ranges = handed_over(records);
+    Ok(())
+}

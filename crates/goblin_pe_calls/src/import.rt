@@ -1,0 +1,166 @@
+//! The records of imports.
+
+ghost use Rattle.std.specs.Prelude.{◌≡◌, ◌<◌, ◌++◌, ◌∷◌, [], IfOk, IfSome, OnErr, OnOk, length, map};
+ghost use Rattle.std.specs.Prelude.{option_map};
+ghost use Rattle.goblin_base.specs.Answers.{AnswersOrMemory, GivesOrMemory, all_of};
+ghost use Rattle.goblin_base.specs.Reading.{ReadsOrMemory};
+ghost use Rattle.goblin_pe.specs.Reads.{mapped};
+ghost use Rattle.goblin_pe_tables.specs.Addresses.{offset_of};
+ghost use Rattle.goblin_pe_tables.specs.ImportWalks.{IsImportsCause, imports_left, walked_value};
+ghost use Rattle.goblin_pe.specs.Layouts.{IsFileImportsCause, file_imports_left, layout_map};
+ghost use Rattle.goblin_pe.specs.Layouts.{layout_places};
+ghost use Rattle.goblin_pe.specs.Whole.{AreListed, collected_imports, import_list, import_parts};
+ghost use Rattle.goblin_pe.specs.Whole.{part_map};
+ghost use Rattle.goblin_pe_calls.specs.Blocked.{HasNoIdleBlock, HasNoIdleBlockIn};
+ghost use Rattle.goblin_pe_calls.specs.Growth.{HasEntries};
+ghost use Rattle.goblin_pe_calls.specs.Imports.{import_said, import_view, import_views};
+
+use crate::room::make_room;
+use goblin_pe::import::{Bitfield, Imports, SyntheticImportLookupTableEntry, WalkedImport};
+use goblin_pe::{FileImports, Layout, Part, Result, ResultOf};
+use std::alloc::Global;
+
+/// An import.
+#[repr(C)]
+#[derive(Copy, Clone)]
+pub struct PeImport<'a> {
+    /// The name that is imported, where the import is by name.
+    pub name: &'a [u8],
+    /// The name of the library; empty where permissive mode could not read it.
+    pub dll: &'a [u8],
+    /// The address (not the file offset) of its own entry in the address table, where the loader
+    /// puts the address of what is imported.
+    pub slot_rva: usize,
+    /// The address of the hint and the name; 0 of an import by ordinal.
+    pub rva: usize,
+    /// The index of its entry, in the file, in the lookup table and in the address table. Entries
+    /// that are left out count.
+    pub slot: usize,
+    /// The ordinal; of an import by name, the hint, at which index of the library's names the
+    /// loader looks first.
+    pub ordinal: u16,
+    /// Whether the import is by name.
+    pub is_by_name: bool,
+}
+
+/// The record of an import of these bytes.
+#[inline(always)]
+#[tactic(auto, unfolding(goblin_pe_tables::specs::Imports::import_of))]
+pub fn import_record<'a>(bytes: &'a [u8], import: &WalkedImport<'a>) -> PeImport<'a>
+    ensures { import_view result ≡ import_said (walked_value import.now) }
+{
+    let (name, rva, ordinal, is_by_name): (&'a [u8], usize, u16, bool) = match &import.entry {
+        SyntheticImportLookupTableEntry::OrdinalNumber(ordinal) => {
+            (&bytes[..0], 0, *ordinal, false)
+        }
+        SyntheticImportLookupTableEntry::HintNameTableRVA((rva, named)) => {
+            (named.name.as_bytes(), *rva as usize, named.hint, true)
+        }
+    };
+    PeImport {
+        name,
+        dll: import.dll.as_bytes(),
+        slot_rva: import.offset,
+        rva,
+        slot: import.slot,
+        ordinal,
+        is_by_name,
+    }
+}
+
+// For how many records room is made first.
+const FIRST_ROOM: usize = 4;
+
+// Adds the record of an import.
+#[inline(always)]
+fn push_import<'a>(
+    records: &mut Vec<PeImport<'a>>,
+    bytes: &'a [u8],
+    import: &WalkedImport<'a>,
+) -> Result<()>
+    ensures value { let made = import_said (walked_value import.now) ∷ [] in
+        GivesOrMemory (λ _. map import_view records.new.items) result
+        (map import_view records.old.items ++ made) }
+    ensures kept { OnOk result (HasNoIdleBlock records.new) }
+{
+    make_room(records, FIRST_ROOM)?;
+    records.push(import_record(bytes, import))?;
+    Ok(())
+}
+
+// The records of the imports that a walk gives.
+fn records_of<'a, 'm, 'e, T: Bitfield<'a>>(
+    alloc: Global,
+    bytes: &'a [u8],
+    imports: Imports<'a, 'm, 'e, T>,
+) -> ResultOf<'e, Vec<PeImport<'a>>>
+    ensures value { let items = all_of (imports_left T.format imports.entry) in
+        AnswersOrMemory import_views result (option_map (map import_said) items)
+        (IsImportsCause T.format imports.entry) }
+    ensures none { IfOk result HasNoIdleBlock }
+    ensures grown { OnErr result (0 < length (imports_left T.format imports.entry)) }
+{
+    let mut records = Vec::new(alloc);
+    'imports: for import in imports {
+        push_import(&mut records, bytes, &import?)?;
+    }
+    Ok(records)
+}
+
+// The records of the imports of a file.
+fn file_records_of<'a, 'm, 'e>(
+    alloc: Global,
+    bytes: &'a [u8],
+    imports: FileImports<'a, 'm, 'e>,
+) -> ResultOf<'e, Vec<PeImport<'a>>>
+    ensures value { let items = all_of (file_imports_left imports.entry) in
+        AnswersOrMemory import_views result (option_map (map import_said) items)
+        (IsFileImportsCause imports.entry) }
+    ensures none { IfOk result HasNoIdleBlock }
+    ensures grown { OnErr result (0 < length (file_imports_left imports.entry)) }
+{
+    match imports {
+        FileImports::Narrow(imports) => records_of(alloc, bytes, imports),
+        FileImports::Wide(imports) => records_of(alloc, bytes, imports),
+    }
+}
+
+// The records of a file's imports.
+#[tactic(auto, unfolding(goblin_pe::specs::Whole::part_map))]
+fn listed_records<'a>(alloc: Global, layout: &Layout<'a, '_>) -> Result<Part<Vec<PeImport<'a>>>>
+    ensures value { let m = layout_map layout.now in
+        ReadsOrMemory (part_map import_views) result
+        (mapped (part_map (map import_said)) (import_list m.opts (offset_of m) (layout_places layout.now)))
+        layout.now.bytes.now }
+    ensures listed { let m = layout_map layout.now in
+        AreListed m.opts (offset_of m) (layout_places layout.now) layout.now.bytes.now }
+    ensures none { IfOk result HasNoIdleBlockIn }
+    ensures grown { let m = layout_map layout.now in
+        let list = import_list m.opts (offset_of m) (layout_places layout.now) in
+        OnErr result (IfSome (list.value layout.now.bytes.now) HasEntries) }
+{
+    match layout.imports()? {
+        Part::Absent => Ok(Part::Absent),
+        Part::Read(imports) => {
+            let records = file_records_of(alloc, layout.bytes(), imports)?;
+            Ok(Part::Read(records))
+        }
+        Part::Refused => Ok(Part::Refused),
+    }
+}
+
+/// The records of a file's imports, in the order of the libraries and of their entries.
+#[tactic(auto, using(goblin_pe::proofs::ImportParts::list_collected, crate::proofs::Growth::parts_entries))]
+pub fn import_records<'a>(alloc: Global, layout: &Layout<'a, '_>) -> Result<Part<Vec<PeImport<'a>>>>
+    ensures value { let m = layout_map layout.now in
+        ReadsOrMemory (part_map import_views) result
+        (mapped (collected_imports import_said)
+        (import_parts m.opts (offset_of m) (layout_places layout.now)))
+        layout.now.bytes.now }
+    ensures none { IfOk result HasNoIdleBlockIn }
+    ensures grown { let m = layout_map layout.now in
+        let parts = import_parts m.opts (offset_of m) (layout_places layout.now) in
+        OnErr result (IfSome (parts.value layout.now.bytes.now) (λ read. HasEntries read.1)) }
+{
+    listed_records(alloc, layout)
+}

@@ -1,0 +1,274 @@
+//! Imports and exports in batches, without memory for them.
+
+ghost use Rattle.std.specs.Prelude.{◌≡◌, ◌<◌, IfErr, MatchResult, Some, drop, length};
+ghost use Rattle.goblin_base.specs.Answers.{IsMemory};
+ghost use Rattle.goblin_pe_tables.specs.Addresses.{offset_of};
+ghost use Rattle.goblin_pe_tables.specs.ExportWalks.{KeepsOver, exports_at, exports_left};
+ghost use Rattle.goblin_pe.specs.Layouts.{IsFileImportsCause, file_imports_left, layout_map};
+ghost use Rattle.goblin_pe.specs.Layouts.{layout_places};
+ghost use Rattle.goblin_pe.specs.LayoutPositions.{StartsAt, import_start};
+ghost use Rattle.goblin_pe_calls.specs.Batches.{ExportBatch, GivesBatch, GivesExports, GivesImports};
+ghost use Rattle.goblin_pe_calls.specs.Batches.{GoesOn, ImportBatch, IsBatch, IsEnd, IsExportsFault};
+ghost use Rattle.goblin_pe_calls.specs.Batches.{IsImportsFault, IsRefusedNext, imports_from};
+ghost use Rattle.goblin_pe_calls.specs.Batches.{position_numbers, position_said, values_before};
+ghost use Rattle.goblin_pe_calls.specs.Exports.{export_said, export_view};
+ghost use Rattle.goblin_pe_calls.specs.Imports.{import_said, import_view};
+
+use crate::export::{PeExport, export_record, next_export};
+use crate::import::{PeImport, import_record};
+use goblin_pe::export::Exports;
+use goblin_pe::header::Header;
+use goblin_pe::import::ImportPosition;
+use goblin_pe::options::ParseOptions;
+use goblin_pe::{FileImports, Layout, Part, Result, ResultOf};
+use std::alloc::Global;
+
+/// A position in the imports of a file; zeros are the beginning.
+#[repr(C)]
+#[derive(Copy, Clone)]
+pub struct PeImportPosition {
+    /// The file offset of a library's record in the import directory; the greatest number once the
+    /// end has been reached, of a file without imports, too.
+    pub record: usize,
+    /// The file offset of the slot in its lookup table that is read next, or 0 before the first.
+    pub slot: usize,
+}
+
+// The position that these numbers say; none is the beginning.
+fn position_of(position: &PeImportPosition) -> Option<Option<ImportPosition>>
+    ensures { result ≡ position_said position.now }
+{
+    let PeImportPosition { record, slot } = *position;
+    if record == 0 && slot == 0 {
+        return None;
+    }
+    if record == usize::MAX {
+        return Some(None);
+    }
+    let slot = if slot == 0 { None } else { Some(slot) };
+    Some(Some(ImportPosition { record, slot }))
+}
+
+// The numbers of a position.
+fn position_record(position: Option<ImportPosition>) -> PeImportPosition
+    ensures { result ≡ position_numbers position }
+{
+    match position {
+        Some(at) => PeImportPosition {
+            record: at.record,
+            slot: at.slot.unwrap_or(0),
+        },
+        None => PeImportPosition {
+            record: usize::MAX,
+            slot: 0,
+        },
+    }
+}
+
+// The imports of a file from a position on.
+fn imports_at<'a, 'm, 'e>(
+    layout: &'m Layout<'a, '_>,
+    position: &PeImportPosition,
+) -> ResultOf<'e, Part<FileImports<'a, 'm, 'e>>>
+    ensures { let m = layout_map layout.now in
+        let places = layout_places layout.now in
+        StartsAt m places.magic layout.now.bytes.now
+        (import_start m.opts (offset_of m) places (position_said position.now)) result }
+{
+    match position_of(position) {
+        Some(at) => Ok(layout.imports_from(at)),
+        None => layout.imports(),
+    }
+}
+
+// Fills records with the imports that come next, as far as there is room, and answers how many.
+fn fill_imports<'a, 'm, 'e>(
+    layout: &Layout<'a, '_>,
+    mut imports: FileImports<'a, 'm, 'e>,
+    position: &mut PeImportPosition,
+    records: &mut [PeImport<'a>],
+) -> ResultOf<'e, usize>
+    requires { let m = layout_map layout.now in
+        GoesOn m (layout_places layout.now) layout.now.bytes.now position.old imports }
+    ensures filled { let m = layout_map layout.now in
+        let places = layout_places layout.now in
+        let bytes = layout.now.bytes.now in
+        let left = file_imports_left imports.entry in
+        MatchResult result
+        (λ count. IsBatch import_view import_said (values_before left) records.old records.new count
+        × (imports_from m places bytes position.new ≡ Some (drop count left))
+        × (IsRefusedNext left → length records.old ≡ 0)
+        × (IsEnd left records.old count → position.new ≡ position_numbers None)
+        × (length records.old ≡ 0 → position.new ≡ position.old))
+        (λ e. IsRefusedNext left × IsFileImportsCause imports.entry e × (0 < length records.old)
+        × (records.new ≡ records.old) × (position.new ≡ position.old)) }
+    ensures refused { IfErr result (λ e. ¬ IsMemory e) }
+{
+    let mut count = 0;
+    'imports: while count < records.len() {
+        match imports.next() {
+            Some(Ok(import)) => {
+                *position = position_record(imports.position());
+                records[count] = import_record(layout.bytes(), &import);
+                count += 1;
+            }
+            Some(Err(error)) if count == 0 => return Err(error),
+            Some(Err(_)) => return Ok(count),
+            None => {
+                *position = position_record(None);
+                return Ok(count);
+            }
+        }
+    }
+    Ok(count)
+}
+
+// The position where there are no imports: the end, if there is room for any.
+fn position_without(position: &PeImportPosition, room: usize) -> PeImportPosition
+    ensures asked { 0 < room → result ≡ position_numbers None }
+    ensures unasked { room ≡ 0 → result ≡ position.now }
+{
+    if room == 0 {
+        *position
+    } else {
+        position_record(None)
+    }
+}
+
+// Fills records with the imports of a file that come next, and answers how many.
+fn next_imports<'a>(
+    layout: &Layout<'a, '_>,
+    position: &mut PeImportPosition,
+    records: &mut [PeImport<'a>],
+) -> Result<usize>
+    ensures filled { let m = layout_map layout.now in
+        let places = layout_places layout.now in
+        let bytes = layout.now.bytes.now in
+        let old : ImportBatch = record { position = position.old; records = records.old } in
+        let new : ImportBatch = record { position = position.new; records = records.new } in
+        MatchResult result (GivesImports m places bytes old new)
+        (λ e. IsImportsFault m places bytes old e × (new ≡ old)) }
+    ensures refused { IfErr result (λ e. ¬ IsMemory e) }
+{
+    match imports_at(layout, position)? {
+        Part::Read(imports) => fill_imports(layout, imports, position, records),
+        Part::Absent | Part::Refused => {
+            *position = position_without(position, records.len());
+            Ok(0)
+        }
+    }
+}
+
+/// Fills `records` with the imports of a file from a position on, as many as there is room for, says
+/// in `count` how many, and leaves in `position` where the next call goes on.
+///
+/// # Errors
+/// What these options refuse of the header or the sections, and memory for these; in strict mode the
+/// import directory, at the first position, and the very next import, if there is room for it.
+/// Nothing is then changed.
+pub fn give_imports<'a>(
+    alloc: Global,
+    bytes: &'a [u8],
+    opts: &ParseOptions,
+    position: &mut PeImportPosition,
+    records: &mut [PeImport<'a>],
+    count: &mut usize,
+) -> Result<()>
+    ensures { let old : ImportBatch = record { position = position.old; records = records.old } in
+        let new : ImportBatch = record { position = position.new; records = records.new } in
+        GivesBatch opts.now bytes.now
+        (λ m places. GivesImports m places bytes.now old new count.new)
+        (λ m places. IsImportsFault m places bytes.now old)
+        ((new ≡ old) × (count.new ≡ count.old)) result }
+{
+    let header = Header::parse_with_opts(bytes, opts)?;
+    let layout = Layout::of(alloc, bytes, &header, opts)?;
+    *count = next_imports(&layout, position, records)?;
+    Ok(())
+}
+
+// Fills records with the exports that come next, as far as there is room, and answers how many.
+fn fill_exports<'a, 'm>(
+    bytes: &'a [u8],
+    exports: &mut Exports<'a, 'm>,
+    records: &mut [PeExport<'a>],
+) -> usize
+    ensures filled { IsBatch export_view export_said (exports_left exports.old) records.old
+        records.new result }
+    ensures later { exports_left exports.new ≡ drop result (exports_left exports.old) }
+    ensures over { KeepsOver exports.old exports.new }
+{
+    let mut count = 0;
+    'exports: while count < records.len() {
+        let Some(export) = next_export(exports) else {
+            return count;
+        };
+        records[count] = export_record(bytes, &export);
+        count += 1;
+    }
+    count
+}
+
+// The position after so many exports; it stays where none came.
+fn position_after(position: usize, exports: &Exports, count: usize) -> usize
+    ensures stays { count ≡ 0 → result ≡ position }
+    ensures later { 0 < count → exports_left exports.now ≡ exports_at exports.now result }
+{
+    if count == 0 {
+        position
+    } else {
+        exports.position()
+    }
+}
+
+// Fills records with the exports of a file that come next, and answers how many.
+fn next_exports<'a>(
+    layout: &Layout<'a, '_>,
+    position: &mut usize,
+    records: &mut [PeExport<'a>],
+) -> Result<usize>
+    ensures { let m = layout_map layout.now in
+        let places = layout_places layout.now in
+        let bytes = layout.now.bytes.now in
+        let old : ExportBatch = record { position = position.old; records = records.old } in
+        let new : ExportBatch = record { position = position.new; records = records.new } in
+        MatchResult result (GivesExports m places bytes old new)
+        (λ e. IsExportsFault m places bytes e × (new ≡ old)) }
+{
+    match layout.exports()? {
+        Part::Read(exports) => {
+            let mut exports = exports.from_position(*position);
+            let count = fill_exports(layout.bytes(), &mut exports, records);
+            *position = position_after(*position, &exports, count);
+            Ok(count)
+        }
+        Part::Absent | Part::Refused => Ok(0),
+    }
+}
+
+/// Fills `records` with the exports of a file from a position on, as many as there is room for, says
+/// in `count` how many, and leaves in `position` where the next call goes on.
+///
+/// # Errors
+/// What these options refuse of the header or the sections, and memory for these; in strict mode the
+/// export directory. Nothing is then changed.
+pub fn give_exports<'a>(
+    alloc: Global,
+    bytes: &'a [u8],
+    opts: &ParseOptions,
+    position: &mut usize,
+    records: &mut [PeExport<'a>],
+    count: &mut usize,
+) -> Result<()>
+    ensures { let old : ExportBatch = record { position = position.old; records = records.old } in
+        let new : ExportBatch = record { position = position.new; records = records.new } in
+        GivesBatch opts.now bytes.now
+        (λ m places. GivesExports m places bytes.now old new count.new)
+        (λ m places. IsExportsFault m places bytes.now)
+        ((new ≡ old) × (count.new ≡ count.old)) result }
+{
+    let header = Header::parse_with_opts(bytes, opts)?;
+    let layout = Layout::of(alloc, bytes, &header, opts)?;
+    *count = next_exports(&layout, position, records)?;
+    Ok(())
+}

@@ -1,0 +1,198 @@
+//! A whole file, read once, with its tables in memory of their own.
+
+ghost use Rattle.std.specs.Prelude.{◌≡◌, ◌<◌, ◌+◌, IfErr, IfOk, OnErr, Some, length, map};
+ghost use Rattle.std.specs.Prelude.{option_map};
+ghost use Rattle.goblin_base.specs.Answers.{IsMemory};
+ghost use Rattle.goblin_pe_sect.specs.Options.{is_strict};
+ghost use Rattle.goblin_pe_head.specs.HeaderReadings.{pe_header};
+ghost use Rattle.goblin_pe.specs.Whole.{part_map, whole_file};
+ghost use Rattle.goblin_pe_calls.specs.Blocks.{block_view, blocks_in, relocations_of};
+ghost use Rattle.goblin_pe_calls.specs.Blocked.{HasNoIdleBlock, HasNoIdleBlockIn, HaveNoIdleBlocks};
+ghost use Rattle.goblin_pe_calls.specs.Calls.{ReadsInto};
+ghost use Rattle.goblin_pe_calls.specs.Exports.{export_view, export_views, exports_view};
+ghost use Rattle.goblin_pe_calls.specs.Files.{entries_of};
+ghost use Rattle.goblin_pe_calls.specs.Filled.{alone};
+ghost use Rattle.goblin_pe_calls.specs.Growth.{TakesRecords};
+ghost use Rattle.goblin_pe_calls.specs.Imports.{import_view, import_views};
+ghost use Rattle.goblin_pe_calls.specs.Opened.{Opened, Opens};
+ghost use Rattle.goblin_pe_calls.specs.Opened.{records_of_file, records_view};
+ghost use Rattle.goblin_pe_calls.specs.RichHeaders.{entries_in, rich_of};
+ghost use Rattle.goblin_pe_calls.specs.Sections.{section_said};
+
+use crate::block::{PeBaseRelocations, PeBlock, block_records};
+use crate::directory::{PeDirectory, directories_of, fill_directories};
+use crate::export::{ExportRecords, PeExport};
+use crate::export_directory::{PeExportAddress, PeExportDirectory};
+use crate::file::{PeFile, file_of};
+use crate::import::PeImport;
+use crate::records::{FileRecords, file_records};
+use crate::rich::{PeRichHeader, entry_records};
+use crate::section::{PeSection, section_records};
+use goblin_pe::header::{Header, RichMetadata};
+use goblin_pe::options::ParseOptions;
+use goblin_pe::{Layout, Part, Result};
+use std::alloc::Global;
+
+/// The tables of a file, each a block of memory of its own, or none where it is empty.
+#[repr(C)]
+#[derive(Copy, Clone)]
+pub struct PeTables<'a> {
+    /// The entries of the Rich header.
+    pub rich_entries: &'a [RichMetadata],
+    /// The sections.
+    pub sections: &'a [PeSection<'a>],
+    /// The imports.
+    pub imports: &'a [PeImport<'a>],
+    /// The exports.
+    pub exports: &'a [PeExport<'a>],
+    /// The entries of the export address table.
+    pub export_addresses: &'a [PeExportAddress],
+    /// The blocks of base relocations.
+    pub blocks: &'a [PeBlock<'a>],
+    /// What the export directory says; zeros where the exports are not read.
+    pub export_directory: PeExportDirectory<'a>,
+    /// The DOS stub: in the file, or where permissive mode replaced it the library's own. It is no
+    /// block of memory, and not freed.
+    pub dos_stub: &'a [u8],
+}
+
+// What is made of a file beside the records of its imports and exports.
+#[derive(Drop)]
+struct Made<'a> {
+    rich_entries: Vec<RichMetadata>,
+    rich_header: PeRichHeader,
+    sections: Vec<PeSection<'a>>,
+    blocks: Vec<PeBlock<'a>>,
+    relocations: PeBaseRelocations,
+}
+
+// What is made of a file that was read.
+fn made_of<'a>(
+    alloc: Global,
+    layout: &Layout<'a, '_>,
+    records: &FileRecords<'a>,
+    bytes: &'a [u8],
+    opts: &ParseOptions,
+) -> Result<Made<'a>>
+    requires { let records_of = records_of_file opts.now bytes.now in
+        option_map records_of ((whole_file opts.now).value bytes.now)
+        ≡ Some (records_view layout.now records.now) }
+    ensures refused { IfErr result IsMemory }
+    ensures rich_header { let v = records_view layout.now records.now in
+        IfOk result (λ m. m.rich_header ≡ rich_of v.header.rich_header) }
+    ensures relocations { let v = records_view layout.now records.now in
+        IfOk result (λ m. m.relocations ≡ relocations_of v.relocations) }
+    ensures rich_entries { let v = records_view layout.now records.now in
+        IfOk result (λ m. m.rich_entries.items ≡ entries_in v.header.rich_header) }
+    ensures sections { let v = records_view layout.now records.now in
+        IfOk result (λ m. map section_said m.sections.items ≡ map alone v.sections) }
+    ensures blocks { let v = records_view layout.now records.now in
+        IfOk result (λ m. map block_view m.blocks.items ≡ blocks_in v.relocations) }
+    ensures none { IfOk result
+        (λ m. HasNoIdleBlock m.rich_entries × HasNoIdleBlock m.sections × HasNoIdleBlock m.blocks) }
+    ensures grown { let v = records_view layout.now records.now in
+        OnErr result (0 < length v.sections + length (entries_in v.header.rich_header)
+        + length (blocks_in v.relocations)) }
+{
+    let header = layout.header();
+    let table = header.coff_header.symbols_end();
+    let sections = section_records(alloc, bytes, layout.sections(), table, opts)?;
+    let (rich_entries, rich_header) = entry_records(alloc, &header.rich_header)?;
+    let (blocks, relocations) = block_records(alloc, &records.relocations)?;
+    Ok(Made {
+        rich_entries,
+        rich_header,
+        sections,
+        blocks,
+        relocations,
+    })
+}
+
+// Hands the records of imports over, none where there are none.
+#[tactic(auto, unfolding(goblin_pe::specs::Whole::part_map))]
+fn imports_of<'a>(imports: Part<Vec<PeImport<'a>>>) -> &'a [PeImport<'a>]
+    requires { HasNoIdleBlockIn imports }
+    ensures { map import_view result.now ≡ entries_of (part_map import_views imports.entry) }
+{
+    match imports {
+        Part::Read(imports) => imports.leak(),
+        Part::Absent | Part::Refused => &[],
+    }
+}
+
+// Hands the records of exports over, none where there are none.
+#[tactic(auto, unfolding(goblin_pe::specs::Whole::part_map))]
+fn exports_of<'a>(exports: Part<Vec<PeExport<'a>>>) -> &'a [PeExport<'a>]
+    requires { HasNoIdleBlockIn exports }
+    ensures { map export_view result.now ≡ entries_of (part_map export_views exports.entry) }
+{
+    match exports {
+        Part::Read(exports) => exports.leak(),
+        Part::Absent | Part::Refused => &[],
+    }
+}
+
+// Hands the tables over: none of no entries has a block, which nobody would free.
+fn handed_over<'a>(
+    made: Made<'a>,
+    imports: Part<Vec<PeImport<'a>>>,
+    exports: ExportRecords<'a>,
+    dos_stub: &'a [u8],
+) -> PeTables<'a>
+    requires none { HasNoIdleBlock made.rich_entries × HasNoIdleBlock made.sections
+        × HasNoIdleBlock made.blocks }
+    requires no_imports { HasNoIdleBlockIn imports }
+    requires no_exports { HaveNoIdleBlocks exports }
+    ensures rich_entries { result.rich_entries.now ≡ made.entry.rich_entries.items }
+    ensures sections { result.sections.now ≡ made.entry.sections.items }
+    ensures imports { map import_view result.imports.now
+        ≡ entries_of (part_map import_views imports.entry) }
+    ensures exports { map export_view result.exports.now
+        ≡ entries_of (exports_view exports.entry).exports }
+    ensures addresses { result.export_addresses.now ≡ exports.entry.addresses.items }
+    ensures blocks { result.blocks.now ≡ made.entry.blocks.items }
+    ensures directory { result.export_directory ≡ exports.entry.directory }
+    ensures stub { result.dos_stub.now ≡ dos_stub.now }
+{
+    PeTables {
+        rich_entries: made.rich_entries.leak(),
+        sections: made.sections.leak(),
+        imports: imports_of(imports),
+        exports: exports_of(exports.exports),
+        export_addresses: exports.addresses.leak(),
+        blocks: made.blocks.leak(),
+        export_directory: exports.directory,
+        dos_stub,
+    }
+}
+
+/// Reads a whole file: says in `file` what it is, fills the records of its data directories as far as
+/// there is room, and puts its tables into `tables`, each a block of memory of its own.
+///
+/// # Errors
+/// What these options refuse of the file, and memory; nothing is then changed, and no block is left.
+pub fn open<'a>(
+    alloc: Global,
+    bytes: &'a [u8],
+    opts: &ParseOptions,
+    file: &mut PeFile,
+    directories: &mut [PeDirectory],
+    tables: &mut PeTables<'a>,
+) -> Result<()>
+    ensures { let old : Opened =
+        record { file = file.old; directories = directories.old; tables = tables.old } in
+        let new : Opened =
+        record { file = file.new; directories = directories.new; tables = tables.new } in
+        ReadsInto (pe_header (is_strict opts.now.parse_mode)) (TakesRecords opts.now bytes.now)
+        (whole_file opts.now) bytes.now (λ w. Opens opts.now bytes.now w old new) (new ≡ old) result }
+{
+    let header = Header::parse_with_opts(bytes, opts)?;
+    let layout = Layout::of(alloc, bytes, &header, opts)?;
+    let records = file_records(alloc, &layout)?;
+    let made = made_of(alloc, &layout, &records, bytes, opts)?;
+    fill_directories(directories, directories_of(&header.optional_header));
+    *file = file_of(&layout, &records, made.relocations, made.rich_header);
+    let dos_stub = header.dos_stub.bytes;
+    *tables = handed_over(made, records.imports, records.exports, dos_stub);
+    Ok(())
+}

@@ -1,0 +1,53 @@
+//! The tables of a file that its directories lead to, imports and exports as records.
+
+ghost use Rattle.std.specs.Prelude.{IfOk, IfSome, OnErr};
+ghost use Rattle.goblin_base.specs.Reading.{ReadsOrMemory};
+ghost use Rattle.goblin_pe.specs.Reads.{mapped};
+ghost use Rattle.goblin_pe_tables.specs.Addresses.{offset_of};
+ghost use Rattle.goblin_pe.specs.Layouts.{layout_map, layout_places};
+ghost use Rattle.goblin_pe.specs.Whole.{collected_tables, table_parts};
+ghost use Rattle.goblin_pe_calls.specs.Blocked.{HasNoIdleBlockIn, HaveNoIdleBlocks};
+ghost use Rattle.goblin_pe_calls.specs.Exports.{exports_said};
+ghost use Rattle.goblin_pe_calls.specs.Growth.{HasTables};
+ghost use Rattle.goblin_pe_calls.specs.Imports.{import_said};
+ghost use Rattle.goblin_pe_calls.specs.Opened.{tables_view};
+
+use crate::export::{ExportRecords, export_records};
+use crate::import::{PeImport, import_records};
+use goblin_pe::relocation::RelocationData;
+use goblin_pe::{Layout, Part, Result};
+use std::alloc::Global;
+
+/// The imports and exports of a file as records, and the bytes of its base relocations.
+#[derive(Drop)]
+pub struct FileRecords<'a> {
+    /// The imports.
+    pub imports: Part<Vec<PeImport<'a>>>,
+    /// The exports, and what their directory leads to.
+    pub exports: ExportRecords<'a>,
+    /// The base relocations.
+    pub relocations: Part<RelocationData<'a>>,
+}
+
+/// Reads the tables of a file, in this order.
+pub fn file_records<'a>(alloc: Global, layout: &Layout<'a, '_>) -> Result<FileRecords<'a>>
+    ensures value { let m = layout_map layout.now in
+        ReadsOrMemory tables_view result
+        (mapped (collected_tables import_said (exports_said (offset_of m) layout.now.bytes.now))
+        (table_parts m.opts (offset_of m) (layout_places layout.now)))
+        layout.now.bytes.now }
+    ensures none { IfOk result
+        (λ r. HasNoIdleBlockIn r.imports × HaveNoIdleBlocks r.exports) }
+    ensures grown { let m = layout_map layout.now in
+        let parts = table_parts m.opts (offset_of m) (layout_places layout.now) in
+        OnErr result (IfSome (parts.value layout.now.bytes.now) HasTables) }
+{
+    let imports = import_records(alloc, layout)?;
+    let exports = export_records(alloc, layout)?;
+    let relocations = layout.relocations()?;
+    Ok(FileRecords {
+        imports,
+        exports,
+        relocations,
+    })
+}
