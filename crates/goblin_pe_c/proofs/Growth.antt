@@ -28,7 +28,6 @@ use Rattle.goblin_pe.specs.Whole.{whole_file, whole_of, whole_with}
 use Rattle.goblin_pe.proofs.Layouts.{tables-value}
 use Rattle.goblin_pe.proofs.Walked.{AtMade}
 use Rattle.goblin_pe_c.specs.Blocks.{blocks_in}
-use Rattle.goblin_pe_c.specs.Files.{entries_of}
 use Rattle.goblin_pe_c.specs.Growth.{HasEntries, HasRecords, HasTables, TakesRecords}
 use Rattle.goblin_pe_c.specs.Opened.{RecordsOfFile}
 use Rattle.goblin_pe_c.specs.RichHeaders.{entries_in}
