@@ -35,6 +35,7 @@ pub use Rattle.goblin_pe_sect.specs.SectionReadings
 pub use Rattle.goblin_pe_sect.specs.SectionTable
 pub use Rattle.goblin_pe_sect.specs.Symbols
 pub use Rattle.goblin_pe_sect.specs.WindowIndex
+pub use Rattle.goblin_pe_sect.specs.WindowIndexFields
 pub use Rattle.goblin_pe_sect.specs.WindowOrder
 pub use Rattle.goblin_pe_sect.specs.WindowStretches
 pub use Rattle.goblin_pe_head.specs.CoffHeader

@@ -1,6 +1,6 @@
 -- Blocks of memory that a caller frees: none where there is nothing in it, since an empty table's is
 -- not handed over.
-use Rattle.std.specs.Prelude.{◌≡◌, Vec, length, vec_capacity}
+use Rattle.std.specs.Prelude.{◌≡◌, ◌≤◌, ◌+◌, ◌/◌, Vec, length, max, vec_capacity, vec_len}
 use Rattle.std.specs.Global.{Global}
 use Rattle.goblin_pe.specs.declared.whole.Part.{Part}
 use Rattle.goblin_pe.specs.declared.whole.Part.TheVariants.{Absent, Refused}
@@ -11,11 +11,16 @@ use Rattle.goblin_pe_calls.specs.declared.export.ExportRecords.{ExportRecords}
 abbrev pub HasNoIdleBlock : {A : Type 0} → Vec A Global → Type 0
 HasNoIdleBlock v = length v.items ≡ 0 → vec_capacity v ≡ 0
 
-abbrev pub HasNoIdleBlockIn : {A : Type 0} → Part (Vec A Global) → Type 0
-HasNoIdleBlockIn Absent = Unit {0}
-HasNoIdleBlockIn (part.Read v) = HasNoIdleBlock v
-HasNoIdleBlockIn Refused = Unit {0}
+-- a list whose entries are made one by one: it has room for at most 32 more than there are, or for
+-- half as many again
+abbrev pub HasLittleRoom : {A : Type 0} → Vec A Global → Type 0
+HasLittleRoom v = HasNoIdleBlock v × (vec_capacity v ≤ vec_len v + max 32 (vec_len v / 2))
+
+abbrev pub HasLittleRoomIn : {A : Type 0} → Part (Vec A Global) → Type 0
+HasLittleRoomIn Absent = Unit {0}
+HasLittleRoomIn (part.Read v) = HasLittleRoom v
+HasLittleRoomIn Refused = Unit {0}
 
 -- the same of the records of a file's exports
 abbrev pub HaveNoIdleBlocks : ExportRecords → Type 0
-HaveNoIdleBlocks x = HasNoIdleBlockIn x.exports × HasNoIdleBlock x.addresses
+HaveNoIdleBlocks x = HasLittleRoomIn x.exports × HasNoIdleBlock x.addresses

@@ -11,7 +11,7 @@ ghost use Rattle.goblin_pe_tables.specs.ExportWalks.{KeepsOver, exports_left, wa
 ghost use Rattle.goblin_pe_tables.specs.ExportWalks.{walked_tables};
 ghost use Rattle.goblin_pe.specs.Layouts.{layout_map, layout_places};
 ghost use Rattle.goblin_pe.specs.Whole.{collected_exports, export_part, part_map};
-ghost use Rattle.goblin_pe_calls.specs.Blocked.{HasNoIdleBlock, HasNoIdleBlockIn, HaveNoIdleBlocks};
+ghost use Rattle.goblin_pe_calls.specs.Blocked.{HasLittleRoom, HasLittleRoomIn, HaveNoIdleBlocks};
 ghost use Rattle.goblin_pe_calls.specs.Exports.{export_said, export_view, export_views, exports_said};
 ghost use Rattle.goblin_pe_calls.specs.Exports.{exports_view, read_said, unread_said};
 ghost use Rattle.goblin_pe_calls.specs.Growth.{HasExports};
@@ -119,14 +119,15 @@ fn push_export<'a>(
     export: &WalkedExport<'a>,
     expected: usize,
 ) -> Result<()>
+    requires some { 0 < expected }
     requires few { expected ≤ 32 }
     ensures value { let made = export_said (walked_export export.now) ∷ [] in
         GivesOrMemory (λ _. map export_view records.new.items) result
         (map export_view records.old.items ++ made) }
-    ensures kept { OnOk result (HasNoIdleBlock records.new) }
+    ensures kept { OnOk result (HasLittleRoom records.old → HasLittleRoom records.new) }
 {
     make_room(records, expected)?;
-    records.push(export_record(bytes, export))?;
+    records.push_reserved(export_record(bytes, export));
     Ok(())
 }
 
@@ -148,10 +149,14 @@ fn records_of<'a, 'm>(
 ) -> Result<Vec<PeExport<'a>>>
     ensures value { GivesOrMemory export_views result
         (map export_said (exports_left exports.entry)) }
-    ensures none { IfOk result HasNoIdleBlock }
+    ensures none { IfOk result HasLittleRoom }
     ensures grown { OnErr result (0 < length (exports_left exports.entry)) }
 {
-    let expected = exports.size_hint().1.unwrap_or(MOST_FIRST).min(MOST_FIRST);
+    let expected = exports
+        .size_hint()
+        .1
+        .unwrap_or(MOST_FIRST)
+        .clamp(1, MOST_FIRST);
     let mut records = Vec::new(alloc);
     'exports: while let Some(export) = next_export(&mut exports) {
         push_export(&mut records, bytes, &export, expected)?;
@@ -189,7 +194,7 @@ fn unread_records<'a>(
     exports: Part<Vec<PeExport<'a>>>,
 ) -> ExportRecords<'a>
     ensures value { exports_view result ≡ unread_said (part_map export_views exports.entry) }
-    ensures none { HasNoIdleBlockIn exports.entry → HaveNoIdleBlocks result }
+    ensures none { HasLittleRoomIn exports.entry → HaveNoIdleBlocks result }
 {
     ExportRecords {
         exports,

@@ -11,7 +11,7 @@ ghost use Rattle.goblin_pe.specs.Layouts.{IsFileImportsCause, file_imports_left,
 ghost use Rattle.goblin_pe.specs.Layouts.{layout_places};
 ghost use Rattle.goblin_pe.specs.Whole.{AreListed, collected_imports, import_list, import_parts};
 ghost use Rattle.goblin_pe.specs.Whole.{part_map};
-ghost use Rattle.goblin_pe_calls.specs.Blocked.{HasNoIdleBlock, HasNoIdleBlockIn};
+ghost use Rattle.goblin_pe_calls.specs.Blocked.{HasLittleRoom, HasLittleRoomIn};
 ghost use Rattle.goblin_pe_calls.specs.Growth.{HasEntries};
 ghost use Rattle.goblin_pe_calls.specs.Imports.{import_said, import_view, import_views};
 
@@ -81,10 +81,10 @@ fn push_import<'a>(
     ensures value { let made = import_said (walked_value import.now) ∷ [] in
         GivesOrMemory (λ _. map import_view records.new.items) result
         (map import_view records.old.items ++ made) }
-    ensures kept { OnOk result (HasNoIdleBlock records.new) }
+    ensures kept { OnOk result (HasLittleRoom records.old → HasLittleRoom records.new) }
 {
     make_room(records, FIRST_ROOM)?;
-    records.push(import_record(bytes, import))?;
+    records.push_reserved(import_record(bytes, import));
     Ok(())
 }
 
@@ -97,7 +97,7 @@ fn records_of<'a, 'm, 'e, T: Bitfield<'a>>(
     ensures value { let items = all_of (imports_left T.format imports.entry) in
         AnswersOrMemory import_views result (option_map (map import_said) items)
         (IsImportsCause T.format imports.entry) }
-    ensures none { IfOk result HasNoIdleBlock }
+    ensures none { IfOk result HasLittleRoom }
     ensures grown { OnErr result (0 < length (imports_left T.format imports.entry)) }
 {
     let mut records = Vec::new(alloc);
@@ -116,7 +116,7 @@ fn file_records_of<'a, 'm, 'e>(
     ensures value { let items = all_of (file_imports_left imports.entry) in
         AnswersOrMemory import_views result (option_map (map import_said) items)
         (IsFileImportsCause imports.entry) }
-    ensures none { IfOk result HasNoIdleBlock }
+    ensures none { IfOk result HasLittleRoom }
     ensures grown { OnErr result (0 < length (file_imports_left imports.entry)) }
 {
     match imports {
@@ -134,7 +134,7 @@ fn listed_records<'a>(alloc: Global, layout: &Layout<'a, '_>) -> Result<Part<Vec
         layout.now.bytes.now }
     ensures listed { let m = layout_map layout.now in
         AreListed m.opts (offset_of m) (layout_places layout.now) layout.now.bytes.now }
-    ensures none { IfOk result HasNoIdleBlockIn }
+    ensures none { IfOk result HasLittleRoomIn }
     ensures grown { let m = layout_map layout.now in
         let list = import_list m.opts (offset_of m) (layout_places layout.now) in
         OnErr result (IfSome (list.value layout.now.bytes.now) HasEntries) }
@@ -157,7 +157,7 @@ pub fn import_records<'a>(alloc: Global, layout: &Layout<'a, '_>) -> Result<Part
         (mapped (collected_imports import_said)
         (import_parts m.opts (offset_of m) (layout_places layout.now)))
         layout.now.bytes.now }
-    ensures none { IfOk result HasNoIdleBlockIn }
+    ensures none { IfOk result HasLittleRoomIn }
     ensures grown { let m = layout_map layout.now in
         let parts = import_parts m.opts (offset_of m) (layout_places layout.now) in
         OnErr result (IfSome (parts.value layout.now.bytes.now) (λ read. HasEntries read.1)) }

@@ -7,7 +7,7 @@ ghost use Rattle.goblin_pe_sect.specs.Options.{is_strict};
 ghost use Rattle.goblin_pe_head.specs.HeaderReadings.{pe_header};
 ghost use Rattle.goblin_pe.specs.Whole.{part_map, whole_file};
 ghost use Rattle.goblin_pe_calls.specs.Blocks.{block_view, blocks_in, relocations_of};
-ghost use Rattle.goblin_pe_calls.specs.Blocked.{HasNoIdleBlock, HasNoIdleBlockIn, HaveNoIdleBlocks};
+ghost use Rattle.goblin_pe_calls.specs.Blocked.{HasLittleRoomIn, HasNoIdleBlock, HaveNoIdleBlocks};
 ghost use Rattle.goblin_pe_calls.specs.Calls.{ReadsInto};
 ghost use Rattle.goblin_pe_calls.specs.Exports.{export_view, export_views, exports_view};
 ghost use Rattle.goblin_pe_calls.specs.Files.{entries_of};
@@ -111,7 +111,7 @@ fn made_of<'a>(
 // Hands the records of imports over, none where there are none.
 #[tactic(auto, unfolding(goblin_pe::specs::Whole::part_map))]
 fn imports_of<'a>(imports: Part<Vec<PeImport<'a>>>) -> &'a [PeImport<'a>]
-    requires { HasNoIdleBlockIn imports }
+    requires { HasLittleRoomIn imports }
     ensures { map import_view result.now ≡ entries_of (part_map import_views imports.entry) }
 {
     match imports {
@@ -123,7 +123,7 @@ fn imports_of<'a>(imports: Part<Vec<PeImport<'a>>>) -> &'a [PeImport<'a>]
 // Hands the records of exports over, none where there are none.
 #[tactic(auto, unfolding(goblin_pe::specs::Whole::part_map))]
 fn exports_of<'a>(exports: Part<Vec<PeExport<'a>>>) -> &'a [PeExport<'a>]
-    requires { HasNoIdleBlockIn exports }
+    requires { HasLittleRoomIn exports }
     ensures { map export_view result.now ≡ entries_of (part_map export_views exports.entry) }
 {
     match exports {
@@ -141,7 +141,7 @@ fn handed_over<'a>(
 ) -> PeTables<'a>
     requires none { HasNoIdleBlock made.rich_entries × HasNoIdleBlock made.sections
         × HasNoIdleBlock made.blocks }
-    requires no_imports { HasNoIdleBlockIn imports }
+    requires no_imports { HasLittleRoomIn imports }
     requires no_exports { HaveNoIdleBlocks exports }
     ensures rich_entries { result.rich_entries.now ≡ made.entry.rich_entries.items }
     ensures sections { result.sections.now ≡ made.entry.sections.items }

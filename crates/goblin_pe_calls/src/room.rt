@@ -14,12 +14,14 @@ use goblin_pe::ResultOf;
 /// Only [`Error::Memory`](goblin_pe::Error::Memory).
 #[inline]
 pub fn make_room<'e, T: Drop>(records: &mut Vec<T>, first: usize) -> ResultOf<'e, ()>
+    requires { 0 < first }
     ensures kept { records.new.items ≡ records.old.items }
     ensures refused { IfErr result IsMemory }
     ensures room { OnOk result (vec_capacity records.old ≡ vec_len records.old
         → vec_capacity records.new ≡ vec_len records.old + max first (vec_len records.old / 2)) }
     ensures same { OnOk result (vec_len records.old < vec_capacity records.old
         → vec_capacity records.new ≡ vec_capacity records.old) }
+    ensures spare { OnOk result (vec_len records.new < vec_capacity records.new) }
     ensures grown { OnErr result (vec_capacity records.old ≤ vec_len records.old) }
 {
     let count = records.len();

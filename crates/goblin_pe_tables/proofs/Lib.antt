@@ -2,6 +2,7 @@ mod AddressMaps
 pub mod ExportDirectoryRoundTrip
 mod ExportGrowths
 mod ExportRanges
+mod ExportRoom
 mod ExportRows
 pub mod ExportWalk
 mod Grammar

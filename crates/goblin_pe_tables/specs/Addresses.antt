@@ -1,5 +1,5 @@
 -- What maps the addresses of a file to its offsets.
-use Rattle.std.specs.Prelude.{ℕ, ◌<◌, Bool, List, Option, length}
+use Rattle.std.specs.Prelude.{ℕ, ◌≡◌, ◌<◌, Bool, List, Option, length}
 use Rattle.goblin_base.specs.declared.permissive.ParseMode.TheVariants.{Strict}
 use Rattle.goblin_pe_sect.specs.declared.options.ParseOptions.{ParseOptions}
 use Rattle.goblin_pe_sect.specs.Mapping.{file_offset}
@@ -26,6 +26,10 @@ TakesMap opts sections file_alignment =
 -- the map that a reader was given
 abbrev pub map_of : AddressMap → MapOfAddresses
 map_of map = record { opts = map.opts; offset = located map.index }
+
+-- such a map keeps nothing but its options and its index: maps that have the same are the same
+abbrev pub KeepsIndexAlone : Type 0
+KeepsIndexAlone = (m n : AddressMap) → m.opts ≡ n.opts → m.index ≡ n.index → m ≡ n
 
 -- the file offset of an address
 abbrev pub offset_of : MapOfAddresses → ℕ → Option ℕ

@@ -1,6 +1,7 @@
 -- Export directories, the tables that they lead to, and the exports that these list, over a map of
 -- addresses to file offsets. The words here are parts of the readings of `ExportReadings`.
-use Rattle.std.specs.Prelude.{◌<◌, ◌⊎◌, ◌+◌, ℕ, zero, suc, Bool, true, false, if◌then◌else◌, List, [], length, IsSome, Option, Some, None, option_and_then, slice_get, unwrap_or}
+use Rattle.std.specs.Prelude.{◌≡◌, ◌<◌, ◌≤◌, ◌⊎◌, ◌+◌, ◌/◌, max, Vec, vec_capacity, vec_len, ℕ, zero, suc, Bool, true, false, if◌then◌else◌, List, [], length, IsSome, Option, Some, None, option_and_then, slice_get, unwrap_or}
+use Rattle.std.specs.Global.{Global}
 use Rattle.goblin_pe_tables.specs.declared.export.tables.ExportAddressTableEntry.{ExportAddressTableEntry}
 use Rattle.goblin_pe_tables.specs.declared.export.tables.ExportAddressTableEntry.TheVariants.{ExportRVA, ForwarderRVA}
 use Rattle.goblin_pe_sect.specs.declared.data_directories.DataDirectory.{DataDirectory}
@@ -57,3 +58,10 @@ leads_to_own tables x =
 unfoldable pub own_exports : ExportTables → ℕ → ℕ
 own_exports tables zero = 0
 own_exports tables (suc n) = own_exports tables n + (if leads_to_own tables n then 1 else 0)
+
+-- The room of a list: none where nothing is in it, and else at most for so many, or for half as many
+-- again as there are.
+abbrev pub TakesRoomFor : {A : Type 0} → ℕ → Vec A Global → Type 0
+TakesRoomFor many v =
+    (vec_len v ≡ 0 → vec_capacity v ≡ 0)
+    × (vec_capacity v ≤ max many (vec_len v + vec_len v / 2))

@@ -6,8 +6,8 @@ ghost use Rattle.goblin_base.specs.Reading.{Reads};
 ghost use Rattle.goblin_pe_sect.specs.AddressReadings.{name_or_none};
 ghost use Rattle.goblin_pe_sect.specs.Mapping.{file_offset};
 ghost use Rattle.goblin_base.specs.declared.permissive.ParseMode.TheVariants.{Permissive};
-ghost use Rattle.goblin_pe_tables.specs.Addresses.{TakesMap, map_by, map_of, offset_of};
-ghost use Rattle.goblin_pe_tables.specs.Addresses.{reads_strictly, strict_map};
+ghost use Rattle.goblin_pe_tables.specs.Addresses.{KeepsIndexAlone, TakesMap, map_by, map_of};
+ghost use Rattle.goblin_pe_tables.specs.Addresses.{offset_of, reads_strictly, strict_map};
 ghost use Rattle.goblin_pe_sect.specs.WindowIndex.{located};
 
 use goblin_base::Result;
@@ -62,6 +62,7 @@ impl AddressMap {
         ensures made { GivesOrMemory map_of result
             (map_by opts.now sections.now file_alignment) }
         ensures grown { IfErr result (λ e. TakesMap opts.now sections.now file_alignment) }
+        ensures whole { KeepsIndexAlone }
     {
         let index = index_of(alloc, sections, file_alignment, opts)?;
         Ok(AddressMap { opts: *opts, index })

@@ -4,9 +4,10 @@
 //! three tables. A name pointer and the ordinal with its index are a named export; the ordinal is
 //! the index of its address. An address inside the directory is that of a forwarder's text.
 
-ghost use Rattle.std.specs.Prelude.{◌<◌, ◌≤◌, ◌≡◌, ◌++◌, ◌∷◌, ◌⊎◌, ℕ, [], IfErr, IsOk, IsSomeAnd};
-ghost use Rattle.std.specs.Prelude.{MatchOption, None, OnErr, OnOk, Option, Some, length};
-ghost use Rattle.std.specs.Prelude.{option_and_then, option_map, slice_get};
+ghost use Rattle.std.specs.Prelude.{◌<◌, ◌≤◌, ◌≡◌, ◌+◌, ◌/◌, ◌++◌, ◌∷◌, ◌⊎◌, ℕ, [], IfErr, IfOk};
+ghost use Rattle.std.specs.Prelude.{IsOk, IsSomeAnd, MatchOption, None, OnErr, OnOk, Option, Some};
+ghost use Rattle.std.specs.Prelude.{length, max, option_and_then, option_map, slice_get};
+ghost use Rattle.std.specs.Prelude.{vec_capacity, vec_len};
 ghost use Rattle.goblin_base.specs.Answers.{GivesOrMemory, IsMemory};
 ghost use Rattle.goblin_base.specs.Bytes.{text_at};
 ghost use Rattle.goblin_base.specs.Reading.{ReadsOrMemory};
@@ -14,7 +15,7 @@ ghost use Rattle.goblin_pe_sect.specs.Options.{default_options};
 ghost use Rattle.goblin_pe_tables.specs.Addresses.{TakesMap, map_by, map_of, offset_of};
 ghost use Rattle.goblin_pe_tables.specs.ExportReadings as reading;
 ghost use Rattle.goblin_pe_tables.specs.Exports.{HasEntries, HasExports, export_data, export_row};
-ghost use Rattle.goblin_pe_tables.specs.Exports.{exports, own_exports, rva_of};
+ghost use Rattle.goblin_pe_tables.specs.Exports.{TakesRoomFor, exports, own_exports, rva_of};
 ghost use Rattle.goblin_pe_tables.specs.Forwarders.{forwarder_at, forwarder_value};
 
 use crate::address_map::AddressMap;
@@ -237,17 +238,19 @@ impl<'a> Model for Export<'a> {
     } };
 }
 
-// For so few name pointers room is made without a look at what they lead to.
+// For so few exports room is made without a look at what their name pointers lead to.
 const FEW: usize = 32;
 
-// For how many exports to make room: for as many as there are name pointers, if these are few, else
-// for those that are not forwarders, of which each is there.
+// For how many exports to make room first: for as many as there are name pointers, if these are
+// few, else for those that are not forwarders, of which each is there, or for a few if those are
+// fewer.
 #[tactic(auto, unfolding(crate::specs::Exports::own_exports))]
 fn expected_count(tables: &ExportData) -> usize
-    ensures most { result ≤ length tables.now.export_name_pointer_table }
+    ensures few { let pointers = length tables.now.export_name_pointer_table in
+        pointers ≤ 32 → result ≡ pointers }
     ensures own { let t = tables.now in
         32 < length t.export_name_pointer_table
-        → result ≡ own_exports t (length t.export_name_pointer_table) }
+        → result ≡ max 32 (own_exports t (length t.export_name_pointer_table)) }
 {
     let pointers = tables.pointers();
     if pointers <= FEW {
@@ -262,18 +265,40 @@ fn expected_count(tables: &ExportData) -> usize
             }
         }
     }
-    count
+    FEW.max(count)
+}
+
+// Makes room for another export where it doesn't fit: for as many as `first` where there are none
+// yet, else for half as many as there are and one.
+fn make_room(rows: &mut Vec<Export>, first: usize) -> Result<()>
+    requires { 0 < first }
+    ensures kept { rows.new.items ≡ rows.old.items }
+    ensures refused { IfErr result IsMemory }
+    ensures room { OnOk result (vec_len rows.new < vec_capacity rows.new) }
+    ensures first { OnOk result (vec_len rows.old ≡ 0 → vec_capacity rows.old ≡ 0
+        → vec_capacity rows.new ≡ first) }
+    ensures more { OnOk result (0 < vec_len rows.old → vec_capacity rows.old ≡ vec_len rows.old
+        → vec_capacity rows.new ≡ vec_len rows.old + (vec_len rows.old / 2 + 1)) }
+    ensures same { OnOk result (vec_len rows.old < vec_capacity rows.old
+        → vec_capacity rows.new ≡ vec_capacity rows.old) }
+{
+    let count = rows.len();
+    if count == rows.capacity() {
+        let more = if count == 0 { first } else { count / 2 + 1 };
+        rows.reserve_exact(more)?;
+    }
+    Ok(())
 }
 
 // Adds an export; before the first, makes room for as many as are expected.
 fn add_row<'a>(rows: &mut Vec<Export<'a>>, export: Export<'a>, expected: usize) -> Result<()>
+    requires { 0 < expected }
     ensures added { OnOk result (rows.new.items ≡ rows.old.items ++ export.entry ∷ []) }
     ensures refused { IfErr result IsMemory }
+    ensures room { OnOk result (TakesRoomFor expected rows.old → TakesRoomFor expected rows.new) }
 {
-    if rows.is_empty() {
-        rows.reserve(expected)?;
-    }
-    rows.push(export)?;
+    make_room(rows, expected)?;
+    rows.push_reserved(export);
     Ok(())
 }
 
@@ -340,6 +365,7 @@ impl<'a> Export<'a> {
         ensures value { let m = map_by default_options sections.now file_alignment in
             GivesOrMemory (λ v. v.items) result (exports (offset_of m) bytes.now export_data.now) }
         ensures empty { length bytes.now ≡ 0 → IsOk result }
+        ensures room { IfOk result (TakesRoomFor 32) }
         ensures grown { let m = map_by default_options sections.now file_alignment in
             OnErr result (HasExports (offset_of m) bytes.now export_data.now
             ⊎ TakesMap default_options sections.now file_alignment) }
@@ -351,7 +377,8 @@ impl<'a> Export<'a> {
     /// The exports that export data lists, one for each name pointer, in their order. There is none
     /// for a name pointer whose ordinal is missing, whose ordinal has no address, or whose
     /// forwarder can't be read. An export whose name can't be read is kept without it. An empty
-    /// file has no exports. Both modes give the same answer.
+    /// file has no exports. Both modes give the same answer. Room is made for at most 32 exports,
+    /// or for half as many again as there are.
     ///
     /// # Errors
     /// Only [`Error::Memory`], never for an empty file, which takes no memory, and otherwise only
@@ -368,6 +395,7 @@ impl<'a> Export<'a> {
         ensures value { let m = map_by opts.now sections.now file_alignment in
             GivesOrMemory (λ v. v.items) result (exports (offset_of m) bytes.now export_data.now) }
         ensures empty { length bytes.now ≡ 0 → IsOk result }
+        ensures room { IfOk result (TakesRoomFor 32) }
         ensures grown { let m = map_by opts.now sections.now file_alignment in
             OnErr result (HasExports (offset_of m) bytes.now export_data.now
             ⊎ TakesMap opts.now sections.now file_alignment) }
@@ -393,6 +421,7 @@ impl<'a> Export<'a> {
         ensures value { let m = map_of address_map.now in
             GivesOrMemory (λ v. v.items) result (exports (offset_of m) bytes.now export_data.now) }
         ensures empty { length bytes.now ≡ 0 → IsOk result }
+        ensures room { IfOk result (TakesRoomFor 32) }
         ensures grown { let m = map_of address_map.now in
             OnErr result (HasExports (offset_of m) bytes.now export_data.now) }
     {

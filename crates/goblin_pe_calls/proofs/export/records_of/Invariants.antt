@@ -1,6 +1,6 @@
 use Rattle.std.proofs.Common.{◌≡◌, ◌++◌, map, length}
 use Rattle.goblin_pe_tables.specs.ExportWalks.{exports_left}
-use Rattle.goblin_pe_calls.specs.Blocked.{HasNoIdleBlock}
+use Rattle.goblin_pe_calls.specs.Blocked.{HasLittleRoom}
 use Rattle.goblin_pe_calls.specs.Exports.{export_said, export_view}
 use Rattle.goblin_pe_calls.proofs.export.records_of.Given as goal
 
@@ -8,7 +8,7 @@ abbrev pub invariant-exports : goal.invariant-exports
 invariant-exports l =
     (map export_view l.records.items ++ map export_said (exports_left l.exports)
     ≡ map export_said (exports_left l.fn.exports))
-    × HasNoIdleBlock l.records
+    × HasLittleRoom l.records
 
 abbrev pub decreases-exports : goal.decreases-exports
 decreases-exports l = length (exports_left l.exports)

@@ -1,4 +1,4 @@
-use Rattle.std.proofs.Common.{sym}
+use Rattle.std.proofs.Common.{arith, sym}
 use Rattle.std.proofs.lemmas.Result.{err_from_is_err_and}
 use Rattle.goblin_pe_tables.specs.ImportWalks.{IsImportsCause, imports_left, walked_value}
 use Rattle.goblin_pe_calls.specs.Imports.{import_said}
@@ -9,7 +9,7 @@ use Rattle.goblin_pe_calls.proofs.import.records_of.Goals as goal
 pub imports-init : goal.imports-init
 imports-init g c =
     rw (c.into_iter-import-iterator.ensures.into_iter_gives, c.new-records.ensures.items)
-    (made-start (imports_left g.T.Bitfield.format) (IsImportsCause g.T.Bitfield.format) import_said c.args.imports, λ _. c.new-records.ensures.capacity)
+    (made-start (imports_left g.T.Bitfield.format) (IsImportsCause g.T.Bitfield.format) import_said c.args.imports, (λ _. c.new-records.ensures.capacity, omega (arith, c.new-records.ensures.capacity)))
 
 pub returns-in_err-import-clause-value : goal.returns-in_err-import-clause-value
 returns-in_err-import-clause-value g c =
@@ -19,7 +19,7 @@ returns-in_err-import-clause-value g c =
 
 pub imports-preserved : goal.imports-preserved
 imports-preserved g c =
-    (made-more (imports_left g.T.Bitfield.format) (IsImportsCause g.T.Bitfield.format) import_said c.args.imports _ _ c.imports.invariant.0 walked_value _ _ c.in-Some.ensures.steps.0 _ c.in_ok-import.was _ (sym c.in_ok-push_import.ensures.value), c.in_ok-push_import.ensures.kept)
+    (made-more (imports_left g.T.Bitfield.format) (IsImportsCause g.T.Bitfield.format) import_said c.args.imports _ _ c.imports.invariant.0 walked_value _ _ c.in-Some.ensures.steps.0 _ c.in_ok-import.was _ (sym c.in_ok-push_import.ensures.value), c.in_ok-push_import.ensures.kept c.imports.invariant.1)
 
 pub returns-clause-value : goal.returns-clause-value
 returns-clause-value g c =

@@ -5,20 +5,22 @@ use Rattle.goblin_base.specs.Tables.{concat_below}
 use Rattle.goblin_pe_tables.specs.Addresses.{map_of, offset_of}
 use Rattle.goblin_pe_tables.specs.ExportRecords.{ExportRow}
 use Rattle.goblin_pe_tables.specs.Exports.{export_row}
+use Rattle.goblin_pe_tables.proofs.ExportRoom.{room_expected}
 use Rattle.goblin_pe_tables.proofs.ExportRows.{row_more, row_none, rows_listed, rows_none}
 use Rattle.goblin_pe_tables.proofs.export.Export.parse_by.Goals as goal
 use Rattle.goblin_pe_tables.proofs.export.Export.parse_by.Goals.{in-Some+in_ok-add_row, in_default}
 
 pub rows-init : goal.rows-init
-rows-init c = c.new-rows.ensures.items ∙ sym (rows_none _)
+rows-init c =
+    (c.new-rows.ensures.items ∙ sym (rows_none _), (λ _. c.new-rows.ensures.capacity, omega (arith, c.new-rows.ensures.capacity)))
 
 pub rows-preserved : goal.rows-preserved
 rows-preserved c =
     elim c.match-of_pointer.branch [
       | in-Some+in_ok-add_row w ↦
           rw w.rows-is
-          (w.in_ok-add_row.ensures.added ∙ row_more _ _ _ c.rows.invariant _ (sym w.in-Some.ensures.0))
-      | in_default w ↦ rw w.rows-is (row_none _ _ _ c.rows.invariant (sym w.in_default.ensures))
+          (w.in_ok-add_row.ensures.added ∙ row_more _ _ _ c.rows.invariant.0 _ (sym w.in-Some.ensures.0), w.in_ok-add_row.ensures.room c.rows.invariant.1)
+      | in_default w ↦ rw w.rows-is (row_none _ _ _ c.rows.invariant.0 (sym w.in_default.ensures), c.rows.invariant.1)
     ]
 
 pub returns-in_err-add_row-clause-grown : goal.returns-in_err-add_row-clause-grown
@@ -34,4 +36,14 @@ returns-clause-value c =
     ap (λ (o : Option (List ExportRow)). unwrap_or o [])
     (rows_listed offset_of c.args.bytes.now c.args.export_data.now (sym c.is_empty.ensures ∙ c.if-is_empty.false))
     ∙ ap (concat_below (λ x. option_to_list (export_row offset_of c.args.bytes.now c.args.export_data.now x))) all
-    ∙ sym c.rows.invariant
+    ∙ sym c.rows.invariant.0
+
+pub returns-clause-room : goal.returns-clause-room
+returns-clause-room c =
+    let offset_of = offset_of (map_of c.args.address_map.now) in
+    let tables = c.args.export_data.now in
+    let all : length tables.export_name_pointer_table ≡ c.rows.index =
+    omega (arith, c.rows-test.false, c.pointers-index-end.ensures) in
+    room_expected offset_of c.args.bytes.now tables _ c.rows.rows c.expected_count-expected.ensures.few c.expected_count-expected.ensures.own
+    (c.rows.invariant.0 ∙ ap (concat_below (λ x. option_to_list (export_row offset_of c.args.bytes.now tables x))) (sym all))
+    c.rows.invariant.1
