@@ -1,25 +1,28 @@
 //! Runs of ASCII, found sixteen bytes at a time.
 
-ghost use Rattle.std.specs.Prelude.{◌≡◌, ◌⊎◌, ◌+◌, ◌<◌, ◌≤◌, ℕ, IsTrue, length, slice_index};
+ghost use Rattle.std.specs.Prelude.{◌≡◌, ◌⊎◌, ◌+◌, ◌<◌, ◌≤◌, ℕ, IfSome, IsTrue, None, length};
+ghost use Rattle.std.specs.Prelude.{slice_index};
 
 use std::simd::prelude::*;
 
-// How many of the 16 bytes from `at` on precede the first that is a NUL or not ASCII.
-fn run_in_lanes(bytes: &[u8], at: usize) -> usize
+// How many of the 16 bytes from `at` on precede the first that is a NUL or not ASCII, if one is.
+fn stop_in_lanes(bytes: &[u8], at: usize) -> Option<usize>
     requires { at + 16 ≤ length bytes.now }
-    ensures within { result ≤ 16 }
-    ensures plain { (k : ℕ) → at ≤ k → k < at + result
+    ensures none { result ≡ None → (k : ℕ) → at ≤ k → k < at + 16
         → (0 < slice_index bytes.now k) × (slice_index bytes.now k < 128) }
-    ensures stops { result < 16
-        → (slice_index bytes.now (at + result) ≡ 0) ⊎ (128 ≤ slice_index bytes.now (at + result)) }
+    ensures within { IfSome result (λ run. run ≤ 16) }
+    ensures plain { IfSome result (λ run. (k : ℕ) → at ≤ k → k < at + run
+        → (0 < slice_index bytes.now k) × (slice_index bytes.now k < 128)) }
+    ensures stops { IfSome result (λ run. run < 16
+        → (slice_index bytes.now (at + run) ≡ 0) ⊎ (128 ≤ slice_index bytes.now (at + run))) }
 {
     let marks = (u8x16::from_slice(&bytes[at..]) - u8x16::splat(1))
         .simd_ge(u8x16::splat(127))
         .to_bitmask();
     if marks == 0 {
-        16
+        None
     } else {
-        marks.trailing_zeros() as usize
+        Some(marks.trailing_zeros() as usize)
     }
 }
 
@@ -41,7 +44,10 @@ pub(crate) fn plain_run(bytes: &[u8]) -> usize
 {
     let mut at = 0;
     'lanes: while 16 <= bytes.len() - at {
-        let run = run_in_lanes(bytes, at);
+        let Some(run) = stop_in_lanes(bytes, at) else {
+            at += 16;
+            continue 'lanes;
+        };
         at += run;
         if run < 16 {
             return at;

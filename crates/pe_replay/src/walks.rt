@@ -3,6 +3,7 @@
 use crate::refused;
 use fixture::sample::in_mode;
 use goblin_base::{Error, ErrorOf, ParseMode};
+use goblin_pe::export::Exports;
 use goblin_pe::{FileImports, Layout, Part, Whole};
 use goblin_pe_head::Header;
 use goblin_pe_sect::ParseOptions;
@@ -27,14 +28,25 @@ pub fn show_exports(rt: &HostRuntime, file: &[u8]) -> io::Result<()> {
     let header = Header::parse_with_opts(file, &opts).map_err(refused)?;
     let layout = Layout::of(rt.alloc(), file, &header, &opts).map_err(refused)?;
     let (count, end) = match layout.exports() {
-        Ok(Part::Read(exports)) => (exports.count(), None),
+        Ok(Part::Read(exports)) => (count_of(exports), None),
         Ok(_) => (0, None),
         Err(error) => (0, Some(error)),
     };
     show_count(rt, count, &end)
 }
 
+// How many exports a walk gives.
+#[inline(never)]
+fn count_of(exports: Exports) -> usize {
+    let mut count = 0usize;
+    for _ in exports {
+        count = count.saturating_add(1);
+    }
+    count
+}
+
 // How many imports a walk gives, and the refusal that ends it, if one does.
+#[inline(never)]
 fn counted<'a, 'm, 'e>(imports: FileImports<'a, 'm, 'e>) -> (usize, Option<ErrorOf<'e>>) {
     let mut count = 0usize;
     for import in imports {

@@ -285,32 +285,33 @@ impl<'a, 'm> Walk<'a, 'm> {
 
     // The walk from the next library on, once the entries of this one have come.
     #[inline(never)]
-    fn next_library<'e, T: Bitfield<'a>>(&self) -> Option<ResultOf<'e, Walk<'a, 'm>>>
-        ensures gives { let m = map_of self.now.address_map.now in
+    fn next_library<'e, T: Bitfield<'a>>(
+        bytes: &'a [u8],
+        untested: Option<u32>,
+        next: Option<ImportPosition>,
+        address_map: &'m AddressMap,
+    ) -> Option<ResultOf<'e, Walk<'a, 'm>>>
+        ensures gives { let m = map_of address_map.now in
             GivesLibrary (walk_left T.format) (IsWalkCause T.format)
-            (later_items (reads_strictly m) T.format (offset_of m) self.now.bytes.now
-            self.now.untested self.now.next)
+            (later_items (reads_strictly m) T.format (offset_of m) bytes.now
+            untested next)
             (λ e. (reads_strictly m ≡ true)
-            × IsLaterCause (reads_strictly m) T.format (offset_of m) self.now.bytes.now
-            self.now.untested self.now.next e) result }
+            × IsLaterCause (reads_strictly m) T.format (offset_of m) bytes.now
+            untested next e) result }
         ensures placed { IfSome result (λ r. IfOk r (λ t. IsInLibrary T.format t)) }
-        ensures bytes { IfSome result (λ r. IfOk r (λ t. t.bytes.now ≡ self.now.bytes.now)) }
+        ensures bytes { IfSome result (λ r. IfOk r (λ t. t.bytes.now ≡ bytes.now)) }
         ensures address_map { IfSome result (λ r. IfOk r (λ t.
-            t.address_map.now ≡ self.now.address_map.now)) }
-        ensures nearer { let bytes = self.now.bytes.now in
-            IfSome result (λ r. IfOk r (λ t.
-            records_left bytes t.next < records_left bytes self.now.next)) }
-        ensures bound { let bytes = self.now.bytes.now in
-            IfSome result (λ r. IfOk r (λ t. walk_bound t ≤ bound_at bytes self.now.next)) }
-        ensures there { let bytes = self.now.bytes.now in
-            IfSome result (λ r. IfErr r (λ e.
-            1 ≤ one_if self.now.untested + bound_at bytes self.now.next)) }
+            t.address_map.now ≡ address_map.now)) }
+        ensures nearer { IfSome result (λ r. IfOk r (λ t.
+            records_left bytes.now t.next < records_left bytes.now next)) }
+        ensures bound { IfSome result (λ r. IfOk r (λ t. walk_bound t ≤ bound_at bytes.now next)) }
+        ensures there { IfSome result (λ r. IfErr r (λ e.
+            1 ≤ one_if untested + bound_at bytes.now next)) }
     {
-        let (bytes, address_map) = (self.bytes, self.address_map);
-        if let Err(error) = test_untested::<T>(bytes, self.untested, address_map) {
+        if let Err(error) = test_untested::<T>(bytes, untested, address_map) {
             return Some(Err(error));
         }
-        let Some(at) = self.next else {
+        let Some(at) = next else {
             return None;
         };
         let Ok(record) = ImportDirectoryEntry::read_at(bytes, at.record, Endian::Little) else {
@@ -322,8 +323,8 @@ impl<'a, 'm> Walk<'a, 'm> {
         if !record.is_possibly_valid() {
             return None;
         }
-        let next = at.record + SIZEOF_IMPORT_DIRECTORY_ENTRY;
-        Some(Walk::in_library::<T>(bytes, &record, at.slot, next, address_map))
+        let after = at.record + SIZEOF_IMPORT_DIRECTORY_ENTRY;
+        Some(Walk::in_library::<T>(bytes, &record, at.slot, after, address_map))
     }
 
     // Where the walk is.
@@ -373,7 +374,7 @@ impl<'a, 'm> Walk<'a, 'm> {
                 }
                 None => {}
             }
-            match self.next_library::<T>() {
+            match Walk::next_library::<T>(self.bytes, self.untested, self.next, self.address_map) {
                 Some(Ok(walk)) => *self = walk,
                 Some(Err(error)) => {
                     self.end();

@@ -12,15 +12,13 @@ use Rattle.goblin_pe_tables.proofs.import.imports.Walk.next_library.Goals as goa
 
 pub returns-in-Err-clause-gives : goal.returns-in-Err-clause-gives
 returns-in-Err-clause-gives g c =
-    let w = c.args.self.now in
-    let both = later-refused _ g.T.Bitfield.format _ _ w.untested w.next c.in-Err.error c.in-Err.ensures.value in
+    let both = later-refused _ g.T.Bitfield.format _ _ c.args.untested c.args.next c.in-Err.error c.in-Err.ensures.value in
     (both.0, (c.in-Err.ensures.strictly, both.1))
 
 pub returns-in_default-next-clause-gives : goal.returns-in_default-next-clause-gives
 returns-in_default-next-clause-gives g c =
-    let w = c.args.self.now in
-    let m = map_of w.address_map.now in
-    rw c.in_default-next.is (later-none (reads_strictly m) g.T.Bitfield.format (offset_of m) w.bytes.now w.untested c.in_default.ensures.value)
+    let m = map_of c.args.address_map.now in
+    rw c.in_default-next.is (later-none (reads_strictly m) g.T.Bitfield.format (offset_of m) c.args.bytes.now c.args.untested c.in_default.ensures.value)
 
 pub returns-then-is_permissive-clause-gives : goal.returns-then-is_permissive-clause-gives
 returns-then-is_permissive-clause-gives g c =
@@ -33,23 +31,21 @@ returns-in_default-read_at-clause-gives g c =
 
 pub returns-then-not-is_possibly_valid-clause-gives : goal.returns-then-not-is_possibly_valid-clause-gives
 returns-then-not-is_possibly_valid-clause-gives g c =
-    let w = c.args.self.now in
-    let m = map_of w.address_map.now in
-    rw c.in-Some.is (later-last (reads_strictly m) g.T.Bitfield.format (offset_of m) w.bytes.now w.untested c.in_default.ensures.value c.test_untested.ensures.wide c.in-Some.at _ c.in-Ok.ensures (opposite _ _ true c.is_possibly_valid.ensures c.if-not-is_possibly_valid.true))
+    let m = map_of c.args.address_map.now in
+    rw c.in-Some.is (later-last (reads_strictly m) g.T.Bitfield.format (offset_of m) c.args.bytes.now c.args.untested c.in_default.ensures.value c.test_untested.ensures.wide c.in-Some.at _ c.in-Ok.ensures (opposite _ _ true c.is_possibly_valid.ensures c.if-not-is_possibly_valid.true))
 
 pub returns-clause-gives : goal.returns-clause-gives
 returns-clause-gives g c =
-    let w = c.args.self.now in
-    let m = map_of w.address_map.now in
+    let m = map_of c.args.address_map.now in
     let s = reads_strictly m in
     let f = g.T.Bitfield.format in
     let o = offset_of m in
-    let b = w.bytes.now in
+    let b = c.args.bytes.now in
     subst
-    (λ (at : Option ImportPosition). GivesLibrary (walk_left f) (IsWalkCause f) (later_items s f o b w.untested at)
-    (λ e. (s ≡ true) × IsLaterCause s f o b w.untested at e) (Some c.in_library.result))
+    (λ (at : Option ImportPosition). GivesLibrary (walk_left f) (IsWalkCause f) (later_items s f o b c.args.untested at)
+    (λ e. (s ≡ true) × IsLaterCause s f o b c.args.untested at e) (Some c.in_library.result))
     (sym c.in-Some.is)
-    (later-given s f o b w.untested c.in_default.ensures.value c.test_untested.ensures.wide c.in-Some.at c.in-Ok.«record» c.in-Ok.ensures (opposite _ _ false c.is_possibly_valid.ensures c.if-not-is_possibly_valid.false) (walk_left f) (IsWalkCause f) c.in_library.result c.in_library.ensures.gives)
+    (later-given s f o b c.args.untested c.in_default.ensures.value c.test_untested.ensures.wide c.in-Some.at c.in-Ok.«record» c.in-Ok.ensures (opposite _ _ false c.is_possibly_valid.ensures c.if-not-is_possibly_valid.false) (walk_left f) (IsWalkCause f) c.in_library.result c.in_library.ensures.gives)
 
 pub returns-clause-bound : goal.returns-clause-bound
 returns-clause-bound g c = rw c.in-Some.is (bound-given _ _ (record_at-some 20 _ _ _ _ c.in-Ok.ensures).end _ c.in_library.ensures.bytes c.in_library.ensures.next c.in_library.ensures.place)
