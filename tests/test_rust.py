@@ -1,12 +1,20 @@
 """The crate for callers in Rust, and goblin beside it."""
 import functools
 import pathlib
+import re
 import shutil
 
 from tests import images
-from tests.programs import BY_NAME, CALLERS, IMAGES, SAMPLES, Case, beside, environment, folder, library, need, run, succeed
+from tests.programs import BY_NAME, CALLERS, IMAGES, SAMPLES, TOP, Case, beside, environment, folder, library, need, run, succeed
 
 REGISTRY = pathlib.Path("/usr/share/cargo/registry")
+# What stands around the program of the README.
+README = """fn main() -> Result<(), Box<dyn std::error::Error>> {
+    let bytes = std::fs::read(std::env::args().nth(1).ok_or("no file")?)?;
+    %s
+    Ok(())
+}
+"""
 
 
 def setUpModule():
@@ -49,6 +57,16 @@ class Crate(Case):
         self.assertEqual(len(lines), len(files))
         for line, wanted in zip(lines[-3:], (f"{damaged}: 1 imports, 0 exports, exports: .", f"{CALLERS}/build: refused: .", f"{lost}: read failed: .")):
             self.assertRegex(line, f"^{wanted}")
+
+    def test_the_program_of_the_readme(self):
+        program = re.findall(r"(?s)```rust\n(.*?)```", (TOP / "README.md").read_text("utf-8"))[0]
+        user = self.folder / "user"
+        succeed(["cargo", "new", "-q", "--vcs", "none", user])
+        (user / "src/main.rs").write_text(README % program, "utf-8")
+        env = environment(GOBLIN_PE_LIB=str(library()), CARGO_TARGET_DIR=str(folder() / "target"))
+        succeed(["cargo", "add", "-q", "--offline", "--manifest-path", user / "Cargo.toml", "--path", CALLERS / "rust"], env=env)
+        told = succeed(["cargo", "run", "-q", "--offline", "--manifest-path", user / "Cargo.toml", BY_NAME], env=env)
+        self.assertEqual(told, "GetTickCount from KERNEL32.dll\n")
 
     def test_its_documentation(self):
         cargo("doc", RUSTDOCFLAGS="-D warnings")
