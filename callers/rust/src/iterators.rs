@@ -123,58 +123,65 @@ impl DoubleEndedIterator for DataDirectories<'_> {
 
 impl FusedIterator for DataDirectories<'_> {}
 
-// How many records a walk reads at once.
+// How many records a walk reads at once, and how many first: most files have few.
 const BATCH: usize = 256;
+const FIRST: usize = 16;
 
 // Where a walk goes on.
 trait Position: Default {
-    // Whether nothing follows the batch of so many records that ended here.
-    fn is_end(&self, count: usize) -> bool;
+    // Whether nothing follows the batch of so many records that ended here; it had room for these.
+    fn is_end(&self, count: usize, room: usize) -> bool;
 }
 
 impl Position for raw::ImportPosition {
     // (a batch that is not full may come before a refusal)
-    fn is_end(&self, count: usize) -> bool {
+    fn is_end(&self, count: usize, _room: usize) -> bool {
         count == 0 || self.record == usize::MAX
     }
 }
 
 impl Position for usize {
-    fn is_end(&self, count: usize) -> bool {
-        count < BATCH
+    fn is_end(&self, count: usize, room: usize) -> bool {
+        count < room
     }
 }
 
 // Records that are read some at a time, each time by the same call from where the last one ended.
 #[derive(Clone)]
 struct Batches<T, P> {
-    records: [T; BATCH],
+    // (none before the first are read)
+    records: Vec<T>,
     position: P,
     next: usize,
     count: usize,
 }
 
 impl<T: Copy, P: Position> Batches<T, P> {
-    // From the beginning: as after a full batch, of which all is taken.
-    fn new(empty: T) -> Self {
+    // From the beginning.
+    fn new() -> Self {
         Batches {
-            records: [empty; BATCH],
+            records: Vec::new(),
             position: P::default(),
-            next: BATCH,
-            count: BATCH,
+            next: 0,
+            count: 0,
         }
     }
 
     // Whether the records that were read are taken, and others may follow.
     fn is_taken(&self) -> bool {
-        self.next == self.count && !self.position.is_end(self.count)
+        let room = self.records.len();
+        room == 0 || self.next == self.count && !self.position.is_end(self.count, room)
     }
 
-    // Reads the next records, which answers whether it was refused.
+    // Reads the next records, at first so many of them, and answers whether that was refused.
     fn fill(
         &mut self,
+        first: usize,
+        empty: T,
         call: impl FnOnce(&mut P, &mut [T], &mut usize) -> Fault,
     ) -> Result<(), Error> {
+        let room = if self.records.is_empty() { first } else { BATCH };
+        self.records.resize(room, empty);
         (self.next, self.count) = (0, 0);
         let fault = call(&mut self.position, &mut self.records, &mut self.count);
         Error::test(fault)
@@ -202,7 +209,7 @@ macro_rules! walks {
         impl<'a> $name<'a> {
             // From the beginning.
             pub(crate) fn of(bytes: &'a [u8], options: Options) -> Self {
-                let batches = Some(Batches::new(raw::$record::EMPTY));
+                let batches = Some(Batches::new());
                 $name { bytes, options, batches }
             }
         }
@@ -214,7 +221,9 @@ macro_rules! walks {
                 let (bytes, options) = (self.bytes, &self.options);
                 let batches = self.batches.as_mut()?;
                 if batches.is_taken() {
-                    let filled = batches.fill(|position, records, count| $call(bytes, options, position, records, count));
+                    let filled = batches.fill(FIRST, raw::$record::EMPTY, |position, records, count| {
+                        $call(bytes, options, position, records, count)
+                    });
                     if let Err(error) = filled {
                         self.batches = None;
                         return Some(Err(error));
@@ -256,7 +265,7 @@ impl<'a> Symbols<'a> {
         let mut symbols = Symbols {
             bytes,
             header: *header,
-            batches: Batches::new(raw::NamedSymbol::EMPTY),
+            batches: Batches::new(),
         };
         symbols.fill()?;
         Ok(symbols)
@@ -264,7 +273,8 @@ impl<'a> Symbols<'a> {
 
     fn fill(&mut self) -> Result<(), Error> {
         let (bytes, header) = (self.bytes, &self.header);
-        self.batches.fill(|position, records, count| {
+        // (each call reads the whole string table)
+        self.batches.fill(BATCH, raw::NamedSymbol::EMPTY, |position, records, count| {
             raw::next_symbols(bytes, header, position, records, count)
         })
     }

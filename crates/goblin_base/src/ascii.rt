@@ -6,6 +6,7 @@ ghost use Rattle.std.specs.Prelude.{slice_index};
 use std::simd::prelude::*;
 
 // How many of the 16 bytes from `at` on precede the first that is a NUL or not ASCII, if one is.
+#[inline(always)]
 fn stop_in_lanes(bytes: &[u8], at: usize) -> Option<usize>
     requires { at + 16 ≤ length bytes.now }
     ensures none { result ≡ None → (k : ℕ) → at ≤ k → k < at + 16
@@ -35,6 +36,7 @@ fn is_plain(byte: u8) -> bool
 }
 
 // How many bytes precede the first that is a NUL or not ASCII.
+#[inline(always)]
 pub(crate) fn plain_run(bytes: &[u8]) -> usize
     ensures within { result ≤ length bytes.now }
     ensures plain { (k : ℕ) → k < result

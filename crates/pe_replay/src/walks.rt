@@ -38,11 +38,7 @@ pub fn show_exports(rt: &HostRuntime, file: &[u8]) -> io::Result<()> {
 // How many exports a walk gives.
 #[inline(never)]
 fn count_of(exports: Exports) -> usize {
-    let mut count = 0usize;
-    for _ in exports {
-        count = count.saturating_add(1);
-    }
-    count
+    exports.count()
 }
 
 // How many imports a walk gives, and the refusal that ends it, if one does.
