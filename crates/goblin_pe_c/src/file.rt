@@ -52,8 +52,9 @@ pub extern "C" fn goblin_pe_raw_kind(bytes: &[u8]) -> u32
 /// directory says and the DOS stub. Each table that is not empty is a block of memory that the
 /// caller frees. After a refusal nothing is changed, and nothing is to be freed;
 /// memory is refused (the status 5) only where the file has a header, and room for as many sections
-/// as that says; and of a file that can be read only where it has a section, or a table of it an
-/// entry.
+/// as that says; of a file that can be read only where it has a section, or a table of it an entry;
+/// and of one that is refused only where its header says that there are sections, or a table begins
+/// with an entry before the refusal.
 #[unsafe(no_mangle)]
 pub extern "C" fn goblin_pe_raw_open<'a>(
     alloc: Global,

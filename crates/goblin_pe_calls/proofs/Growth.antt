@@ -1,10 +1,10 @@
 -- Memory is asked for only where a table has an entry.
 use Rattle.std.proofs.Common.{◌≡◌, ◌<◌, ◌+◌, ◌++◌, ◌∷◌, [], ℕ, List, Option, Some, None, Result, Ok, Err}
-use Rattle.std.proofs.Common.{ap, arith, length, map, refl, subst, suc, sym, zero}
-use Rattle.std.specs.Prelude.{IfSome, IsSomeAnd, OnErr, option_map}
+use Rattle.std.proofs.Common.{ap, arith, inl, inr, length, map, refl, subst, suc, sym, zero}
+use Rattle.std.specs.Prelude.{IfErr, IfSome, IsSome, IsSomeAnd, MatchOption, OnErr, option_map}
 use Rattle.std.proofs.lemmas.List.{length-append, length-map}
 use Rattle.goblin_base.specs.declared.error.ErrorOf.{ErrorOf}
-use Rattle.goblin_base.specs.Answers.{◌>>=◌, all_of}
+use Rattle.goblin_base.specs.Answers.{◌>>=◌, IsMemory, all_of}
 use Rattle.goblin_base.specs.Reading.{Reading}
 use Rattle.goblin_base.proofs.Steps.{same_value}
 use Rattle.readings.specs.Reads.{pair_of}
@@ -17,7 +17,12 @@ use Rattle.goblin_pe_head.specs.PeHeader.{PeHeader, header_value}
 use Rattle.goblin_pe_head.specs.declared.header.pe_header.Header.{Header}
 use Rattle.goblin_pe_tables.specs.Addresses.{MapOfAddresses, map_by, offset_of}
 use Rattle.goblin_pe.specs.declared.whole.layout.Layout.{Layout}
-use Rattle.goblin_pe.specs.Layouts.{IsLayoutOf, layout_map, layout_places}
+use Rattle.goblin_pe.specs.Layouts.{IsLayoutOf, file_imports_left, layout_map, layout_places}
+use Rattle.goblin_pe.specs.LayoutPositions.{PartGives}
+use Rattle.goblin_pe.specs.declared.whole.imports.FileImports.{FileImports}
+use Rattle.goblin_pe.specs.declared.whole.Part.TheVariants.{Absent, Refused}
+use Rattle.goblin_pe_tables.specs.declared.import.imports.ImportPosition.{ImportPosition}
+use Rattle.goblin_pe.proofs.SectionRoom.{sections_counted}
 use Rattle.goblin_pe.specs.SectionRoom.{HasRoom}
 use Rattle.goblin_pe.specs.declared.whole.Part.{Part}
 use Rattle.goblin_pe.specs.declared.whole.Part.TheVariants as part
@@ -28,7 +33,8 @@ use Rattle.goblin_pe.specs.Whole.{whole_file, whole_of, whole_with}
 use Rattle.goblin_pe.proofs.Layouts.{tables-value}
 use Rattle.goblin_pe.proofs.Walked.{AtMade}
 use Rattle.goblin_pe_calls.specs.Blocks.{blocks_in}
-use Rattle.goblin_pe_calls.specs.Growth.{HasEntries, HasRecords, HasTables, TakesRecords}
+use Rattle.goblin_pe_calls.specs.Growth.{FileBegins, HasEntries, HasRecords, HasTables, IsBegun}
+use Rattle.goblin_pe_calls.specs.Growth.{StartBegins, TablesBegin, TakesRecords}
 use Rattle.goblin_pe_calls.specs.Opened.{RecordsOfFile}
 use Rattle.goblin_pe_calls.specs.RichHeaders.{entries_in}
 use Rattle.goblin_pe_calls.proofs.Opened.{IsOf}
@@ -82,6 +88,42 @@ walk-entries {A} reading bytes items IsCause walk some =
     subst (λ (o : Option (Part (List A))). IfSome o HasEntries) walk.value
     (gathered-some items (all_of items) refl some)
 
+begun-more : {A : Type 0} (items : List A) (now : List (Option A)) → IsBegun now
+    → IsBegun (map (λ x. Some x) items ++ now)
+begun-more [] now h = h
+begun-more (x ∷ items) now h = tt
+
+-- where a walk has another item, an item was the first to come
+pub walk-begins : {S A B X : Type 0} (left : S → List (Option A)) (IsCause : S → ErrorOf → Type 0)
+    (item : A → B) (start now : S) (made : List B) → AtMade left IsCause item start now made
+    → (view : X → A) (next : S) (r : Result X ErrorOf) → GivesNext view left IsCause now (Some r) next
+    → (x : X) → r ≡ Ok x → IsBegun (left start)
+walk-begins left IsCause item start now made h view next r given x is =
+    let one = subst (λ q. GivesNext view left IsCause now (Some q) next) is given in
+    subst IsBegun (sym h.at.yielded)
+    (begun-more h.items (left now) (subst IsBegun (sym one.0) tt))
+
+-- an error that ends a walk is no refused memory
+pub never-memory : {X : Type 0} (S : Type 0) (r : Result X ErrorOf) (e : ErrorOf) → r ≡ Err e
+    → IfErr r (λ e. S × ¬ IsMemory e) → ¬ IsMemory e
+never-memory S r e is fault = (subst (λ q. IfErr q (λ e. S × ¬ IsMemory e)) is fault).1
+
+-- what holds where memory is refused, if it holds anyway
+pub wherever : {A : Type 0} (P : Type 0) (result : Result A ErrorOf) → P
+    → IfErr result (λ e. IsMemory e → P)
+wherever P (Ok x) h = tt
+wherever P (Err e) h = λ memory. h
+
+-- the imports of a walk from where they start on
+pub imports-begin : (m : MapOfAddresses) (magic : ℕ) (bytes : List ℕ)
+    (start : Option (Part (Option ImportPosition))) (imports : FileImports)
+    → IsSomeAnd start (λ s. PartGives m magic bytes s (part.Read imports))
+    → IsBegun (file_imports_left imports) → IsSomeAnd start (StartBegins m magic bytes)
+imports-begin m magic bytes None imports gives begun = absurd gives
+imports-begin m magic bytes (Some Absent) imports gives begun = absurd gives
+imports-begin m magic bytes (Some (part.Read position)) imports gives begun = subst IsBegun gives.left begun
+imports-begin m magic bytes (Some Refused) imports gives begun = absurd gives
+
 -- ---- the imports with their libraries
 
 second-entries : {A B : Type 0} (o : Option (A × Part (List B)))
@@ -96,6 +138,11 @@ pub parts_entries : (opts : ParseOptions) (offset_of : ℕ → Option ℕ) (plac
 parts_entries opts offset_of places bytes listed h =
     second-entries ((import_parts opts offset_of places).value bytes)
     (subst (λ (o : Option (Part (List ImportValue))). IfSome o HasEntries) listed.value h)
+
+-- what something is made of is there
+pub mapped-some : {A B : Type 0} (f : A → B) (o : Option A) (y : B) → option_map f o ≡ Some y → IsSome o
+mapped-some f None y is = absurd cc
+mapped-some f (Some x) y is = refl
 
 -- ---- three reads side by side
 
@@ -155,7 +202,8 @@ module _ (opts : ParseOptions) (bytes : List ℕ) (h : PeHeader)
   tables-kept s sections some =
       rw (tables-value opts bytes h header s sections) (by-tables h s _ some)
 
-  pub takes-records : HasRoom bytes h → IfSome ((whole_file opts).value bytes) HasRecords
+  pub takes-records : HasRoom bytes h
+      → MatchOption ((whole_file opts).value bytes) (FileBegins opts bytes h) HasRecords
       → IsSomeAnd ((pe_header (is_strict opts.parse_mode)).value bytes) (TakesRecords opts bytes)
   takes-records room kept =
       subst (λ (o : Option PeHeader). IsSomeAnd o (TakesRecords opts bytes)) (sym header) (room, kept)
@@ -190,3 +238,39 @@ made-kept opts bytes v of counted some =
     let n = by-counts v.header.coff_header.number_of_sections (length v.sections) others counted (omega (arith, some)) in
     subst (λ (o : Option WholeFile). IfSome o HasRecords) (sym of.read)
     (rw (of.header, of.relocations) (omega (arith, n)))
+
+-- ---- a file that can be read, and one that is refused
+
+pub either-way : {A : Type 0} (o : Option A) (P : A → Type 0) (Q : Type 0) → IfSome o P → Q
+    → MatchOption o Q P
+either-way None P Q some none = none
+either-way (Some x) P Q some none = some
+
+pub as-read : {A : Type 0} (o : Option A) (x : A) (P : A → Type 0) (Q : Type 0) → o ≡ Some x
+    → IfSome o P → MatchOption o Q P
+as-read None x P Q is some = absurd cc
+as-read (Some y) x P Q is some = some
+
+no-sections : (sections : List Section) → ¬ (0 < length sections) → sections ≡ []
+no-sections [] none = refl
+no-sections (s ∷ sections) none = absurd (none (omega arith))
+
+-- what begins by a layout begins in its file
+pub layout-begins : (opts : ParseOptions) (bytes : List ℕ) (h : Header) (l : Layout)
+    → (sections_after (is_strict opts.parse_mode) (header_value h)).value bytes ≡ Some l.sections.items
+    → IsLayoutOf opts bytes h l → TablesBegin (layout_map l) (layout_places l) l.bytes.now
+    → FileBegins opts bytes (header_value h)
+layout-begins opts bytes h l sections of begun =
+    let count = (header_value h).coff_header.number_of_sections in
+    let places = places_in h.optional_header in
+    let counted = sections_counted (is_strict opts.parse_mode) (header_value h) bytes l.sections.items sections in
+    elim count as (λ n. count ≡ n → FileBegins opts bytes (header_value h)) [
+      | zero ↦ λ none.
+          let empty : l.sections.items ≡ [] = no-sections l.sections.items (λ some. omega (arith, none, counted some)) in
+          inr
+          (subst (λ (s : List Section). TablesBegin (map_by opts s places.file_alignment) places bytes) empty
+          (subst (λ (m : MapOfAddresses). TablesBegin m places bytes) of.mapped
+          (subst (λ (at : TablePlaces). TablesBegin (layout_map l) at bytes) of.placed
+          (subst (λ (file : List ℕ). TablesBegin (layout_map l) (layout_places l) file) of.over begun))))
+      | suc n ↦ λ some. inl (omega (arith, some))
+    ] refl

@@ -1,11 +1,18 @@
 -- Where a call that keeps records of a file takes memory.
-use Rattle.std.specs.Prelude.{ℕ, ◌+◌, ◌<◌, List, IfSome, length}
+use Rattle.std.specs.Prelude.{ℕ, ◌+◌, ◌<◌, ◌⊎◌, ⊤, List, [], ◌∷◌, Option, None, Some, IsSome}
+use Rattle.std.specs.Prelude.{IsSomeAnd, MatchOption, length}
 use Rattle.goblin_pe_sect.specs.declared.options.ParseOptions.{ParseOptions}
+use Rattle.goblin_pe.specs.Addresses.{MapOfAddresses, map_by, offset_of}
 use Rattle.goblin_pe.specs.declared.whole.Part.{Part}
+use Rattle.goblin_pe.specs.declared.whole.Part.TheVariants.{Absent, Refused}
+use Rattle.goblin_pe.specs.declared.whole.Part.TheVariants as part
+use Rattle.goblin_pe_tables.specs.declared.import.imports.ImportPosition.{ImportPosition}
+use Rattle.goblin_pe.specs.LayoutPositions.{file_imports_at, import_start}
 use Rattle.goblin_pe.specs.ExportRecords.{ExportRow, ExportTables}
 use Rattle.goblin_pe.specs.PeHeader.{PeHeader}
 use Rattle.goblin_pe.specs.SectionRoom.{HasRoom}
-use Rattle.goblin_pe.specs.Whole.{TableParts, WholeFile, part_map, whole_file}
+use Rattle.goblin_pe.specs.Whole.{TableParts, TablePlaces, WholeFile, export_part, import_parts}
+use Rattle.goblin_pe.specs.Whole.{part_map, places_in, whole_file}
 use Rattle.goblin_pe_calls.specs.Blocks.{blocks_in}
 use Rattle.goblin_pe_calls.specs.Files.{entries_of}
 use Rattle.goblin_pe_calls.specs.RichHeaders.{entries_in}
@@ -38,8 +45,42 @@ HasRecords w =
     + (length (entries_of w.imports) + export_count w.export_data w.exports)
     + length (blocks_in w.relocations)
 
--- Memory is taken for a file with this header: it has room for as many sections as that says, and
--- if the file can be read, records of it are kept.
+-- ---- what comes before a refusal
+
+-- the first of these is there, and not a refusal
+abbrev pub IsBegun : {A : Type 0} → List (Option A) → Type 0
+IsBegun [] = ⊥
+IsBegun (None ∷ items) = ⊥
+IsBegun (Some x ∷ items) = ⊤
+
+-- the imports from where they start on begin with one
+abbrev pub StartBegins : MapOfAddresses → ℕ → List ℕ → Part (Option ImportPosition) → Type 0
+StartBegins m magic bytes Absent = ⊥
+StartBegins m magic bytes (part.Read position) = IsBegun (file_imports_at m magic bytes position)
+StartBegins m magic bytes Refused = ⊥
+
+abbrev pub ImportsBegin : MapOfAddresses → TablePlaces → List ℕ → Type 0
+ImportsBegin m places bytes =
+    IsSomeAnd ((import_start m.opts (offset_of m) places None).value bytes)
+    (StartBegins m places.magic bytes)
+
+-- the imports begin with one; or they can be read, and there is an export or an export address
+abbrev pub TablesBegin : MapOfAddresses → TablePlaces → List ℕ → Type 0
+TablesBegin m places bytes =
+    ImportsBegin m places bytes
+    ⊎ (IsSome ((import_parts m.opts (offset_of m) places).value bytes)
+    × IsSomeAnd ((export_part m.opts (offset_of m) places).value bytes) HasExports)
+
+-- a file with this header has sections, or its tables begin without any
+abbrev pub FileBegins : ParseOptions → List ℕ → PeHeader → Type 0
+FileBegins opts bytes h =
+    let places = places_in h.optional_header in
+    (0 < h.coff_header.number_of_sections)
+    ⊎ TablesBegin (map_by opts [] places.file_alignment) places bytes
+
+-- Memory is taken for a file with this header: it has room for as many sections as that says; and
+-- if the file can be read, records of it are kept, and else something of it came before the refusal.
 abbrev pub TakesRecords : ParseOptions → List ℕ → PeHeader → Type 0
 TakesRecords opts bytes h =
-    HasRoom bytes h × IfSome ((whole_file opts).value bytes) HasRecords
+    HasRoom bytes h
+    × MatchOption ((whole_file opts).value bytes) (FileBegins opts bytes h) HasRecords

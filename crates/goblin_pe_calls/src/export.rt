@@ -1,9 +1,9 @@
 //! The records of exports.
 
-ghost use Rattle.std.specs.Prelude.{◌≡◌, ◌≤◌, ◌<◌, ◌+◌, ◌++◌, ◌∷◌, [], IfOk, IfSome, OnErr, OnOk};
-ghost use Rattle.std.specs.Prelude.{length, map};
+ghost use Rattle.std.specs.Prelude.{◌≡◌, ◌≤◌, ◌<◌, ◌+◌, ◌++◌, ◌∷◌, [], IfErr, IfOk, IfSome, OnErr, OnOk};
+ghost use Rattle.std.specs.Prelude.{IsSomeAnd, length, map};
 ghost use Rattle.std.specs.Iterator.{YieldsFirstBy};
-ghost use Rattle.goblin_base.specs.Answers.{GivesOrMemory};
+ghost use Rattle.goblin_base.specs.Answers.{GivesOrMemory, IsMemory};
 ghost use Rattle.goblin_base.specs.Reading.{ReadsOrMemory};
 ghost use Rattle.goblin_pe.specs.Reads.{mapped};
 ghost use Rattle.goblin_pe_tables.specs.Addresses.{offset_of};
@@ -216,6 +216,10 @@ pub fn export_records<'a>(alloc: Global, layout: &Layout<'a, '_>) -> Result<Expo
     ensures grown { let m = layout_map layout.now in
         let read = export_part m.opts (offset_of m) (layout_places layout.now) in
         OnErr result (IfSome (read.value layout.now.bytes.now) HasExports) }
+    ensures begun { let m = layout_map layout.now in
+        let read = export_part m.opts (offset_of m) (layout_places layout.now) in
+        IfErr result
+        (λ e. IsMemory e → IsSomeAnd (read.value layout.now.bytes.now) HasExports) }
 {
     match layout.exports()? {
         Part::Absent => Ok(unread_records(alloc, layout.bytes(), Part::Absent)),

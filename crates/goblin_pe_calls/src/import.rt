@@ -1,8 +1,8 @@
 //! The records of imports.
 
-ghost use Rattle.std.specs.Prelude.{◌≡◌, ◌<◌, ◌++◌, ◌∷◌, [], IfOk, IfSome, OnErr, OnOk, length, map};
+ghost use Rattle.std.specs.Prelude.{◌≡◌, ◌<◌, ◌++◌, ◌∷◌, [], IfErr, IfOk, IfSome, OnErr, OnOk, length, map};
 ghost use Rattle.std.specs.Prelude.{option_map};
-ghost use Rattle.goblin_base.specs.Answers.{AnswersOrMemory, GivesOrMemory, all_of};
+ghost use Rattle.goblin_base.specs.Answers.{AnswersOrMemory, GivesOrMemory, IsMemory, all_of};
 ghost use Rattle.goblin_base.specs.Reading.{ReadsOrMemory};
 ghost use Rattle.goblin_pe.specs.Reads.{mapped};
 ghost use Rattle.goblin_pe_tables.specs.Addresses.{offset_of};
@@ -12,7 +12,7 @@ ghost use Rattle.goblin_pe.specs.Layouts.{layout_places};
 ghost use Rattle.goblin_pe.specs.Whole.{AreListed, collected_imports, import_list, import_parts};
 ghost use Rattle.goblin_pe.specs.Whole.{part_map};
 ghost use Rattle.goblin_pe_calls.specs.Blocked.{HasLittleRoom, HasLittleRoomIn};
-ghost use Rattle.goblin_pe_calls.specs.Growth.{HasEntries};
+ghost use Rattle.goblin_pe_calls.specs.Growth.{HasEntries, ImportsBegin, IsBegun};
 ghost use Rattle.goblin_pe_calls.specs.Imports.{import_said, import_view, import_views};
 
 use crate::room::make_room;
@@ -99,6 +99,8 @@ fn records_of<'a, 'm, 'e, T: Bitfield<'a>>(
         (IsImportsCause T.format imports.entry) }
     ensures none { IfOk result HasLittleRoom }
     ensures grown { OnErr result (0 < length (imports_left T.format imports.entry)) }
+    ensures begun { IfErr result
+        (λ e. IsMemory e → IsBegun (imports_left T.format imports.entry)) }
 {
     let mut records = Vec::new(alloc);
     'imports: for import in imports {
@@ -118,6 +120,7 @@ fn file_records_of<'a, 'm, 'e>(
         (IsFileImportsCause imports.entry) }
     ensures none { IfOk result HasLittleRoom }
     ensures grown { OnErr result (0 < length (file_imports_left imports.entry)) }
+    ensures begun { IfErr result (λ e. IsMemory e → IsBegun (file_imports_left imports.entry)) }
 {
     match imports {
         FileImports::Narrow(imports) => records_of(alloc, bytes, imports),
@@ -138,6 +141,9 @@ fn listed_records<'a>(alloc: Global, layout: &Layout<'a, '_>) -> Result<Part<Vec
     ensures grown { let m = layout_map layout.now in
         let list = import_list m.opts (offset_of m) (layout_places layout.now) in
         OnErr result (IfSome (list.value layout.now.bytes.now) HasEntries) }
+    ensures begun { let m = layout_map layout.now in
+        IfErr result
+        (λ e. IsMemory e → ImportsBegin m (layout_places layout.now) layout.now.bytes.now) }
 {
     match layout.imports()? {
         Part::Absent => Ok(Part::Absent),
@@ -161,6 +167,9 @@ pub fn import_records<'a>(alloc: Global, layout: &Layout<'a, '_>) -> Result<Part
     ensures grown { let m = layout_map layout.now in
         let parts = import_parts m.opts (offset_of m) (layout_places layout.now) in
         OnErr result (IfSome (parts.value layout.now.bytes.now) (λ read. HasEntries read.1)) }
+    ensures begun { let m = layout_map layout.now in
+        IfErr result
+        (λ e. IsMemory e → ImportsBegin m (layout_places layout.now) layout.now.bytes.now) }
 {
     listed_records(alloc, layout)
 }

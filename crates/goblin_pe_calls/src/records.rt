@@ -1,6 +1,7 @@
 //! The tables of a file that its directories lead to, imports and exports as records.
 
-ghost use Rattle.std.specs.Prelude.{IfOk, IfSome, OnErr};
+ghost use Rattle.std.specs.Prelude.{IfErr, IfOk, IfSome, OnErr};
+ghost use Rattle.goblin_base.specs.Answers.{IsMemory};
 ghost use Rattle.goblin_base.specs.Reading.{ReadsOrMemory};
 ghost use Rattle.goblin_pe.specs.Reads.{mapped};
 ghost use Rattle.goblin_pe_tables.specs.Addresses.{offset_of};
@@ -8,7 +9,7 @@ ghost use Rattle.goblin_pe.specs.Layouts.{layout_map, layout_places};
 ghost use Rattle.goblin_pe.specs.Whole.{collected_tables, table_parts};
 ghost use Rattle.goblin_pe_calls.specs.Blocked.{HasLittleRoomIn, HaveNoIdleBlocks};
 ghost use Rattle.goblin_pe_calls.specs.Exports.{exports_said};
-ghost use Rattle.goblin_pe_calls.specs.Growth.{HasTables};
+ghost use Rattle.goblin_pe_calls.specs.Growth.{HasTables, TablesBegin};
 ghost use Rattle.goblin_pe_calls.specs.Imports.{import_said};
 ghost use Rattle.goblin_pe_calls.specs.Opened.{tables_view};
 
@@ -41,6 +42,9 @@ pub fn file_records<'a>(alloc: Global, layout: &Layout<'a, '_>) -> Result<FileRe
     ensures grown { let m = layout_map layout.now in
         let parts = table_parts m.opts (offset_of m) (layout_places layout.now) in
         OnErr result (IfSome (parts.value layout.now.bytes.now) HasTables) }
+    ensures begun { let m = layout_map layout.now in
+        IfErr result
+        (λ e. IsMemory e → TablesBegin m (layout_places layout.now) layout.now.bytes.now) }
 {
     let imports = import_records(alloc, layout)?;
     let exports = export_records(alloc, layout)?;

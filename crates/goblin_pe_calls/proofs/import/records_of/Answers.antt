@@ -3,7 +3,7 @@ use Rattle.std.proofs.lemmas.Result.{err_from_is_err_and}
 use Rattle.goblin_pe_tables.specs.ImportWalks.{IsImportsCause, imports_left, walked_value}
 use Rattle.goblin_pe_calls.specs.Imports.{import_said}
 use Rattle.goblin_pe.proofs.Walked.{made-all, made-fault, made-more, made-start}
-use Rattle.goblin_pe_calls.proofs.Growth.{walk-begun, whichever}
+use Rattle.goblin_pe_calls.proofs.Growth.{never-memory, walk-begins, walk-begun, wherever, whichever}
 use Rattle.goblin_pe_calls.proofs.import.records_of.Goals as goal
 
 pub imports-init : goal.imports-init
@@ -24,6 +24,16 @@ imports-preserved g c =
 pub returns-clause-value : goal.returns-clause-value
 returns-clause-value g c =
     made-all (imports_left g.T.Bitfield.format) (IsImportsCause g.T.Bitfield.format) import_said c.args.imports _ _ c.imports.invariant.0 walked_value c.next.new.self c.in-None.ensures.steps.0
+
+pub returns-in_err-import-clause-begun : goal.returns-in_err-import-clause-begun
+returns-in_err-import-clause-begun g c =
+    let e = err_from_is_err_and c.from_residual.result c.from_residual.ensures.1 in
+    rw (e.1, e.2)
+    (λ memory. absurd (never-memory _ _ _ c.in_err-import.was c.in-Some.ensures.steps.2 memory))
+
+pub returns-in_err-push_import-clause-begun : goal.returns-in_err-push_import-clause-begun
+returns-in_err-push_import-clause-begun g c =
+    wherever _ _ (walk-begins (imports_left g.T.Bitfield.format) (IsImportsCause g.T.Bitfield.format) import_said c.args.imports _ _ c.imports.invariant.0 walked_value _ _ c.in-Some.ensures.steps.0 _ c.in_ok-import.was)
 
 pub returns-in_err-import-clause-grown : goal.returns-in_err-import-clause-grown
 returns-in_err-import-clause-grown g c =

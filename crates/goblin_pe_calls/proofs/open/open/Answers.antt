@@ -1,12 +1,14 @@
-use Rattle.std.proofs.Common.{◌≡◌, ◌<◌, Some, ap, length, refl, rules, subst, sym}
+use Rattle.std.proofs.Common.{◌≡◌, ◌<◌, Some, ap, inl, length, refl, rules, subst, sym}
 use Rattle.std.proofs.lemmas.Result.{err_from_is_err_and}
 use Rattle.goblin_pe_sect.specs.Options.{is_strict}
 use Rattle.goblin_pe_head.specs.HeaderReadings.{pe_header}
 use Rattle.goblin_pe_head.specs.PeHeader.{PeHeader, header_value}
 use Rattle.goblin_pe.proofs.Layouts.{header-refused, sections-refused}
 use Rattle.goblin_pe.proofs.SectionRoom.{has_room, sections_counted}
+use Rattle.goblin_pe.specs.Whole.{whole_file}
+use Rattle.goblin_pe_calls.specs.Growth.{FileBegins, HasRecords}
 use Rattle.goblin_pe_calls.specs.Opened.{records_view}
-use Rattle.goblin_pe_calls.proofs.Growth.{layout-kept, made-kept, sections-kept, takes-records}
+use Rattle.goblin_pe_calls.proofs.Growth.{as-read, either-way, layout-begins, layout-kept, made-kept, sections-kept, takes-records}
 use Rattle.goblin_pe_calls.proofs.Opened.{file-of-records, records-read, records-refused}
 use Rattle.goblin_pe_calls.proofs.Refusals.{room-there}
 use Rattle.goblin_pe_calls.proofs.open.open.Goals as goal
@@ -33,7 +35,9 @@ returns-in_err-layout c =
       λ other. sections-refused opts bytes h found _ (c.in_err-layout.ensures.value other),
       λ memory. takes-records opts bytes h found
           (has_room h.coff_header.number_of_sections bytes _ c.in_err-layout.ensures.first memory)
-          (sections-kept opts bytes h found (c.in_err-layout.ensures.grown memory).0),
+          (either-way ((whole_file opts).value bytes) HasRecords (FileBegins opts bytes h)
+          (sections-kept opts bytes h found (c.in_err-layout.ensures.grown memory).0)
+          (inl (c.in_err-layout.ensures.grown memory).0)),
       refl,
     )
 
@@ -47,7 +51,9 @@ returns-in_err-records c =
       λ other. records-refused opts bytes c.in_ok-header.header found c.in_ok-layout.layout c.in_ok-layout.ensures.value c.in_ok-layout.ensures.over _ c.in_err-records.ensures.value other,
       λ memory. takes-records opts bytes (header_value c.in_ok-header.header) found
           (room-there (Some (header_value c.in_ok-header.header)) bytes c.in_ok-layout.ensures.first refl)
-          (layout-kept opts bytes c.in_ok-header.header found c.in_ok-layout.layout c.in_ok-layout.ensures.value c.in_ok-layout.ensures.over c.in_err-records.ensures.grown),
+          (either-way ((whole_file opts).value bytes) HasRecords (FileBegins opts bytes (header_value c.in_ok-header.header))
+          (layout-kept opts bytes c.in_ok-header.header found c.in_ok-layout.layout c.in_ok-layout.ensures.value c.in_ok-layout.ensures.over c.in_err-records.ensures.grown)
+          (layout-begins opts bytes c.in_ok-header.header c.in_ok-layout.layout c.in_ok-layout.ensures.value c.in_ok-layout.ensures.over (c.in_err-records.ensures.begun memory))),
       refl,
     )
 
@@ -70,7 +76,8 @@ returns-in_err-made c =
     rw (error.1, error.2) (
       λ other. absurd (other c.in_err-made.ensures.refused),
       λ memory. takes-records opts bytes h found (room-there (Some h) bytes c.in_ok-layout.ensures.first refl)
-          (made-kept opts bytes v of counted c.in_err-made.ensures.grown),
+          (as-read ((whole_file opts).value bytes) _ HasRecords (FileBegins opts bytes h) of.read
+          (made-kept opts bytes v of counted c.in_err-made.ensures.grown)),
       refl,
     )
 

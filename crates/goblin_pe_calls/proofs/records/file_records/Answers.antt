@@ -1,4 +1,4 @@
-use Rattle.std.proofs.Common.{arith}
+use Rattle.std.proofs.Common.{arith, inl, inr}
 use Rattle.std.proofs.lemmas.Result.{err_from_is_err_and}
 use Rattle.goblin_pe_tables.specs.Addresses.{offset_of}
 use Rattle.goblin_pe.specs.Layouts.{layout_map, layout_places}
@@ -8,7 +8,7 @@ use Rattle.goblin_pe.proofs.Collected.{all-read, first-refused, second-refused, 
 use Rattle.goblin_pe_calls.specs.Exports.{exports_said}
 use Rattle.goblin_pe_calls.specs.Imports.{import_said}
 use Rattle.goblin_pe_calls.specs.Growth.{HasEntries, HasExports, HasTables}
-use Rattle.goblin_pe_calls.proofs.Growth.{first-told, second-told, third-none, whichever}
+use Rattle.goblin_pe_calls.proofs.Growth.{first-told, mapped-some, second-told, third-none, whichever}
 use Rattle.goblin_pe_calls.proofs.records.file_records.Goals as goal
 
 pub returns-in_err-imports-clause-value : goal.returns-in_err-imports-clause-value
@@ -75,3 +75,24 @@ returns-in_err-relocations-clause-grown c =
     let places = layout_places l in
     let b = l.bytes.now in
     whichever _ _ (third-none HasTables ((import_parts m.opts (offset_of m) places).value b) ((export_part m.opts (offset_of m) places).value b) ((relocation_part m.opts (offset_of m) places).value b) c.in_err-relocations.ensures.0)
+
+pub returns-in_err-imports-clause-begun : goal.returns-in_err-imports-clause-begun
+returns-in_err-imports-clause-begun c =
+    let e = err_from_is_err_and c.from_residual.result c.from_residual.ensures.1 in
+    rw (e.1, e.2) (λ memory. inl (c.in_err-imports.ensures.begun memory))
+
+pub returns-in_err-exports-clause-begun : goal.returns-in_err-exports-clause-begun
+returns-in_err-exports-clause-begun c =
+    let l = c.args.layout.now in
+    let m = layout_map l in
+    let e = err_from_is_err_and c.from_residual-in_err-exports.result c.from_residual-in_err-exports.ensures.1 in
+    rw (e.1, e.2)
+    (λ memory. inr (mapped-some (collected_imports import_said) ((import_parts m.opts (offset_of m) (layout_places l)).value l.bytes.now) _ c.in_ok-imports.ensures.value, c.in_err-exports.ensures.begun memory))
+
+pub returns-in_err-relocations-clause-begun : goal.returns-in_err-relocations-clause-begun
+returns-in_err-relocations-clause-begun c =
+    let l = c.args.layout.now in
+    let m = layout_map l in
+    let e = err_from_is_err_and c.from_residual-in_err-relocations.result c.from_residual-in_err-relocations.ensures.1 in
+    rw (e.1, e.2)
+    (λ memory. absurd ((relocation_part m.opts (offset_of m) (layout_places l)).not_memory l.bytes.now _ c.in_err-relocations.ensures.1 memory))
