@@ -94,11 +94,11 @@ def folder():
 
 
 @functools.cache
-def refuse_growth():
-    """The library that refuses one growth of a program's memory, built by the toolchain's own compiler."""
+def preloaded(name):
+    """A library of tests/ that stands before the C library in a program, built by the toolchain's own compiler."""
     kit = pathlib.Path(succeed(["rt", "doc"])).parent / "toolchain/bin"
-    made = folder() / "refuse_growth.so"
-    succeed([kit / "clang", "-O2", "-shared", "-fPIC", "-nostdlib", f"--ld-path={kit / 'ld.lld'}", "-o", made, TOP / "tests/refuse_growth.c"])
+    made = folder() / f"{name}.so"
+    succeed([kit / "clang", "-O2", "-shared", "-fPIC", "-nostdlib", f"--ld-path={kit / 'ld.lld'}", "-o", made, TOP / f"tests/{name}.c"])
     return made
 
 
@@ -161,7 +161,7 @@ class Case(unittest.TestCase):
         written = []
         while True:
             with tempfile.TemporaryFile() as told:
-                preload = {"LD_PRELOAD": str(refuse_growth()), "REFUSED": str(len(written) + 1), "TOLD": str(told.fileno())}
+                preload = {"LD_PRELOAD": str(preloaded("refuse_growth")), "REFUSED": str(len(written) + 1), "TOLD": str(told.fileno())}
                 status, out, said = run(command, stdin, env={**os.environ, **preload}, pass_fds=[told.fileno()])
                 was_refused = os.fstat(told.fileno()).st_size
             if not was_refused:

@@ -3,17 +3,54 @@ import collections
 import itertools
 import os
 import random
+import re
 import struct
+import tempfile
 
 from tests import images
-from tests.programs import (CRATES, IMAGES, OBJECTS, PE_LIST, SAMPLES, TERSE, TOP, Case, beside, build_pe_list, milliseconds, modes, run,
-                            with_memory)
+from tests.programs import (CRATES, IMAGES, OBJECTS, PE_LIST, SAMPLES, TERSE, TOP, Case, beside, build_pe_list, milliseconds, modes,
+                            preloaded, run, with_memory)
 
 BOTH_MODES = ([], ["--permissive"])
 USAGE = b"usage: pe_list [--permissive]\n"
 REFUSED = (1, b"", b"refused\n")
 NO_MEMORY = (1, b"", b"out of memory\n")
 SMALL = SAMPLES / "align16_x86.dll"
+STORED = CRATES / "pe_list/stdin"  # a small file whose every byte is known, and beside it what is listed of it
+
+# The parts of that listing, and what a change of the file, bytes by their offsets, makes of them in strict and in permissive
+# mode: other parts, or a refusal.
+LISTING = STORED.with_name("stdout").read_bytes()
+PARTS = dict(zip(("header", "section", "imports", "exports", "relocations"), re.split(rb"(?m)^(?=section|imports|exports|relocations)", LISTING)))
+NOTHING = {"imports": b"imports absent\n", "exports": b"exports absent\n"}
+BLOCK = b"relocations 1\nblock rva=0x1000 size=0xc words=2\n"
+WORDS = {0xE0: b"\x28\x10\0\0\x0C", 0x228: b"\0\x10\0\0\x0C\0\0\0\x03\x30\0\0"}
+
+
+def named(shown):
+    return {"section": b"section va=0x1000 vsize=0x100 raw=0x100 ptr=0x200 name=%s\n" % shown}
+
+
+CHANGES = [
+    ("no change", {}, {}, {}),
+    ("a backslash in a name", {0x138: b"\\"}, named(rb"\x5crdata"), named(rb"\x5crdata")),
+    ("a name elsewhere", {0x138: b"/640\0\0"}, named(b"a.dll"), named(b"a.dll")),
+    ("a name past the end", {0x138: b"/768\0\0"}, named(b"/768"), named(b"/768")),
+    ("a name that is no text", {0x138: b"/\xff\0\0\0\0"}, None, named(rb"/\xff")),
+    ("a name without a number", {0x138: b"/\0\0\0\0\0"}, None, None),
+    ("imports that no section maps", {0xC0: b"\0\x90"}, None, {"imports": b"imports 0\n"}),
+    ("exports that no section maps", {0xB8: b"\0\x90"}, None, {"exports": b"exports refused\n"}),
+    *((name, changes, parts, parts) for name, changes, parts in (
+        ("two sections", {0x46: b"\2"}, {
+            "header": b"header machine=0x14c sections=2 magic=0x10b entry=0x0\n",
+            "section": PARTS["section"] + b"section va=0x0 vsize=0x0 raw=0x0 ptr=0x0 name=\n"}),
+        ("no optional header", {0x54: b"\0"}, {
+            **NOTHING, "header": b"header machine=0x14c sections=1\n",
+            "section": b"section va=0x0 vsize=0x0 raw=0x0 ptr=0x0 name=\\x0b\\x01\n"}),
+        ("no section either", {0x46: b"\0", 0x54: b"\0"}, {**NOTHING, "header": b"header machine=0x14c sections=0\n", "section": b""}),
+        ("a block", WORDS, {"relocations": BLOCK}),
+        ("a block and a rest", {**WORDS, 0xE4: b"\x14"}, {"relocations": BLOCK + b"block refused\n"}))),
+]
 
 
 def setUpModule():
@@ -26,6 +63,16 @@ class Listings(Case):
             for words, wanted in modes(sample):
                 with self.subTest(sample=sample.name, words=words):
                     self.assert_runs([PE_LIST, *words], (0, wanted, b""), sample)
+
+    def test_a_changed_file_is_listed_as_it_says(self):
+        for name, changes, *wanted in CHANGES:
+            data = bytearray(STORED.read_bytes())
+            for offset, changed in changes.items():
+                data[offset:offset + len(changed)] = changed
+            for words, parts in zip(BOTH_MODES, wanted):
+                with self.subTest(name, words=words):
+                    listing = REFUSED if parts is None else (0, b"".join({**PARTS, **parts}.values()), b"")
+                    self.assert_runs([PE_LIST, *words], listing, data)
 
     def test_what_is_no_image_is_refused(self):
         for file in (os.devnull, TOP / "LICENSE", *OBJECTS, *TERSE):
@@ -73,10 +120,9 @@ class Memory(Case):
         self.assertEqual(set(self.each_growth([PE_LIST, *words], wanted, stdin)), {b""})
 
     def test_each_growth_is_refused(self):
-        stored = CRATES / "pe_list/stdin"
         for words in BOTH_MODES:
             with self.subTest("the stored run", words=words):
-                self.assert_each_growth(words, stored.with_name("stdout").read_bytes(), stored)
+                self.assert_each_growth(words, LISTING, STORED)
         for sample in IMAGES:
             for words, wanted in modes(sample):
                 with self.subTest(sample=sample.name, words=words):
@@ -127,6 +173,31 @@ class Faults(Case):
 
     def test_a_full_device_as_output(self):
         self.assert_runs(["sh", "-c", 'exec "$0" > /dev/full', PE_LIST], (1, b"", b"write failed\n"), SMALL)
+
+    def assert_calls(self, calls, wanted, file, **how):
+        """Lists the stored file by reads (file 0) or writes (file 1) that move STEP bytes each. Of as many calls the one
+        that is FAILING, if any, is the last: none follows it, nor the read that meets the end."""
+        with tempfile.TemporaryFile() as told:
+            preload = {"LD_PRELOAD": preloaded("fail_call"), "FILE": file, "TOLD": told.fileno(), **how}
+            env = {**os.environ, **{name: str(it) for name, it in preload.items()}}
+            self.assert_runs([PE_LIST], wanted, STORED, env=env, pass_fds=[told.fileno()])
+            self.assertEqual(os.fstat(told.fileno()).st_size, calls)
+
+    def test_no_read_follows_a_failed_one_or_the_end(self):
+        """Nothing is listed where one fails."""
+        for step, reads in (96, 9), (767, 3), (1 << 20, 2):
+            for failing in range(reads + 1):
+                with self.subTest(step=step, failing=failing):
+                    wanted = (1, b"", b"read failed\n") if failing else (0, LISTING, b"")
+                    self.assert_calls(failing or reads, wanted, 0, STEP=step, FAILING=failing)
+
+    def test_no_write_follows_a_failed_one(self):
+        """What went out before is the front of the listing. A write that takes nothing has failed."""
+        for step, writes in (50, 9), (1 << 20, 1):
+            for failing, answer in itertools.product(range(writes + 1), (-1, 0)):
+                with self.subTest(step=step, failing=failing, answer=answer):
+                    wanted = (1, LISTING[:step * (failing - 1)], b"write failed\n") if failing else (0, LISTING, b"")
+                    self.assert_calls(failing or writes, wanted, 1, STEP=step, FAILING=failing, ANSWER=answer)
 
     def test_the_status_is_the_same_with_standard_error_closed(self):
         for name, words, stdin, status, out in (("a listing", [], SMALL, 0, beside(SMALL, "listing")),

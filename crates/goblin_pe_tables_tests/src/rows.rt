@@ -70,7 +70,7 @@ pub const RECORD: ImportDirectoryEntry = ImportDirectoryEntry {
 };
 
 /// An import by its name, ordinal, offset, address, size and slot.
-pub type ImportRow = (&'static str, u16, usize, usize, usize, usize);
+pub type ImportRow<'r> = (&'r str, u16, usize, usize, usize, usize);
 
 /// The first of the sample file's imports.
 pub const GO: ImportRow = ("Go", 5, 0x1060, 0x1090, 4, 0);

@@ -6,8 +6,6 @@ mod command;
 mod fault;
 mod lines;
 mod program;
-#[cfg(test)]
-mod tests;
 mod text;
 mod transfer;
 mod watched;

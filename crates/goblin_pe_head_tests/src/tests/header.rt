@@ -1,16 +1,11 @@
 //! The headers of a file, and its section table.
 
-use super::prints;
-use fixture::sample::{
-    EXPORTS, IMPORTS, MODES, TABLE, TABLE_END, directory, in_mode, put_all, sample, sample_section,
-    sample_with,
-};
+use fixture::sample::{EXPORTS, IMPORTS, MODES, directory, in_mode, put_all, sample};
 use goblin_base::{Cause, Error, ParseMode};
 use goblin_pe_head::header::{COFF_MACHINE_X86, COFF_MACHINE_X86_64, DOS_MAGIC, PE_MAGIC};
 use goblin_pe_head::optional_header::{MAGIC_32, MAGIC_64, StandardFields, WindowsFields};
 use goblin_pe_head::{CoffHeader, DosHeader, DosStub, Header, OptionalHeader};
-use goblin_pe_sect::{DataDirectories, SectionTable};
-use std::alloc::Global;
+use goblin_pe_sect::DataDirectories;
 use std::test::Fail;
 
 /// The sample file's COFF header.
@@ -77,32 +72,6 @@ fn the_parts_of_a_header_are_read_in_both_modes(rt: HostRuntime) -> Result<(), F
     for mode in MODES {
         assert!(rt; is_header(&file, mode, &sample_header()), "{mode:?}");
     }
-    let mut offset = 0x44;
-    let coff = CoffHeader::parse(&file, &mut offset);
-    assert!(rt; matches!(coff, Ok(coff) if coff == sample_coff()) && offset == 0x58);
-    Ok(())
-}
-
-/// Whether the sample file's section is read by its COFF header.
-fn has_section(alloc: Global, file: &[u8]) -> bool {
-    let mut offset = TABLE;
-    let read = sample_coff().sections(alloc, file, &mut offset);
-    is_sample_section(&read) && offset == TABLE_END
-}
-
-fn is_sample_section(read: &goblin_base::Result<Vec<SectionTable>>) -> bool {
-    matches!(read, Ok(sections) if sections.as_slice() == [sample_section()].as_slice())
-}
-
-#[test]
-fn the_sections_end_where_the_file_may_end(rt: HostRuntime) -> Result<(), Fail> {
-    let mut file = sample(rt.alloc())?;
-    file.truncate(TABLE_END);
-    assert!(rt; has_section(rt.alloc(), &file));
-    file.truncate(TABLE_END - 1);
-    let mut offset = TABLE;
-    let refused = sample_coff().sections(rt.alloc(), &file, &mut offset);
-    assert!(rt; matches!(refused, Err(Error::Read(_))) && offset == TABLE);
     Ok(())
 }
 
@@ -112,29 +81,6 @@ fn a_signature_past_the_file_is_told(rt: HostRuntime) {
     put_all(&mut file, &[(0, b"MZ"), (0x3C, b"\x3C\xFF")]);
     let read = DosHeader::parse(&file);
     assert!(rt; matches!(&read, Err(Error::Malformed(Cause::NoPeSignature(0xFF3C)))));
-    let want = "cannot parse PE header signature (offset 0xff3c)";
-    assert!(rt; matches!(&read, Err(error) if prints(rt.alloc(), error, want)));
-}
-
-#[test]
-fn too_many_directories_refuse_the_header_in_both_modes(rt: HostRuntime) -> Result<(), Fail> {
-    let file = sample_with(rt.alloc(), 0xB4, b"\x11")?;
-    for mode in MODES {
-        let read = Header::parse_with_opts(&file, &in_mode(mode));
-        let is_refused = matches!(read, Err(Error::Malformed(Cause::DirectoryCount(17))));
-        assert!(rt; is_refused, "{mode:?}");
-    }
-    Ok(())
-}
-
-#[test]
-fn a_magic_of_no_width_refuses_the_header_in_both_modes(rt: HostRuntime) -> Result<(), Fail> {
-    let file = sample_with(rt.alloc(), 0x58, b"\x07\x01")?;
-    for mode in MODES {
-        let read = Header::parse_with_opts(&file, &in_mode(mode));
-        assert!(rt; matches!(read, Err(Error::BadMagic(0x107))), "{mode:?}");
-    }
-    Ok(())
 }
 
 #[test]
@@ -154,18 +100,6 @@ fn a_signature_within_the_dos_header_has_no_stub_in_front(rt: HostRuntime) {
         ..Header::default()
     };
     assert!(rt; is_header(&file, ParseMode::Permissive, &want));
-}
-
-#[test]
-fn a_header_without_dos_header_begins_with_any_signature(rt: HostRuntime) -> Result<(), Fail> {
-    let file = sample_with(rt.alloc(), 0x40, b"\x01\x02\x03\x04")?;
-    let read = Header::parse_without_dos(file.get(0x40..).unwrap_or(&[]));
-    let want = Header {
-        signature: 0x0403_0201,
-        ..sample_from_signature()
-    };
-    assert!(rt; matches!(read, Ok(header) if header == want));
-    Ok(())
 }
 
 #[test]

@@ -1,7 +1,7 @@
 //! The optional header of either width.
 
 use fixture::sample::{directory, put};
-use goblin_base::{Cause, Container, Endian, Error, ResultOf, TryFromCtx, pwrite_u32};
+use goblin_base::{Container, Endian, ResultOf, TryFromCtx, pwrite_u32};
 use goblin_pe_head::OptionalHeader;
 use goblin_pe_head::optional_header::{
     StandardFields, StandardFields32, StandardFields64, WindowsFields, WindowsFields32,
@@ -133,45 +133,39 @@ fn rising<'a, 'e, T: TryFromCtx<'a>>(bytes: &'a [u8]) -> ResultOf<'e, T> {
     Ok(fields)
 }
 
-#[test]
-fn the_fields_of_each_width_stand_in_their_order(rt: HostRuntime) -> Result<(), Fail> {
+/// The bytes from 1 on.
+fn rising_bytes() -> [u8; 88] {
     let mut bytes = [0; 88];
     for (byte, value) in bytes.iter_mut().zip(1u8..) {
         *byte = value;
     }
-    let standard = StandardFields::from(rising::<StandardFields32>(&bytes)?);
-    assert!(rt; go_up(&standard_values(&standard), &STANDARD_32));
-    let standard = StandardFields::from(rising::<StandardFields64>(&bytes)?);
-    assert!(rt; go_up(&standard_values(&standard), &STANDARD_64) && standard.base_of_data == 0);
-    let windows = WindowsFields64::from(rising::<WindowsFields32>(&bytes)?);
-    assert!(rt; go_up(&windows_values(&windows), &WINDOWS_32));
-    let windows = rising::<WindowsFields64>(&bytes)?;
-    assert!(rt; go_up(&windows_values(&windows), &WINDOWS_64));
+    bytes
+}
+
+#[test]
+fn standard_fields_for_32_bits_stand_in_their_order(rt: HostRuntime) -> Result<(), Fail> {
+    let fields = StandardFields::from(rising::<StandardFields32>(&rising_bytes())?);
+    assert!(rt; go_up(&standard_values(&fields), &STANDARD_32));
     Ok(())
 }
 
 #[test]
-fn wide_standard_fields_keep_their_low_halves(rt: HostRuntime) {
-    let wide = StandardFields {
-        size_of_code: 0x1_0000_0005,
-        ..StandardFields::default()
-    };
-    assert!(rt; StandardFields32::from(wide).size_of_code == 5);
-    assert!(rt; StandardFields64::from(wide).size_of_code == 5);
+fn standard_fields_for_64_bits_stand_in_their_order(rt: HostRuntime) -> Result<(), Fail> {
+    let fields = StandardFields::from(rising::<StandardFields64>(&rising_bytes())?);
+    assert!(rt; go_up(&standard_values(&fields), &STANDARD_64) && fields.base_of_data == 0);
+    Ok(())
 }
 
 #[test]
-fn windows_fields_that_do_not_fit_are_refused(rt: HostRuntime) -> Result<(), Fail> {
-    let fit = WindowsFields64 {
-        image_base: 0xFFFF_FFFF,
-        ..WindowsFields64::default()
-    };
-    assert!(rt; WindowsFields32::try_from(fit)?.image_base == 0xFFFF_FFFF);
-    let wide = WindowsFields64 {
-        image_base: 1 << 32,
-        ..WindowsFields64::default()
-    };
-    let narrowed = WindowsFields32::try_from(wide);
-    assert!(rt; matches!(narrowed, Err(Error::Malformed(Cause::FieldTooWide))));
+fn windows_fields_for_32_bits_stand_in_their_order(rt: HostRuntime) -> Result<(), Fail> {
+    let fields = WindowsFields64::from(rising::<WindowsFields32>(&rising_bytes())?);
+    assert!(rt; go_up(&windows_values(&fields), &WINDOWS_32));
+    Ok(())
+}
+
+#[test]
+fn windows_fields_for_64_bits_stand_in_their_order(rt: HostRuntime) -> Result<(), Fail> {
+    let fields = rising::<WindowsFields64>(&rising_bytes())?;
+    assert!(rt; go_up(&windows_values(&fields), &WINDOWS_64));
     Ok(())
 }

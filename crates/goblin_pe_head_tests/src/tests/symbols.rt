@@ -1,6 +1,5 @@
 //! Symbols with their names, the records after them, and the string table.
 
-use super::prints;
 use fixture::sample::put;
 use goblin_base::{Cause, Error, Strtab};
 use goblin_pe_head::CoffHeader;
@@ -134,14 +133,6 @@ fn records_after_a_symbol_are_no_symbols(rt: HostRuntime) {
     assert!(rt; first_indexes(&file, 1) == Some([Some(0), None, None]));
 }
 
-#[test]
-fn a_table_of_more_than_all_bytes_is_refused(rt: HostRuntime) -> Result<(), Fail> {
-    let file = object();
-    assert!(rt; SymbolTable::parse(&file, 1, 1 << 63).is_err());
-    assert!(rt; SymbolTable::parse(&file, 1, 9)?.get(1 << 63).is_none());
-    Ok(())
-}
-
 /// A symbol with this name.
 fn named(name: &[u8; 8]) -> Symbol {
     Symbol {
@@ -150,39 +141,18 @@ fn named(name: &[u8; 8]) -> Symbol {
     }
 }
 
-/// Whether a stored number below 4 is refused as a name.
-fn is_refused(symbol: &Symbol, strings: &Strtab<'_>) -> bool {
-    matches!(
-        symbol.name(strings),
-        Err(Error::Malformed(Cause::SymbolName(3)))
-    )
-}
+/// Names, and the offsets that they say.
+const STORED: &[(&[u8; 8], Option<u32>)] = &[
+    (b"\0\0\0\0\x03\0\0\0", None),
+    (b"\0\0\0\0\x04\0\0\0", Some(0)),
+    (b"\0ABC\x08\0\0\0", Some(4)),
+];
 
 #[test]
-fn a_stored_number_says_an_offset_from_4_on(rt: HostRuntime) -> Result<(), Fail> {
-    let rows: [(&[u8; 8], Option<u32>); 3] = [
-        (b"\0\0\0\0\x03\0\0\0", None),
-        (b"\0\0\0\0\x04\0\0\0", Some(0)),
-        (b"\0ABC\x08\0\0\0", Some(4)),
-    ];
-    for (name, want) in rows {
-        assert!(rt; named(name).name_offset() == want, "{name:?}");
+fn a_stored_number_says_an_offset_from_4_on(rt: HostRuntime) {
+    for (name, want) in STORED {
+        assert!(rt; named(name).name_offset() == *want, "{name:?}");
     }
-    let strings = Strtab::parse(rt.alloc(), b"abc\0", 0, 4, 0)?;
-    assert!(rt; is_refused(&named(b"\0\0\0\0\x03\0\0\0"), &strings));
-    Ok(())
-}
-
-/// The name that stands in the first record of a file.
-fn first_name(file: &[u8]) -> goblin_base::Result<Option<&str>> {
-    let mut symbols = SymbolTable::parse(file, 0, 1)?.iter();
-    Ok(symbols.next().and_then(|(_, name, _)| name))
-}
-
-#[test]
-fn a_name_outlives_its_table(rt: HostRuntime) -> Result<(), Fail> {
-    assert!(rt; first_name(RECORDS[5])? == Some("odd"));
-    Ok(())
 }
 
 /// A header whose symbol table has no records and stands at an offset.
@@ -197,19 +167,4 @@ fn header_of(pointer_to_symbol_table: u32) -> CoffHeader {
 fn a_string_table_shorter_than_its_length_is_refused(rt: HostRuntime) {
     let read = header_of(1).strings(rt.alloc(), b"\0\x01\0\0\0");
     assert!(rt; matches!(&read, Err(Error::Malformed(Cause::CoffLength))));
-    let want = "COFF length field size (0x4) is larger than the parsed length value";
-    assert!(rt; matches!(&read, Err(error) if prints(rt.alloc(), error, want)));
-}
-
-#[test]
-fn a_string_table_may_have_no_bytes(rt: HostRuntime) {
-    let read = header_of(1).strings(rt.alloc(), b"\0\x04\0\0\0");
-    assert!(rt; matches!(&read, Ok(Some(table)) if table.get_at(0).is_none()));
-}
-
-#[test]
-fn without_a_symbol_table_there_is_no_string_table(rt: HostRuntime) {
-    let header = header_of(0);
-    let strings = header.strings(rt.alloc(), b"");
-    assert!(rt; matches!(&strings, Ok(None)) && matches!(header.symbols(b""), Ok(None)));
 }

@@ -1,14 +1,9 @@
 //! Addresses, their offsets in a file by a walk and by an index, and what stands there.
 
-use fixture::sample::{ALIGNMENT, MODES, in_mode, sample, sample_section, section};
-use goblin_base::{Cause, Error, ParseMode};
-use goblin_pe_sect::utils::{
-    find_offset, find_offset_or, get_data, is_in_range, safe_try_name, try_name, window,
-};
-use goblin_pe_sect::windows::Bounds;
-use goblin_pe_sect::{DataDirectory, ParseOptions, RawPointerRule, SectionTable, WindowIndex};
+use fixture::sample::{ALIGNMENT, section};
+use goblin_pe_sect::utils::{find_offset, window};
+use goblin_pe_sect::{ParseOptions, RawPointerRule, SectionTable, WindowIndex};
 use std::alloc::Global;
-use std::test::Fail;
 
 /// A section inside the window of [`wide`].
 fn narrow() -> SectionTable {
@@ -32,27 +27,6 @@ fn unaligned() -> SectionTable {
 /// A section without data.
 fn without_data() -> SectionTable {
     section(0x1F_B000, 0x2_8590, 0, 0)
-}
-
-#[test]
-fn a_range_holds_its_begin_and_not_its_end(rt: HostRuntime) {
-    for (rva, want) in [(4, false), (5, true), (6, true), (7, false)] {
-        assert_eq!(rt; is_in_range(rva, 5, 7), want, "{rva}");
-    }
-}
-
-#[test]
-fn a_window_ends_with_the_least_of_its_sizes(rt: HostRuntime) {
-    let rows = [
-        (short(), 0x200, Some((0x1000, 0x1400))),
-        (unaligned(), 0x200, Some((0x1000, 0x1200))),
-        (without_data(), 0x200, Some((0x1F_B000, 0x1F_B000))),
-        (wide(), 0, None),
-        (wide(), 0x300, None),
-    ];
-    for (section, alignment, want) in &rows {
-        assert_eq!(rt; window(section, *alignment), *want, "{alignment:#x}");
-    }
 }
 
 /// How many pieces an index of these sections has; what it finds for an address, in how many
@@ -175,87 +149,4 @@ fn a_window_that_stands_twice_belongs_to_the_first(rt: HostRuntime) {
             "{first:#x}"
         );
     }
-}
-
-#[test]
-fn without_sections_no_address_is_found(rt: HostRuntime) {
-    assert!(rt; are_found(rt.alloc(), &[], 0, (1, None, 2)));
-}
-
-#[test]
-fn without_windows_no_probe_is_made(rt: HostRuntime) {
-    let default = ParseOptions::default();
-    for alignment in [0, 0x300] {
-        let read = found(rt.alloc(), &[wide()], alignment, &default, 0x1100);
-        assert!(rt; matches!(read, Ok(Some((0, None, 0)))), "{alignment:#x}");
-    }
-    let read = found(rt.alloc(), &[wide()], 0x200, &ParseOptions::te(), 0x1100);
-    assert!(rt; matches!(read, Ok(Some((0, Some(0x1100), 0)))));
-}
-
-#[test]
-fn a_probe_is_counted(rt: HostRuntime) -> Result<(), Fail> {
-    let bounds = Bounds::new(vec![in rt.alloc(); 0, 0x1000]?);
-    let mut probes = 5;
-    assert!(rt; bounds.len() == 2 && bounds.reaches(1, 0x1000, &mut probes));
-    assert!(rt; !bounds.reaches(1, 0xFFF, &mut probes) && probes == 7);
-    Ok(())
-}
-
-#[test]
-fn an_address_without_offset_is_refused_with_the_message(rt: HostRuntime) {
-    let sections = [sample_section()];
-    let opts = ParseOptions::default();
-    let found = find_offset_or(0x1080, &sections, ALIGNMENT, &opts, "no section");
-    assert!(rt; matches!(found, Ok(0x280)));
-    let message = match find_offset_or(0x9000, &sections, ALIGNMENT, &opts, "no section") {
-        Err(Error::Malformed(Cause::Message(text))) => text,
-        _ => "",
-    };
-    assert!(rt; message == "no section");
-}
-
-/// The text at an address of the sample file, as both readers find it.
-fn names(file: &[u8], mode: ParseMode, rva: usize) -> (Option<&str>, Option<Option<&str>>) {
-    let sections = [sample_section()];
-    let opts = in_mode(mode);
-    (
-        try_name(file, rva, &sections, ALIGNMENT, &opts).ok(),
-        safe_try_name(file, rva, &sections, ALIGNMENT, &opts).ok(),
-    )
-}
-
-#[test]
-fn a_name_is_the_text_at_its_address(rt: HostRuntime) -> Result<(), Fail> {
-    let file = sample(rt.alloc())?;
-    for mode in MODES {
-        assert!(rt;
-            names(&file, mode, 0x1080) == (Some("a.dll"), Some(Some("a.dll"))),
-            "{mode:?}"
-        );
-        let none = if mode.is_permissive() {
-            Some(None)
-        } else {
-            None
-        };
-        assert!(rt; names(&file, mode, 0x9000) == (None, none), "{mode:?}");
-    }
-    Ok(())
-}
-
-#[test]
-fn a_value_is_read_at_its_address(rt: HostRuntime) -> Result<(), Fail> {
-    let file = sample(rt.alloc())?;
-    let at = DataDirectory {
-        virtual_address: 0x1000,
-        size: 8,
-    };
-    let read = get_data::<DataDirectory>(&file, &[sample_section()], at, ALIGNMENT);
-    // The first two numbers of the import record.
-    let want = DataDirectory {
-        virtual_address: 0x1040,
-        size: 0,
-    };
-    assert!(rt; matches!(read, Ok(value) if value == want));
-    Ok(())
 }

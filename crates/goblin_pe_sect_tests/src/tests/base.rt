@@ -2,11 +2,10 @@
 
 use goblin_base::{
     Endian, Error, ParseMode, Permissive, ReadFault, Result, Strtab, gread_slice, gread_str,
-    gread_str_until, gread_u8, gread_u16, gread_u32, gread_u64, pread_slice, pread_str,
-    pread_str_until, pread_u8, pread_u16, pread_u32, pread_u64, pwrite_slice, pwrite_u8,
-    pwrite_u16, pwrite_u32, pwrite_u64,
+    gread_str_until, gread_u16, gread_u32, gread_u64, pread_str, pread_str_until, pread_u16,
+    pread_u32, pread_u64, pwrite_slice, pwrite_u16, pwrite_u32, pwrite_u64,
 };
-use std::alloc::{AllocError, Global};
+use std::alloc::Global;
 
 /// Bytes by which each order of a number shows.
 const BYTES: [u8; 8] = [1, 2, 3, 4, 5, 6, 7, 8];
@@ -55,21 +54,6 @@ fn numbers_of_each_width_are_read_and_written_in_both_orders(rt: HostRuntime) {
             "{endian:?}"
         );
     }
-}
-
-#[test]
-fn bytes_are_read_and_written_as_they_are(rt: HostRuntime) {
-    let mut offset = 4;
-    let byte = gread_u8(&BYTES, &mut offset);
-    assert!(rt; matches!(byte, Ok(5)) && matches!(pread_u8(&BYTES, 7), Ok(8)));
-    let slice = gread_slice(&BYTES, &mut offset, 2);
-    assert!(rt; matches!(slice, Ok(bytes) if bytes == [6, 7].as_slice()) && offset == 7);
-    let slice = pread_slice(&BYTES, 5, 3);
-    assert!(rt; matches!(slice, Ok(bytes) if bytes == [6, 7, 8].as_slice()));
-    let mut room = [0; 4];
-    let of_byte = pwrite_u8(&mut room, 3, 9);
-    let of_slice = pwrite_slice(&mut room, 1, &[7, 8]);
-    assert!(rt; of_byte.is_ok() && of_slice.is_ok() && room == [0, 7, 8, 9]);
 }
 
 /// Whether so many bytes at an offset are refused for this fault, read and written, and nothing
@@ -133,77 +117,42 @@ fn is_string(alloc: Global, bytes: &[u8], offset: usize, want: Option<&str>) -> 
     matches!(&table, Ok(table) if table.get_at(offset) == want)
 }
 
+/// The strings at the offsets of a table from the first on.
+const STRINGS: &[(&[u8], &[Option<&str>])] = &[
+    (
+        b"ab\0c",
+        &[Some("ab"), Some("b"), Some(""), Some("c"), Some(""), None],
+    ),
+    (b"a\0", &[Some("a"), Some(""), None]),
+];
+
 #[test]
 fn a_string_is_what_is_left_of_its_piece(rt: HostRuntime) {
-    let rows: [(&[u8], usize, Option<&str>); 9] = [
-        (b"ab\0c", 0, Some("ab")),
-        (b"ab\0c", 1, Some("b")),
-        (b"ab\0c", 2, Some("")),
-        (b"ab\0c", 3, Some("c")),
-        (b"ab\0c", 4, Some("")),
-        (b"ab\0c", 5, None),
-        (b"a\0", 0, Some("a")),
-        (b"a\0", 1, Some("")),
-        (b"a\0", 2, None),
-    ];
-    for (bytes, offset, want) in rows {
-        assert!(rt;
-            is_string(rt.alloc(), bytes, offset, want),
-            "{offset} of {bytes:?}"
-        );
+    for (bytes, strings) in STRINGS {
+        for (offset, want) in strings.iter().enumerate() {
+            assert!(rt;
+                is_string(rt.alloc(), bytes, offset, *want),
+                "{offset} of {bytes:?}"
+            );
+        }
     }
 }
 
-/// What was read.
-#[derive(Copy, Clone)]
-enum What {
-    Byte,
-    Damaged,
-    WithoutMemory,
+fn refused() -> Result<u8> {
+    Err(Error::Read(ReadFault::BadOffset))
 }
 
-fn read(what: What) -> Result<u8> {
-    match what {
-        What::Byte => Ok(1),
-        What::Damaged => Err(Error::Read(ReadFault::BadOffset)),
-        What::WithoutMemory => Err(Error::Memory(AllocError)),
-    }
-}
-
-fn or_seven<P: Permissive<u8>>(outcome: P, permissive: bool) -> P {
-    outcome.or_permissive_and_value(permissive, "a byte", 7)
-}
-
-/// What a mode makes of it, with a default, with a value, and with what a closure gives.
-fn outcomes(what: What, permissive: bool) -> [Result<u8>; 3] {
+/// What a mode makes of a refusal, with a default, with a value, and with what a closure gives.
+fn outcomes(permissive: bool) -> [Result<u8>; 3] {
     [
-        read(what).or_permissive_and_default(permissive, "a byte"),
-        or_seven(read(what), permissive),
-        read(what).or_permissive_and_then(permissive, "a byte", || 9),
+        refused().or_permissive_and_default(permissive, "a byte"),
+        refused().or_permissive_and_value(permissive, "a byte", 7),
+        refused().or_permissive_and_then(permissive, "a byte", || 9),
     ]
 }
 
 #[test]
 fn permissive_mode_passes_over_a_refusal(rt: HostRuntime) {
-    let [default, value, computed] = outcomes(What::Damaged, ParseMode::Permissive.is_permissive());
+    let [default, value, computed] = outcomes(ParseMode::Permissive.is_permissive());
     assert!(rt; matches!((default, value, computed), (Ok(0), Ok(7), Ok(9))));
-}
-
-#[test]
-fn strict_mode_passes_over_nothing(rt: HostRuntime) {
-    for outcome in outcomes(What::Damaged, ParseMode::Strict.is_permissive()) {
-        assert!(rt; matches!(outcome, Err(Error::Read(ReadFault::BadOffset))));
-    }
-}
-
-#[test]
-fn a_value_stays_in_both_modes_and_a_refusal_of_memory_too(rt: HostRuntime) {
-    for permissive in [false, true] {
-        for outcome in outcomes(What::Byte, permissive) {
-            assert!(rt; matches!(outcome, Ok(1)), "{permissive}");
-        }
-        for outcome in outcomes(What::WithoutMemory, permissive) {
-            assert!(rt; matches!(outcome, Err(Error::Memory(_))), "{permissive}");
-        }
-    }
 }

@@ -1,6 +1,6 @@
 //! Relocations of objects, and the blocks and words of base relocations.
 
-use fixture::sample::{directory, put_all};
+use fixture::sample::directory;
 use goblin_base::{Error, ReadFault};
 use goblin_pe_sect::relocation::{
     Relocation, RelocationBlock, RelocationData, RelocationWord, RelocationWordIterator,
@@ -191,55 +191,4 @@ fn are_one_and_a_half(mut words: RelocationWordIterator<'_>) -> bool {
 fn an_odd_last_byte_is_one_error(rt: HostRuntime) {
     let words = words_of(b"\0\0\0\0\x0B\0\0\0\x01\0\x02");
     assert!(rt; words.is_some_and(are_one_and_a_half));
-}
-
-#[test]
-fn a_word_is_a_type_and_an_offset(rt: HostRuntime) {
-    let word = RelocationWord { value: 0xA008 };
-    assert!(rt; (word.reloc_type(), word.offset()) == (10, 8));
-}
-
-/// Seven blocks of words that are zero.
-fn zeros() -> [u8; 1360] {
-    let mut file = [0; 1360];
-    put_all(
-        &mut file,
-        &[
-            (4, b"\x34\x02"),
-            (568, b"\x58\x01"),
-            (912, b"\x1C"),
-            (940, b"\x28"),
-            (980, b"\xE8"),
-            (1212, b"\x8C"),
-            (1352, b"\x0C"),
-        ],
-    );
-    file
-}
-
-/// How many words a block has, where each of them is zero.
-fn zeros_of(block: &RelocationBlock) -> Option<u32> {
-    let mut count = 0u32;
-    for word in block.words() {
-        if !matches!(word, Ok(word) if word == RelocationWord::default()) {
-            return None;
-        }
-        count = count.wrapping_add(1);
-    }
-    Some(count)
-}
-
-/// How many blocks a directory has, and how many words, where each of them is zero.
-fn counts(bytes: &[u8]) -> Option<(u32, u32)> {
-    let (mut blocks, mut words) = (0u32, 0u32);
-    for block in relocations(bytes).ok()?.blocks() {
-        blocks = blocks.wrapping_add(1);
-        words = words.wrapping_add(zeros_of(&block.ok()?)?);
-    }
-    Some((blocks, words))
-}
-
-#[test]
-fn blocks_and_words_are_counted(rt: HostRuntime) {
-    assert!(rt; counts(&zeros()) == Some((7, 652)));
 }

@@ -17,41 +17,49 @@ fn named(name: &[u8; 8]) -> SectionTable {
     }
 }
 
+/// Names of sections, and the offsets that they say in both modes.
+const OFFSETS: &[(&[u8; 8], Option<usize>)] = &[
+    (b".rdata\0\0", None),
+    (b"/+12\0\0\0\0", Some(12)),
+    (b"/12\0\xFF\xFF\xFF\xFF", Some(12)),
+    (b"//\0\0\0\0\0\0", Some(0)),
+    (b"////////", Some(68_719_476_735)),
+];
+
+/// Whether a name says an offset in a mode.
+fn is_said(name: &[u8; 8], mode: ParseMode, want: Option<usize>) -> bool {
+    let said = named(name).name_offset_with_opts(&in_mode(mode));
+    matches!(said, Ok(offset) if offset == want)
+}
+
 #[test]
 fn a_name_says_its_offset_in_both_modes(rt: HostRuntime) {
-    let rows: [(&[u8; 8], Option<usize>); 5] = [
-        (b".rdata\0\0", None),
-        (b"/+12\0\0\0\0", Some(12)),
-        (b"/12\0\xFF\xFF\xFF\xFF", Some(12)),
-        (b"//\0\0\0\0\0\0", Some(0)),
-        (b"////////", Some(68_719_476_735)),
-    ];
-    for mode in MODES {
-        for (name, want) in rows {
-            let said = named(name).name_offset_with_opts(&in_mode(mode));
-            assert!(rt;
-                matches!(said, Ok(offset) if offset == want),
-                "{name:?} {mode:?}"
-            );
+    for (name, want) in OFFSETS {
+        for mode in MODES {
+            assert!(rt; is_said(name, mode, *want), "{name:?} {mode:?}");
         }
     }
 }
 
+/// Names that say none.
+const WITHOUT_NUMBERS: &[(&[u8; 8], Cause)] = &[
+    (b"/\0\0\0\0\0\0\0", Cause::NameDecimal),
+    (b"/+\0\0\0\0\0\0", Cause::NameDecimal),
+    (b"/\xC3\xA9\0\0\0\0\0", Cause::NameDecimal),
+    (b"//-\0\0\0\0\0", Cause::NameBase64),
+];
+
+/// Whether a name is refused in a mode.
+fn is_refused(name: &[u8; 8], mode: ParseMode, want: Cause) -> bool {
+    let said = named(name).name_offset_with_opts(&in_mode(mode));
+    matches!(said, Err(Error::Malformed(cause)) if cause == want)
+}
+
 #[test]
 fn a_name_without_a_number_is_refused_in_both_modes(rt: HostRuntime) {
-    let rows: [(&[u8; 8], Cause); 4] = [
-        (b"/\0\0\0\0\0\0\0", Cause::NameDecimal),
-        (b"/+\0\0\0\0\0\0", Cause::NameDecimal),
-        (b"/\xC3\xA9\0\0\0\0\0", Cause::NameDecimal),
-        (b"//-\0\0\0\0\0", Cause::NameBase64),
-    ];
-    for mode in MODES {
-        for (name, want) in rows {
-            let said = named(name).name_offset_with_opts(&in_mode(mode));
-            assert!(rt;
-                matches!(said, Err(Error::Malformed(cause)) if cause == want),
-                "{name:?} {mode:?}"
-            );
+    for (name, want) in WITHOUT_NUMBERS {
+        for mode in MODES {
+            assert!(rt; is_refused(name, mode, *want), "{name:?} {mode:?}");
         }
     }
 }
@@ -100,49 +108,6 @@ fn section_elsewhere(alloc: Global) -> Result<SectionTable, AllocError> {
         real_name: import_name(alloc)?,
         ..sample_section()
     })
-}
-
-/// What is read of the sample file that has that section, by the reader without options and in
-/// permissive mode.
-fn read_elsewhere(alloc: Global, file: &[u8]) -> goblin_base::Result<[SectionTable; 2]> {
-    let opts = in_mode(ParseMode::Permissive);
-    let (mut first, mut second) = (TABLE, TABLE);
-    let read = [
-        SectionTable::parse(alloc, file, &mut first, 0)?,
-        SectionTable::parse_with_opts(alloc, file, &mut second, 0, &opts)?,
-    ];
-    Ok(read)
-}
-
-/// Whether a section's name is this.
-fn is_named(section: &SectionTable, want: &str) -> bool {
-    matches!(section.name(), Ok(name) if name == want)
-}
-
-#[test]
-fn a_section_is_read_with_its_name_elsewhere(rt: HostRuntime) -> Result<(), Fail> {
-    let file = sample_named(rt.alloc(), ELSEWHERE)?;
-    let want = section_elsewhere(rt.alloc())?;
-    for read in read_elsewhere(rt.alloc(), &file)? {
-        assert!(rt; read == want && is_named(&read, "a.dll"));
-    }
-    assert!(rt; is_named(&sample_section(), ".rdata"));
-    Ok(())
-}
-
-/// Whether a clone is equal to its original, and keeps its name where that loses it.
-fn is_own(mut original: SectionTable, copy: &SectionTable) -> bool {
-    let was_equal = *copy == original;
-    original.real_name = None;
-    was_equal && is_named(copy, "a.dll")
-}
-
-#[test]
-fn a_clone_has_a_name_of_its_own(rt: HostRuntime) -> Result<(), Fail> {
-    let original = section_elsewhere(rt.alloc())?;
-    let copy = original.clone(rt.alloc())?;
-    assert!(rt; is_own(original, &copy));
-    Ok(())
 }
 
 #[test]
@@ -224,13 +189,4 @@ fn data_goes_on_with_zeros_up_to_the_size_in_memory(rt: HostRuntime) {
     for (byte, want) in [(0, [0, 0, 0, 0, 0, 0]), (9, [0, 0, 0, 9, 0, 0])] {
         assert!(rt; is_owned(rt.alloc(), byte, &want), "{byte}");
     }
-}
-
-#[test]
-fn data_that_passes_the_file_is_none_and_raw_data_is_refused(rt: HostRuntime) {
-    let section = section_of((4, 4, 13));
-    let data = section.data(rt.alloc(), &[0; 16]);
-    assert!(rt; matches!(&data, Ok(None)) && section.raw_data(&[0; 16]).is_err());
-    let raw = section_of((4, 3, 13));
-    assert!(rt; matches!(raw.raw_data(&[0; 16]), Ok(data) if data == [0; 3].as_slice()));
 }

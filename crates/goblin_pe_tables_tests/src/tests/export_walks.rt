@@ -1,11 +1,10 @@
 //! Exports walked over one by one, also from each position on.
 
 use crate::rows::{ExportRow, FORWARDED, PLAIN};
-use fixture::sample::{ALIGNMENT, EXPORTS, directory, sample, sample_section, sample_with};
-use goblin_base::{Cause, Error};
+use fixture::sample::{ALIGNMENT, EXPORTS, sample, sample_section, sample_with};
 use goblin_pe_sect::ParseOptions;
 use goblin_pe_tables::address_map::AddressMap;
-use goblin_pe_tables::export::{Exports, WalkedExport};
+use goblin_pe_tables::export::{Exports, Reexport, WalkedExport};
 use std::alloc::Global;
 use std::test::Fail;
 
@@ -78,56 +77,34 @@ fn are_walked(
     walks(&file, &sample_map(alloc)?, rows)
 }
 
+/// The first export without its name, and the second's address under the first's name.
+const UNNAMED: ExportRow = (None, Some(0x210), 0x1010, None);
+
+const SECOND_ADDRESS: ExportRow = (
+    Some("f"),
+    Some(0x2E0),
+    0x10E0,
+    Some(Reexport::DLLOrdinal {
+        ordinal: 12,
+        lib: "b",
+    }),
+);
+
+/// Bytes that are changed, and the exports that are left.
+const CASES: &[(usize, &[u8], &[Row])] = &[
+    (0x000, b"MZ", &[(0, 1, PLAIN), (1, 2, FORWARDED)]),
+    (0x2B0, b"\x00\x01", &[(0, 256, PLAIN), (1, 257, FORWARDED)]),
+    (0x2D0, b"\x00\x90", &[(0, 1, UNNAMED), (1, 2, FORWARDED)]),
+    (0x2D8, b"\x01", &[(0, 2, SECOND_ADDRESS), (1, 2, FORWARDED)]),
+    (0x2D8, b"\x02", &[(1, 2, FORWARDED)]),
+    (0x2E1, b"-", &[(0, 1, PLAIN)]),
+];
+
 #[test]
 fn exports_are_walked_over_from_each_position(rt: HostRuntime) -> Result<(), Fail> {
-    let unnamed = (None, PLAIN.1, PLAIN.2, None);
-    let second_address = (Some("f"), FORWARDED.1, FORWARDED.2, FORWARDED.3);
-    // Bytes that are changed, and the exports that are left.
-    let cases: [(usize, &[u8], &[Row]); 6] = [
-        (0x000, b"MZ", &[(0, 1, PLAIN), (1, 2, FORWARDED)]),
-        (0x2B0, b"\x00\x01", &[(0, 256, PLAIN), (1, 257, FORWARDED)]),
-        (0x2D0, b"\x00\x90", &[(0, 1, unnamed), (1, 2, FORWARDED)]),
-        (0x2D8, b"\x01", &[(0, 2, second_address), (1, 2, FORWARDED)]),
-        (0x2D8, b"\x02", &[(1, 2, FORWARDED)]),
-        (0x2E1, b"-", &[(0, 1, PLAIN)]),
-    ];
-    for (offset, bytes, rows) in cases {
-        let walked = are_walked(rt.alloc(), offset, bytes, rows)?;
+    for (offset, bytes, rows) in CASES {
+        let walked = are_walked(rt.alloc(), *offset, bytes, rows)?;
         assert!(rt; walked, "at {offset:#x}");
     }
-    Ok(())
-}
-
-/// Whether a walk over the sample's exports says what it is over.
-fn is_sample_walk(walk: &Exports) -> bool {
-    walk.name() == Some("a.dll")
-        && walk.directory_table().ordinal_base == 1
-        && walk.position() == 0
-        && walk.size_hint() == (0, Some(2))
-}
-
-#[test]
-fn a_walk_says_what_it_is_over(rt: HostRuntime) -> Result<(), Fail> {
-    let file = sample(rt.alloc())?;
-    let map = sample_map(rt.alloc())?;
-    let walk = Exports::of(&file, EXPORTS, &map)?;
-    assert!(rt; is_sample_walk(&walk));
-    assert!(rt; walk.count() == 2);
-    Ok(())
-}
-
-/// Whether a walk over a directory at an address that no section maps is refused.
-fn is_refused(bytes: &[u8], map: &AddressMap) -> bool {
-    matches!(
-        Exports::of(bytes, directory(0x9000, 0x28), map),
-        Err(Error::Malformed(Cause::Unmapped(0x9000)))
-    )
-}
-
-#[test]
-fn a_walk_over_a_directory_that_is_not_mapped_is_refused(rt: HostRuntime) -> Result<(), Fail> {
-    let file = sample(rt.alloc())?;
-    let map = sample_map(rt.alloc())?;
-    assert!(rt; is_refused(&file, &map));
     Ok(())
 }

@@ -5,7 +5,6 @@ use fixture::sample::{
     sample_with,
 };
 use goblin_base::ParseMode;
-use goblin_pe_sect::ParseOptions;
 use goblin_pe_tables::address_map::AddressMap;
 use goblin_pe_tables::import::LeftOut;
 use std::alloc::{AllocError, Global};
@@ -24,27 +23,34 @@ fn left_out(alloc: Global, file: &[u8], mode: ParseMode) -> goblin_base::Result<
     Ok(LeftOut::of::<u32>(file, IMPORTS, &map))
 }
 
+/// Whether so many libraries and entries are left out.
+fn are_left_out(alloc: Global, file: &[u8], mode: ParseMode, want: (usize, usize)) -> bool {
+    matches!(left_out(alloc, file, mode), Ok(told) if (told.libraries, told.entries) == want)
+}
+
+/// Bytes that are changed, and how many libraries and entries are left out.
+const CHANGES: &[(usize, &[u8], (usize, usize))] = &[
+    // The sample file as it stands.
+    (0, b"MZ", (0, 0)),
+    (IMPORT_RECORD + 16, NO_ADDRESSES, (1, 0)),
+    (LOOKUP, CUT_HINT, (0, 1)),
+    // A hint without a name, which is kept.
+    (LOOKUP, b"\xFE\x10", (0, 0)),
+    // A hint that no section maps, which strict mode leaves out, too.
+    (LOOKUP, b"\x00\x90", (0, 0)),
+];
+
 #[test]
 fn libraries_and_entries_that_are_left_out_are_counted_whatever_the_mode(
     rt: HostRuntime,
 ) -> Result<(), Fail> {
-    // Bytes that are changed, and how many libraries and entries are left out.
-    let rows: [(usize, &[u8], usize, usize); 5] = [
-        // The sample file as it stands.
-        (0, b"MZ", 0, 0),
-        (IMPORT_RECORD + 16, NO_ADDRESSES, 1, 0),
-        (LOOKUP, CUT_HINT, 0, 1),
-        // A hint without a name, which is kept.
-        (LOOKUP, b"\xFE\x10", 0, 0),
-        // A hint that no section maps, which strict mode leaves out, too.
-        (LOOKUP, b"\x00\x90", 0, 0),
-    ];
-    for (offset, bytes, libraries, entries) in rows {
-        let file = sample_with(rt.alloc(), offset, bytes)?;
-        let want = LeftOut { libraries, entries };
+    for (offset, bytes, want) in CHANGES {
+        let file = sample_with(rt.alloc(), *offset, bytes)?;
         for mode in MODES {
-            let left_out = left_out(rt.alloc(), &file, mode)?;
-            assert!(rt; left_out == want, "{offset:#x} {bytes:?} {mode:?}");
+            assert!(rt;
+                are_left_out(rt.alloc(), &file, mode, *want),
+                "{offset:#x} {bytes:?} {mode:?}"
+            );
         }
     }
     Ok(())
@@ -64,44 +70,6 @@ fn three_libraries(alloc: Global) -> Result<Vec<u8>, AllocError> {
 #[test]
 fn the_entries_of_all_libraries_that_are_kept_are_added_up(rt: HostRuntime) -> Result<(), Fail> {
     let file = three_libraries(rt.alloc())?;
-    let left_out = left_out(rt.alloc(), &file, ParseMode::Permissive)?;
-    assert!(rt;
-        left_out
-            == LeftOut {
-                libraries: 1,
-                entries: 2
-            }
-    );
-    Ok(())
-}
-
-/// What is left out of a directory of a file without sections.
-fn left_out_at(
-    alloc: Global,
-    file: &[u8],
-    opts: &ParseOptions,
-    address: u32,
-) -> goblin_base::Result<LeftOut> {
-    let map = AddressMap::prepare(alloc, &[], ALIGNMENT, opts)?;
-    Ok(LeftOut::of::<u32>(file, directory(address, 0x28), &map))
-}
-
-#[test]
-fn nothing_is_left_out_of_a_directory_at_the_front_or_without_an_offset(
-    rt: HostRuntime,
-) -> Result<(), Fail> {
-    // Two records whose address tables are past the end of the file, at the front and at 0x100.
-    let fields = b"\x80\0\0\0\0\0\x10\0";
-    let mut file = sample_with(rt.alloc(), 0x0C, fields)?;
-    put(&mut file, 0x10C, fields);
-    let (mapped, stored) = (ParseOptions::default(), ParseOptions::te());
-    for (opts, address, libraries) in [(stored, 0, 0), (mapped, 0x100, 0), (stored, 0x100, 1)] {
-        let left_out = left_out_at(rt.alloc(), &file, &opts, address)?;
-        let want = LeftOut {
-            libraries,
-            entries: 0,
-        };
-        assert!(rt; left_out == want, "{address:#x}");
-    }
+    assert!(rt; are_left_out(rt.alloc(), &file, ParseMode::Permissive, (1, 2)));
     Ok(())
 }

@@ -97,12 +97,12 @@ fn are_imports_read(
     sections: &[SectionTable],
     opts: &ParseOptions,
     held: &Held,
-) -> goblin_base::Result<bool> {
+) -> bool {
     let place = held.begin.saturating_add(0x10);
     let table = SyntheticImportLookupTableEntry::parse_with_opts::<u32>(
         alloc, file, place, sections, ALIGNMENT, opts,
-    )?;
-    Ok(is_table(&table, held))
+    );
+    matches!(&table, Ok(table) if is_table(table, held))
 }
 
 fn is_library_read(
@@ -111,12 +111,14 @@ fn is_library_read(
     sections: &[SectionTable],
     opts: &ParseOptions,
     held: &Held,
-) -> goblin_base::Result<bool> {
-    let record = ImportDirectoryEntry::read_at(file, 0x800, Endian::Little)?;
+) -> bool {
+    let Ok(record) = ImportDirectoryEntry::read_at(file, 0x800, Endian::Little) else {
+        return false;
+    };
     let library = SyntheticImportDirectoryEntry::parse_with_opts::<u32>(
         alloc, file, record, sections, ALIGNMENT, opts,
-    )?;
-    Ok(is_library(&library, held))
+    );
+    matches!(&library, Ok(library) if is_library(library, held))
 }
 
 fn is_import_data_read(
@@ -125,30 +127,41 @@ fn is_import_data_read(
     sections: &[SectionTable],
     opts: &ParseOptions,
     held: &Held,
-) -> goblin_base::Result<bool> {
+) -> bool {
     let place = directory(0x1000, 40);
-    let data = ImportData::parse_with_opts::<u32>(alloc, file, place, sections, ALIGNMENT, opts)?;
-    Ok(matches!(data.import_data.as_slice(), [library] if is_library(library, held)))
+    let data = ImportData::parse_with_opts::<u32>(alloc, file, place, sections, ALIGNMENT, opts);
+    matches!(&data, Ok(data) if matches!(data.import_data.as_slice(), [library] if is_library(library, held)))
 }
 
 /// Whether the readers of exports do.
-fn are_exports_read(
+fn are_tables_read(
     alloc: Global,
     file: &[u8],
     sections: &[SectionTable],
     opts: &ParseOptions,
     held: &Held,
-) -> goblin_base::Result<bool> {
+) -> bool {
     let place = directory(0x1100, 40);
-    let tables = ExportData::parse_with_opts(alloc, file, place, sections, ALIGNMENT, opts)?;
-    let exports = Export::parse_with_opts(alloc, file, &tables, sections, ALIGNMENT, opts)?;
-    let offset = Some(
-        held.export
-            .saturating_sub(0x1200)
-            .saturating_add(held.begin),
-    );
-    let is_right = are_exports(&exports, &[(Some(held.name), offset, held.export, None)]);
-    Ok(is_right && tables.name == Some(held.name))
+    let tables = ExportData::parse_with_opts(alloc, file, place, sections, ALIGNMENT, opts);
+    matches!(&tables, Ok(tables) if tables.name == Some(held.name)
+        && are_exports_read(alloc, file, tables, sections, opts, held))
+}
+
+fn are_exports_read<'a>(
+    alloc: Global,
+    file: &'a [u8],
+    tables: &ExportData<'a>,
+    sections: &[SectionTable],
+    opts: &ParseOptions,
+    held: &Held,
+) -> bool {
+    let exports = Export::parse_with_opts(alloc, file, tables, sections, ALIGNMENT, opts);
+    let offset = held
+        .export
+        .saturating_sub(0x1200)
+        .saturating_add(held.begin);
+    let want = [(Some(held.name), Some(offset), held.export, None)];
+    matches!(&exports, Ok(exports) if are_exports(exports, &want))
 }
 
 /// Whether the walk over the imports finds what this section has.
@@ -176,9 +189,9 @@ fn are_walked(
     sections: &[SectionTable],
     opts: &ParseOptions,
     held: &Held,
-) -> goblin_base::Result<bool> {
-    let address_map = AddressMap::prepare(alloc, sections, ALIGNMENT, opts)?;
-    Ok(is_import_walked(file, &address_map, held) && is_export_walked(file, &address_map, held))
+) -> bool {
+    let map = AddressMap::prepare(alloc, sections, ALIGNMENT, opts);
+    matches!(&map, Ok(map) if is_import_walked(file, map, held) && is_export_walked(file, map, held))
 }
 
 /// Whether all readers find what this section has.
@@ -188,15 +201,13 @@ fn are_read(
     sections: &[SectionTable],
     opts: &ParseOptions,
     held: &Held,
-) -> goblin_base::Result<bool> {
-    Ok(
-        are_mapped(sections, opts, held)
-            && are_imports_read(alloc, file, sections, opts, held)?
-            && is_library_read(alloc, file, sections, opts, held)?
-            && is_import_data_read(alloc, file, sections, opts, held)?
-            && are_exports_read(alloc, file, sections, opts, held)?
-            && are_walked(alloc, file, sections, opts, held)?,
-    )
+) -> bool {
+    are_mapped(sections, opts, held)
+        && are_imports_read(alloc, file, sections, opts, held)
+        && is_library_read(alloc, file, sections, opts, held)
+        && is_import_data_read(alloc, file, sections, opts, held)
+        && are_tables_read(alloc, file, sections, opts, held)
+        && are_walked(alloc, file, sections, opts, held)
 }
 
 /// The file in which [`BYTES`] stand.
@@ -266,37 +277,52 @@ fn are_read_among(
     rule: RawPointerRule,
     (first, second): (SectionTable, SectionTable),
     held: &Held,
-) -> goblin_base::Result<bool> {
-    let file = overlapping_file(alloc)?;
-    let sections = among(alloc, others, first, second)?;
+) -> bool {
     let opts = ParseOptions::default().with_raw_pointer_rule(rule);
-    are_read(alloc, &file, &sections, &opts, held)
+    match (
+        &overlapping_file(alloc),
+        &among(alloc, others, first, second),
+    ) {
+        (Ok(file), Ok(sections)) => are_read(alloc, file, sections, &opts, held),
+        _ => false,
+    }
 }
 
 #[test]
 fn each_reader_takes_the_first_of_two_overlapping_sections(rt: HostRuntime) {
     for others in OTHERS {
         for rule in RULES {
-            let pair = (narrow(rule), wide(rule));
-            let read = are_read_among(rt.alloc(), others, rule, pair, &NARROW);
-            assert!(rt; matches!(read, Ok(true)), "{others:?} {rule:?}");
-            let pair = (wide(rule), narrow(rule));
-            let read = are_read_among(rt.alloc(), others, rule, pair, &WIDE);
-            assert!(rt; matches!(read, Ok(true)), "{others:?} {rule:?}");
+            let is_narrow = are_read_among(
+                rt.alloc(),
+                others,
+                rule,
+                (narrow(rule), wide(rule)),
+                &NARROW,
+            );
+            let is_wide = are_read_among(
+                rt.alloc(),
+                others,
+                rule,
+                (wide(rule), narrow(rule)),
+                &WIDE,
+            );
+            assert!(rt; is_narrow && is_wide, "{others:?} {rule:?}");
         }
     }
+}
+
+/// A section that lies apart from the wide one.
+fn apart() -> SectionTable {
+    section(0x1C00, 0x200, 0x200, 0x200)
 }
 
 #[test]
 fn each_reader_finds_its_section_where_none_overlap(rt: HostRuntime) {
     for others in OTHERS {
         for rule in RULES {
-            let pair = (wide(rule), section(0x1C00, 0x200, 0x200, 0x200));
-            let read = are_read_among(rt.alloc(), others, rule, pair, &WIDE);
-            assert!(rt; matches!(read, Ok(true)), "{others:?} {rule:?}");
-            let pair = (section(0x1C00, 0x200, 0x200, 0x200), wide(rule));
-            let read = are_read_among(rt.alloc(), others, rule, pair, &WIDE);
-            assert!(rt; matches!(read, Ok(true)), "{others:?} {rule:?}");
+            let is_first = are_read_among(rt.alloc(), others, rule, (wide(rule), apart()), &WIDE);
+            let is_second = are_read_among(rt.alloc(), others, rule, (apart(), wide(rule)), &WIDE);
+            assert!(rt; is_first && is_second, "{others:?} {rule:?}");
         }
     }
 }

@@ -1,0 +1,32 @@
+// Stands before the C library's read and write in a program that the tests run. Each call for the file descriptor in FILE
+// moves at most as many bytes as STEP says. The one whose number is in FAILING moves none: its answer is in ANSWER, where
+// -1, as without one, is that it was interrupted. The file descriptor in TOLD gets a byte for each of them.
+long syscall(long number, ...);
+char *getenv(const char *name);
+int atoi(const char *text);
+int *__errno_location(void);
+
+enum { READ = 0, WRITE = 1, INTERRUPTED = 4 };
+
+static int calls;
+
+static long moved(long number, int file, const void *bytes, unsigned long length) {
+    if (file != atoi(getenv("FILE")))
+        return syscall(number, file, bytes, length);
+    syscall(WRITE, atoi(getenv("TOLD")), ".", 1);
+    if (++calls == atoi(getenv("FAILING"))) {
+        const char *answer = getenv("ANSWER");
+        *__errno_location() = INTERRUPTED;
+        return answer ? atoi(answer) : -1;
+    }
+    unsigned long step = atoi(getenv("STEP"));
+    return syscall(number, file, bytes, length < step ? length : step);
+}
+
+long read(int file, void *bytes, unsigned long length) {
+    return moved(READ, file, bytes, length);
+}
+
+long write(int file, const void *bytes, unsigned long length) {
+    return moved(WRITE, file, bytes, length);
+}
