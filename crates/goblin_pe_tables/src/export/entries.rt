@@ -1,7 +1,7 @@
 //! The entries of an export directory's tables, in memory or as bytes of the file.
 
 ghost use Rattle.std.specs.Prelude.{◌≡◌, ◌<◌, ◌*◌, IfOk, IfSome, List, OnErr, Some, length, option_map};
-ghost use Rattle.std.specs.Prelude.{slice_get};
+ghost use Rattle.std.specs.Prelude.{slice_get, vec_capacity};
 ghost use Rattle.goblin_base.specs.Answers.{GivesOrMemory};
 ghost use Rattle.goblin_base.specs.Bytes.{slice_at};
 ghost use Rattle.goblin_base.specs.Reading.{Reads};
@@ -173,7 +173,31 @@ impl<'a> TablesInFile<'a> {
     }
 }
 
-// The table of `count` entries.
+// The `count` entries of a table, with room for no more.
+fn entries_of<'e, V: Drop, F: Fn(usize) -> Option<V>>(
+    alloc: Global,
+    count: usize,
+    entry: F,
+) -> ResultOf<'e, Vec<V>>
+    requires { (index : _) → F.pre entry index }
+    ensures value { (entries : List V) → length entries ≡ count
+        → ((index : _) (found : _) → F.post entry index found
+        → found ≡ slice_get entries index)
+        → GivesOrMemory (λ v. v.items) result entries }
+    ensures room { IfOk result (λ v. vec_capacity v ≡ count) }
+    ensures grown { OnErr result (0 < count) }
+{
+    let mut entries = Vec::with_capacity(alloc, count)?;
+    'entries: for index in 0..count {
+        let Some(found) = entry(index) else {
+            return Ok(entries);
+        };
+        entries.push_reserved(found);
+    }
+    Ok(entries)
+}
+
+// The table of them.
 fn table_of<'e, V: Drop, F: Fn(usize) -> Option<V>>(
     alloc: Global,
     count: usize,
@@ -186,13 +210,7 @@ fn table_of<'e, V: Drop, F: Fn(usize) -> Option<V>>(
         → GivesOrMemory (λ t. t) result entries }
     ensures grown { OnErr result (0 < count) }
 {
-    let mut entries = Vec::with_capacity(alloc, count)?;
-    'entries: for index in 0..count {
-        let Some(found) = entry(index) else {
-            return Ok(Table::from(entries));
-        };
-        entries.push(found)?;
-    }
+    let entries = entries_of(alloc, count, entry)?;
     Ok(Table::from(entries))
 }
 
