@@ -43,9 +43,6 @@ use goblin_pe::{
 };
 use std::alloc::Global;
 
-#[cfg(test)]
-mod tests;
-
 /// How many blocks there are, with the error where a rest is left.
 pub fn count_blocks(relocations: &RelocationData) -> usize
     ensures { result ≡ length (block_items (relocation_bytes relocations.now) 0) }

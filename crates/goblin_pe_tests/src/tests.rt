@@ -1,13 +1,11 @@
-//! Worked values of whole files, and of readers with two answers.
+//! Worked values of whole files, and of readers of two files.
 //!
 //! A [`Whole`](goblin_pe::Whole) ends in `drop`: what is proved of its parts is then proved once,
 //! and not in each function that has one. What owns memory is looked at by a function that borrows
 //! it, or takes it.
 
+mod caller;
 mod damage;
 mod footprints;
-mod layout;
-mod modes;
-mod refusals;
 mod sample;
 mod whole;

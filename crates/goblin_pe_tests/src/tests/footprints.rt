@@ -1,13 +1,11 @@
 //! Which bytes of a file its readers depend on.
 
-use super::modes::are_wholes;
-use super::sample::{is_export_read, is_header, is_import_data, is_lookup};
+use super::sample::{are_samples, is_header};
 use fixture::sample::{
     ALIGNMENT, EXPORTS, IMPORTS, LOOKUP, MODES, in_mode, put, put_all, sample, sample_section,
     sample_with,
 };
 use goblin_base::{ParseMode, ResultOf};
-use goblin_pe::import::ImportData;
 use goblin_pe::laws::{
     footprint_exports, footprint_header, footprint_imports, footprint_whole, twin_exports,
     twin_header, twin_imports, twin_lookup, twin_whole,
@@ -157,8 +155,7 @@ fn depends_on<F: Fn(&[u8]) -> bool>(file: &mut [u8], spans: &[Span], is_the_same
 fn have_lookups<'a>(alloc: Global, a: &'a [u8], b: &'a [u8]) -> bool {
     let sections = [sample_section()];
     let opts = ParseOptions::default();
-    let tables = twin_lookup::<u32>(alloc, a, b, LOOKUP, &sections, ALIGNMENT, &opts);
-    is_lookup(&tables.0) && is_lookup(&tables.1)
+    are_samples(twin_lookup::<u32>(alloc, a, b, LOOKUP, &sections, ALIGNMENT, &opts))
 }
 
 #[test]
@@ -174,12 +171,7 @@ fn a_lookup_table_depends_on_its_footprint_alone(rt: HostRuntime) -> Result<(), 
 fn have_imports<'a>(alloc: Global, a: &'a [u8], b: &'a [u8]) -> bool {
     let sections = [sample_section()];
     let opts = ParseOptions::default();
-    let imports = twin_imports::<u32>(alloc, a, b, IMPORTS, &sections, ALIGNMENT, &opts);
-    are_imports_read(&imports.0) && are_imports_read(&imports.1)
-}
-
-pub fn are_imports_read(data: &goblin_base::Result<ImportData>) -> bool {
-    matches!(data, Ok(data) if is_import_data(data))
+    are_samples(twin_imports::<u32>(alloc, a, b, IMPORTS, &sections, ALIGNMENT, &opts))
 }
 
 #[test]
@@ -195,8 +187,7 @@ fn imports_depend_on_their_footprint_alone(rt: HostRuntime) -> Result<(), Fail> 
 fn have_exports<'a>(alloc: Global, a: &'a [u8], b: &'a [u8]) -> bool {
     let sections = [sample_section()];
     let opts = ParseOptions::default();
-    let exports = twin_exports(alloc, a, b, EXPORTS, &sections, ALIGNMENT, &opts);
-    is_export_read(&exports.0) && is_export_read(&exports.1)
+    are_samples(twin_exports(alloc, a, b, EXPORTS, &sections, ALIGNMENT, &opts))
 }
 
 #[test]
@@ -224,7 +215,7 @@ fn a_header_depends_on_its_footprint_alone(rt: HostRuntime) -> Result<(), Fail> 
 
 /// Whether both files have its header, sections and tables.
 fn have_all<'a>(alloc: Global, a: &'a [u8], b: &'a [u8]) -> bool {
-    are_wholes(&twin_whole(alloc, a, b, &ParseOptions::default()))
+    are_samples(twin_whole(alloc, a, b, &ParseOptions::default()))
 }
 
 #[test]

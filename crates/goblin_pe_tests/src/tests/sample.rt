@@ -1,11 +1,10 @@
 //! What the readers find in the sample file.
 
 use fixture::sample::{IMPORTS, sample_section};
-use goblin_base::Result;
-use goblin_pe::export::{ExportAddressTableEntry, ExportData, ExportDirectoryTable};
+use goblin_base::ResultOf;
+use goblin_pe::export::{Export, ExportAddressTableEntry, ExportData, ExportDirectoryTable};
 use goblin_pe::header::{CoffHeader, Header};
 use goblin_pe::import::{ImportData, ImportLookupTable};
-use goblin_pe::laws::ExportRead;
 use goblin_pe::optional_header::OptionalHeader;
 use goblin_pe::{Part, Whole};
 use goblin_pe_sect::SectionTable;
@@ -15,7 +14,7 @@ use goblin_pe_tables_tests::rows::{
 };
 
 /// The sample file's COFF header.
-pub const COFF_HEADER: CoffHeader = CoffHeader {
+const COFF_HEADER: CoffHeader = CoffHeader {
     machine: 0x14C,
     number_of_sections: 1,
     time_date_stamp: 0,
@@ -39,15 +38,11 @@ pub fn is_header(header: &Header) -> bool {
         && matches!(&header.optional_header, Some(optional) if is_optional_header(optional))
 }
 
-pub fn is_section(sections: &[SectionTable]) -> bool {
+fn is_section(sections: &[SectionTable]) -> bool {
     sections == [sample_section()].as_slice()
 }
 
-pub fn is_lookup(table: &Result<ImportLookupTable>) -> bool {
-    matches!(table, Ok(table) if is_sample_table(table))
-}
-
-pub fn is_import_data(data: &ImportData) -> bool {
+fn is_import_data(data: &ImportData) -> bool {
     match &data.import_data[..] {
         [library] => is_sample_library(library, &RECORD),
         _ => false,
@@ -84,16 +79,7 @@ fn is_export_data(tables: &ExportData) -> bool {
         && are_addresses(tables.export_address_table.as_slice())
 }
 
-pub fn is_export_read(read: &Result<ExportRead>) -> bool {
-    match read {
-        Ok((tables, exports)) => {
-            is_export_data(tables) && are_exports(exports, &[PLAIN, FORWARDED])
-        }
-        Err(_) => false,
-    }
-}
-
-fn has_imports(whole: &Whole) -> bool {
+pub fn has_imports(whole: &Whole) -> bool {
     match (&whole.import_data, &whole.imports) {
         (Part::Read(data), Part::Read(imports)) => {
             is_import_data(data) && are_imports(imports, &[GO, SEVEN])
@@ -117,4 +103,39 @@ pub fn is_whole(whole: &Whole) -> bool {
         && has_imports(whole)
         && has_exports(whole)
         && matches!(whole.relocations, Part::Absent)
+}
+
+/// What a reader makes of the sample file.
+pub trait OfSample {
+    fn is_sample(&self) -> bool;
+}
+
+impl OfSample for ImportLookupTable<'_> {
+    fn is_sample(&self) -> bool {
+        is_sample_table(self)
+    }
+}
+
+impl OfSample for ImportData<'_> {
+    fn is_sample(&self) -> bool {
+        is_import_data(self)
+    }
+}
+
+impl OfSample for (ExportData<'_>, Vec<Export<'_>>) {
+    fn is_sample(&self) -> bool {
+        is_export_data(&self.0) && are_exports(&self.1, &[PLAIN, FORWARDED])
+    }
+}
+
+impl OfSample for Whole<'_> {
+    fn is_sample(&self) -> bool {
+        is_whole(self)
+    }
+}
+
+/// Whether both answers are what a reader makes of the sample file. It takes them: of a type that it
+/// does not know that costs its proof little.
+pub fn are_samples<'e, A: OfSample + Drop>(answers: (ResultOf<'e, A>, ResultOf<'e, A>)) -> bool {
+    matches!(&answers, (Ok(first), Ok(second)) if first.is_sample() && second.is_sample())
 }
