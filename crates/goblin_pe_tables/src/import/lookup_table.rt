@@ -64,6 +64,7 @@ impl<'a> HintNameTableEntry<'a> {
     /// [`Error::Malformed`] with [`Cause::HintEntry`] if the hint runs past the end of the file.
     /// [`Error::Read`] if no text follows it, in strict mode; in permissive mode the name is then
     /// empty.
+    #[inline(always)]
     #[tactic(auto, unfolding(crate::specs::LookupReadings::hint_name))]
     pub fn parse_with_opts(
         bytes: &'a [u8],
