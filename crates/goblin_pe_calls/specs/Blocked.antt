@@ -11,6 +11,10 @@ use Rattle.goblin_pe_calls.specs.declared.export.ExportRecords.{ExportRecords}
 abbrev pub HasNoIdleBlock : {A : Type 0} → Vec A Global → Type 0
 HasNoIdleBlock v = length v.items ≡ 0 → vec_capacity v ≡ 0
 
+-- one that has room for its entries and no more
+abbrev pub HasNoSpareRoom : {A : Type 0} → Vec A Global → Type 0
+HasNoSpareRoom v = vec_capacity v ≤ vec_len v
+
 -- a list whose entries are made one by one: it has room for at most 32 more than there are, or for
 -- half as many again
 abbrev pub HasLittleRoom : {A : Type 0} → Vec A Global → Type 0

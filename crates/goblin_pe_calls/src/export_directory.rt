@@ -3,7 +3,7 @@
 ghost use Rattle.std.specs.Prelude.{◌≡◌, ◌<◌, IfOk, OnErr, length, map};
 ghost use Rattle.goblin_base.specs.Answers.{GivesOrMemory};
 ghost use Rattle.goblin_pe_tables.specs.ExportWalks.{walked_tables};
-ghost use Rattle.goblin_pe_calls.specs.Blocked.{HasNoIdleBlock};
+ghost use Rattle.goblin_pe_calls.specs.Blocked.{HasNoIdleBlock, HasNoSpareRoom};
 ghost use Rattle.goblin_pe_calls.specs.ExportDirectories.{address_said, directory_said, directory_view};
 ghost use Rattle.goblin_pe_calls.specs.ExportDirectories.{no_directory};
 
@@ -56,6 +56,7 @@ pub fn address_records(alloc: Global, exports: &Exports) -> Result<Vec<PeExportA
     ensures value { let table = (walked_tables exports.now).export_address_table in
         GivesOrMemory (λ v. v.items) result (map address_said table) }
     ensures none { IfOk result HasNoIdleBlock }
+    ensures room { IfOk result HasNoSpareRoom }
     ensures grown { OnErr result (0 < length (walked_tables exports.now).export_address_table) }
 {
     let count = exports.address_count();
@@ -64,7 +65,7 @@ pub fn address_records(alloc: Global, exports: &Exports) -> Result<Vec<PeExportA
         let Some(entry) = exports.address(index) else {
             return Ok(records);
         };
-        records.push(address_record(entry))?;
+        records.push_reserved(address_record(entry));
     }
     Ok(records)
 }

@@ -3,7 +3,7 @@
 ghost use Rattle.std.specs.Prelude.{◌≡◌, ◌<◌, IfOk, OnErr, length, map};
 ghost use Rattle.goblin_base.specs.Answers.{GivesOrMemory};
 ghost use Rattle.goblin_pe.specs.Whole.{whole_file};
-ghost use Rattle.goblin_pe_calls.specs.Blocked.{HasNoIdleBlock};
+ghost use Rattle.goblin_pe_calls.specs.Blocked.{HasNoIdleBlock, HasNoSpareRoom};
 ghost use Rattle.goblin_pe_calls.specs.Footprints.{Lists, range_said, range_view};
 
 use goblin_pe::Result;
@@ -43,12 +43,13 @@ fn range_record(range: &(usize, usize)) -> PeRange
 fn range_records(alloc: Global, ranges: &[(usize, usize)]) -> Result<Vec<PeRange>>
     ensures made { GivesOrMemory (λ v. map range_view v.items) result (map range_said ranges.now) }
     ensures none { IfOk result HasNoIdleBlock }
+    ensures room { IfOk result HasNoSpareRoom }
     ensures grown { OnErr result (0 < length ranges.now) }
 {
     let count = ranges.len();
     let mut records = Vec::with_capacity(alloc, count)?;
     'records: for i in 0..count {
-        records.push(range_record(&ranges[i]))?;
+        records.push_reserved(range_record(&ranges[i]));
     }
     Ok(records)
 }

@@ -3,7 +3,7 @@
 ghost use Rattle.std.specs.Prelude.{◌≡◌, ◌<◌, Bool, IfOk, OnErr, length, map, ℕ, option_map};
 ghost use Rattle.goblin_pe_sect.specs.Options.{is_strict};
 ghost use Rattle.goblin_base.specs.Answers.{GivesOrMemory};
-ghost use Rattle.goblin_pe_calls.specs.Blocked.{HasNoIdleBlock};
+ghost use Rattle.goblin_pe_calls.specs.Blocked.{HasNoIdleBlock, HasNoSpareRoom};
 ghost use Rattle.goblin_pe_calls.specs.Filled.{Filled, alone};
 ghost use Rattle.goblin_pe_calls.specs.Sections.{named_in, real_name_in, section_said};
 
@@ -144,13 +144,14 @@ pub fn section_records<'a>(
         sections.now) }
     ensures grown { OnErr result (0 < length sections.now) }
     ensures none { IfOk result HasNoIdleBlock }
+    ensures room { IfOk result HasNoSpareRoom }
 {
     let count = sections.len();
     let mut records = Vec::with_capacity(alloc, count)?;
     'records: for i in 0..count {
         let section = &sections[i];
         let name = real_name(bytes, section, table, opts);
-        records.push(section_record(bytes, section, name))?;
+        records.push_reserved(section_record(bytes, section, name));
     }
     Ok(records)
 }

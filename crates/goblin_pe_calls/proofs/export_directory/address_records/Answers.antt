@@ -14,9 +14,10 @@ records-preserved c =
     let within = slice_get_within table index c.in-Some.entry found in
     let said = c.address_record.ensures ∙ ap address_said (sym (get_or_from_slice_get table index c.in-Some.entry c.in-Some.entry found)) in
     let more = map_more address_said table index c.in-Some.entry within in (
-      c.in_ok-push.ensures.items
+      c.push_reserved.ensures.items
           ∙ ap (λ (xs : List PeExportAddress). xs ++ c.address_record.result ∷ []) c.records.invariant.0
           ∙ ap (λ (x : PeExportAddress). map address_said (take index table) ++ x ∷ []) said
           ∙ sym more,
-      λ none. absurd (omega (arith, none, within)),
+      omega (arith, c.push_reserved.ensures.len, c.records.invariant.1),
+      c.push_reserved.ensures.capacity ∙ c.records.invariant.2,
     )

@@ -1,5 +1,5 @@
 use Rattle.std.proofs.Common.{◌≡◌, length, map, take}
-use Rattle.std.specs.Prelude.{vec_capacity}
+use Rattle.std.specs.Prelude.{vec_capacity, vec_len}
 use Rattle.goblin_pe_tables.specs.ExportWalks.{walked_tables}
 use Rattle.goblin_pe_calls.specs.ExportDirectories.{address_said}
 use Rattle.goblin_pe_calls.proofs.export_directory.address_records.Given as goal
@@ -8,4 +8,4 @@ abbrev pub invariant-records : goal.invariant-records
 invariant-records l =
     let table = (walked_tables l.exports).export_address_table in
     (l.records.items ≡ map address_said (take l.index table))
-    × (length table ≡ 0 → vec_capacity l.records ≡ 0)
+    × (vec_len l.records ≡ l.index) × (vec_capacity l.records ≡ length table)

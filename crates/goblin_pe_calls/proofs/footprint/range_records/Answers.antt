@@ -1,5 +1,4 @@
-use Rattle.std.proofs.Common.{◌≡◌, ◌∙◌, ◌<◌, length, arith, sym}
-use Rattle.std.specs.Prelude.{vec_capacity}
+use Rattle.std.proofs.Common.{◌∙◌, ◌<◌, length, arith}
 use Rattle.goblin_pe_calls.specs.Footprints.{range_said, range_view}
 use Rattle.goblin_pe_calls.proofs.Filling.{any-default}
 use Rattle.goblin_pe_calls.proofs.Making.{making-start, making-next, making-end, making-count}
@@ -7,16 +6,16 @@ use Rattle.goblin_pe_calls.proofs.footprint.range_records.Goals as goal
 
 pub records-init : goal.records-init
 records-init c =
-    let none : length c.args.ranges.now ≡ 0 → vec_capacity c.in_ok-records.records ≡ 0 = λ e. omega (arith, e, c.in_ok-records.ensures.exact) in
-    (making-start range_view range_said c.args.ranges.now _ c.in_ok-records.ensures.items, none)
+    (making-start range_view range_said c.args.ranges.now _ c.in_ok-records.ensures.items, c.in_ok-records.ensures.len, c.in_ok-records.ensures.exact)
 
 pub records-preserved : goal.records-preserved
 records-preserved c =
     let within : c.records.i < length c.args.ranges.now = omega (arith, c.records-test.true) in
-    (making-next _ _ _ _ _ _ _ _ c.records.invariant.0 within (any-default _ _ _ _ within) c.range_record.ensures c.in_ok-push.ensures.items, λ e. absurd (omega (arith, e, within)))
+    (making-next _ _ _ _ _ _ _ _ c.records.invariant.0 within (any-default _ _ _ _ within) c.range_record.ensures c.push_reserved.ensures.items, omega (arith, c.push_reserved.ensures.len, c.records.invariant.1), c.push_reserved.ensures.capacity ∙ c.records.invariant.2)
 
 pub returns-clause-made : goal.returns-clause-made
 returns-clause-made c = making-end _ _ _ _ _ c.records.invariant.0 (omega (arith, c.records-test.false))
 
 pub returns-clause-none : goal.returns-clause-none
-returns-clause-none c = λ none. c.records.invariant.1 (sym (making-count _ _ _ _ _ c.records.invariant.0 (omega (arith, c.records-test.false))) ∙ none)
+returns-clause-none c = λ none.
+    omega (arith, none, c.records.invariant.2, making-count _ _ _ _ _ c.records.invariant.0 (omega (arith, c.records-test.false)))
