@@ -1,4 +1,4 @@
-//! The tests of goblin_pe_head: worked values of headers, and what is read through a header.
+//! The tests of goblin_pe_head, and of goblin_pe_sect and goblin_base below it.
 #![tactic(auto)]
 
 #[cfg(test)]

@@ -1,8 +1,15 @@
-//! Worked values of headers, and what is read through a header.
+//! Worked values of what is read and written: of bytes, sections, addresses and relocations, of headers,
+//! and of what is read through a header.
 
+mod addresses;
+mod base;
+mod directories;
 mod header;
+mod index;
 mod optional_header;
+mod relocations;
 mod rich;
+mod sections;
 mod symbols;
 mod te;
 mod written;
