@@ -90,7 +90,7 @@ fn table_of<T>(table: &Part<Vec<T>>) -> PeTable
 
 /// What is said of a file as a whole: with what is said of its base relocations and its Rich header.
 #[inline(always)]
-pub fn file_of<'a>(
+pub(crate) fn file_of<'a>(
     layout: &Layout<'a, '_>,
     records: &FileRecords<'a>,
     relocations: PeBaseRelocations,
