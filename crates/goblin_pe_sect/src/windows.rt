@@ -6,7 +6,7 @@
 //! address is then found among n pieces by about log n comparisons.
 
 ghost use Rattle.std.specs.Prelude.{◌≡◌, ℕ, ◌+◌, ◌-◌, ◌*◌, ◌^◌, ◌<◌, ◌≤◌, IsTrue, IfOk, IfErr};
-ghost use Rattle.std.specs.Prelude.{length, map, []};
+ghost use Rattle.std.specs.Prelude.{IfSome, length, map, []};
 ghost use Rattle.std.specs.Int.{is_power_of_two};
 ghost use Rattle.std.specs.Option.{option_map};
 ghost use Rattle.std.specs.List.Sorted.{IsStrictlyIncreasing};
@@ -50,6 +50,31 @@ fn count_reached(bounds: &Bounds, rva: usize) -> (usize, usize)
         }
     }
     (low, probes)
+}
+
+// How many pieces begin at or before the address, if the last of them is piece `i`.
+#[inline(always)]
+#[tactic(auto, using(crate::proofs::Halving::reached_last, crate::proofs::Halving::reached_before))]
+fn count_in_piece(bounds: &Bounds, i: usize, rva: usize) -> Option<usize>
+    requires { IsStrictlyIncreasing bounds.now }
+    ensures { IfSome result (λ count. count ≡ reached bounds.now rva) }
+{
+    let count = bounds.len();
+    if i >= count {
+        return None;
+    }
+    let mut probes = 0;
+    if !bounds.reaches(i, rva, &mut probes) {
+        return None;
+    }
+    let next = i + 1;
+    if next == count {
+        return Some(next);
+    }
+    if bounds.reaches(next, rva, &mut probes) {
+        return None;
+    }
+    Some(next)
 }
 
 /// The address space, cut into pieces at the windows of sections. Each piece keeps the index, the
@@ -177,5 +202,29 @@ impl WindowIndex {
         ensures { result ≡ located self.now rva }
     {
         self.find_counted(rva).0
+    }
+
+    /// The file offset of the address `rva`, as [`WindowIndex::find`] returns it. Piece `near`,
+    /// which may be any number, is looked at first, and where the address lies in it no other is;
+    /// `near` is then the piece of the address. So addresses that lie near one another are found
+    /// with two probes each.
+    #[inline(always)]
+    pub fn find_near(&self, rva: usize, near: &mut usize) -> Option<usize>
+        ensures { result ≡ located self.now rva }
+    {
+        let count = match count_in_piece(&self.bounds, *near, rva) {
+            Some(count) => count,
+            None => self.count(rva),
+        };
+        *near = count.saturating_sub(1);
+        self.offset_by_count(count, rva)
+    }
+
+    // How many pieces begin at or before the address.
+    #[inline(never)]
+    fn count(&self, rva: usize) -> usize
+        ensures { result ≡ reached self.now.begins rva }
+    {
+        count_reached(&self.bounds, rva).0
     }
 }

@@ -31,15 +31,16 @@ pub record AtImports (format : Format EntryValue) (start now : Walk) : Type 0 wh
   pub bytes : now.bytes.now ≡ start.bytes.now
   pub address_map : now.address_map.now ≡ start.address_map.now
 
--- the walk at another place
-abbrev pub moved : Walk → ℕ → Walk
-moved s place = record {
+-- the walk at another place, whose last address was found in a piece
+abbrev pub moved : Walk → ℕ → ℕ → Walk
+moved s place near = record {
   bytes = s.bytes;
   address_map = s.address_map;
   dll = s.dll;
   rva = s.rva;
   offset = s.offset;
   place = Some place;
+  near = near;
   untested = s.untested;
   next = s.next;
 }
@@ -89,7 +90,7 @@ module _ (format : Format EntryValue) (start s : Walk) (h : AtImports format sta
 
   module _ (r : Result KeptEntry ErrorOf) (given : Steps (Some r)) where
     -- an entry is kept
-    module _ (kept : KeptEntry) (is : r ≡ Ok kept) (place : ℕ) (to : place ≡ kept.place + format.width)
+    module _ (kept : KeptEntry) (is : r ≡ Ok kept) (place : ℕ) (to : place ≡ kept.place + format.width) (near : ℕ)
       where
         steps : Steps (Some (Ok kept))
         steps = subst (λ (q : Result KeptEntry ErrorOf). Steps (Some q)) is given
@@ -97,8 +98,8 @@ module _ (format : Format EntryValue) (start s : Walk) (h : AtImports format sta
         abbrev item : ImportValue
         item = kept_import format.width s.dll.now s.rva s.offset (kept_value kept)
 
-        pub next-one : (walk_left format start ≡ Some item ∷ walk_left format (moved s place))
-            × ((e : ErrorOf) → IsWalkCause format (moved s place) e → IsWalkCause format start e)
+        pub next-one : (walk_left format start ≡ Some item ∷ walk_left format (moved s place near))
+            × ((e : ErrorOf) → IsWalkCause format (moved s place near) e → IsWalkCause format start e)
         unfolding until_refused all_of
         next-one = (
           h.same ∙ rw (steps.0, to) refl,

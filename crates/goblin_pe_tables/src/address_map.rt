@@ -100,6 +100,15 @@ impl AddressMap {
         self.index.find(rva as usize)
     }
 
+    /// The file offset of an address, as [`AddressMap::offset_of`]; where it was found is told by
+    /// `near`, and the next is looked for there first.
+    #[inline(always)]
+    pub fn offset_near(&self, rva: u32, near: &mut usize) -> Option<usize>
+        ensures { result ≡ offset_of (map_of self.now) rva }
+    {
+        self.index.find_near(rva as usize, near)
+    }
+
     /// The text at an address: in permissive mode `None` if there is none.
     ///
     /// # Errors

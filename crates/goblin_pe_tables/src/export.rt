@@ -302,6 +302,13 @@ fn add_row<'a>(rows: &mut Vec<Export<'a>>, export: Export<'a>, expected: usize) 
     Ok(())
 }
 
+// Where the map found the last addresses: those of names, and those of exports.
+#[derive(Copy, Clone, Default)]
+pub(crate) struct Near {
+    names: usize,
+    exports: usize,
+}
+
 impl<'a> Export<'a> {
     // The export of a name pointer and an address, where the text of a forwarder is there.
     #[inline(always)]
@@ -311,15 +318,16 @@ impl<'a> Export<'a> {
         pointer: u32,
         address: ExportAddressTableEntry,
         address_map: &AddressMap,
+        near: &mut Near,
     ) -> Option<Export<'a>>
         ensures { let m = map_of address_map.now in
             result ≡ (reading.row_of (offset_of m) pointer address).value bytes.now }
     {
         let rva = rva_of(address);
-        let offset = address_map.offset_of(rva);
+        let offset = address_map.offset_near(rva, &mut near.exports);
         let reexport = reexport_of(bytes, address, offset)?;
         Some(Export {
-            name: text_at(bytes, address_map.offset_of(pointer)),
+            name: text_at(bytes, address_map.offset_near(pointer, &mut near.names)),
             offset,
             rva: rva as usize,
             size: 0,
@@ -336,6 +344,7 @@ impl<'a> Export<'a> {
         tables: &T,
         index: usize,
         address_map: &AddressMap,
+        near: &mut Near,
     ) -> Option<(u16, Export<'a>)>
         ensures { let m = map_of address_map.now in
             let t = T.entries tables.now in
@@ -346,7 +355,7 @@ impl<'a> Export<'a> {
         let pointer = tables.pointer(index)?;
         let ordinal = tables.ordinal(index)?;
         let address = tables.address(usize::from(ordinal))?;
-        let export = Export::of_address(bytes, pointer, address, address_map)?;
+        let export = Export::of_address(bytes, pointer, address, address_map, near)?;
         Some((ordinal, export))
     }
 
@@ -430,8 +439,10 @@ impl<'a> Export<'a> {
             return Ok(rows);
         }
         let expected = expected_count(export_data);
+        let mut near = Near::default();
         'rows: for index in 0..export_data.pointers() {
-            if let Some((_, export)) = Export::of_pointer(bytes, export_data, index, address_map) {
+            let export = Export::of_pointer(bytes, export_data, index, address_map, &mut near);
+            if let Some((_, export)) = export {
                 add_row(&mut rows, export, expected)?;
             }
         }

@@ -52,7 +52,7 @@ fn counted<'a, 'm, 'e>(imports: FileImports<'a, 'm, 'e>) -> (usize, Option<Error
     let mut count = 0usize;
     for import in imports {
         match import {
-            Ok(_) => count = count.saturating_add(1),
+            Ok(_) => count = count.wrapping_add(1),
             Err(error) => return (count, Some(error)),
         }
     }

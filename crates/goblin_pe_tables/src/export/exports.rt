@@ -12,9 +12,9 @@ ghost use Rattle.goblin_pe_tables.specs.ExportWalks.{exports_left, numbered_expo
 ghost use Rattle.goblin_pe_tables.specs.ExportWalks.{walked_export, walked_tables};
 
 use crate::address_map::AddressMap;
-use crate::export::Export;
 use crate::export::entries::{Entries, TablesInFile};
 use crate::export::tables::{ExportAddressTableEntry, ExportDirectoryTable};
+use crate::export::{Export, Near};
 use goblin_base::Result;
 use goblin_pe_sect::DataDirectory;
 use std::fmt;
@@ -44,6 +44,7 @@ pub struct Exports<'a, 'm> {
     tables: TablesInFile<'a>,
     // The index of the name pointer that is read next.
     next: usize,
+    near: Near,
 }
 
 impl<'a, 'm> Exports<'a, 'm> {
@@ -73,6 +74,7 @@ impl<'a, 'm> Exports<'a, 'm> {
             address_map,
             tables,
             next: 0,
+            near: Near::default(),
         })
     }
 
@@ -87,6 +89,7 @@ impl<'a, 'm> Exports<'a, 'm> {
             address_map: self.address_map,
             tables: self.tables,
             next: position,
+            near: self.near,
         }
     }
 
@@ -130,7 +133,7 @@ impl<'a, 'm> Exports<'a, 'm> {
     // The export of the name pointer at an index, where that has one.
     #[inline(always)]
     #[tactic(auto, unfolding(crate::specs::ExportWalks::numbered_export))]
-    fn export_at(&self, index: usize) -> Option<WalkedExport<'a>>
+    fn export_at(&self, index: usize, near: &mut Near) -> Option<WalkedExport<'a>>
         ensures { let m = map_of self.now.address_map.now in
             option_map walked_export result
             ≡ numbered_export (offset_of m) self.now.bytes.now (walked_tables self.now) index }
@@ -140,6 +143,7 @@ impl<'a, 'm> Exports<'a, 'm> {
             &self.tables,
             index,
             self.address_map,
+            near,
         )?;
         let base = self.tables.export_directory_table.ordinal_base;
         Some(WalkedExport {
@@ -164,9 +168,11 @@ impl<'a, 'm> Iterator for Exports<'a, 'm> {
             self.old result self.new }
         ensures over { KeepsOver self.old self.new }
     {
+        let mut near = self.near;
         'pointers: for index in self.next..self.tables.pointers() {
             self.next = index + 1;
-            if let Some(export) = self.export_at(index) {
+            if let Some(export) = self.export_at(index, &mut near) {
+                self.near = near;
                 return Some(export);
             }
         }

@@ -76,6 +76,8 @@ struct Walk<'a, 'm> {
     // Where its lookup table begins, and its next slot; `None` between two libraries.
     offset: usize,
     place: Option<usize>,
+    // Where the map found the last address.
+    near: usize,
     // The address of its address table if that is to be tested after its entries.
     untested: Option<u32>,
     // Where the walk goes on after the library.
@@ -208,6 +210,7 @@ impl<'a, 'm> Walk<'a, 'm> {
             rva: 0,
             offset: 0,
             place: None,
+            near: 0,
             untested: None,
             next,
         }
@@ -278,6 +281,7 @@ impl<'a, 'm> Walk<'a, 'm> {
             rva: entry.import_address_table_rva,
             offset: table.unwrap_or(0),
             place: begin_at(slot, table),
+            near: 0,
             untested: Some(address_table_rva(entry)),
             next: Some(after),
         })
@@ -362,9 +366,12 @@ impl<'a, 'm> Walk<'a, 'm> {
         ensures fewer { IfSome result (λ r. walk_bound self.new < walk_bound self.old) }
     {
         'libraries: loop {
-            match next_kept::<T>(self.bytes, self.offset, self.place, self.address_map) {
+            let mut near = self.near;
+            let (bytes, address_map) = (self.bytes, self.address_map);
+            match next_kept::<T>(bytes, self.offset, self.place, address_map, &mut near) {
                 Some(Ok(kept)) => {
                     self.place = Some(kept.place + T::size_of());
+                    self.near = near;
                     let import = import_of::<T>(kept, self.dll, self.rva, self.offset);
                     return Some(Ok(import));
                 }

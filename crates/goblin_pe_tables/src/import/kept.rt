@@ -24,13 +24,15 @@ pub(super) struct KeptEntry<'a> {
 }
 
 // The next entry that a lookup table at `offset` keeps, of the slots from the one at `place` on; the
-// error if one before it is refused, and `None` at the end or without a place.
+// error if one before it is refused, and `None` at the end or without a place. Addresses are looked
+// for first where the last one was, at `near`.
 #[inline(always)]
 pub(super) fn next_kept<'a, 'e, T: Bitfield<'a>>(
     bytes: &'a [u8],
     offset: usize,
     place: Option<usize>,
     address_map: &AddressMap,
+    near: &mut usize,
 ) -> Option<ResultOf<'e, KeptEntry<'a>>>
     ensures steps { let m = map_of address_map.now in
         GivesNext kept_value
@@ -55,7 +57,7 @@ pub(super) fn next_kept<'a, 'e, T: Bitfield<'a>>(
         if entry.is_zero() {
             return None;
         }
-        match SyntheticImportLookupTableEntry::kept(&entry, bytes, address_map) {
+        match SyntheticImportLookupTableEntry::kept(&entry, bytes, address_map, near) {
             Ok(Some(entry)) => {
                 let slot = place.saturating_sub(offset) / size;
                 return Some(Ok(KeptEntry { slot, place, entry }));

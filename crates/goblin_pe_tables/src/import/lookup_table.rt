@@ -98,13 +98,15 @@ pub enum SyntheticImportLookupTableEntry<'a> {
 }
 
 impl<'a> SyntheticImportLookupTableEntry<'a> {
-    // What a table keeps of an entry: `None` if it leads nowhere, or in permissive mode to no hint.
+    // What a table keeps of an entry: `None` if it leads nowhere, or in permissive mode to no hint. Its
+    // address is looked for first where the last one was, at `near`.
     #[inline(always)]
     #[tactic(auto, unfolding(crate::specs::LookupReadings::kept_entry, crate::specs::LookupReadings::kept_name))]
     pub(super) fn kept<'e, T: Bitfield<'a>>(
         entry: &T,
         bytes: &'a [u8],
         address_map: &AddressMap,
+        near: &mut usize,
     ) -> ResultOf<'e, Option<SyntheticImportLookupTableEntry<'a>>>
         ensures { let m = map_of address_map.now in
             Reads kept_view result
@@ -115,7 +117,7 @@ impl<'a> SyntheticImportLookupTableEntry<'a> {
             return Ok(Some(SyntheticImportLookupTableEntry::OrdinalNumber(ordinal)));
         }
         let rva = entry.to_rva();
-        let Some(offset) = address_map.offset_of(rva) else {
+        let Some(offset) = address_map.offset_near(rva, near) else {
             return Ok(None);
         };
         match HintNameTableEntry::parse_with_opts(bytes, offset, address_map.opts()) {
@@ -269,6 +271,7 @@ impl<'a> SyntheticImportLookupTableEntry<'a> {
         let mut slots = Vec::new(alloc);
         let mut place = offset;
         let mut slot = 0;
+        let mut near = 0;
         'slots: loop {
             let Ok(entry) = read_entry::<T>(bytes, place) else {
                 if address_map.is_permissive() {
@@ -279,7 +282,12 @@ impl<'a> SyntheticImportLookupTableEntry<'a> {
             if entry.is_zero() {
                 break 'slots;
             }
-            let kept = SyntheticImportLookupTableEntry::kept(&entry, bytes, address_map)?;
+            let kept = SyntheticImportLookupTableEntry::kept(
+                &entry,
+                bytes,
+                address_map,
+                &mut near,
+            )?;
             push_kept(&mut entries, &mut slots, kept, slot)?;
             place += size;
             slot += 1;

@@ -16,7 +16,7 @@ rows-init c =
 
 pub rows-preserved : goal.rows-preserved
 rows-preserved c =
-    elim c.match-of_pointer.branch [
+    elim c.match-export.branch [
       | in-Some+in_ok-add_row w ↦
           rw w.rows-is
           (w.in_ok-add_row.ensures.added ∙ row_more _ _ _ c.rows.invariant.0 _ (sym w.in-Some.ensures.0), w.in_ok-add_row.ensures.room c.rows.invariant.1)

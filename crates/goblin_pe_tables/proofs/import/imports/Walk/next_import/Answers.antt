@@ -10,7 +10,7 @@ pub returns-in-Some-Ok-clause-steps : goal.returns-in-Some-Ok-clause-steps
 returns-in-Some-Ok-clause-steps g c =
     rw c.import_of-import.ensures
     (next-one g.T.Bitfield.format c.args.self.now c.libraries.self c.libraries.invariant c.in-Some-Ok.field-0 c.in-Some-Ok.ensures.steps c.in-Some-Ok.kept c.in-Some-Ok.field-0-is _
-    (ap (λ (n : ℕ). c.in-Some-Ok.kept.place + n) c.size_of.ensures.width))
+    (ap (λ (n : ℕ). c.in-Some-Ok.kept.place + n) c.size_of.ensures.width) c.next_kept.new.near)
 
 pub returns-in-Some-Err-clause-steps : goal.returns-in-Some-Err-clause-steps
 returns-in-Some-Err-clause-steps g c =
