@@ -143,6 +143,19 @@ def without_directory(image, index):
     return with_directory(image, index, 0, 0)
 
 
+def with_rich_header(image, key, entries):
+    """The image for 64 bits, whose headers have room left, with a Rich header before its PE signature: each entry a pair
+    (tool and its build, count)."""
+    words = [0x536E6144, 0, 0, 0, *(word for entry in entries for word in entry)]
+    rich = struct.pack("<%dI4sI" % len(words), *(word ^ key for word in words), b"Rich", key)
+    signature, = struct.unpack_from("<I", image, 0x3C)
+    size, = struct.unpack_from("<I", image, signature + 0x54)
+    assert not any(image[size - len(rich):size]), "no room in the headers"
+    image = bytearray(image[:signature] + rich + image[signature:size - len(rich)] + image[size:])
+    struct.pack_into("<I", image, 0x3C, signature + len(rich))
+    return image
+
+
 def pointers_to_nowhere(count):
     """An image whose export directory has so many name pointers, of which only the first leads to an address."""
     base = 0x1000

@@ -12,6 +12,7 @@ from tests.programs import BY_NAME, CALLERS, CC, FLAGS, IMAGES, OBJECTS, SAMPLES
 STRICT = ["-pedantic", "-Wcast-qual", "-Wconversion"]
 VALGRIND = ["valgrind", "-q", "--error-exitcode=9", "--leak-check=full"]
 SANITIZED = ("-std=c11", "-g", "-fsanitize=address,undefined", "-fno-sanitize-recover=all")
+OF_IMAGES = ("open", "damage", "footprint", "imports", "exports")
 # What stands around the program of the README.
 README = b"""#include "goblin_pe.h"
 void map_sections(const struct goblin_pe_section *sections, size_t count);
@@ -33,6 +34,11 @@ def built(name, *flags):
     made = programs.folder() / "-".join([name, *flags])
     succeed([CC, *(flags or ["-std=c11"]), *FLAGS, *STRICT, "-o", made, CALLERS / f"c/{name}.c", library() / "libgoblin_pe.a"])
     return made
+
+
+def refused(call, file):
+    """How many growths of memory a call asks for, each of which is refused once."""
+    return int(succeed([built("growths"), call, file]))
 
 
 def need_flags(*flags):
@@ -60,16 +66,26 @@ class Programs(Case):
         succeed([built("threads", "-std=c11", "-pthread", "-fsanitize=thread"), "256", "1", BY_NAME])
 
     def test_each_growth_is_refused(self):
-        of_images = [(call, IMAGES) for call in ("open", "damage", "footprint", "imports", "exports")]
-        for call, samples in (*of_images, ("object", OBJECTS), ("te", TERSE)):
+        for call, samples in (*((call, IMAGES) for call in OF_IMAGES), ("object", OBJECTS), ("te", TERSE)):
             for sample in samples:
                 with self.subTest(call=call, sample=sample.name):
-                    succeed([built("growths"), call, sample])
+                    self.assertGreater(refused(call, sample), 0)
 
     def test_a_file_without_a_table_leaves_no_block_behind(self):
         for index, table in ((0, "exports"), (1, "imports"), (5, "base relocations")):
             with self.subTest(table):
-                succeed([built("growths"), "open", self.written("without.dll", images.without_directory(BY_NAME.read_bytes(), index))])
+                without = self.written("without.dll", images.without_directory(BY_NAME.read_bytes(), index))
+                self.assertGreater(refused("open", without), 0)
+
+    def test_the_entries_of_a_rich_header_are_a_block_more(self):
+        plain = images.library(b"plain.dll", [(b"Apple", 0x3010)])
+        rich = images.with_rich_header(plain, 0x12345678, [(0x1047809, 3), (0x930001, 7)])
+        before, after = ([refused(call, self.written("some.dll", it)) for call in OF_IMAGES] for it in (plain, rich))
+        self.assertEqual(after[0], before[0] + 1)
+
+    def test_a_file_without_sections_takes_memory_for_its_footprint_alone(self):
+        bare = self.written("bare.dll", images.image_headers(0x200, 0, 0x1000, ()))
+        self.assertEqual([call for call in OF_IMAGES if refused(call, bare)], ["footprint"])
 
     def test_a_program_in_cxx_finds_the_interface_that_it_declares(self):
         need("c++")

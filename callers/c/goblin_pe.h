@@ -35,9 +35,9 @@
    goblin_pe_next_imports, with parse_imports true: it takes memory for the sections and what maps the
    addresses, and gives it back; stop when it is enough.
 
-   The fields are those of the crate goblin_pe_calls and of the libraries below it, in the same order, and
-   so are the numbers; callers/layout.py compares them. In C++ a record with the name of a call, such as
-   goblin_pe_damage, is named with the word struct. */
+   The fields are those of the proved records, in the same order, and so are the numbers; callers/layout.py
+   compares them. In C++ a record with the name of a call, such as goblin_pe_damage, is named with the word
+   struct. */
 #ifndef GOBLIN_PE_H
 #define GOBLIN_PE_H
 

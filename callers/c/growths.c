@@ -1,7 +1,8 @@
 /* Makes a call with its first growth of memory refused, then its second, and so on, until one meets no refusal:
    growths CALL FILE, where CALL is open, damage, footprint, imports, exports, object or te. The status is 0 where
    each refused growth is answered as such, changes no record and leaves no block behind, and where all blocks of
-   the last call are freed with what it filled. It stands before malloc, realloc and free of glibc. */
+   the last call are freed with what it filled. Then it prints how many growths it refused. It stands before malloc,
+   realloc and free of glibc. */
 #include "goblin_pe.h"
 
 #include <stdio.h>
@@ -102,7 +103,8 @@ int main(int argc, char **argv)
             goblin_pe_free(&new.tables);
             goblin_pe_free_ranges(&new.ranges);
             is_called = false;
-            return fault.status == GOBLIN_PE_OK && growth > 1 && !blocks ? 0 : 1;
+            printf("%zu\n", growth - 1);
+            return fault.status == GOBLIN_PE_OK && !blocks ? 0 : 1;
         }
         if (fault.status != GOBLIN_PE_NO_MEMORY || memcmp(&new, &old, sizeof new) || blocks)
             return 1;

@@ -34,7 +34,7 @@ The rows Section, Import, Export, Block, Symbol, Range and others are named tupl
 are those of the format: a changed copy is made by _replace, and Pe.write writes it. State, Status, Kind, Cause, Counted,
 ReadFault and DirectoryType name numbers. All of them can be imported from here.
 
-The reader is the proved library goblin_pe_c. Its shared library stands beside an installed module; in the repository
+The reader is the proved library goblin_pe. Its shared library stands beside an installed module; in the repository
 callers/build puts it into callers/lib. The variable GOBLIN_PE_SO names another when the module is imported.
 """
 import ctypes as c

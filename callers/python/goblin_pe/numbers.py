@@ -1,5 +1,4 @@
-"""The numbers in the library's records, by name. callers/layout.py compares them with those of the crate
-goblin_pe_calls."""
+"""The numbers in the library's records, by name. callers/layout.py compares them with those of the proved records."""
 import enum
 
 

@@ -1,5 +1,5 @@
-"""The library's records. Their fields are those of the crate goblin_pe_calls and of the libraries below it, in the same
-order; callers/layout.py compares them, and goblin_pe.h says of each field what it is.
+"""The library's records. Their fields are those of the proved records, in the same order; callers/layout.py compares
+them, and goblin_pe.h says of each field what it is.
 
 Headers are named tuples, which nobody can change. What lies in memory is a record with the same fields (`laid_out`);
 a header that stands in a record is read as its named tuple."""

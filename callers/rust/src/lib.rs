@@ -1,7 +1,7 @@
 //! Reads PE files that can't be trusted: images with their headers, sections, imports, exports and base
 //! relocations, objects with their symbols, and Terse Executables.
 //!
-//! The reader is the proved library `goblin_pe_c`; this crate declares it and gives its records types.
+//! The reader is the proved library `goblin_pe`; this crate declares it and gives its records types.
 //! Rows, names and texts borrow from the bytes alone. Addresses (`rva`) are
 //! relative to the image's base, and offsets are file offsets, both in bytes.
 //!

@@ -96,7 +96,7 @@ pub struct Fault {
 /// are as stored, little-endian in a file; the record has 64 bytes, and `at` gives a field's file
 /// offset. A loader of PE files looks only at the signature and the pointer.
 #[repr(C)]
-#[derive(Clone, Copy, Debug, Default, PartialEq, Eq, Hash)]
+#[derive(Clone, Copy, Debug, Default, PartialEq, Eq, PartialOrd, Ord, Hash)]
 pub struct DosHeader {
     /// MZ, at 0x00.
     pub signature: u16,
@@ -146,7 +146,7 @@ pub struct DosHeader {
 /// 20 bytes, and `at` gives a field's offset in it. An object begins with it; in an image it
 /// follows the PE signature.
 #[repr(C)]
-#[derive(Clone, Copy, Debug, Default, PartialEq, Eq, Hash)]
+#[derive(Clone, Copy, Debug, Default, PartialEq, Eq, PartialOrd, Ord, Hash)]
 pub struct CoffHeader {
     /// The machine that the file is for, a `COFF_MACHINE_*`, at 0. No reader looks at it: the width
     /// of an image is what the magic of its optional header says.
@@ -175,7 +175,7 @@ pub struct CoffHeader {
 /// Source: PE Format, "Optional Header Standard Fields (Image Only)". `at` gives a field's offset
 /// from the front of the optional header, in both widths.
 #[repr(C)]
-#[derive(Clone, Copy, Debug, Default, PartialEq, Eq, Hash)]
+#[derive(Clone, Copy, Debug, Default, PartialEq, Eq, PartialOrd, Ord, Hash)]
 pub struct StandardFields {
     /// What the optional header is, at 0: 0x10b or 0x20b. Only this says the width of the header
     /// and of import entries.
@@ -206,7 +206,7 @@ pub struct StandardFields {
 /// stored; the record has 88 bytes, and `at` gives a field's offset in it. It begins at 24 in the
 /// optional header.
 #[repr(C)]
-#[derive(Clone, Copy, Debug, Default, PartialEq, Eq, Hash)]
+#[derive(Clone, Copy, Debug, Default, PartialEq, Eq, PartialOrd, Ord, Hash)]
 pub struct WindowsFields {
     /// The address at which the image is best loaded, a multiple of 64 KiB, at 0. Where the loader
     /// takes another, it applies the base relocations.
@@ -263,7 +263,7 @@ pub struct WindowsFields {
 
 /// The optional header; zeros where there is none.
 #[repr(C)]
-#[derive(Clone, Copy, Debug, Default, PartialEq, Eq, Hash)]
+#[derive(Clone, Copy, Debug, Default, PartialEq, Eq, PartialOrd, Ord, Hash)]
 pub struct OptionalHeader {
     /// The standard fields. Their magic is 0 where there is no optional header.
     pub standard_fields: StandardFields,
@@ -276,7 +276,7 @@ pub struct OptionalHeader {
 /// Source: PE Format, "Optional Header Data Directories (Image Only)". Numbers are as stored; the
 /// record has 8 bytes, and `at` gives a field's offset in it.
 #[repr(C)]
-#[derive(Clone, Copy, Debug, Default, PartialEq, Eq, Hash)]
+#[derive(Clone, Copy, Debug, Default, PartialEq, Eq, PartialOrd, Ord, Hash)]
 pub struct DataDirectory {
     /// The table's address, relative to the image's base, at 0. That of the certificates is a file
     /// offset, since they are not loaded.
@@ -307,7 +307,7 @@ pub struct Directory {
 /// in it. It replaces the headers of a PE file and keeps what a loader of firmware needs of them;
 /// its addresses still count the bytes that were stripped.
 #[repr(C)]
-#[derive(Clone, Copy, Debug, Default, PartialEq, Eq, Hash)]
+#[derive(Clone, Copy, Debug, Default, PartialEq, Eq, PartialOrd, Ord, Hash)]
 pub struct TeHeader {
     /// VZ, at 0. No reader tests it.
     pub signature: u16,
@@ -341,7 +341,7 @@ pub struct TeHeader {
 /// the record has 8 bytes, and `at` gives a field's offset in it. In a file its two words are
 /// stored under the header's key.
 #[repr(C)]
-#[derive(Clone, Copy, Debug, Default, PartialEq, Eq, Hash)]
+#[derive(Clone, Copy, Debug, Default, PartialEq, Eq, PartialOrd, Ord, Hash)]
 pub struct RichMetadata {
     /// The build of the tool, at 0.
     pub build: u16,
@@ -486,7 +486,7 @@ pub struct ExportAddress {
 /// Source: PE Format, "Export Directory Table". Numbers are as stored; the record has 40 bytes, and
 /// `at` gives a field's offset in it. Addresses are relative to the image's base.
 #[repr(C)]
-#[derive(Clone, Copy, Debug, Default, PartialEq, Eq, Hash)]
+#[derive(Clone, Copy, Debug, Default, PartialEq, Eq, PartialOrd, Ord, Hash)]
 pub struct ExportDirectoryTable {
     /// Reserved, 0, at 0.
     pub export_flags: u32,
@@ -642,7 +642,7 @@ pub struct NamedSymbol<'a> {
 /// Source: PE Format, "Auxiliary Format 1: Function Definitions". Numbers are as stored; the record
 /// has 18 bytes, and `at` gives a field's offset in it.
 #[repr(C)]
-#[derive(Clone, Copy, Debug, Default, PartialEq, Eq, Hash)]
+#[derive(Clone, Copy, Debug, Default, PartialEq, Eq, PartialOrd, Ord, Hash)]
 pub struct AuxFunctionDefinition {
     /// The index in the symbol table of the function's start, a record of class
     /// `IMAGE_SYM_CLASS_FUNCTION`, at 0.
@@ -663,7 +663,7 @@ pub struct AuxFunctionDefinition {
 /// Source: PE Format, "Auxiliary Format 2: .bf and .ef Symbols". Numbers are as stored; the record
 /// has 18 bytes, and `at` gives a field's offset in it.
 #[repr(C)]
-#[derive(Clone, Copy, Debug, Default, PartialEq, Eq, Hash)]
+#[derive(Clone, Copy, Debug, Default, PartialEq, Eq, PartialOrd, Ord, Hash)]
 pub struct AuxBeginAndEndFunction {
     /// Not used, at 0.
     pub unused1: [u8; 4],
@@ -683,7 +683,7 @@ pub struct AuxBeginAndEndFunction {
 /// Source: PE Format, "Auxiliary Format 3: Weak Externals". Numbers are as stored; the record has
 /// 18 bytes, and `at` gives a field's offset in it.
 #[repr(C)]
-#[derive(Clone, Copy, Debug, Default, PartialEq, Eq, Hash)]
+#[derive(Clone, Copy, Debug, Default, PartialEq, Eq, PartialOrd, Ord, Hash)]
 pub struct AuxWeakExternal {
     /// The index in the symbol table of the symbol that is taken where this one is not found, at 0.
     pub tag_index: u32,
@@ -698,7 +698,7 @@ pub struct AuxWeakExternal {
 /// Source: PE Format, "Auxiliary Format 5: Section Definitions". Numbers are as stored; the record
 /// has 18 bytes, and `at` gives a field's offset in it.
 #[repr(C)]
-#[derive(Clone, Copy, Debug, Default, PartialEq, Eq, Hash)]
+#[derive(Clone, Copy, Debug, Default, PartialEq, Eq, PartialOrd, Ord, Hash)]
 pub struct AuxSectionDefinition {
     /// The size of the section's data, in bytes, at 0: the same as in its section record.
     pub length: u32,
@@ -722,7 +722,7 @@ pub struct AuxSectionDefinition {
 /// Source: PE Format, "COFF Relocations (Object Only)". Numbers are as stored; the record has 10
 /// bytes, and `at` gives a field's offset in it.
 #[repr(C)]
-#[derive(Clone, Copy, Debug, Default, PartialEq, Eq, Hash)]
+#[derive(Clone, Copy, Debug, Default, PartialEq, Eq, PartialOrd, Ord, Hash)]
 pub struct Relocation {
     /// Where the bytes that are changed begin, at 0: their offset in the section, in bytes, plus
     /// the section's own address, which is mostly 0. Of the first relocation of a section with

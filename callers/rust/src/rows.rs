@@ -24,7 +24,7 @@ use std::fmt;
 /// out[..size].copy_from_slice(&written[..size]);
 /// # Ok::<(), goblin_pe::Error>(())
 /// ```
-#[derive(Clone, Copy, Debug, PartialEq, Eq, Hash)]
+#[derive(Clone, Copy, Debug, PartialEq, Eq, PartialOrd, Ord, Hash)]
 pub struct Header<'a> {
     /// The DOS header.
     pub dos_header: DosHeader,
@@ -499,7 +499,7 @@ pub struct ExportAddress {
 }
 
 /// The record of the exports.
-#[derive(Clone, Copy, Debug, PartialEq, Eq, Hash)]
+#[derive(Clone, Copy, Debug, PartialEq, Eq, PartialOrd, Ord, Hash)]
 pub struct ExportDirectory<'a> {
     /// The name with which the library was linked; `None` where no text stands at its address.
     pub name: Option<Text<'a>>,

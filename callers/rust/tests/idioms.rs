@@ -1,8 +1,11 @@
 //! What a user of Rust takes for granted of texts, rows, iterators and errors.
 use goblin_pe::{
-    DirectoryType, Error, ErrorKind, Import, Imported, Object, Options, Part, Pe, Text,
+    AuxBeginAndEndFunction, AuxFunctionDefinition, AuxSectionDefinition, AuxWeakExternal,
+    DirectoryType, Error, ErrorKind, ExportDirectory, Header, Import, Imported, Object, Options,
+    Part, Pe, Relocation, RichMetadata, TeHeader, Text,
 };
 use std::collections::{BTreeSet, HashMap};
+use std::hash::Hash;
 use std::io;
 
 fn sample(name: &str) -> Vec<u8> {
@@ -108,7 +111,15 @@ fn rows_and_kinds_are_sorted_and_hashed() {
     let parts = HashMap::from([(pe.import_table(), pe.imports().next())]);
     assert!(parts[&Part::Read].is_some());
     assert!(Part::Absent < Part::Read && ErrorKind::Malformed < ErrorKind::Memory);
+    let mut changed = pe.header();
+    changed.coff_header.time_date_stamp += 1;
+    assert!(pe.header() < changed);
+    are_rows::<(Header, TeHeader, RichMetadata, ExportDirectory, Relocation)>();
+    are_rows::<(AuxFunctionDefinition, AuxBeginAndEndFunction)>();
+    are_rows::<(AuxWeakExternal, AuxSectionDefinition)>();
 }
+
+fn are_rows<T: Copy + Ord + Hash>() {}
 
 #[test]
 fn a_copy_outlives_what_it_is_of() {
