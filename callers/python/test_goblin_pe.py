@@ -313,6 +313,14 @@ class Files(unittest.TestCase):
             self.assertEqual(pe.section_data(s), found)
             self.assertEqual(found.data, data[s.pointer_to_raw_data:][:s.size_of_raw_data])
             self.assertEqual(len(found.data) + found.zeros, max(s.virtual_size, s.size_of_raw_data))
+        unaligned = bytearray(sample("program_x64.exe"))
+        headers = Pe(unaligned)
+        table = headers.dos_header.pe_pointer + 24 + headers.coff_header.size_of_optional_header
+        unaligned[table + 20] |= 0x10  # (the raw pointer of the first)
+        pe = Pe(unaligned, Options(rounds_raw_pointers=True))
+        first = pe.sections[0]
+        self.assertEqual(pe.section_data(first).data[:16], pe.bytes_at(first.virtual_address, 16))
+        self.assertNotEqual(first.pointer_to_raw_data, pe.find_offset(first.virtual_address))
         s = next(it for it in Pe(data).sections if it.size_of_raw_data)
         self.assertRaises(Refused, s.data, data[:s.pointer_to_raw_data + s.size_of_raw_data - 1])
 

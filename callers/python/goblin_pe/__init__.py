@@ -265,7 +265,10 @@ class Pe:
             return _Rows(in_bytes, address).text(text) if is_there else None
 
     def section_data(self, section: Section) -> SectionData:
-        """The data of one of its sections, and how many zeros follow it in memory; see Section.data."""
+        """The data of one of its sections, and how many zeros follow it in memory. It begins where find_offset has the
+        section's address: at the raw pointer, which the options may round down to 512."""
+        if self._options.rounds_raw_pointers:
+            section = section._replace(pointer_to_raw_data=section.pointer_to_raw_data & ~0x1FF)
         return section.data(self._bytes())
 
     def walk_imports(self) -> Iterator[Import]:

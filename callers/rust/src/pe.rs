@@ -223,7 +223,9 @@ impl<'a> Pe<'a> {
         self.sections().find(|s| s.name == *name.as_ref())
     }
 
-    /// The data of one of its sections, and how many zeros follow it in memory; see [`Section::data`].
+    /// The data of one of its sections, and how many zeros follow it in memory. It begins where
+    /// [`Pe::find_offset`] has the section's address: at the raw pointer, which the options may round
+    /// down to 512.
     ///
     /// # Errors
     /// Where the data passes the file, and where it begins past the end, even if there is none.
@@ -236,6 +238,10 @@ impl<'a> Pe<'a> {
     /// # Ok::<(), goblin_pe::Error>(())
     /// ```
     pub fn section_data(&self, section: &Section) -> Result<(&'a [u8], usize), Error> {
+        let mut section = *section;
+        if self.options.rounds_raw_pointers {
+            section.pointer_to_raw_data &= !0x1FF;
+        }
         section.data(self.bytes)
     }
 

@@ -247,7 +247,8 @@ impl<'a> Section<'a> {
     }
 
     /// The pair (data in the file `bytes`, how many zeros follow it in memory). The data begins at the
-    /// raw pointer as stored. [`Pe::section_data`](crate::Pe::section_data) takes the bytes that were read.
+    /// raw pointer as stored. [`Pe::section_data`](crate::Pe::section_data) takes the bytes that were read,
+    /// and begins where the options say.
     ///
     /// # Errors
     /// [`ErrorKind::Read`](crate::ErrorKind::Read) where the data passes the file, and where it begins

@@ -140,6 +140,23 @@ fn place(bytes: &[u8], part: &[u8]) -> usize {
 }
 
 #[test]
+fn the_data_of_a_section_begins_where_its_address_is_mapped() {
+    let mut bytes = sample("align16_x64.dll");
+    let options = Options {
+        rounds_raw_pointers: true,
+        ..Options::permissive()
+    };
+    let table = Pe::read(&bytes, &options).unwrap().header().section_table();
+    bytes[table + 20] |= 0x10; // (the raw pointer of the first)
+    let pe = Pe::read(&bytes, &options).unwrap();
+    let first = pe.sections().next().unwrap();
+    let (data, _) = pe.section_data(&first).unwrap();
+    let mapped = pe.find_offset(first.virtual_address as usize);
+    assert_eq!(Some(place(&bytes, data)), mapped);
+    assert_ne!(mapped, Some(first.pointer_to_raw_data as usize));
+}
+
+#[test]
 fn the_data_of_a_section_begins_at_its_raw_pointer() {
     for name in ["align16_x64.dll", "imports_by_name_x64.dll"] {
         let bytes = sample(name);
