@@ -20,11 +20,6 @@ making-next {R} {A} {B} view of from records new i a r h within is_a is_r pushed
 pub making-end : {R A B : Type 0} (view : R → B) (of : A → B) (from : List A) (records : List R) (i : ℕ) → map of (take i from) ≡ map view records → length from ≤ i → map of from ≡ map view records
 making-end view of from records i h end = sym (ap (map of) (take_all i from end)) ∙ h
 
--- at the end there are as many records as values
-pub making-count : {R A B : Type 0} (view : R → B) (of : A → B) (from : List A) (records : List R) (i : ℕ) → map of (take i from) ≡ map view records → length from ≤ i → length records ≡ length from
-making-count {R} {A} {B} view of from records i h end =
-    sym (length-map records view) ∙ ap (λ (xs : List B). length xs) (sym (making-end view of from records i h end)) ∙ length-map from of
-
 -- ---- the records of items, of which the last may be a refusal
 
 -- the records so far say what the values so far are, and what is left has the others and the refusal

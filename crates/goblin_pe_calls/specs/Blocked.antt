@@ -11,7 +11,7 @@ use Rattle.goblin_pe_calls.specs.declared.export.ExportRecords.{ExportRecords}
 abbrev pub HasNoIdleBlock : {A : Type 0} → Vec A Global → Type 0
 HasNoIdleBlock v = length v.items ≡ 0 → vec_capacity v ≡ 0
 
--- one that has room for its entries and no more
+-- one that has room for its entries and no more, so that without entries it has no block
 abbrev pub HasNoSpareRoom : {A : Type 0} → Vec A Global → Type 0
 HasNoSpareRoom v = vec_capacity v ≤ vec_len v
 
@@ -25,6 +25,6 @@ HasLittleRoomIn Absent = Unit {0}
 HasLittleRoomIn (part.Read v) = HasLittleRoom v
 HasLittleRoomIn Refused = Unit {0}
 
--- the same of the records of a file's exports
-abbrev pub HaveNoIdleBlocks : ExportRecords → Type 0
-HaveNoIdleBlocks x = HasLittleRoomIn x.exports × HasNoIdleBlock x.addresses
+-- the same of the records of a file's exports; their addresses have no more room than entries
+abbrev pub HaveLittleRoom : ExportRecords → Type 0
+HaveLittleRoom x = HasLittleRoomIn x.exports × HasNoSpareRoom x.addresses

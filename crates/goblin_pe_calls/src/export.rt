@@ -11,7 +11,7 @@ ghost use Rattle.goblin_pe_tables.specs.ExportWalks.{KeepsOver, exports_left, wa
 ghost use Rattle.goblin_pe_tables.specs.ExportWalks.{walked_tables};
 ghost use Rattle.goblin_pe.specs.Layouts.{layout_map, layout_places};
 ghost use Rattle.goblin_pe.specs.Whole.{collected_exports, export_part, part_map};
-ghost use Rattle.goblin_pe_calls.specs.Blocked.{HasLittleRoom, HasLittleRoomIn, HaveNoIdleBlocks};
+ghost use Rattle.goblin_pe_calls.specs.Blocked.{HasLittleRoom, HasLittleRoomIn, HaveLittleRoom};
 ghost use Rattle.goblin_pe_calls.specs.Exports.{export_said, export_view, export_views, exports_said};
 ghost use Rattle.goblin_pe_calls.specs.Exports.{exports_view, read_said, unread_said};
 ghost use Rattle.goblin_pe_calls.specs.Growth.{HasExports};
@@ -173,7 +173,7 @@ fn read_records<'a, 'm>(
 ) -> Result<ExportRecords<'a>>
     ensures value { GivesOrMemory exports_view result
         (read_said (walked_tables exports.entry) (exports_left exports.entry)) }
-    ensures none { IfOk result HaveNoIdleBlocks }
+    ensures none { IfOk result HaveLittleRoom }
     ensures grown { let addresses = (walked_tables exports.entry).export_address_table in
         OnErr result (0 < length (exports_left exports.entry) + length addresses) }
 {
@@ -194,7 +194,7 @@ fn unread_records<'a>(
     exports: Part<Vec<PeExport<'a>>>,
 ) -> ExportRecords<'a>
     ensures value { exports_view result ≡ unread_said (part_map export_views exports.entry) }
-    ensures none { HasLittleRoomIn exports.entry → HaveNoIdleBlocks result }
+    ensures none { HasLittleRoomIn exports.entry → HaveLittleRoom result }
 {
     ExportRecords {
         exports,
@@ -212,7 +212,7 @@ pub fn export_records<'a>(alloc: Global, layout: &Layout<'a, '_>) -> Result<Expo
         (mapped (collected_exports (exports_said (offset_of m) layout.now.bytes.now))
         (export_part m.opts (offset_of m) (layout_places layout.now)))
         layout.now.bytes.now }
-    ensures none { IfOk result HaveNoIdleBlocks }
+    ensures none { IfOk result HaveLittleRoom }
     ensures grown { let m = layout_map layout.now in
         let read = export_part m.opts (offset_of m) (layout_places layout.now) in
         OnErr result (IfSome (read.value layout.now.bytes.now) HasExports) }

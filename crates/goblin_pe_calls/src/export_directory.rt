@@ -3,7 +3,7 @@
 ghost use Rattle.std.specs.Prelude.{◌≡◌, ◌<◌, IfOk, OnErr, length, map};
 ghost use Rattle.goblin_base.specs.Answers.{GivesOrMemory};
 ghost use Rattle.goblin_pe_tables.specs.ExportWalks.{walked_tables};
-ghost use Rattle.goblin_pe_calls.specs.Blocked.{HasNoIdleBlock, HasNoSpareRoom};
+ghost use Rattle.goblin_pe_calls.specs.Blocked.{HasNoSpareRoom};
 ghost use Rattle.goblin_pe_calls.specs.ExportDirectories.{address_said, directory_said, directory_view};
 ghost use Rattle.goblin_pe_calls.specs.ExportDirectories.{no_directory};
 
@@ -55,8 +55,7 @@ fn address_record(entry: ExportAddressTableEntry) -> PeExportAddress
 pub fn address_records(alloc: Global, exports: &Exports) -> Result<Vec<PeExportAddress>>
     ensures value { let table = (walked_tables exports.now).export_address_table in
         GivesOrMemory (λ v. v.items) result (map address_said table) }
-    ensures none { IfOk result HasNoIdleBlock }
-    ensures room { IfOk result HasNoSpareRoom }
+    ensures none { IfOk result HasNoSpareRoom }
     ensures grown { OnErr result (0 < length (walked_tables exports.now).export_address_table) }
 {
     let count = exports.address_count();

@@ -3,7 +3,7 @@
 ghost use Rattle.std.specs.Prelude.{◌≡◌, ◌<◌, IfOk, OnErr, length, map};
 ghost use Rattle.goblin_base.specs.Answers.{GivesOrMemory};
 ghost use Rattle.goblin_pe.specs.Whole.{whole_file};
-ghost use Rattle.goblin_pe_calls.specs.Blocked.{HasNoIdleBlock, HasNoSpareRoom};
+ghost use Rattle.goblin_pe_calls.specs.Blocked.{HasNoSpareRoom};
 ghost use Rattle.goblin_pe_calls.specs.Footprints.{Lists, range_said, range_view};
 
 use goblin_pe::Result;
@@ -42,8 +42,7 @@ fn range_record(range: &(usize, usize)) -> PeRange
 // The records of ranges, in memory of their own.
 fn range_records(alloc: Global, ranges: &[(usize, usize)]) -> Result<Vec<PeRange>>
     ensures made { GivesOrMemory (λ v. map range_view v.items) result (map range_said ranges.now) }
-    ensures none { IfOk result HasNoIdleBlock }
-    ensures room { IfOk result HasNoSpareRoom }
+    ensures none { IfOk result HasNoSpareRoom }
     ensures grown { OnErr result (0 < length ranges.now) }
 {
     let count = ranges.len();
@@ -56,7 +55,7 @@ fn range_records(alloc: Global, ranges: &[(usize, usize)]) -> Result<Vec<PeRange
 
 // Hands the ranges over: no ranges have no block, which nobody would free.
 fn handed_over<'a>(records: Vec<PeRange>) -> PeRanges<'a>
-    requires none { HasNoIdleBlock records }
+    requires none { HasNoSpareRoom records }
     ensures { result.ranges.now ≡ records.items }
 {
     PeRanges {

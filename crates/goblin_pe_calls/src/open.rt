@@ -7,7 +7,7 @@ ghost use Rattle.goblin_pe_sect.specs.Options.{is_strict};
 ghost use Rattle.goblin_pe_head.specs.HeaderReadings.{pe_header};
 ghost use Rattle.goblin_pe.specs.Whole.{part_map, whole_file};
 ghost use Rattle.goblin_pe_calls.specs.Blocks.{block_view, blocks_in, relocations_of};
-ghost use Rattle.goblin_pe_calls.specs.Blocked.{HasLittleRoomIn, HasNoIdleBlock, HaveNoIdleBlocks};
+ghost use Rattle.goblin_pe_calls.specs.Blocked.{HasLittleRoomIn, HasNoIdleBlock, HasNoSpareRoom, HaveLittleRoom};
 ghost use Rattle.goblin_pe_calls.specs.Calls.{ReadsInto};
 ghost use Rattle.goblin_pe_calls.specs.Exports.{export_view, export_views, exports_view};
 ghost use Rattle.goblin_pe_calls.specs.Files.{entries_of};
@@ -89,7 +89,7 @@ fn made_of<'a>(
     ensures blocks { let v = records_view layout.now records.now in
         IfOk result (λ m. map block_view m.blocks.items ≡ blocks_in v.relocations) }
     ensures none { IfOk result
-        (λ m. HasNoIdleBlock m.rich_entries × HasNoIdleBlock m.sections × HasNoIdleBlock m.blocks) }
+        (λ m. HasNoIdleBlock m.rich_entries × HasNoSpareRoom m.sections × HasNoIdleBlock m.blocks) }
     ensures grown { let v = records_view layout.now records.now in
         OnErr result (0 < length v.sections + length (entries_in v.header.rich_header)
         + length (blocks_in v.relocations)) }
@@ -139,10 +139,10 @@ fn handed_over<'a>(
     exports: ExportRecords<'a>,
     dos_stub: &'a [u8],
 ) -> PeTables<'a>
-    requires none { HasNoIdleBlock made.rich_entries × HasNoIdleBlock made.sections
+    requires none { HasNoIdleBlock made.rich_entries × HasNoSpareRoom made.sections
         × HasNoIdleBlock made.blocks }
     requires no_imports { HasLittleRoomIn imports }
-    requires no_exports { HaveNoIdleBlocks exports }
+    requires no_exports { HaveLittleRoom exports }
     ensures rich_entries { result.rich_entries.now ≡ made.entry.rich_entries.items }
     ensures sections { result.sections.now ≡ made.entry.sections.items }
     ensures imports { map import_view result.imports.now

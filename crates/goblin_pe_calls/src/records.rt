@@ -7,7 +7,7 @@ ghost use Rattle.goblin_pe.specs.Reads.{mapped};
 ghost use Rattle.goblin_pe_tables.specs.Addresses.{offset_of};
 ghost use Rattle.goblin_pe.specs.Layouts.{layout_map, layout_places};
 ghost use Rattle.goblin_pe.specs.Whole.{collected_tables, table_parts};
-ghost use Rattle.goblin_pe_calls.specs.Blocked.{HasLittleRoomIn, HaveNoIdleBlocks};
+ghost use Rattle.goblin_pe_calls.specs.Blocked.{HasLittleRoomIn, HaveLittleRoom};
 ghost use Rattle.goblin_pe_calls.specs.Exports.{exports_said};
 ghost use Rattle.goblin_pe_calls.specs.Growth.{HasTables, TablesBegin};
 ghost use Rattle.goblin_pe_calls.specs.Imports.{import_said};
@@ -38,7 +38,7 @@ pub fn file_records<'a>(alloc: Global, layout: &Layout<'a, '_>) -> Result<FileRe
         (table_parts m.opts (offset_of m) (layout_places layout.now)))
         layout.now.bytes.now }
     ensures none { IfOk result
-        (λ r. HasLittleRoomIn r.imports × HaveNoIdleBlocks r.exports) }
+        (λ r. HasLittleRoomIn r.imports × HaveLittleRoom r.exports) }
     ensures grown { let m = layout_map layout.now in
         let parts = table_parts m.opts (offset_of m) (layout_places layout.now) in
         OnErr result (IfSome (parts.value layout.now.bytes.now) HasTables) }

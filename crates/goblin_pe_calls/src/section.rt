@@ -3,7 +3,7 @@
 ghost use Rattle.std.specs.Prelude.{◌≡◌, ◌<◌, Bool, IfOk, OnErr, length, map, ℕ, option_map};
 ghost use Rattle.goblin_pe_sect.specs.Options.{is_strict};
 ghost use Rattle.goblin_base.specs.Answers.{GivesOrMemory};
-ghost use Rattle.goblin_pe_calls.specs.Blocked.{HasNoIdleBlock, HasNoSpareRoom};
+ghost use Rattle.goblin_pe_calls.specs.Blocked.{HasNoSpareRoom};
 ghost use Rattle.goblin_pe_calls.specs.Filled.{Filled, alone};
 ghost use Rattle.goblin_pe_calls.specs.Sections.{named_in, real_name_in, section_said};
 
@@ -143,8 +143,7 @@ pub fn section_records<'a>(
         (map (λ s. alone (named_in (is_strict opts.now.parse_mode) bytes.now table s))
         sections.now) }
     ensures grown { OnErr result (0 < length sections.now) }
-    ensures none { IfOk result HasNoIdleBlock }
-    ensures room { IfOk result HasNoSpareRoom }
+    ensures none { IfOk result HasNoSpareRoom }
 {
     let count = sections.len();
     let mut records = Vec::with_capacity(alloc, count)?;

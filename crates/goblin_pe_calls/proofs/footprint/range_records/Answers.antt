@@ -1,7 +1,7 @@
 use Rattle.std.proofs.Common.{◌∙◌, ◌<◌, length, arith}
 use Rattle.goblin_pe_calls.specs.Footprints.{range_said, range_view}
 use Rattle.goblin_pe_calls.proofs.Filling.{any-default}
-use Rattle.goblin_pe_calls.proofs.Making.{making-start, making-next, making-end, making-count}
+use Rattle.goblin_pe_calls.proofs.Making.{making-start, making-next, making-end}
 use Rattle.goblin_pe_calls.proofs.footprint.range_records.Goals as goal
 
 pub records-init : goal.records-init
@@ -15,7 +15,3 @@ records-preserved c =
 
 pub returns-clause-made : goal.returns-clause-made
 returns-clause-made c = making-end _ _ _ _ _ c.records.invariant.0 (omega (arith, c.records-test.false))
-
-pub returns-clause-none : goal.returns-clause-none
-returns-clause-none c = λ none.
-    omega (arith, none, c.records.invariant.2, making-count _ _ _ _ _ c.records.invariant.0 (omega (arith, c.records-test.false)))

@@ -2,7 +2,7 @@ use Rattle.std.proofs.Common.{◌∙◌, arith}
 use Rattle.goblin_pe_sect.specs.Options.{is_strict}
 use Rattle.goblin_pe_calls.specs.Filled.{alone}
 use Rattle.goblin_pe_calls.specs.Sections.{named_in, section_said}
-use Rattle.goblin_pe_calls.proofs.Making.{making-start, making-next, making-end, making-count}
+use Rattle.goblin_pe_calls.proofs.Making.{making-start, making-next, making-end}
 use Rattle.goblin_pe_calls.proofs.section.section_records.Goals as goal
 
 pub records-init : goal.records-init
@@ -15,7 +15,3 @@ records-preserved c =
 
 pub returns-clause-made : goal.returns-clause-made
 returns-clause-made c = making-end _ _ _ _ _ c.records.invariant.0 (omega (arith, c.records-test.false))
-
-pub returns-clause-none : goal.returns-clause-none
-returns-clause-none c = λ none.
-    omega (arith, none, c.records.invariant.2, making-count _ _ _ _ _ c.records.invariant.0 (omega (arith, c.records-test.false)))
