@@ -40,6 +40,9 @@ CHANGES = [
     ("a name without a number", {0x138: b"/\0\0\0\0\0"}, None, None),
     ("imports that no section maps", {0xC0: b"\0\x90"}, None, {"imports": b"imports 0\n"}),
     ("exports that no section maps", {0xB8: b"\0\x90"}, None, {"exports": b"exports refused\n"}),
+    ("a raw pointer of no multiple of 512", {0x14C: b"\x10"}, None, {
+        "section": b"section va=0x1000 vsize=0x100 raw=0x100 ptr=0x210 name=.rdata\n", "imports": b"imports 0\n",
+        "exports": b"exports refused\n"}),
     *((name, changes, parts, parts) for name, changes, parts in (
         ("two sections", {0x46: b"\2"}, {
             "header": b"header machine=0x14c sections=2 magic=0x10b entry=0x0\n",
@@ -73,6 +76,15 @@ class Listings(Case):
                 with self.subTest(name, words=words):
                     listing = REFUSED if parts is None else (0, b"".join({**PARTS, **parts}.values()), b"")
                     self.assert_runs([PE_LIST, *words], listing, data)
+
+    def test_blocks_and_words_are_counted(self):
+        sizes = (0x234, 0x158, 0x1C, 0x28, 0xE8, 0x8C, 0xC)
+        data = bytearray(STORED.read_bytes()) + b"".join(struct.pack("<II", 0, it) + bytes(it - 8) for it in sizes)
+        struct.pack_into("<I", data, 0x148, 0x650)  # (the section's data goes on over them)
+        struct.pack_into("<II", data, 0xE0, 0x1100, 1360)
+        status, out, _ = run([PE_LIST], data)
+        words = [int(it) for it in re.findall(rb"(?m)^block .*words=(\d+)$", out)]
+        self.assertEqual((status, len(words), sum(words), b"block refused" in out), (0, 7, 652, False))
 
     def test_what_is_no_image_is_refused(self):
         for file in (os.devnull, TOP / "LICENSE", *OBJECTS, *TERSE):
@@ -198,6 +210,11 @@ class Faults(Case):
                 with self.subTest(step=step, failing=failing, answer=answer):
                     wanted = (1, LISTING[:step * (failing - 1)], b"write failed\n") if failing else (0, LISTING, b"")
                     self.assert_calls(failing or writes, wanted, 1, STEP=step, FAILING=failing, ANSWER=answer)
+
+    def test_what_went_out_is_the_front_of_the_listing(self):
+        for taken, answer in itertools.product(range(1, len(LISTING)), (-1, 0)):
+            with self.subTest(taken=taken, answer=answer):
+                self.assert_calls(2, (1, LISTING[:taken], b"write failed\n"), 1, STEP=taken, FAILING=2, ANSWER=answer)
 
     def test_the_status_is_the_same_with_standard_error_closed(self):
         for name, words, stdin, status, out in (("a listing", [], SMALL, 0, beside(SMALL, "listing")),

@@ -29,6 +29,13 @@ fn without_data() -> SectionTable {
     section(0x1F_B000, 0x2_8590, 0, 0)
 }
 
+#[test]
+fn a_window_is_as_long_as_its_read_size(rt: HostRuntime) {
+    assert!(rt; window(&unaligned(), 0x200) == Some((0x1000, 0x1200)));
+    assert!(rt; window(&without_data(), 0x200) == Some((0x1F_B000, 0x1F_B000)));
+    assert!(rt; window(&unaligned(), 0x300).is_none());
+}
+
 /// How many pieces an index of these sections has; what it finds for an address, in how many
 /// probes, if a walk finds the same.
 fn found(
@@ -149,4 +156,9 @@ fn a_window_that_stands_twice_belongs_to_the_first(rt: HostRuntime) {
             "{first:#x}"
         );
     }
+}
+
+#[test]
+fn without_sections_no_address_is_found(rt: HostRuntime) {
+    assert!(rt; are_found(rt.alloc(), &[], 0, (1, None, 2)));
 }

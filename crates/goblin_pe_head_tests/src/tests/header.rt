@@ -1,11 +1,14 @@
 //! The headers of a file, and its section table.
 
-use fixture::sample::{EXPORTS, IMPORTS, MODES, directory, in_mode, put_all, sample};
+use fixture::sample::{
+    EXPORTS, IMPORTS, MODES, TABLE, directory, in_mode, put_all, sample, sample_with,
+};
 use goblin_base::{Cause, Error, ParseMode};
 use goblin_pe_head::header::{COFF_MACHINE_X86, COFF_MACHINE_X86_64, DOS_MAGIC, PE_MAGIC};
 use goblin_pe_head::optional_header::{MAGIC_32, MAGIC_64, StandardFields, WindowsFields};
 use goblin_pe_head::{CoffHeader, DosHeader, DosStub, Header, OptionalHeader};
-use goblin_pe_sect::DataDirectories;
+use goblin_pe_sect::{DataDirectories, SectionTable};
+use std::alloc::Global;
 use std::test::Fail;
 
 /// The sample file's COFF header.
@@ -72,6 +75,69 @@ fn the_parts_of_a_header_are_read_in_both_modes(rt: HostRuntime) -> Result<(), F
     for mode in MODES {
         assert!(rt; is_header(&file, mode, &sample_header()), "{mode:?}");
     }
+    Ok(())
+}
+
+/// Whether a file's header is refused in a mode for a magic of no width.
+fn has_bad_magic(file: &[u8], mode: ParseMode) -> bool {
+    matches!(
+        Header::parse_with_opts(file, &in_mode(mode)),
+        Err(Error::BadMagic(0x107))
+    )
+}
+
+#[test]
+fn a_magic_of_no_width_refuses_the_header_in_both_modes(rt: HostRuntime) -> Result<(), Fail> {
+    let file = sample_with(rt.alloc(), 0x58, b"\x07\x01")?;
+    for mode in MODES {
+        assert!(rt; has_bad_magic(&file, mode), "{mode:?}");
+    }
+    Ok(())
+}
+
+/// Whether a file's header is refused in a mode for too many directories.
+fn has_too_many_directories(file: &[u8], mode: ParseMode) -> bool {
+    matches!(
+        Header::parse_with_opts(file, &in_mode(mode)),
+        Err(Error::Malformed(Cause::DirectoryCount(17)))
+    )
+}
+
+#[test]
+fn too_many_directories_refuse_the_header_in_both_modes(rt: HostRuntime) -> Result<(), Fail> {
+    let file = sample_with(rt.alloc(), 0xB4, b"\x11")?;
+    for mode in MODES {
+        assert!(rt; has_too_many_directories(&file, mode), "{mode:?}");
+    }
+    Ok(())
+}
+
+/// What is read of the sample's section table, if it should have so many sections.
+fn sections_of(
+    alloc: Global,
+    file: &[u8],
+    number_of_sections: u16,
+) -> goblin_base::Result<Vec<SectionTable>> {
+    let coff = CoffHeader {
+        number_of_sections,
+        ..sample_coff()
+    };
+    coff.sections(alloc, file, &mut TABLE)
+}
+
+#[test]
+fn more_sections_than_the_file_holds_are_told_by_their_number(rt: HostRuntime) -> Result<(), Fail> {
+    let file = sample(rt.alloc())?;
+    let refused = sections_of(rt.alloc(), &file, 20);
+    assert!(rt; matches!(&refused, Err(Error::BufferTooShort(20, "sections"))));
+    Ok(())
+}
+
+#[test]
+fn a_section_that_meets_the_end_of_the_file_is_a_failed_read(rt: HostRuntime) -> Result<(), Fail> {
+    let file = sample(rt.alloc())?;
+    let refused = sections_of(rt.alloc(), &file, 19);
+    assert!(rt; matches!(&refused, Err(Error::Read(_))));
     Ok(())
 }
 

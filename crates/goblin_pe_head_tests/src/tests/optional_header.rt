@@ -1,7 +1,7 @@
 //! The optional header of either width.
 
 use fixture::sample::{directory, put};
-use goblin_base::{Container, Endian, ResultOf, TryFromCtx, pwrite_u32};
+use goblin_base::{Cause, Container, Endian, Error, ResultOf, TryFromCtx, pwrite_u32};
 use goblin_pe_head::OptionalHeader;
 use goblin_pe_head::optional_header::{
     StandardFields, StandardFields32, StandardFields64, WindowsFields, WindowsFields32,
@@ -168,4 +168,23 @@ fn windows_fields_for_64_bits_stand_in_their_order(rt: HostRuntime) -> Result<()
     let fields = rising::<WindowsFields64>(&rising_bytes())?;
     assert!(rt; go_up(&windows_values(&fields), &WINDOWS_64));
     Ok(())
+}
+
+#[test]
+fn wide_standard_fields_keep_their_low_halves(rt: HostRuntime) {
+    let wide = StandardFields {
+        size_of_code: 0x1_0000_0005,
+        ..StandardFields::default()
+    };
+    assert!(rt; StandardFields32::from(wide).size_of_code == 5);
+}
+
+#[test]
+fn windows_fields_that_do_not_fit_are_refused(rt: HostRuntime) {
+    let wide = WindowsFields64 {
+        image_base: 1 << 32,
+        ..WindowsFields64::default()
+    };
+    let narrowed = WindowsFields32::try_from(wide);
+    assert!(rt; matches!(narrowed, Err(Error::Malformed(Cause::FieldTooWide))));
 }

@@ -192,3 +192,9 @@ fn an_odd_last_byte_is_one_error(rt: HostRuntime) {
     let words = words_of(b"\0\0\0\0\x0B\0\0\0\x01\0\x02");
     assert!(rt; words.is_some_and(are_one_and_a_half));
 }
+
+#[test]
+fn a_word_is_a_type_and_an_offset(rt: HostRuntime) {
+    let word = RelocationWord { value: 0xA008 };
+    assert!(rt; (word.reloc_type(), word.offset()) == (10, 8));
+}

@@ -48,6 +48,25 @@ fn a_rich_header_of_one_entry_is_read(rt: HostRuntime) {
     assert!(rt; matches!(read, Ok(Some(rich)) if rich == want && is_only_entry(rich.metadatas())));
 }
 
+/// The larger header, which should be read from its file.
+fn large_header(file: &[u8; 0xFC]) -> RichHeader<'_> {
+    RichHeader {
+        key: KEY,
+        bytes: &file[0x84..0xE0],
+        padding_size: 12,
+        start_offset: 0x80,
+        end_offset: 0xE0,
+    }
+}
+
+#[test]
+fn a_rich_header_of_ten_entries_is_read(rt: HostRuntime) -> Result<(), Fail> {
+    let file = large()?;
+    let read = RichHeader::parse(&file);
+    assert!(rt; matches!(read, Ok(Some(rich)) if rich == large_header(&file)));
+    Ok(())
+}
+
 /// Whether an entry was read, and is that of a row.
 fn is_entry(
     read: Option<goblin_base::Result<RichMetadata>>,
@@ -88,6 +107,25 @@ fn the_entries_of_a_rich_header_are_read_in_turn(rt: HostRuntime) -> Result<(), 
     Ok(())
 }
 
+/// Whether a file's Rich header is refused since its first marker is missing.
+fn has_no_dans(file: &[u8]) -> bool {
+    matches!(
+        RichHeader::parse(file),
+        Err(Error::Malformed(Cause::NoDans))
+    )
+}
+
+#[test]
+fn a_rich_header_without_its_first_marker_is_refused(rt: HostRuntime) -> Result<(), Fail> {
+    let mut file = small();
+    put(&mut file, 0x40, b"\x44");
+    assert!(rt; has_no_dans(&file));
+    let mut file = large()?;
+    put(&mut file, 0x80, b"\x12");
+    assert!(rt; has_no_dans(&file));
+    Ok(())
+}
+
 #[test]
 fn a_first_marker_after_the_second_is_refused(rt: HostRuntime) {
     let mut file = [0; 0x68];
@@ -97,6 +135,15 @@ fn a_first_marker_after_the_second_is_refused(rt: HostRuntime) {
     put(&mut file, 0x60, b"\x45\x61\x6E\x53PE\0\0");
     let read = RichHeader::parse(&file);
     assert!(rt; matches!(read, Err(Error::Malformed(Cause::RichBounds(0x24, 0x18)))));
+}
+
+#[test]
+fn a_stub_without_second_marker_has_no_rich_header(rt: HostRuntime) {
+    let mut file = [0; 0x47];
+    put(&mut file, 0, b"MZ");
+    put(&mut file, 0x3C, b"\x43");
+    put(&mut file, 0x43, b"PE");
+    assert!(rt; matches!(RichHeader::parse(&file), Ok(None)));
 }
 
 /// Whether these are that entry and a rest, which is refused once.

@@ -133,6 +133,14 @@ fn records_after_a_symbol_are_no_symbols(rt: HostRuntime) {
     assert!(rt; first_indexes(&file, 1) == Some([Some(0), None, None]));
 }
 
+#[test]
+fn a_table_of_more_than_all_bytes_is_refused(rt: HostRuntime) -> Result<(), Fail> {
+    let file = object();
+    assert!(rt; SymbolTable::parse(&file, 1, 1 << 63).is_err());
+    assert!(rt; SymbolTable::parse(&file, 1, 9)?.get(1 << 63).is_none());
+    Ok(())
+}
+
 /// A symbol with this name.
 fn named(name: &[u8; 8]) -> Symbol {
     Symbol {
@@ -155,6 +163,33 @@ fn a_stored_number_says_an_offset_from_4_on(rt: HostRuntime) {
     }
 }
 
+/// Whether a symbol's stored number is below 4, and is refused as a name.
+fn has_no_name(symbol: &Symbol, strings: &Strtab<'_>) -> bool {
+    matches!(
+        symbol.name(strings),
+        Err(Error::Malformed(Cause::SymbolName(3)))
+    )
+}
+
+#[test]
+fn a_stored_number_below_4_is_no_name(rt: HostRuntime) -> Result<(), Fail> {
+    let strings = Strtab::parse(rt.alloc(), b"abc\0", 0, 4, 0)?;
+    assert!(rt; has_no_name(&named(b"\0\0\0\0\x03\0\0\0"), &strings));
+    Ok(())
+}
+
+/// The name that stands in the first record of a file, whose table is gone when it is read.
+fn first_name(file: &[u8]) -> goblin_base::Result<Option<&str>> {
+    let mut symbols = SymbolTable::parse(file, 0, 1)?.iter();
+    Ok(symbols.next().and_then(|(_, name, _)| name))
+}
+
+#[test]
+fn a_name_outlives_its_table(rt: HostRuntime) -> Result<(), Fail> {
+    assert!(rt; first_name(RECORDS[5])? == Some("odd"));
+    Ok(())
+}
+
 /// A header whose symbol table has no records and stands at an offset.
 fn header_of(pointer_to_symbol_table: u32) -> CoffHeader {
     CoffHeader {
@@ -167,4 +202,10 @@ fn header_of(pointer_to_symbol_table: u32) -> CoffHeader {
 fn a_string_table_shorter_than_its_length_is_refused(rt: HostRuntime) {
     let read = header_of(1).strings(rt.alloc(), b"\0\x01\0\0\0");
     assert!(rt; matches!(&read, Err(Error::Malformed(Cause::CoffLength))));
+}
+
+#[test]
+fn a_string_table_may_have_no_bytes(rt: HostRuntime) {
+    let read = header_of(1).strings(rt.alloc(), b"\0\x04\0\0\0");
+    assert!(rt; matches!(&read, Ok(Some(table)) if table.get_at(0).is_none()));
 }

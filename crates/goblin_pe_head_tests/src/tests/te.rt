@@ -54,3 +54,15 @@ fn a_header_of_which_too_little_was_stripped_is_refused(rt: HostRuntime) -> Resu
     assert!(rt; is_refused && offset == 0);
     Ok(())
 }
+
+#[test]
+fn sections_of_a_header_of_which_too_little_was_stripped_are_refused(rt: HostRuntime) {
+    let short = TeHeader {
+        stripped_size: 0x27,
+        ..TeHeader::default()
+    };
+    let mut offset = 1;
+    let refused = short.sections(rt.alloc(), &[], &mut offset);
+    let is_refused = matches!(&refused, Err(Error::Malformed(Cause::StrippedSize(0x27))));
+    assert!(rt; is_refused && offset == 1);
+}

@@ -1,7 +1,7 @@
 //! Exports walked over one by one, also from each position on.
 
 use crate::rows::{ExportRow, FORWARDED, PLAIN};
-use fixture::sample::{ALIGNMENT, EXPORTS, sample, sample_section, sample_with};
+use fixture::sample::{ALIGNMENT, EXPORTS, sample_section, sample_with};
 use goblin_pe_sect::ParseOptions;
 use goblin_pe_tables::address_map::AddressMap;
 use goblin_pe_tables::export::{Exports, Reexport, WalkedExport};

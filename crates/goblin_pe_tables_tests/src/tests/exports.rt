@@ -1,7 +1,59 @@
-//! Forwarders.
+//! The counts of export tables, and forwarders.
 
-use goblin_base::{Cause, Error};
-use goblin_pe_tables::export::Reexport;
+use fixture::sample::{ALIGNMENT, EXPORTS, put, sample_section, sample_with};
+use goblin_base::{Cause, Error, ResultOf};
+use goblin_pe_tables::export::{Export, ExportData, Reexport};
+use std::alloc::{AllocError, Global};
+use std::test::Fail;
+
+/// What the sample's export directory leads to in a file with its section.
+fn data_of<'a, 'e>(alloc: Global, file: &'a [u8]) -> ResultOf<'e, ExportData<'a>> {
+    ExportData::parse(alloc, file, EXPORTS, &[sample_section()], ALIGNMENT)
+}
+
+/// How many name pointers and ordinals a file has.
+fn table_lengths(alloc: Global, file: &[u8]) -> goblin_base::Result<(usize, usize)> {
+    let tables = data_of(alloc, file)?;
+    Ok((
+        tables.export_name_pointer_table.len(),
+        tables.export_ordinal_table.len(),
+    ))
+}
+
+/// How many exports it has.
+fn export_count(alloc: Global, file: &[u8]) -> goblin_base::Result<usize> {
+    let tables = data_of(alloc, file)?;
+    Ok(Export::parse(alloc, file, &tables, &[sample_section()], ALIGNMENT)?.len())
+}
+
+#[test]
+fn tables_are_cut_at_the_end_of_the_file(rt: HostRuntime) -> Result<(), Fail> {
+    let file = sample_with(rt.alloc(), 0x2B8, b"\x00\x03")?;
+    assert!(rt; matches!(table_lengths(rt.alloc(), &file), Ok((12, 20))));
+    assert!(rt; matches!(export_count(rt.alloc(), &file), Ok(9)));
+    Ok(())
+}
+
+/// The sample file with counts of 769 entries of the address table, and at an offset.
+fn with_counts(alloc: Global, offset: usize) -> Result<Vec<u8>, AllocError> {
+    let mut file = sample_with(alloc, 0x2B4, b"\x01\x03")?;
+    put(&mut file, offset, b"\x01\x03");
+    Ok(file)
+}
+
+/// Whether a file is refused, since it is too short for 769 of what the text names.
+fn is_too_short(alloc: Global, file: &[u8], want: &str) -> bool {
+    matches!(&data_of(alloc, file), Err(Error::BufferTooShort(769, what)) if *what == want)
+}
+
+#[test]
+fn counts_above_the_length_of_the_file_are_refused(rt: HostRuntime) -> Result<(), Fail> {
+    for (offset, want) in [(0x2B8, "name pointers"), (0x2B4, "address table entries")] {
+        let file = with_counts(rt.alloc(), offset)?;
+        assert!(rt; is_too_short(rt.alloc(), &file, want), "{want}");
+    }
+    Ok(())
+}
 
 /// Whether a text that ends at its NUL is this forwarder.
 fn is_forwarder(bytes: &[u8], want: Reexport) -> bool {

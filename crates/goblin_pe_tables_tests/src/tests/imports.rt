@@ -1,14 +1,17 @@
 //! Imports, by entry types of two, four and eight bytes.
 
-use crate::rows::{GO, ImportRow, RECORD, SEVEN, Short, are_imports, is_sample_library};
+use crate::rows::{
+    GO, ImportRow, RECORD, SEVEN, Short, are_imports, is_sample_library, is_sample_table, is_seven,
+};
 use fixture::sample::{
-    ALIGNMENT, IMPORTS, LOOKUP, MODES, directory, in_mode, sample, sample_section, sample_with,
+    ALIGNMENT, IMPORTS, LOOKUP, MODES, in_mode, sample, sample_section, sample_with,
 };
-use goblin_base::{Error, ParseMode, ResultOf};
+use goblin_base::{Cause, Error, ParseMode, ResultOf};
 use goblin_pe_tables::import::{
-    Bitfield, Import, ImportData, ImportDirectoryEntry, SyntheticImportDirectoryEntry,
+    Bitfield, Import, ImportData, ImportDirectoryEntry, ImportLookupTable,
+    SyntheticImportDirectoryEntry, SyntheticImportLookupTableEntry,
 };
-use std::alloc::Global;
+use std::alloc::{AllocError, Global};
 use std::test::Fail;
 
 /// What the sample's import directory leads to in a file with its section, by entries of type `T`.
@@ -135,5 +138,139 @@ fn a_record_without_an_address_table_has_it_at_its_lookup_table(
         ALIGNMENT,
     )?;
     assert!(rt; is_sample_library(&read, &record));
+    Ok(())
+}
+
+/// A record of the sample's library whose address table no section maps, from the end of it on, and
+/// the sample's own record after it.
+const TWO_RECORDS: &[u8] = b"\0\x90\0\0\x40\x10\0\0\0\0\0\0\0\0\0\0\x80\x10\0\0\x60\x10";
+
+/// Whether the imports are refused in strict mode, since no section maps that address table.
+fn is_unmapped(alloc: Global, file: &[u8]) -> bool {
+    matches!(
+        &imports_of::<u32>(alloc, file, ParseMode::Strict),
+        Err(Error::Malformed(Cause::Unmapped(0x9000)))
+    )
+}
+
+#[test]
+fn a_record_whose_address_table_is_not_mapped_is_left_out_or_refused(
+    rt: HostRuntime,
+) -> Result<(), Fail> {
+    let file = sample_with(rt.alloc(), 0x210, TWO_RECORDS)?;
+    assert!(rt; is_unmapped(rt.alloc(), &file));
+    assert!(rt; are_listed::<u32>(rt.alloc(), &file, ParseMode::Permissive, &[GO, SEVEN]));
+    Ok(())
+}
+
+/// The sample file up to the first name of an import, and letters A in the place of that name.
+fn with_a_long_name(alloc: Global) -> Result<Vec<u8>, AllocError> {
+    let mut file = sample(alloc)?;
+    file.truncate(0x292);
+    file.resize(0x400, b'A')?;
+    Ok(file)
+}
+
+/// Whether these are two imports, of which the first has a name of 366 letters A.
+fn begins_with_a_long_name(imports: &[Import]) -> bool {
+    matches!(imports, [import, _] if import.name.as_bytes() == [b'A'; 366].as_slice())
+}
+
+/// Whether they are the imports of a file in strict mode.
+fn has_a_long_name(alloc: Global, file: &[u8]) -> bool {
+    let read = imports_of::<u32>(alloc, file, ParseMode::Strict);
+    matches!(&read, Ok(imports) if begins_with_a_long_name(imports))
+}
+
+#[test]
+fn a_name_may_reach_the_end(rt: HostRuntime) -> Result<(), Fail> {
+    let file = with_a_long_name(rt.alloc())?;
+    assert!(rt; has_a_long_name(rt.alloc(), &file));
+    Ok(())
+}
+
+/// The lookup table of a file in a mode, and the slots of its entries.
+fn lookup_of<'a, 'e>(
+    alloc: Global,
+    file: &'a [u8],
+    mode: ParseMode,
+) -> ResultOf<'e, (ImportLookupTable<'a>, Vec<usize>)> {
+    let sections = [sample_section()];
+    let opts = in_mode(mode);
+    SyntheticImportLookupTableEntry::parse_with_slots::<u32>(
+        alloc, file, LOOKUP, &sections, ALIGNMENT, &opts,
+    )
+}
+
+/// Whether it is the sample file's, with the slots 0 and 1.
+fn has_both_slots(alloc: Global, file: &[u8], mode: ParseMode) -> bool {
+    matches!(
+        &lookup_of(alloc, file, mode),
+        Ok((table, slots))
+            if is_sample_table(table) && slots.as_slice() == [0usize, 1].as_slice()
+    )
+}
+
+#[test]
+fn a_lookup_table_is_read_with_its_slots(rt: HostRuntime) -> Result<(), Fail> {
+    let file = sample(rt.alloc())?;
+    for mode in MODES {
+        assert!(rt; has_both_slots(rt.alloc(), &file, mode), "{mode:?}");
+    }
+    Ok(())
+}
+
+/// Whether a lookup table is refused in strict mode, since its hint's place is not there.
+fn has_no_hint(alloc: Global, file: &[u8]) -> bool {
+    matches!(
+        &lookup_of(alloc, file, ParseMode::Strict),
+        Err(Error::Malformed(Cause::HintEntry(0x290)))
+    )
+}
+
+/// Whether it has so many entries in permissive mode, each by the ordinal 7.
+fn are_sevens(alloc: Global, file: &[u8], count: usize) -> bool {
+    matches!(
+        &lookup_of(alloc, file, ParseMode::Permissive),
+        Ok((table, _)) if table.len() == count && table.iter().all(is_seven)
+    )
+}
+
+#[test]
+fn a_lookup_table_that_meets_the_end_is_cut_in_permissive_mode_alone(
+    rt: HostRuntime,
+) -> Result<(), Fail> {
+    let file = sample(rt.alloc())?;
+    // How long the file is, and how many entries are kept. The names are past its end.
+    for (len, count) in [(0x248, 1), (0x247, 0)] {
+        let front = file.get(..len).unwrap_or(&[]);
+        assert!(rt; has_no_hint(rt.alloc(), front), "{len:#x}");
+        assert!(rt; are_sevens(rt.alloc(), front, count), "{len:#x}");
+    }
+    Ok(())
+}
+
+/// The sample's import data, with one slot for its library.
+fn with_one_slot(alloc: Global, file: &[u8]) -> goblin_base::Result<ImportData<'_>> {
+    let mut data = data_of::<u32>(alloc, file, ParseMode::Strict)?;
+    for library in &mut data.import_data {
+        library.import_lookup_slots = vec![in alloc; 0]?;
+    }
+    Ok(data)
+}
+
+/// Whether these import data have two entries for one slot, and are refused for that.
+fn want_a_slot(alloc: Global, file: &[u8], data: &ImportData) -> bool {
+    matches!(
+        &Import::parse::<u32>(alloc, file, data, &[sample_section()]),
+        Err(Error::Malformed(Cause::SlotCount(2, 1)))
+    )
+}
+
+#[test]
+fn a_library_that_has_more_entries_than_slots_is_refused(rt: HostRuntime) -> Result<(), Fail> {
+    let file = sample(rt.alloc())?;
+    let data = with_one_slot(rt.alloc(), &file)?;
+    assert!(rt; want_a_slot(rt.alloc(), &file, &data));
     Ok(())
 }

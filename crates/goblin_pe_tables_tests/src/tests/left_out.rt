@@ -1,8 +1,7 @@
 //! How much permissive mode leaves out of imports.
 
 use fixture::sample::{
-    ALIGNMENT, IMPORT_RECORD, IMPORTS, LOOKUP, MODES, directory, in_mode, put, sample_section,
-    sample_with,
+    ALIGNMENT, IMPORT_RECORD, IMPORTS, LOOKUP, MODES, in_mode, put, sample_section, sample_with,
 };
 use goblin_base::ParseMode;
 use goblin_pe_tables::address_map::AddressMap;
