@@ -7,5 +7,6 @@
 mod caller;
 mod damage;
 mod footprints;
+mod modes;
 mod sample;
 mod whole;

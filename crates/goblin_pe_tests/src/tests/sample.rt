@@ -14,7 +14,7 @@ use goblin_pe_tables_tests::rows::{
 };
 
 /// The sample file's COFF header.
-const COFF_HEADER: CoffHeader = CoffHeader {
+pub const COFF_HEADER: CoffHeader = CoffHeader {
     machine: 0x14C,
     number_of_sections: 1,
     time_date_stamp: 0,
@@ -38,7 +38,7 @@ pub fn is_header(header: &Header) -> bool {
         && matches!(&header.optional_header, Some(optional) if is_optional_header(optional))
 }
 
-fn is_section(sections: &[SectionTable]) -> bool {
+pub fn is_section(sections: &[SectionTable]) -> bool {
     sections == [sample_section()].as_slice()
 }
 
@@ -138,4 +138,9 @@ impl OfSample for Whole<'_> {
 /// does not know that costs its proof little.
 pub fn are_samples<'e, A: OfSample + Drop>(answers: (ResultOf<'e, A>, ResultOf<'e, A>)) -> bool {
     matches!(&answers, (Ok(first), Ok(second)) if first.is_sample() && second.is_sample())
+}
+
+/// Whether both are what readers make of the sample file. It takes them, too.
+pub fn are_both_samples<A: OfSample + Drop>(both: (A, A)) -> bool {
+    both.0.is_sample() && both.1.is_sample()
 }

@@ -1,0 +1,198 @@
+//! Readers in both modes, under two tables of sections, and of two files at once.
+
+use super::sample::{COFF_HEADER, OfSample, are_both_samples, is_section};
+use fixture::sample::{
+    ALIGNMENT, EXPORTS, IMPORTS, LOOKUP, TABLE, directory, put_all, sample, sample_section, section,
+};
+use goblin_base::{CauseOf, ErrorOf, ResultOf};
+use goblin_pe::import::{Import, ImportData, ImportDirectoryEntry};
+use goblin_pe::laws::{
+    PartsOf, Request, TablesOf, mode_header, mode_tables, reorder_whole_tables, twin_parts,
+};
+use goblin_pe::options::ParseOptions;
+use goblin_pe_sect::DataDirectory;
+use goblin_pe_sect::relocation::RelocationData;
+use goblin_pe_tables_tests::rows::RECORD;
+use std::alloc::{AllocError, Global};
+use std::test::Fail;
+
+/// The bytes of the sample file's library name.
+const NAME: DataDirectory = DataDirectory {
+    virtual_address: 0x1080,
+    size: 5,
+};
+
+/// Where the tables of the sample file lie. The name's bytes are read as base relocations, too, and
+/// the import record as a value.
+const REQUEST: Request = Request {
+    lookup: LOOKUP,
+    imports: IMPORTS,
+    exports: EXPORTS,
+    relocations: NAME,
+    value: IMPORTS,
+    name: 0x1080,
+};
+
+#[test]
+fn both_modes_read_the_same_header(rt: HostRuntime) -> Result<(), Fail> {
+    let file = sample(rt.alloc())?;
+    let headers = mode_header(&file, &ParseOptions::default());
+    assert!(rt; matches!(&headers, (Ok(strict), Ok(permissive)) if strict == permissive));
+    Ok(())
+}
+
+/// Whether an answer is the sample file's.
+fn is_read<'e, A: OfSample>(answer: &ResultOf<'e, A>) -> bool {
+    matches!(answer, Ok(value) if value.is_sample())
+}
+
+impl OfSample for RelocationData<'_> {
+    /// No whole block: they are the bytes of a name.
+    fn is_sample(&self) -> bool {
+        matches!(self.blocks().next(), Some(Err(_)))
+    }
+}
+
+impl OfSample for ImportDirectoryEntry {
+    fn is_sample(&self) -> bool {
+        *self == RECORD
+    }
+}
+
+impl OfSample for TablesOf<'_, '_, ImportDirectoryEntry> {
+    fn is_sample(&self) -> bool {
+        is_read(&self.lookup)
+            && is_read(&self.imports)
+            && is_read(&self.exports)
+            && is_read(&self.relocations)
+            && matches!(&self.name, Ok(Some("a.dll")))
+            && is_read(&self.value)
+    }
+}
+
+#[test]
+fn sections_may_stand_in_any_order(rt: HostRuntime) -> Result<(), Fail> {
+    let file = sample(rt.alloc())?;
+    let first = [sample_section(), section(0x3000, 0x100, 0x100, 0x100)];
+    let second = [section(0x3000, 0x100, 0x100, 0x100), sample_section()];
+    assert!(rt;
+        are_both_samples(reorder_whole_tables::<u32, ImportDirectoryEntry>(
+            rt.alloc(),
+            &file,
+            &first,
+            &second,
+            &REQUEST,
+            ALIGNMENT,
+            &ParseOptions::default(),
+        ))
+    );
+    Ok(())
+}
+
+/// What the readers make of a file with an import directory at its front.
+trait OfFront<'a> {
+    /// Whether the imports are one by the ordinal 1.
+    fn has_one(&self, alloc: Global, file: &'a [u8]) -> bool;
+
+    /// Whether there are none.
+    fn has_none(&self) -> bool;
+}
+
+impl<'a> OfFront<'a> for TablesOf<'a, '_, ImportDirectoryEntry> {
+    fn has_one(&self, alloc: Global, file: &'a [u8]) -> bool {
+        matches!(&self.imports, Ok(data) if is_front_listed(alloc, file, data))
+    }
+
+    fn has_none(&self) -> bool {
+        matches!(&self.imports, Ok(data) if data.import_data.is_empty())
+    }
+}
+
+/// Whether only the first of them has that import. It takes them, as `are_samples` does.
+fn has_first_alone<'a, A: OfFront<'a> + Drop>(alloc: Global, file: &'a [u8], both: (A, A)) -> bool {
+    both.0.has_one(alloc, file) && both.1.has_none()
+}
+
+fn is_front_import(imports: &[Import]) -> bool {
+    matches!(imports, [import]
+        if (&import.name[..], import.dll, import.offset) == ("ORDINAL 1", "x", 0x1028))
+}
+
+fn is_front_listed<'a>(alloc: Global, file: &'a [u8], data: &ImportData<'a>) -> bool {
+    let sections = [section(0x1000, 0x200, 0x200, 0)];
+    let read = Import::parse::<u32>(alloc, file, data, &sections);
+    matches!(&read, Ok(imports) if is_front_import(imports))
+}
+
+/// A file with an import directory at its front.
+fn front_file(alloc: Global) -> Result<Vec<u8>, AllocError> {
+    let mut file = vec![in alloc; 0u8; 0x40]?;
+    put_all(
+        &mut file,
+        &[
+            (0x00, b"\x28\x10"),
+            (0x0C, b"\x30\x10\x00\x00\x28\x10"),
+            (0x28, b"\x01\x00\x00\x80"),
+            (0x30, b"x"),
+        ],
+    );
+    Ok(file)
+}
+
+#[test]
+fn permissive_mode_has_no_imports_from_the_front_of_the_file(rt: HostRuntime) -> Result<(), Fail> {
+    let file = front_file(rt.alloc())?;
+    let sections = [section(0x1000, 0x200, 0x200, 0)];
+    let request = Request {
+        imports: directory(0x1000, 0),
+        ..REQUEST
+    };
+    let opts = ParseOptions::default();
+    let tables = mode_tables::<u32, ImportDirectoryEntry>(
+        rt.alloc(),
+        &file,
+        &sections,
+        &request,
+        ALIGNMENT,
+        &opts,
+    );
+    assert!(rt; has_first_alone(rt.alloc(), &file, tables));
+    Ok(())
+}
+
+/// Whether these are the sample file's headers: without a DOS header its first four bytes are the
+/// signature, and the section's name says that less was stripped than a Terse Executable's header.
+fn are_headers(parts: &PartsOf<ImportDirectoryEntry>) -> bool {
+    matches!(&parts.header, Ok(header) if header.signature == 0x5A4D)
+        && matches!(&parts.sections, Ok(sections) if is_section(sections))
+        && matches!(&parts.te, Err(ErrorOf::Malformed(CauseOf::StrippedSize(0))))
+}
+
+impl OfSample for PartsOf<'_, '_, ImportDirectoryEntry> {
+    fn is_sample(&self) -> bool {
+        are_headers(self)
+            && matches!((&self.symbols, &self.strings), (Ok(None), Ok(None)))
+            && is_read(&self.relocations)
+            && is_read(&self.value)
+    }
+}
+
+#[test]
+fn single_tables_of_two_files_are_what_their_readers_give(rt: HostRuntime) -> Result<(), Fail> {
+    let (file, again) = (sample(rt.alloc())?, sample(rt.alloc())?);
+    assert!(rt;
+        are_both_samples(twin_parts::<ImportDirectoryEntry>(
+            rt.alloc(),
+            &file,
+            &again,
+            COFF_HEADER,
+            TABLE,
+            NAME,
+            IMPORTS,
+            &[sample_section()],
+            ALIGNMENT,
+            &ParseOptions::default(),
+        ))
+    );
+    Ok(())
+}
