@@ -205,12 +205,13 @@ impl WindowIndex {
     }
 
     /// The file offset of the address `rva`, as [`WindowIndex::find`] returns it. Piece `near`,
-    /// which may be any number, is looked at first, and where the address lies in it no other is;
-    /// `near` is then the piece of the address. So addresses that lie near one another are found
-    /// with two probes each.
+    /// which may be any number, is looked at first, and no other where the address lies in it;
+    /// `near` is then the piece of the address, or 0 where there is none. So addresses that lie near
+    /// one another are found with two probes each.
     #[inline(always)]
     pub fn find_near(&self, rva: usize, near: &mut usize) -> Option<usize>
-        ensures { result ≡ located self.now rva }
+        ensures value { result ≡ located self.now rva }
+        ensures piece { near.new ≡ reached self.now.begins rva - 1 }
     {
         let count = match count_in_piece(&self.bounds, *near, rva) {
             Some(count) => count,

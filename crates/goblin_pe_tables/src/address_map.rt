@@ -100,8 +100,8 @@ impl AddressMap {
         self.index.find(rva as usize)
     }
 
-    /// The file offset of an address, as [`AddressMap::offset_of`]; where it was found is told by
-    /// `near`, and the next is looked for there first.
+    /// The file offset of an address, as [`AddressMap::offset_of`]: it is looked for first in the
+    /// piece `near`, any number, which then is where the next is looked for first.
     #[inline(always)]
     pub fn offset_near(&self, rva: u32, near: &mut usize) -> Option<usize>
         ensures { result ≡ offset_of (map_of self.now) rva }
