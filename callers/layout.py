@@ -1,6 +1,6 @@
 #!/usr/bin/env python3
-"""Compares the records of the crate goblin_pe_calls, and those of the libraries that stand in them, with those that
-the callers declare: the same names, with the same fields in the same order and of the same types. Compares also the
+"""Compares the records of goblin_pe_records and goblin_pe_calls, and those of the libraries that stand in them, with those
+that the callers declare: the same names, with the same fields in the same order and of the same types. Compares also the
 numbers that stand in the records, each with its name: those of the code, and of the enums of the callers; and the
 calls of goblin_pe_c, by what they take and answer, and the version of their interface. The last line says how many
 passed and failed."""
@@ -52,7 +52,7 @@ def rust_records(source, slices):
 
 
 def own_records():
-    """The records of goblin_pe_calls, and those of the libraries that callers see."""
+    """The records of goblin_pe_records and goblin_pe_calls, and those of the libraries that callers see."""
     records = {name: fields for path in glob.glob(os.path.join(CRATES, "*/src/**/*.rt"), recursive=True)
                for name, fields in rust_records(text(path), {"&'a [u8]"}).items()}
     return {named(name): fields for name, fields in records.items() if name.startswith("Pe") or name in LIBRARIES}
@@ -114,7 +114,7 @@ def enum_of(name, source):
 
 
 def own_numbers(source):
-    """The numbers by their names, as the code of goblin_pe_calls gives them, and those of directories by their place."""
+    """The numbers by their names, as the code of the records gives them, and those of directories by their place."""
     words = re.findall(r'what == "([\w ]+)" \{\s+(\d+)', source)
     kinds = re.search(r"const KINDS: .*?= \[(.*?)\];", text(CRATES, "goblin_pe_sect/src/data_directories.rt"), re.S).group(1)
     return {
@@ -127,7 +127,7 @@ def own_numbers(source):
     }
 
 
-# What a caller names otherwise than goblin_pe_calls does, and the prefixes of the names in C.
+# What a caller names otherwise than the records do, and the prefixes of the names in C.
 STATUSES = {"TOO_SHORT": "BUFFER_TOO_SHORT", "BAD_READ": "READ", "NO_MEMORY": "MEMORY"}
 FORWARDS = {"NO_FORWARDER": "NONE", "NOTHING": "NONE", "FORWARDS_NAME": "NAME", "FORWARDS_ORDINAL": "ORDINAL"}
 RUST = {"Part": "State", "ErrorKind": "Status"}
@@ -210,7 +210,7 @@ def version(pattern, source):
 
 
 def main():
-    numbers, calls = code_of("goblin_pe_calls"), code_of("goblin_pe_c")
+    numbers, calls = code_of("goblin_pe_records") + code_of("goblin_pe_calls"), code_of("goblin_pe_c")
     ours = {**own_records(), **own_numbers(numbers), **own_calls(calls), **version(r"fn goblin_pe_interface\(\).*?\{\n +(\d+)", calls)}
     callers = {
         "c/goblin_pe.h": c_records(text("c/goblin_pe.h")),

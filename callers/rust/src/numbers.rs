@@ -1,5 +1,5 @@
 //! The numbers in the library's records, by name. callers/layout.py compares them with those of the
-//! crate `goblin_pe_calls`.
+//! crates `goblin_pe_records` and `goblin_pe_calls`.
 
 // Enums whose variants have the numbers of a field, with the conversions from and to the number.
 macro_rules! numbers {

@@ -9,15 +9,15 @@ ghost use Rattle.goblin_pe_sect.specs.AuxiliarySymbols.{begin_and_end_function_r
 ghost use Rattle.goblin_pe_sect.specs.AuxiliarySymbols.{function_definition_record};
 ghost use Rattle.goblin_pe_sect.specs.AuxiliarySymbols.{section_definition_record};
 ghost use Rattle.goblin_pe_sect.specs.AuxiliarySymbols.{weak_external_record};
-ghost use Rattle.goblin_pe_calls.specs.Found.{Puts};
-ghost use Rattle.goblin_pe_calls.specs.Images.{text_view};
+ghost use Rattle.goblin_pe_records.specs.Found.{Puts};
+ghost use Rattle.goblin_pe_records.specs.Images.{text_view};
 
 use goblin_pe::read::pread_str_until;
 use goblin_pe::symbol::{
     AuxBeginAndEndFunction, AuxFunctionDefinition, AuxSectionDefinition, AuxWeakExternal,
 };
-use goblin_pe_calls::found::{put_found, put_front};
-use goblin_pe_calls::image::{PeText, text_record};
+use goblin_pe_records::found::{put_found, put_front};
+use goblin_pe_records::image::{PeText, text_record};
 
 /// Puts what the first record says of a function's definition into `definition`, and answers
 /// whether there is a record: 18 bytes. If not, nothing is changed.
@@ -78,7 +78,7 @@ pub extern "C" fn goblin_pe_raw_aux_section_definition(
 /// to a NUL, or all of them. It answers whether there is one: not where there are no bytes, or
 /// those of the name are not UTF-8. Nothing is then changed.
 #[unsafe(no_mangle)]
-#[tactic(auto, using(goblin_pe_calls::proofs::Puts::puts_view))]
+#[tactic(auto, using(goblin_pe_records::proofs::Puts::puts_view))]
 pub extern "C" fn goblin_pe_raw_aux_file<'a>(bytes: &'a [u8], name: &mut PeText<'a>) -> bool
     ensures { Puts text_view result (bounded_text_at bytes.now 0 (length bytes.now)) name.old
         name.new }

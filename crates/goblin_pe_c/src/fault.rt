@@ -1,10 +1,10 @@
 //! The call that gives the text of a refusal.
 
 ghost use Rattle.std.specs.Prelude.{◌≡◌, List, ℕ, length};
-ghost use Rattle.goblin_pe_calls.specs.Faults.{IsTextOf};
-ghost use Rattle.goblin_pe_calls.specs.Filled.{Filled};
+ghost use Rattle.goblin_pe_records.specs.Faults.{IsTextOf};
+ghost use Rattle.goblin_pe_records.specs.Filled.{Filled};
 
-use goblin_pe_calls::fault::{PeFault, put_text, text_of};
+use goblin_pe_records::fault::{PeFault, put_text, text_of};
 
 /// Writes the text of the refusal with these numbers, as far as there is room, and answers how long
 /// the whole text is; 0 where the numbers are of no refusal. The whole text is the refusal's, or one

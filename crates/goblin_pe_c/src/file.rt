@@ -6,25 +6,25 @@ ghost use Rattle.goblin_pe_head.specs.HeaderReadings.{pe_header};
 ghost use Rattle.goblin_pe.specs.Whole.{layout, whole_file};
 ghost use Rattle.goblin_pe_calls.specs.Batches.{ExportBatch, GivesBatch, GivesExports, GivesImports};
 ghost use Rattle.goblin_pe_calls.specs.Batches.{ImportBatch, IsExportsFault, IsImportsFault};
-ghost use Rattle.goblin_pe_calls.specs.Calls.{ReadsInto, Reported};
+ghost use Rattle.goblin_pe_records.specs.Calls.{ReadsInto, Reported};
 ghost use Rattle.goblin_pe_calls.specs.Damages.{TakesSectionsBy, TellsDamage};
 ghost use Rattle.goblin_pe_calls.specs.Footprints.{Lists};
 ghost use Rattle.goblin_pe_calls.specs.Growth.{TakesRecords};
-ghost use Rattle.goblin_pe_calls.specs.Kinds.{kind_number, kind_of};
+ghost use Rattle.goblin_pe_records.specs.Kinds.{kind_number, kind_of};
 ghost use Rattle.goblin_pe_calls.specs.Opened.{Opened, Opens};
-ghost use Rattle.goblin_pe_calls.specs.Options.{options_of};
+ghost use Rattle.goblin_pe_records.specs.Options.{options_of};
 
 use goblin_pe_calls::damage::{self, PeDamage};
-use goblin_pe_calls::directory::PeDirectory;
 use goblin_pe_calls::export::PeExport;
-use goblin_pe_calls::fault::{PeFault, fault_of, no_fault};
-use goblin_pe_calls::file::PeFile;
 use goblin_pe_calls::footprint::{self, PeRanges};
 use goblin_pe_calls::import::PeImport;
-use goblin_pe_calls::kind;
 use goblin_pe_calls::next::{self, PeImportPosition};
 use goblin_pe_calls::open::{self, PeTables};
-use goblin_pe_calls::options::{PeOptions, options_of};
+use goblin_pe_records::directory::PeDirectory;
+use goblin_pe_records::fault::{PeFault, fault_of, no_fault};
+use goblin_pe_records::file::PeFile;
+use goblin_pe_records::kind;
+use goblin_pe_records::options::{PeOptions, options_of};
 use std::alloc::Global;
 
 /// The version of this interface. It is raised where a record or a call changes.
@@ -35,7 +35,7 @@ pub extern "C" fn goblin_pe_interface() -> u32
     3
 }
 
-/// What a file is, by its first two bytes alone, as a [`Kind`](goblin_pe_calls::kind::Kind): 1 an
+/// What a file is, by its first two bytes alone, as a [`Kind`](goblin_pe_records::kind::Kind): 1 an
 /// image, if they are `MZ`; 2 an object, if they are the number of a machine that the library has a
 /// constant for, other than that of any machine, 0; 3 a Terse Executable, if they are `VZ`; else 0.
 /// It does not tell whether the file can be read.

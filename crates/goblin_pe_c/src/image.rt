@@ -6,17 +6,17 @@
 
 ghost use Rattle.std.specs.Prelude.{◌≡◌};
 ghost use Rattle.goblin_pe_sect.specs.SectionReadings.{section_data};
-ghost use Rattle.goblin_pe_calls.specs.Calls.{ReadsWithout, Reported};
-ghost use Rattle.goblin_pe_calls.specs.Found.{Puts};
-ghost use Rattle.goblin_pe_calls.specs.Images.{image_bytes, image_map, image_text, text_view};
-ghost use Rattle.goblin_pe_calls.specs.SectionData.{SaysData};
-ghost use Rattle.goblin_pe_calls.specs.Sections.{section_view};
+ghost use Rattle.goblin_pe_records.specs.Calls.{ReadsWithout, Reported};
+ghost use Rattle.goblin_pe_records.specs.Found.{Puts};
+ghost use Rattle.goblin_pe_records.specs.Images.{image_bytes, image_map, image_text, text_view};
+ghost use Rattle.goblin_pe_records.specs.SectionData.{SaysData};
+ghost use Rattle.goblin_pe_records.specs.Sections.{section_view};
 
-use goblin_pe_calls::fault::{PeFault, fault_of, no_fault};
-use goblin_pe_calls::found::put_found;
-use goblin_pe_calls::image::{PeImage, PeText, text_record};
-use goblin_pe_calls::section::PeSection;
-use goblin_pe_calls::section_data::{PeSectionData, read_data};
+use goblin_pe_records::fault::{PeFault, fault_of, no_fault};
+use goblin_pe_records::found::put_found;
+use goblin_pe_records::image::{PeImage, PeText, text_record};
+use goblin_pe_records::section::PeSection;
+use goblin_pe_records::section_data::{PeSectionData, read_data};
 
 /// Puts the file offset of the address `rva` into `offset`, and answers whether it has one: that of
 /// the first section whose window holds the address, as the file's readers map it. It has none
@@ -33,7 +33,7 @@ pub extern "C" fn goblin_pe_raw_find_offset(image: &PeImage, rva: usize, offset:
 /// its file offset up to a NUL or the end of the file. There is none where the address has no file
 /// offset, this lies at or past the end of the file, or the bytes are not UTF-8.
 #[unsafe(no_mangle)]
-#[tactic(auto, using(goblin_pe_calls::proofs::Puts::puts_view))]
+#[tactic(auto, using(goblin_pe_records::proofs::Puts::puts_view))]
 pub extern "C" fn goblin_pe_raw_text_at<'a>(
     image: &PeImage<'a>,
     rva: usize,
@@ -48,7 +48,7 @@ pub extern "C" fn goblin_pe_raw_text_at<'a>(
 /// are not where the address has no file offset, this lies at or past the end of the file, or the
 /// file ends before they do. A section's end is not looked at.
 #[unsafe(no_mangle)]
-#[tactic(auto, using(goblin_pe_calls::proofs::Puts::puts_view))]
+#[tactic(auto, using(goblin_pe_records::proofs::Puts::puts_view))]
 pub extern "C" fn goblin_pe_raw_bytes_at<'a>(
     image: &PeImage<'a>,
     rva: usize,

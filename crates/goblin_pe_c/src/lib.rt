@@ -4,8 +4,8 @@
 //! is copied. The tables of a whole file, and the ranges of the bytes on which it depends, are
 //! handed over as memory that the caller frees; the other calls fill the caller's records, or write
 //! to its bytes. Headers and tables have the libraries' own records where these are plain. The
-//! crate `goblin_pe_calls` has the other records, and what each call does; a call of this crate
-//! tells its refusal as numbers.
+//! crates `goblin_pe_records` and `goblin_pe_calls` have the other records, and what each call does;
+//! a call of this crate tells its refusal as numbers.
 #![tactic(auto)]
 
 mod auxiliary;

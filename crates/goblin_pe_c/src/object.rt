@@ -3,23 +3,23 @@
 ghost use Rattle.std.specs.Prelude.{◌≡◌};
 ghost use Rattle.goblin_pe_sect.specs.Options.{is_strict};
 ghost use Rattle.goblin_pe_head.specs.TeReadings.{te_header};
-ghost use Rattle.goblin_pe_calls.specs.Calls.{ReadsInto, ReadsWithout, Reported};
+ghost use Rattle.goblin_pe_records.specs.Calls.{ReadsInto, ReadsWithout, Reported};
 ghost use Rattle.goblin_pe_calls.specs.Objects.{ObjectRecords, SaysObject, TakesMemory, object_file};
 ghost use Rattle.goblin_pe_calls.specs.Objects.{object_header};
-ghost use Rattle.goblin_pe_calls.specs.Options.{options_of};
-ghost use Rattle.goblin_pe_calls.specs.Relocations.{RelocationRecords, SaysRelocations};
-ghost use Rattle.goblin_pe_calls.specs.Relocations.{relocations_of};
-ghost use Rattle.goblin_pe_calls.specs.Sections.{section_view};
-ghost use Rattle.goblin_pe_calls.specs.Symbols.{SaysSymbols, SymbolRecords, symbol_tables};
+ghost use Rattle.goblin_pe_records.specs.Options.{options_of};
+ghost use Rattle.goblin_pe_records.specs.Relocations.{RelocationRecords, SaysRelocations};
+ghost use Rattle.goblin_pe_records.specs.Relocations.{relocations_of};
+ghost use Rattle.goblin_pe_records.specs.Sections.{section_view};
+ghost use Rattle.goblin_pe_records.specs.Symbols.{SaysSymbols, SymbolRecords, symbol_tables};
 
 use goblin_pe::header::CoffHeader;
 use goblin_pe::relocation::Relocation;
-use goblin_pe_calls::fault::{PeFault, fault_of, no_fault};
 use goblin_pe_calls::object::{self, PeObject};
-use goblin_pe_calls::options::{PeOptions, options_of};
-use goblin_pe_calls::relocation::read_relocations;
-use goblin_pe_calls::section::PeSection;
-use goblin_pe_calls::symbol::{PeNamedSymbol, read_symbols};
+use goblin_pe_records::fault::{PeFault, fault_of, no_fault};
+use goblin_pe_records::options::{PeOptions, options_of};
+use goblin_pe_records::relocation::read_relocations;
+use goblin_pe_records::section::PeSection;
+use goblin_pe_records::symbol::{PeNamedSymbol, read_symbols};
 use std::alloc::Global;
 
 /// Reads an object, which begins with a COFF header: says in `object` what it is, and fills the

@@ -2,13 +2,13 @@
 
 ghost use Rattle.std.specs.Prelude.{◌≡◌};
 ghost use Rattle.goblin_pe_head.specs.TeReadings.{te_header};
-ghost use Rattle.goblin_pe_calls.specs.Calls.{ReadsInto, Reported};
+ghost use Rattle.goblin_pe_records.specs.Calls.{ReadsInto, Reported};
 ghost use Rattle.goblin_pe_calls.specs.Te.{SaysImage, TakesMemory, TeRecords, te_file};
 
 use goblin_pe::header::TeHeader;
-use goblin_pe_calls::fault::{PeFault, fault_of, no_fault};
-use goblin_pe_calls::section::PeSection;
 use goblin_pe_calls::te;
+use goblin_pe_records::fault::{PeFault, fault_of, no_fault};
+use goblin_pe_records::section::PeSection;
 use std::alloc::Global;
 
 /// Reads the header at the front of a Terse Executable and the sections that follow it, and fills

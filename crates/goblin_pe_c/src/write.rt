@@ -8,16 +8,18 @@ ghost use Rattle.goblin_base.specs.Record.{encoding};
 ghost use Rattle.goblin_pe_sect.specs.SectionReadings.{SectionWritesBack};
 ghost use Rattle.goblin_pe_sect.specs.SectionTable.{section_fields};
 ghost use Rattle.goblin_pe_head.specs.PeHeader.{IsUnwrittenPart, header_bytes};
-ghost use Rattle.goblin_pe_calls.specs.Calls.{Reported};
-ghost use Rattle.goblin_pe_calls.specs.Sections.{section_view};
-ghost use Rattle.goblin_pe_calls.specs.Written.{OpenedWritesBack, Output, SetsName, WritesOut};
-ghost use Rattle.goblin_pe_calls.specs.Written.{header_said, optional_said};
+ghost use Rattle.goblin_pe_records.specs.Calls.{Reported};
+ghost use Rattle.goblin_pe_records.specs.Sections.{section_view};
+ghost use Rattle.goblin_pe_records.specs.Written.{Output, SetsName, WritesOut};
+ghost use Rattle.goblin_pe_records.specs.Written.{header_said, optional_said};
+ghost use Rattle.goblin_pe_calls.specs.Written.{OpenedWritesBack};
 
-use goblin_pe_calls::directory::PeDirectory;
-use goblin_pe_calls::fault::{PeFault, fault_of, no_fault};
-use goblin_pe_calls::file::PeFile;
-use goblin_pe_calls::section::PeSection;
-use goblin_pe_calls::write::{set_name_offset, write_header, write_section};
+use goblin_pe_calls::write::write_header;
+use goblin_pe_records::directory::PeDirectory;
+use goblin_pe_records::fault::{PeFault, fault_of, no_fault};
+use goblin_pe_records::file::PeFile;
+use goblin_pe_records::section::PeSection;
+use goblin_pe_records::write::{set_name_offset, write_section};
 
 /// Writes the header that `file`, the records of its data directories and the bytes of its DOS stub
 /// say to the front of `out`, and puts into `written` how many bytes it takes: the DOS header, the

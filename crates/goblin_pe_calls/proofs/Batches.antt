@@ -5,8 +5,8 @@ use Rattle.std.proofs.Math.Nat.{min-eq_left, min-eq_right}
 use Rattle.std.proofs.Math.Seq.{drop-append_seam, take-append_seam}
 use Rattle.std.proofs.lemmas.List.{append_assoc, length-append, length-map, length-set, map-append, take_all}
 use Rattle.goblin_pe_calls.specs.Batches.{IsBatch, IsRefusedNext, values_before}
-use Rattle.goblin_pe_calls.specs.Filled.{Filled}
-use Rattle.goblin_pe_calls.proofs.Items.{room}
+use Rattle.goblin_pe_records.specs.Filled.{Filled}
+use Rattle.goblin_pe_records.proofs.Items.{room}
 
 -- ---- the values before a refusal
 

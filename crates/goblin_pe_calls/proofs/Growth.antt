@@ -1,7 +1,7 @@
 -- Memory is asked for only where a table has an entry.
 use Rattle.std.proofs.Common.{◌≡◌, ◌<◌, ◌+◌, ◌++◌, ◌∷◌, [], ℕ, List, Option, Some, None, Result, Ok, Err}
 use Rattle.std.proofs.Common.{ap, arith, inl, inr, length, map, refl, subst, suc, sym, zero}
-use Rattle.std.specs.Prelude.{IfErr, IfSome, IsSome, IsSomeAnd, MatchOption, OnErr, option_map}
+use Rattle.std.specs.Prelude.{IfErr, IfSome, IsSome, IsSomeAnd, MatchOption, option_map}
 use Rattle.std.proofs.lemmas.List.{length-append, length-map}
 use Rattle.goblin_base.specs.declared.error.ErrorOf.{ErrorOf}
 use Rattle.goblin_base.specs.Answers.{◌>>=◌, IsMemory, all_of}
@@ -36,13 +36,8 @@ use Rattle.goblin_pe_calls.specs.Blocks.{blocks_in}
 use Rattle.goblin_pe_calls.specs.Growth.{FileBegins, HasEntries, HasRecords, HasTables, IsBegun}
 use Rattle.goblin_pe_calls.specs.Growth.{StartBegins, TablesBegin, TakesRecords}
 use Rattle.goblin_pe_calls.specs.Opened.{RecordsOfFile}
-use Rattle.goblin_pe_calls.specs.RichHeaders.{entries_in}
+use Rattle.goblin_pe_records.specs.RichHeaders.{entries_in}
 use Rattle.goblin_pe_calls.proofs.Opened.{IsOf}
-
--- what holds of every answer
-pub whichever : {A E : Type 0} (P : Type 0) (result : Result A E) → P → OnErr result P
-whichever P (Ok x) h = tt
-whichever P (Err e) h = h
 
 -- ---- walks
 

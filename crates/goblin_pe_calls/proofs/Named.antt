@@ -16,7 +16,7 @@ use Rattle.goblin_pe_head.specs.CoffHeader.{symbols_end}
 use Rattle.goblin_pe_head.specs.CoffReadings.{sections_at}
 use Rattle.goblin_pe.specs.Whole.{TablePlaces, WholeFile, offset_by, places_in, section_table_offset, sections_after, table_parts, whole_file}
 use Rattle.goblin_pe.specs.Whole.{whole_of, whole_with}
-use Rattle.goblin_pe_calls.specs.Sections.{named_in, real_name_in}
+use Rattle.goblin_pe_records.specs.Sections.{named_in, real_name_in}
 
 named-made : (strict : Bool) (table : ℕ) (bytes : List ℕ) (s : Section) (value : Option ℕ) → name_value strict s.name ≡ Some value → real_name_in strict bytes table s.name ≡ (text_in_table table value).value bytes
 unfolding real_name_in

@@ -8,7 +8,7 @@ use Rattle.goblin_pe_sect.specs.SectionReadings.{section_at}
 use Rattle.goblin_pe_head.specs.CoffHeader.{coff_header, symbols_end}
 use Rattle.goblin_pe_head.specs.CoffReadings.{sections_at}
 use Rattle.goblin_pe_calls.specs.Objects.{ObjectFile, object_file, object_sections}
-use Rattle.goblin_pe_calls.specs.Sections.{named_in}
+use Rattle.goblin_pe_records.specs.Sections.{named_in}
 use Rattle.goblin_pe_calls.proofs.Named.{all-kept, section-named}
 
 pub object-named : (strict : Bool) (bytes : List ℕ) (x : ObjectFile) → (object_file strict).value bytes ≡ Some x → map (named_in strict bytes (symbols_end x.header)) x.sections ≡ x.sections

@@ -7,7 +7,7 @@ use Rattle.goblin_pe_sect.specs.SectionTable.{Section}
 use Rattle.goblin_pe_head.specs.declared.header.te.TeHeader.{TeHeader}
 use Rattle.goblin_pe_head.specs.TeHeader.{displacement, section_adjusted, section_moved}
 use Rattle.goblin_pe_head.specs.TeReadings.{te_header, te_image, te_sections_at}
-use Rattle.goblin_pe_calls.specs.Sections.{named_in}
+use Rattle.goblin_pe_records.specs.Sections.{named_in}
 use Rattle.goblin_pe_calls.specs.Te.{TeImage, te_file}
 use Rattle.goblin_pe_calls.proofs.Named.{all-kept, section-named}
 

@@ -16,11 +16,12 @@ use Rattle.goblin_pe_head.specs.HeaderReadings.{fixed_fields, optional_at, optio
 use Rattle.goblin_pe_head.specs.PeHeader.{PeHeader, header_bytes, header_parts}
 use Rattle.goblin_pe_head.proofs.PeHeaderRoundTrip.{dos_of, header_back, parts_of}
 use Rattle.goblin_pe.specs.Whole.{TablePlaces, WholeFile, offset_by, places_in, sections_after, table_parts, whole_file, whole_of, whole_with}
-use Rattle.goblin_pe_calls.specs.declared.file.PeFile.{PeFile}
-use Rattle.goblin_pe_calls.specs.Directories.{directories_of, directory_record}
+use Rattle.goblin_pe_records.specs.declared.file.PeFile.{PeFile}
+use Rattle.goblin_pe_records.specs.Directories.{directories_of, directory_record}
 use Rattle.goblin_pe_calls.specs.Files.{file_of}
-use Rattle.goblin_pe_calls.specs.Headers.{optional_record}
-use Rattle.goblin_pe_calls.specs.Written.{OpenedWritesBack, entries_said, entry_said, header_said, optional_said}
+use Rattle.goblin_pe_records.specs.Headers.{optional_record}
+use Rattle.goblin_pe_records.specs.Written.{entries_said, entry_said, header_said, optional_said}
+use Rattle.goblin_pe_calls.specs.Written.{OpenedWritesBack}
 
 abbrev Entry : Type 0
 Entry = Option (ℕ × DataDirectory)

@@ -27,7 +27,7 @@ use Rattle.goblin_pe_calls.specs.declared.import.PeImport.{PeImport}
 use Rattle.goblin_pe_calls.specs.declared.next.PeImportPosition.{PeImportPosition}
 use Rattle.goblin_pe_calls.specs.Damages.{TakesSectionsBy}
 use Rattle.goblin_pe_calls.specs.Exports.{export_said, export_view}
-use Rattle.goblin_pe_calls.specs.Filled.{Filled}
+use Rattle.goblin_pe_records.specs.Filled.{Filled}
 use Rattle.goblin_pe_calls.specs.Imports.{import_said, import_view}
 
 -- ---- what a batch holds

@@ -4,16 +4,11 @@ use Rattle.goblin_pe_sect.specs.BaseRelocations.{Block, block_items}
 use Rattle.goblin_pe.specs.declared.whole.Part.{Part}
 use Rattle.goblin_pe.specs.declared.whole.Part.TheVariants.{Absent, Refused}
 use Rattle.goblin_pe.specs.declared.whole.Part.TheVariants as part
-use Rattle.goblin_pe_calls.specs.declared.block.PeBlock.{PeBlock}
-use Rattle.goblin_pe_calls.specs.declared.block.PeBaseRelocations.{PeBaseRelocations}
-use Rattle.goblin_pe_calls.specs.declared.file.State.TheVariants as state
-use Rattle.goblin_pe_calls.specs.Faults.{no_fault}
-use Rattle.goblin_pe_calls.specs.Items.{rest_of, values_of}
-use Rattle.goblin_pe_calls.specs.States.{state_number}
-
--- what a record holds of a block
-abbrev pub block_view : PeBlock → Block
-block_view b = record { rva = b.rva; size = b.size; words = b.words.now }
+use Rattle.goblin_pe_records.specs.declared.block.PeBaseRelocations.{PeBaseRelocations}
+use Rattle.goblin_pe_records.specs.declared.file.State.TheVariants as state
+use Rattle.goblin_pe_records.specs.Faults.{no_fault}
+use Rattle.goblin_pe_records.specs.Items.{rest_of, values_of}
+use Rattle.goblin_pe_records.specs.States.{state_number}
 
 -- the blocks of a directory's bytes, none where it was not read
 abbrev pub blocks_in : Part (List ℕ) → List Block

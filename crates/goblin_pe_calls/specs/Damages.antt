@@ -8,8 +8,8 @@ use Rattle.goblin_pe.specs.PeHeader.{PeHeader}
 use Rattle.goblin_pe.specs.SectionRoom.{TakesSections}
 use Rattle.goblin_pe.specs.declared.whole.damage.Damage.{Damage}
 use Rattle.goblin_pe_calls.specs.declared.damage.PeDamage.{PeDamage}
-use Rattle.goblin_pe_calls.specs.declared.fault.PeFault.{PeFault}
-use Rattle.goblin_pe_calls.specs.Faults.{fault_of, no_fault}
+use Rattle.goblin_pe_records.specs.declared.fault.PeFault.{PeFault}
+use Rattle.goblin_pe_records.specs.Faults.{fault_of, no_fault}
 
 -- the numbers of a part's damage
 abbrev pub part_fault : Option ErrorOf → PeFault

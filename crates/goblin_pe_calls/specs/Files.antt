@@ -5,14 +5,14 @@ use Rattle.goblin_pe.specs.declared.whole.Part.TheVariants.{Absent, Refused}
 use Rattle.goblin_pe.specs.declared.whole.Part.TheVariants as part
 use Rattle.goblin_pe.specs.PeHeader.{PeHeader}
 use Rattle.goblin_pe.specs.Whole.{WholeFile}
-use Rattle.goblin_pe_calls.specs.declared.file.PeTable.{PeTable}
-use Rattle.goblin_pe_calls.specs.declared.file.PeFile.{PeFile}
-use Rattle.goblin_pe_calls.specs.declared.file.State.TheVariants as state
+use Rattle.goblin_pe_records.specs.declared.file.PeTable.{PeTable}
+use Rattle.goblin_pe_records.specs.declared.file.PeFile.{PeFile}
+use Rattle.goblin_pe_records.specs.declared.file.State.TheVariants as state
 use Rattle.goblin_pe_calls.specs.Blocks.{relocations_of}
-use Rattle.goblin_pe_calls.specs.Directories.{directories_of}
-use Rattle.goblin_pe_calls.specs.Headers.{optional_record}
-use Rattle.goblin_pe_calls.specs.RichHeaders.{rich_of}
-use Rattle.goblin_pe_calls.specs.States.{state_number}
+use Rattle.goblin_pe_records.specs.Directories.{directories_of}
+use Rattle.goblin_pe_records.specs.Headers.{optional_record}
+use Rattle.goblin_pe_records.specs.RichHeaders.{rich_of}
+use Rattle.goblin_pe_records.specs.States.{state_number}
 
 -- the entries of a table, none where it was not read
 abbrev pub entries_of : {A : Type 0} → Part (List A) → List A

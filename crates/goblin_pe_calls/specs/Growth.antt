@@ -15,7 +15,7 @@ use Rattle.goblin_pe.specs.Whole.{TableParts, TablePlaces, WholeFile, export_par
 use Rattle.goblin_pe.specs.Whole.{part_map, places_in, whole_file}
 use Rattle.goblin_pe_calls.specs.Blocks.{blocks_in}
 use Rattle.goblin_pe_calls.specs.Files.{entries_of}
-use Rattle.goblin_pe_calls.specs.RichHeaders.{entries_in}
+use Rattle.goblin_pe_records.specs.RichHeaders.{entries_in}
 
 -- a table has an entry
 abbrev pub HasEntries : {A : Type 0} → Part (List A) → Type 0

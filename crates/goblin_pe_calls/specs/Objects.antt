@@ -9,9 +9,9 @@ use Rattle.goblin_pe_head.specs.CoffHeader.{coff_header, symbols_end}
 use Rattle.goblin_pe_head.specs.CoffReadings.{sections_at}
 use Rattle.goblin_pe.specs.SectionRoom.{TakesSections}
 use Rattle.goblin_pe_calls.specs.declared.object.PeObject.{PeObject}
-use Rattle.goblin_pe_calls.specs.declared.section.PeSection.{PeSection}
-use Rattle.goblin_pe_calls.specs.Filled.{Filled, alone}
-use Rattle.goblin_pe_calls.specs.Sections.{section_said}
+use Rattle.goblin_pe_records.specs.declared.section.PeSection.{PeSection}
+use Rattle.goblin_pe_records.specs.Filled.{Filled, alone}
+use Rattle.goblin_pe_records.specs.Sections.{section_said}
 
 -- an object: its header and its sections
 pub record ObjectFile : Type 0 where

@@ -6,19 +6,20 @@ use Rattle.goblin_pe.specs.Whole.{offset_by, part_map, places_in}
 use Rattle.goblin_pe.specs.declared.whole.layout.Layout.{Layout}
 use Rattle.goblin_pe.specs.BaseRelocations.{relocation_bytes}
 use Rattle.goblin_pe.specs.PeHeader.{header_value}
-use Rattle.goblin_pe_calls.specs.declared.directory.PeDirectory.{PeDirectory}
-use Rattle.goblin_pe_calls.specs.declared.file.PeFile.{PeFile}
+use Rattle.goblin_pe_records.specs.declared.directory.PeDirectory.{PeDirectory}
+use Rattle.goblin_pe_records.specs.declared.file.PeFile.{PeFile}
 use Rattle.goblin_pe_calls.specs.declared.open.PeTables.{PeTables}
-use Rattle.goblin_pe_calls.specs.Blocks.{block_view, blocks_in}
-use Rattle.goblin_pe_calls.specs.Directories.{directories_of, directory_record}
+use Rattle.goblin_pe_records.specs.Blocks.{block_view}
+use Rattle.goblin_pe_calls.specs.Blocks.{blocks_in}
+use Rattle.goblin_pe_records.specs.Directories.{directories_of, directory_record}
 use Rattle.goblin_pe_calls.specs.declared.records.FileRecords.{FileRecords}
 use Rattle.goblin_pe_calls.specs.ExportDirectories.{directory_view}
 use Rattle.goblin_pe_calls.specs.Exports.{ExportsSaid, export_view, exports_said, exports_view, file_exports}
 use Rattle.goblin_pe_calls.specs.Files.{entries_of, file_of}
-use Rattle.goblin_pe_calls.specs.Filled.{Filled, alone}
+use Rattle.goblin_pe_records.specs.Filled.{Filled, alone}
 use Rattle.goblin_pe_calls.specs.Imports.{ImportSaid, import_said, import_view, import_views}
-use Rattle.goblin_pe_calls.specs.RichHeaders.{entries_in}
-use Rattle.goblin_pe_calls.specs.Sections.{section_said}
+use Rattle.goblin_pe_records.specs.RichHeaders.{entries_in}
+use Rattle.goblin_pe_records.specs.Sections.{section_said}
 
 -- what a caller passes in to be filled
 pub record Opened : Type 0 where

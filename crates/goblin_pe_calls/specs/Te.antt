@@ -6,9 +6,9 @@ use Rattle.goblin_pe_sect.specs.SectionTable.{Section}
 use Rattle.goblin_pe_head.specs.declared.header.te.TeHeader.{TeHeader}
 use Rattle.goblin_pe_head.specs.TeReadings.{te_image}
 use Rattle.goblin_pe.specs.SectionRoom.{TakesSections}
-use Rattle.goblin_pe_calls.specs.declared.section.PeSection.{PeSection}
-use Rattle.goblin_pe_calls.specs.Filled.{Filled, alone}
-use Rattle.goblin_pe_calls.specs.Sections.{section_said}
+use Rattle.goblin_pe_records.specs.declared.section.PeSection.{PeSection}
+use Rattle.goblin_pe_records.specs.Filled.{Filled, alone}
+use Rattle.goblin_pe_records.specs.Sections.{section_said}
 
 -- a Terse Executable
 pub record TeImage : Type 0 where

@@ -1,79 +1,15 @@
--- What is written of the records of a caller.
-use Rattle.std.specs.Prelude.{◌≡◌, ◌++◌, ◌-◌, ◌==◌, if◌then◌else◌, ℕ, Bool, List, length, map}
-use Rattle.std.specs.Prelude.{Option, None, Some, Result, Ok, Err, replicate, take, true}
+-- What is written of the records of a file that was opened.
+use Rattle.std.specs.Prelude.{◌≡◌, ◌++◌, List, ℕ, map, Some, take, true}
 use Rattle.goblin_base.specs.declared.endian.Endian.TheVariants.{Little}
-use Rattle.goblin_base.specs.declared.error.ErrorOf.{ErrorOf}
 use Rattle.goblin_base.specs.Bytes.{IsBytes}
-use Rattle.goblin_pe_sect.specs.declared.data_directories.DataDirectory.{DataDirectory}
 use Rattle.goblin_pe_sect.specs.declared.options.ParseOptions.{ParseOptions}
 use Rattle.goblin_pe_sect.specs.Options.{is_strict}
-use Rattle.goblin_pe_sect.specs.SectionName.{IsNameOffsetFault, indirect_name, name_value}
-use Rattle.goblin_pe_head.specs.declared.optional_header.OptionalHeader.{OptionalHeader}
 use Rattle.goblin_pe_head.specs.HeaderLaws.{filling_after, header_end}
-use Rattle.goblin_pe_head.specs.PeHeader.{PeHeader, header_bytes}
+use Rattle.goblin_pe_head.specs.PeHeader.{header_bytes}
 use Rattle.goblin_pe.specs.Whole.{WholeFile, whole_file}
-use Rattle.goblin_pe_calls.specs.declared.directory.PeDirectory.{PeDirectory}
-use Rattle.goblin_pe_calls.specs.declared.file.PeFile.{PeFile}
-use Rattle.goblin_pe_calls.specs.declared.section.PeSection.{PeSection}
-use Rattle.goblin_pe_calls.specs.Directories.{directories_of, directory_record}
+use Rattle.goblin_pe_records.specs.Directories.{directories_of, directory_record}
+use Rattle.goblin_pe_records.specs.Written.{header_said}
 use Rattle.goblin_pe_calls.specs.Files.{file_of}
-
--- ---- what records say
-
--- the entry that a record says
-abbrev pub entry_said : PeDirectory → Option (ℕ × DataDirectory)
-entry_said d = if d.is_present then Some (d.end, d.directory) else None
-
--- sixteen entries: the first records, and none in place of those that are not there
-abbrev pub entries_said : List PeDirectory → List (Option (ℕ × DataDirectory))
-entries_said directories =
-    take 16 (map entry_said directories) ++ replicate (16 - length directories) None
-
--- the optional header, which is there if it has directories
-abbrev pub optional_said : PeFile → List PeDirectory → Option OptionalHeader
-optional_said file directories =
-    if file.directories == 0
-    then None
-    else Some (record {
-      standard_fields = file.optional_header.standard_fields;
-      windows_fields = file.optional_header.windows_fields;
-      data_directories = record { data_directories = entries_said directories };
-    })
-
--- the header, its Rich header part of the stub, with the PE signature
-abbrev pub header_said : PeFile → List PeDirectory → List ℕ → PeHeader
-header_said file directories stub = record {
-  dos_header = file.dos_header;
-  dos_stub = stub;
-  rich_header = None;
-  signature = 0x4550;
-  coff_header = file.coff_header;
-  optional_header = optional_said file directories;
-}
-
--- ---- what calls do
-
--- what a caller passes in to be written to: bytes, and how many were written
-pub record Output : Type 0 where
-  pub out : List ℕ
-  pub written : ℕ
-
--- A call has made this change to the bytes and told its size; or there is no such change, the cause
--- is true, and everything is unchanged.
-abbrev pub WritesOut : Option (List ℕ) → (ℕ → Type 0) → (ErrorOf → Type 0) → Output → Output
-    → Result Unit ErrorOf → Type 0
-WritesOut change IsSize IsCause old new (Ok x) = (change ≡ Some new.out) × IsSize new.written
-WritesOut change IsSize IsCause old new (Err e) = (change ≡ None) × IsCause e × (new ≡ old)
-
--- A call has set the eight bytes of a section's name to those that hold a number, which readers find
--- there; or none hold it, the cause is true, and everything is unchanged.
-abbrev pub SetsName : ℕ → PeSection → PeSection → Result Unit ErrorOf → Type 0
-SetsName offset old new (Ok x) =
-    (indirect_name offset ≡ Some new.name)
-    × ((strict : Bool) → name_value strict new.name ≡ Some (Some offset))
-    × (new ≡ record old { name = new.name })
-SetsName offset old new (Err e) =
-    (indirect_name offset ≡ None) × IsNameOffsetFault offset e × (new ≡ old)
 
 -- A header that strict mode read is written from a file's records as the file's bytes up to its end,
 -- with zeros for the missing directories after them.

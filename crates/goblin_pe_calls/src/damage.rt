@@ -4,12 +4,12 @@ ghost use Rattle.std.specs.Prelude.{◌≡◌};
 ghost use Rattle.goblin_pe_sect.specs.Options.{is_strict};
 ghost use Rattle.goblin_pe_head.specs.HeaderReadings.{pe_header};
 ghost use Rattle.goblin_pe.specs.Whole.{layout};
-ghost use Rattle.goblin_pe_calls.specs.Calls.{ReadsInto};
+ghost use Rattle.goblin_pe_records.specs.Calls.{ReadsInto};
 ghost use Rattle.goblin_pe_calls.specs.Damages.{TakesSectionsBy, TellsDamage, damage_record, part_fault};
 
-use crate::fault::{PeFault, fault_of, no_fault};
 use goblin_pe::options::ParseOptions;
 use goblin_pe::{Damage, Error, Result, Whole};
+use goblin_pe_records::fault::{PeFault, fault_of, no_fault};
 use std::alloc::Global;
 
 /// What strict mode would refuse of a file, part by part: for each part a fault of the status 0

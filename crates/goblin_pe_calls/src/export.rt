@@ -11,7 +11,8 @@ ghost use Rattle.goblin_pe_tables.specs.ExportWalks.{KeepsOver, exports_left, wa
 ghost use Rattle.goblin_pe_tables.specs.ExportWalks.{walked_tables};
 ghost use Rattle.goblin_pe.specs.Layouts.{layout_map, layout_places};
 ghost use Rattle.goblin_pe.specs.Whole.{collected_exports, export_part, part_map};
-ghost use Rattle.goblin_pe_calls.specs.Blocked.{HasLittleRoom, HasLittleRoomIn, HaveLittleRoom};
+ghost use Rattle.goblin_pe_records.specs.Blocked.{HasLittleRoom};
+ghost use Rattle.goblin_pe_calls.specs.Blocked.{HasLittleRoomIn, HaveLittleRoom};
 ghost use Rattle.goblin_pe_calls.specs.Exports.{export_said, export_view, export_views, exports_said};
 ghost use Rattle.goblin_pe_calls.specs.Exports.{exports_view, read_said, unread_said};
 ghost use Rattle.goblin_pe_calls.specs.Growth.{HasExports};
@@ -19,9 +20,9 @@ ghost use Rattle.goblin_pe_calls.specs.Growth.{HasExports};
 use crate::export_directory::{
     PeExportAddress, PeExportDirectory, address_records, directory_record, no_directory,
 };
-use crate::room::make_room;
 use goblin_pe::export::{Exports, Reexport, WalkedExport};
 use goblin_pe::{Layout, Part, Result};
+use goblin_pe_records::room::make_room;
 use std::alloc::Global;
 
 // How an export names what it stands for in another library.

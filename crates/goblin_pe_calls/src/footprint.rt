@@ -3,7 +3,7 @@
 ghost use Rattle.std.specs.Prelude.{◌≡◌, ◌<◌, IfOk, OnErr, length, map};
 ghost use Rattle.goblin_base.specs.Answers.{GivesOrMemory};
 ghost use Rattle.goblin_pe.specs.Whole.{whole_file};
-ghost use Rattle.goblin_pe_calls.specs.Blocked.{HasNoSpareRoom};
+ghost use Rattle.goblin_pe_records.specs.Blocked.{HasNoSpareRoom};
 ghost use Rattle.goblin_pe_calls.specs.Footprints.{Lists, range_said, range_view};
 
 use goblin_pe::Result;

@@ -11,13 +11,14 @@ ghost use Rattle.goblin_pe.specs.Layouts.{IsFileImportsCause, file_imports_left,
 ghost use Rattle.goblin_pe.specs.Layouts.{layout_places};
 ghost use Rattle.goblin_pe.specs.Whole.{AreListed, collected_imports, import_list, import_parts};
 ghost use Rattle.goblin_pe.specs.Whole.{part_map};
-ghost use Rattle.goblin_pe_calls.specs.Blocked.{HasLittleRoom, HasLittleRoomIn};
+ghost use Rattle.goblin_pe_records.specs.Blocked.{HasLittleRoom};
+ghost use Rattle.goblin_pe_calls.specs.Blocked.{HasLittleRoomIn};
 ghost use Rattle.goblin_pe_calls.specs.Growth.{HasEntries, ImportsBegin, IsBegun};
 ghost use Rattle.goblin_pe_calls.specs.Imports.{import_said, import_view, import_views};
 
-use crate::room::make_room;
 use goblin_pe::import::{Bitfield, Imports, SyntheticImportLookupTableEntry, WalkedImport};
 use goblin_pe::{FileImports, Layout, Part, Result, ResultOf};
+use goblin_pe_records::room::make_room;
 use std::alloc::Global;
 
 /// An import.

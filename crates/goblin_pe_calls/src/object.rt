@@ -4,17 +4,17 @@ ghost use Rattle.std.specs.Prelude.{◌+◌, ◌≡◌, IfErr, IsSomeAnd, Some, 
 ghost use Rattle.goblin_base.specs.Answers.{IsMemory};
 ghost use Rattle.goblin_base.specs.Reading.{ReadsOrMemory};
 ghost use Rattle.goblin_pe_sect.specs.Options.{is_strict};
-ghost use Rattle.goblin_pe_calls.specs.Calls.{ReadsInto};
-ghost use Rattle.goblin_pe_calls.specs.Filled.{Filled, alone};
+ghost use Rattle.goblin_pe_records.specs.Calls.{ReadsInto};
+ghost use Rattle.goblin_pe_records.specs.Filled.{Filled, alone};
 ghost use Rattle.goblin_pe_calls.specs.Objects.{ObjectRecords, SaysObject, TakesMemory, object_file};
 ghost use Rattle.goblin_pe_calls.specs.Objects.{object_header, object_record, object_sections};
-ghost use Rattle.goblin_pe_calls.specs.Sections.{section_said};
+ghost use Rattle.goblin_pe_records.specs.Sections.{section_said};
 
-use crate::section::{PeSection, fill_sections};
 use goblin_pe::Result;
 use goblin_pe::header::{CoffHeader, SIZEOF_COFF_HEADER};
 use goblin_pe::options::ParseOptions;
 use goblin_pe::section_table::SectionTable;
+use goblin_pe_records::section::{PeSection, fill_sections};
 use std::alloc::Global;
 use std::marker::Model;
 

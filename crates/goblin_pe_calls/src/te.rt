@@ -4,16 +4,16 @@ ghost use Rattle.std.specs.Prelude.{◌≡◌, IfErr, IsSomeAnd, Some, map};
 ghost use Rattle.goblin_base.specs.Answers.{IsMemory};
 ghost use Rattle.goblin_base.specs.Reading.{ReadsOrMemory};
 ghost use Rattle.goblin_pe_head.specs.TeReadings.{te_header};
-ghost use Rattle.goblin_pe_calls.specs.Calls.{ReadsInto};
-ghost use Rattle.goblin_pe_calls.specs.Filled.{Filled, alone};
-ghost use Rattle.goblin_pe_calls.specs.Sections.{section_said};
+ghost use Rattle.goblin_pe_records.specs.Calls.{ReadsInto};
+ghost use Rattle.goblin_pe_records.specs.Filled.{Filled, alone};
+ghost use Rattle.goblin_pe_records.specs.Sections.{section_said};
 ghost use Rattle.goblin_pe_calls.specs.Te.{SaysImage, TakesMemory, TeRecords, te_file};
 
-use crate::section::{PeSection, fill_sections};
 use goblin_pe::Result;
 use goblin_pe::header::TeHeader;
 use goblin_pe::options::ParseOptions;
 use goblin_pe::section_table::SectionTable;
+use goblin_pe_records::section::{PeSection, fill_sections};
 use std::alloc::Global;
 use std::marker::Model;
 

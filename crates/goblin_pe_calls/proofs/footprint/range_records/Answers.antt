@@ -1,7 +1,7 @@
 use Rattle.std.proofs.Common.{◌∙◌, ◌<◌, length, arith}
 use Rattle.goblin_pe_calls.specs.Footprints.{range_said, range_view}
-use Rattle.goblin_pe_calls.proofs.Filling.{any-default}
-use Rattle.goblin_pe_calls.proofs.Making.{making-start, making-next, making-end}
+use Rattle.goblin_pe_records.proofs.Filling.{any-default}
+use Rattle.goblin_pe_records.proofs.Making.{making-start, making-next, making-end}
 use Rattle.goblin_pe_calls.proofs.footprint.range_records.Goals as goal
 
 pub records-init : goal.records-init

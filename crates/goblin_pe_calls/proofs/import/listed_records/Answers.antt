@@ -6,7 +6,8 @@ use Rattle.goblin_pe.specs.declared.whole.imports.FileImports.{FileImports}
 use Rattle.goblin_pe.specs.Layouts.{IsFileImportsCause, PartWalks, file_imports_left, layout_map, layout_places}
 use Rattle.goblin_pe.specs.LayoutPositions.{StartsAt, import_start}
 use Rattle.goblin_pe.specs.Whole.{import_list}
-use Rattle.goblin_pe_calls.proofs.Growth.{imports-begin, walk-entries, whichever}
+use Rattle.goblin_pe_calls.proofs.Growth.{imports-begin, walk-entries}
+use Rattle.goblin_pe_records.proofs.Making.{whichever}
 use Rattle.goblin_pe_calls.proofs.import.listed_records.Goals as goal
 
 pub returns-in_err-records-in-Read-clause-grown : goal.returns-in_err-records-in-Read-clause-grown

@@ -3,7 +3,8 @@ use Rattle.std.proofs.lemmas.Result.{err_from_is_err_and}
 use Rattle.goblin_pe_tables.specs.ImportWalks.{IsImportsCause, imports_left, walked_value}
 use Rattle.goblin_pe_calls.specs.Imports.{import_said}
 use Rattle.goblin_pe.proofs.Walked.{made-all, made-fault, made-more, made-start}
-use Rattle.goblin_pe_calls.proofs.Growth.{never-memory, walk-begins, walk-begun, wherever, whichever}
+use Rattle.goblin_pe_calls.proofs.Growth.{never-memory, walk-begins, walk-begun, wherever}
+use Rattle.goblin_pe_records.proofs.Making.{whichever}
 use Rattle.goblin_pe_calls.proofs.import.records_of.Goals as goal
 
 pub imports-init : goal.imports-init

@@ -2,9 +2,9 @@ use Rattle.std.proofs.Common.{◌∙◌, List, ap, map, subst, sym, ℕ}
 use Rattle.std.specs.Prelude.{Some}
 use Rattle.goblin_pe_sect.specs.Options.{is_strict}
 use Rattle.goblin_pe_sect.specs.SectionTable.{Section}
-use Rattle.goblin_pe_calls.specs.Filled.{Filled, alone}
-use Rattle.goblin_pe_calls.specs.Sections.{named_in, section_said}
-use Rattle.goblin_pe_calls.proofs.Filling.{alone-same}
+use Rattle.goblin_pe_records.specs.Filled.{Filled, alone}
+use Rattle.goblin_pe_records.specs.Sections.{named_in, section_said}
+use Rattle.goblin_pe_records.proofs.Filling.{alone-same}
 use Rattle.goblin_pe_calls.proofs.NamedObject.{object-named}
 use Rattle.goblin_pe_calls.proofs.object.fill.Goals as goal
 

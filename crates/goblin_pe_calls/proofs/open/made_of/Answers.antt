@@ -4,10 +4,10 @@ use Rattle.goblin_pe_sect.specs.SectionTable.{Section}
 use Rattle.goblin_pe_head.specs.CoffHeader.{symbols_end}
 use Rattle.goblin_pe_head.specs.declared.header.pe_header.Header.{Header}
 use Rattle.goblin_pe_head.specs.PeHeader.{PeHeader}
-use Rattle.goblin_pe_calls.specs.Filled.{alone}
+use Rattle.goblin_pe_records.specs.Filled.{alone}
 use Rattle.goblin_pe_calls.specs.Opened.{records_view}
-use Rattle.goblin_pe_calls.specs.Sections.{named_in}
-use Rattle.goblin_pe_calls.proofs.Filling.{alone-same}
+use Rattle.goblin_pe_records.specs.Sections.{named_in}
+use Rattle.goblin_pe_records.proofs.Filling.{alone-same}
 use Rattle.goblin_pe_calls.proofs.Named.{sections-named}
 use Rattle.goblin_pe_calls.proofs.Opened.{file-of-records}
 use Rattle.goblin_pe_calls.proofs.open.made_of.Goals as goal

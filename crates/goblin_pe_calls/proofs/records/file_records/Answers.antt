@@ -8,7 +8,8 @@ use Rattle.goblin_pe.proofs.Collected.{all-read, first-refused, second-refused, 
 use Rattle.goblin_pe_calls.specs.Exports.{exports_said}
 use Rattle.goblin_pe_calls.specs.Imports.{import_said}
 use Rattle.goblin_pe_calls.specs.Growth.{HasEntries, HasExports, HasTables}
-use Rattle.goblin_pe_calls.proofs.Growth.{first-told, mapped-some, second-told, third-none, whichever}
+use Rattle.goblin_pe_calls.proofs.Growth.{first-told, mapped-some, second-told, third-none}
+use Rattle.goblin_pe_records.proofs.Making.{whichever}
 use Rattle.goblin_pe_calls.proofs.records.file_records.Goals as goal
 
 pub returns-in_err-imports-clause-value : goal.returns-in_err-imports-clause-value

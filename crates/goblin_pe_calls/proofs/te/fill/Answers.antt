@@ -3,9 +3,9 @@ use Rattle.std.specs.Prelude.{Some}
 use Rattle.goblin_pe_sect.specs.declared.options.ParseOptions.{ParseOptions}
 use Rattle.goblin_pe_sect.specs.Options.{is_strict}
 use Rattle.goblin_pe_sect.specs.SectionTable.{Section}
-use Rattle.goblin_pe_calls.specs.Filled.{Filled, alone}
-use Rattle.goblin_pe_calls.specs.Sections.{named_in, section_said}
-use Rattle.goblin_pe_calls.proofs.Filling.{alone-same}
+use Rattle.goblin_pe_records.specs.Filled.{Filled, alone}
+use Rattle.goblin_pe_records.specs.Sections.{named_in, section_said}
+use Rattle.goblin_pe_records.proofs.Filling.{alone-same}
 use Rattle.goblin_pe_calls.proofs.NamedTe.{image-named}
 use Rattle.goblin_pe_calls.proofs.te.fill.Goals as goal
 

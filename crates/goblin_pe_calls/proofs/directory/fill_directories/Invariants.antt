@@ -1,6 +1,0 @@
-use Rattle.goblin_pe_calls.specs.Directories.{directory_record}
-use Rattle.goblin_pe_calls.proofs.Filling.{IsFilling}
-use Rattle.goblin_pe_calls.proofs.directory.fill_directories.Given as goal
-
-abbrev pub invariant-records : goal.invariant-records
-invariant-records l = IsFilling (λ d. d) directory_record l.directories l.initial.records l.i l.records

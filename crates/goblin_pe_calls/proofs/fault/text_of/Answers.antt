@@ -1,8 +1,0 @@
-use Rattle.std.proofs.Common.{List, Option, ℕ, subst}
-use Rattle.std.specs.Fmt.InlineText.{inline_text}
-use Rattle.goblin_pe_calls.specs.Faults.{IsKept}
-use Rattle.goblin_pe_calls.proofs.fault.text_of.Goals as goal
-
-pub returns-in-Some : goal.returns-in-Some
-returns-in-Some c =
-    subst (λ (whole : Option (List ℕ)). IsKept whole (inline_text c.of.result)) c.in-Some.ensures c.of.ensures.text

@@ -1,0 +1,10 @@
+-- The records so far say what the entries so far are.
+use Rattle.goblin_pe_head.specs.RichHeader.{rich_value}
+use Rattle.goblin_pe_head.specs.RichMetadata.{metadata_left}
+use Rattle.goblin_pe_records.specs.Blocked.{HasNoIdleBlock}
+use Rattle.goblin_pe_records.specs.RichHeaders.{entry_items}
+use Rattle.goblin_pe_records.proofs.Making.{IsMakingItems}
+use Rattle.goblin_pe_records.proofs.rich.item_records.Given as goal
+
+abbrev pub invariant-entries : goal.invariant-entries
+invariant-entries l = (IsMakingItems (λ e. e) (entry_items (rich_value l.rich)) (metadata_left l.entry-iterator) l.records.items) × HasNoIdleBlock l.records

@@ -1,0 +1,17 @@
+use Rattle.std.proofs.Common.{◌∙◌, arith}
+use Rattle.goblin_pe_sect.specs.Options.{is_strict}
+use Rattle.goblin_pe_records.specs.Filled.{alone}
+use Rattle.goblin_pe_records.specs.Sections.{named_in, section_said}
+use Rattle.goblin_pe_records.proofs.Making.{making-start, making-next, making-end}
+use Rattle.goblin_pe_records.proofs.section.section_records.Goals as goal
+
+pub records-init : goal.records-init
+records-init c =
+    (making-start section_said (λ s. alone (named_in (is_strict c.args.opts.now.parse_mode) c.args.bytes.now c.args.table s)) c.args.sections.now _ c.in_ok-records.ensures.items, c.in_ok-records.ensures.len, c.in_ok-records.ensures.exact)
+
+pub records-preserved : goal.records-preserved
+records-preserved c =
+    (making-next _ _ _ _ _ _ _ _ c.records.invariant.0 (omega (arith, c.records-test.true)) c.index-sections-i.is (c.section_record.ensures _ _ c.real_name-name.ensures) c.push_reserved.ensures.items, omega (arith, c.push_reserved.ensures.len, c.records.invariant.1), c.push_reserved.ensures.capacity ∙ c.records.invariant.2)
+
+pub returns-clause-made : goal.returns-clause-made
+returns-clause-made c = making-end _ _ _ _ _ c.records.invariant.0 (omega (arith, c.records-test.false))

@@ -1,0 +1,6 @@
+-- The symbols so far fill the records.
+use Rattle.goblin_pe_records.proofs.Symbols.{IsGiving}
+use Rattle.goblin_pe_records.proofs.symbol.fill_symbols_at.Given as goal
+
+abbrev pub invariant-symbols : goal.invariant-symbols
+invariant-symbols l = IsGiving l.table l.strings l.initial.position l.initial.records l.count l.position l.records

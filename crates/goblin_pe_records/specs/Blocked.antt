@@ -1,0 +1,17 @@
+-- Blocks of memory that a caller frees: none where there is nothing in it, since an empty table's is
+-- not handed over; and how much more than its entries a block has room for.
+use Rattle.std.specs.Prelude.{◌≡◌, ◌≤◌, ◌+◌, ◌/◌, Vec, length, max, vec_capacity, vec_len}
+use Rattle.std.specs.Global.{Global}
+
+-- a list without entries has no block
+abbrev pub HasNoIdleBlock : {A : Type 0} → Vec A Global → Type 0
+HasNoIdleBlock v = length v.items ≡ 0 → vec_capacity v ≡ 0
+
+-- one that has room for its entries and no more, so that without entries it has no block
+abbrev pub HasNoSpareRoom : {A : Type 0} → Vec A Global → Type 0
+HasNoSpareRoom v = vec_capacity v ≤ vec_len v
+
+-- a list whose entries are made one by one: it has room for at most 32 more than there are, or for
+-- half as many again
+abbrev pub HasLittleRoom : {A : Type 0} → Vec A Global → Type 0
+HasLittleRoom v = HasNoIdleBlock v × (vec_capacity v ≤ vec_len v + max 32 (vec_len v / 2))

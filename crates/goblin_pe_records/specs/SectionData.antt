@@ -1,0 +1,13 @@
+-- The data of a section, without the zeros that memory has after it.
+use Rattle.std.specs.Prelude.{◌≡◌, ◌-◌, List, ℕ, ◌++◌, replicate}
+use Rattle.goblin_pe_sect.specs.SectionTable.{Section}
+use Rattle.goblin_pe_records.specs.declared.section_data.PeSectionData.{PeSectionData}
+
+-- the data that a record stands for: its bytes, then its zeros
+abbrev pub whole_data : PeSectionData → List ℕ
+whole_data d = d.bytes.now ++ replicate d.zeros 0
+
+-- A record stands for the data of a section, and its zeros are those that the file lacks of the
+-- size in memory.
+abbrev pub SaysData : Section → List ℕ → PeSectionData → Type 0
+SaysData s whole d = (whole ≡ whole_data d) × (d.zeros ≡ s.virtual_size - s.size_of_raw_data)

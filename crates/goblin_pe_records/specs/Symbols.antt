@@ -1,0 +1,101 @@
+-- The symbols of a table from one of its records on, and what a call gives of them.
+use Rattle.std.specs.Prelude.{◌≡◌, ℕ, zero, suc, ◌+◌, ◌-◌, ◌*◌, ◌/◌, ◌==◌, min, if◌then◌else◌}
+use Rattle.std.specs.Prelude.{List, [], length, map, take, drop, slice_index, Option, Some, None}
+use Rattle.goblin_base.specs.Answers.{◌>>=◌}
+use Rattle.goblin_base.specs.Reading.{Reading}
+use Rattle.goblin_base.specs.Strtab.{rest_at}
+use Rattle.readings.specs.Reads as reads
+use Rattle.readings.specs.Reads.{mapped}
+use Rattle.goblin_pe_sect.specs.declared.symbol.Symbol.{Symbol}
+use Rattle.goblin_pe_sect.specs.Symbols.{SymbolItem, aux, name_offset_of, symbols_from}
+use Rattle.goblin_pe_head.specs.declared.header.coff.CoffHeader.{CoffHeader}
+use Rattle.goblin_pe_head.specs.CoffReadings.{strings_of, symbols_of}
+use Rattle.goblin_pe_records.specs.declared.symbol.PeNamedSymbol.{PeNamedSymbol}
+use Rattle.goblin_pe_records.specs.Filled.{Filled, alone}
+
+-- the name: if a number is stored in its place, what the string table has at that offset, else the
+-- one in the record
+abbrev pub name_in : List ℕ → Option (List ℕ) → Symbol → Option (List ℕ)
+name_in strings inline_name symbol =
+    if slice_index symbol.name 0 == 0
+    then (name_offset_of symbol.name >>= rest_at strings)
+    else inline_name
+
+-- a symbol with its index, its name, and the bytes of its auxiliary records
+pub record NamedSymbol : Type 0 where
+  pub index : ℕ
+  pub name : Option (List ℕ)
+  pub auxiliary : List ℕ
+  pub symbol : Symbol
+
+-- the bytes of the auxiliary records of the symbol at index i: as many as it says and the table has
+abbrev pub auxiliary_of : List ℕ → ℕ → Symbol → List ℕ
+auxiliary_of table i symbol = take (18 * symbol.number_of_aux_symbols) (drop (18 * (i + 1)) table)
+
+-- a symbol at an index of a table, with this name and its auxiliary records
+abbrev pub symbol_named : List ℕ → ℕ → Option (List ℕ) → Symbol → NamedSymbol × List ℕ
+symbol_named table i name symbol =
+    alone (record {
+      index = i;
+      name = name;
+      auxiliary = auxiliary_of table i symbol;
+      symbol = symbol;
+    })
+
+-- a symbol of a table with its name from the record or a string table
+abbrev pub named_symbol : List ℕ → List ℕ → SymbolItem → NamedSymbol × List ℕ
+named_symbol table strings item =
+    symbol_named table item.0 (name_in strings item.1 item.2) item.2
+
+-- what a record holds of it, and what replaces a missing name
+abbrev pub named_symbol_view : PeNamedSymbol → NamedSymbol × List ℕ
+named_symbol_view s = (
+  record {
+    index = s.index;
+    name = if s.has_name then Some s.name.now else None;
+    auxiliary = s.auxiliary.now;
+    symbol = s.symbol;
+  },
+  if s.has_name then [] else s.name.now,
+)
+
+-- the symbols of a table from record i on, which is read as a symbol whatever it is
+abbrev pub symbols_onward : List ℕ → ℕ → List SymbolItem
+symbols_onward table i = symbols_from (length table / 18 - i) 0 table i
+
+-- the index after a symbol and its auxiliary records
+abbrev pub next_index : List ℕ → ℕ → ℕ
+next_index table i = i + 1 + aux table i
+
+-- the index after n symbols, of which the first is at index i
+unfoldable pub index_after : List ℕ → ℕ → ℕ → ℕ
+index_after table zero i = i
+index_after table (suc n) i = next_index table (index_after table n i)
+
+-- what a caller passes in to be filled
+pub record SymbolRecords : Type 0 where
+  pub position : ℕ
+  pub records : List PeNamedSymbol
+  pub count : ℕ
+
+-- The records hold the symbols from the position on, as far as there is room. The position is then
+-- that of the symbols that come next.
+pub record GivesSymbols (table strings : List ℕ) (old new : SymbolRecords) : Type 0 where
+  pub filled : Filled named_symbol_view
+      (map (named_symbol table strings) (symbols_onward table old.position)) old.records new.records
+  pub count : new.count ≡ min (length old.records) (length (symbols_onward table old.position))
+  pub position : new.position ≡ index_after table new.count old.position
+  pub left : symbols_onward table new.position
+      ≡ drop new.count (symbols_onward table old.position)
+
+-- the symbol table and the string table that a header leads to
+abbrev pub symbol_tables : CoffHeader → Reading (Option (List ℕ) × Option (List ℕ))
+symbol_tables header =
+    reads.◌>>=◌ (symbols_of header)
+    (λ symbols. mapped (λ strings. (symbols, strings)) (strings_of header))
+
+-- what a call gives of these tables; where there are none, only that there are no symbols
+abbrev pub SaysSymbols : Option (List ℕ) × Option (List ℕ) → SymbolRecords → SymbolRecords → Type 0
+SaysSymbols (Some table, Some strings) old new = GivesSymbols table strings old new
+SaysSymbols (Some table, None) old new = new ≡ record old { count = 0 }
+SaysSymbols (None, strings) old new = new ≡ record old { count = 0 }

@@ -1,0 +1,60 @@
+//! The records of data directories.
+
+ghost use Rattle.std.specs.Prelude.{◌≡◌, map};
+ghost use Rattle.goblin_pe_records.specs.Filled.{Filled};
+ghost use Rattle.goblin_pe_records.specs.Directories.{directories_of, directory_record};
+
+use goblin_pe_head::optional_header::OptionalHeader;
+use goblin_pe_sect::data_directories::DataDirectory;
+
+/// An entry of the table of data directories.
+#[repr(C)]
+#[derive(Copy, Clone)]
+pub struct PeDirectory {
+    /// Where the entry's record ends, in bytes from the front of the optional header; 0 where there
+    /// is no entry.
+    pub end: usize,
+    /// Where what it leads to lies; zeros where there is no entry. An import directory ends at its
+    /// own last record, whatever the size.
+    pub directory: DataDirectory,
+    /// Whether there is such an entry, and not all of it is 0.
+    pub is_present: bool,
+}
+
+// The record of an entry.
+fn directory_record(directory: &Option<(usize, DataDirectory)>) -> PeDirectory
+    ensures { result ≡ directory_record directory.now }
+{
+    match directory {
+        None => PeDirectory {
+            end: 0,
+            directory: DataDirectory::default(),
+            is_present: false,
+        },
+        Some((end, directory)) => PeDirectory {
+            end: *end,
+            directory: *directory,
+            is_present: true,
+        },
+    }
+}
+
+/// The entries of an optional header, none where there is no such header.
+pub fn directories_of(header: &Option<OptionalHeader>) -> &[Option<(usize, DataDirectory)>]
+    ensures { result.now ≡ directories_of header.now }
+{
+    match header {
+        Some(header) => &header.data_directories.data_directories,
+        None => &[],
+    }
+}
+
+/// Fills the records of data directories, as far as there is room.
+pub fn fill_directories(records: &mut [PeDirectory], directories: &[Option<(usize, DataDirectory)>])
+    ensures { Filled (λ d. d) (map directory_record directories.now) records.old records.new }
+{
+    let count = directories.len().min(records.len());
+    'records: for i in 0..count {
+        records[i] = directory_record(&directories[i]);
+    }
+}

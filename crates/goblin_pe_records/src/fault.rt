@@ -1,0 +1,296 @@
+//! Refusals as numbers, and their texts by these.
+
+ghost use Rattle.std.specs.Prelude.{◌≡◌, Some, length, option_map};
+ghost use Rattle.std.specs.Fmt.InlineText.{inline_text};
+ghost use Rattle.goblin_base.specs.declared.error.ErrorOf.TheVariants.{Malformed};
+ghost use Rattle.goblin_base.specs.ErrorText.{error_text};
+ghost use Rattle.goblin_pe_records.specs.Faults.{IsNumbered, IsTextOf, cause_of, causes, fault};
+ghost use Rattle.goblin_pe_records.specs.Faults.{fault_of, number_of, status_with};
+ghost use Rattle.goblin_pe_records.specs.Faults.{no_fault, read_fault_of, refusal_text, word_number};
+ghost use Rattle.goblin_pe_records.specs.Faults.{word_of};
+ghost use Rattle.goblin_pe_records.specs.Filled.{Filled};
+
+use goblin_base::{Cause, Error, ReadFault};
+use std::alloc::AllocError;
+use std::fmt::InlineText;
+
+// The number of the first cause that numbers say in full.
+const FIRST_CAUSE: u32 = 2;
+
+// How many causes there are from it on.
+const CAUSES: usize = 33;
+
+// There is room for so many bytes of a text; of a longer one the last three are dots.
+const TEXT_ROOM: usize = 160;
+
+const _: () = prove!(TEXT_ROOM == 160);
+
+// What the status of a fault says.
+#[derive(Copy, Clone)]
+enum Status {
+    // Nothing is refused.
+    Ok = 0,
+    Malformed = 1,
+    BadMagic = 2,
+    BufferTooShort = 3,
+    Read = 4,
+    Memory = 5,
+}
+
+impl Status {
+    // The status with this number.
+    fn of(number: u32) -> Option<Status>
+        ensures { result ≡ status_with number }
+    {
+        match number {
+            0 => Some(Status::Ok),
+            1 => Some(Status::Malformed),
+            2 => Some(Status::BadMagic),
+            3 => Some(Status::BufferTooShort),
+            4 => Some(Status::Read),
+            5 => Some(Status::Memory),
+            _ => None,
+        }
+    }
+}
+
+/// Why a call gave no value, in numbers; the status 0 is that it gave one.
+#[repr(C)]
+#[derive(Copy, Clone)]
+pub struct PeFault {
+    /// 0 nothing is refused, 1 a cause, 2 a magic number, 3 too short, 4 a read, 5 memory.
+    pub status: u32,
+    /// By the status: which cause or which refusal of a read, from 1 on, or what the file is too
+    /// short for, from 0 on; else 0.
+    pub cause: u32,
+    /// The first number of the cause, else 0.
+    pub first: u64,
+    /// The second number of the cause, else 0.
+    pub second: u64,
+}
+
+// A fault of this status.
+fn fault(status: Status, cause: u32, first: u64, second: u64) -> PeFault
+    ensures { result ≡ fault (number_of status) cause first second }
+{
+    PeFault {
+        status: status as u32,
+        cause,
+        first,
+        second,
+    }
+}
+
+// A fault with this cause.
+fn malformed(cause: u32, first: u64, second: u64) -> PeFault
+    ensures { result ≡ fault 1 cause first second }
+{
+    fault(Status::Malformed, cause, first, second)
+}
+
+// What a file is too short for, by its number.
+fn word_number(what: &str) -> u32
+    ensures { result ≡ word_number what.now }
+{
+    if what == "sections" {
+        1
+    } else if what == "name pointers" {
+        2
+    } else if what == "address table entries" {
+        3
+    } else {
+        0
+    }
+}
+
+/// That nothing is refused.
+pub fn no_fault() -> PeFault
+    ensures { result ≡ no_fault }
+{
+    fault(Status::Ok, 0, 0, 0)
+}
+
+// The numbers of a cause.
+fn cause_numbers(cause: &Cause) -> PeFault
+    ensures value { result ≡ fault_of (Malformed cause.now) }
+    ensures text { IsNumbered (Malformed cause.now)
+        → refusal_text result ≡ Some (error_text (Malformed cause.now)) }
+{
+    match cause {
+        Cause::Message(_) => malformed(1, 0, 0),
+        Cause::NoDosSignature => malformed(2, 0, 0),
+        Cause::DosMagic(magic) => malformed(3, u64::from(*magic), 0),
+        Cause::NoPePointer => malformed(4, 0, 0),
+        Cause::NoPeSignature(offset) => malformed(5, *offset as u64, 0),
+        Cause::PeMagic(magic) => malformed(6, u64::from(*magic), 0),
+        Cause::StubBeforeStart(offset) => malformed(7, u64::from(*offset), 0),
+        Cause::StubPastEnd(length, end) => malformed(8, *length as u64, *end as u64),
+        Cause::NoDans => malformed(9, 0, 0),
+        Cause::RichBounds(begin, end) => malformed(10, *begin as u64, *end as u64),
+        Cause::StrippedSize(size) => malformed(11, u64::from(*size), 0),
+        Cause::CoffLength => malformed(12, 0, 0),
+        Cause::DirectoryIndex(index) => malformed(13, *index as u64, 0),
+        Cause::DirectoryCount(count) => malformed(14, *count as u64, 0),
+        Cause::NameText => malformed(15, 0, 0),
+        Cause::NameBase64 => malformed(16, 0, 0),
+        Cause::NameDecimal => malformed(17, 0, 0),
+        Cause::NameOffset(offset) => malformed(18, *offset as u64, 0),
+        Cause::SymbolName(offset) => malformed(19, u64::from(*offset), 0),
+        Cause::StringTable(offset, length) => malformed(20, *offset as u64, *length as u64),
+        Cause::FieldTooWide => malformed(21, 0, 0),
+        Cause::Unmapped(rva) => malformed(22, *rva as u64, 0),
+        Cause::NameRead(offset) => malformed(23, *offset as u64, 0),
+        Cause::HintEntry(offset) => malformed(24, *offset as u64, 0),
+        Cause::LookupEnd(offset) => malformed(25, *offset as u64, 0),
+        Cause::ImportRecordEnd(offset) => malformed(26, *offset as u64, 0),
+        Cause::ExportTable(offset) => malformed(27, *offset as u64, 0),
+        Cause::Forwarder => malformed(28, 0, 0),
+        Cause::ForwarderOrdinal => malformed(29, 0, 0),
+        Cause::RelocRange(offset, size) => malformed(30, *offset as u64, u64::from(*size)),
+        Cause::BlockSize(size) => malformed(31, u64::from(*size), 0),
+        Cause::BlockRange(begin, size) => malformed(32, *begin as u64, *size as u64),
+        Cause::Overflow => malformed(33, 0, 0),
+        Cause::SlotCount(entries, slots) => malformed(34, *entries as u64, *slots as u64),
+    }
+}
+
+/// The numbers of a refusal.
+pub fn fault_of(error: &Error) -> PeFault
+    ensures value { result ≡ fault_of error.now }
+    ensures text { IsNumbered error.now → refusal_text result ≡ Some (error_text error.now) }
+{
+    match error {
+        Error::Malformed(cause) => cause_numbers(cause),
+        Error::BadMagic(magic) => fault(Status::BadMagic, 0, *magic, 0),
+        Error::BufferTooShort(count, what) => fault(
+            Status::BufferTooShort,
+            word_number(what),
+            *count as u64,
+            0,
+        ),
+        Error::Read(ReadFault::BadOffset) => fault(Status::Read, 1, 0, 0),
+        Error::Read(ReadFault::TooBig) => fault(Status::Read, 2, 0, 0),
+        Error::Read(ReadFault::BadInput) => fault(Status::Read, 3, 0, 0),
+        Error::Memory(_) => fault(Status::Memory, 0, 0, 0),
+    }
+}
+
+// The causes from the second on, in the order of their numbers, with these numbers of their own.
+// The first is a message of the caller's, which no numbers say.
+fn causes(first: u64, second: u64) -> [Cause; CAUSES]
+    ensures { result ≡ causes first second }
+{
+    let number = first as usize;
+    let other = second as usize;
+    let short = (first % 0x1_0000) as u16;
+    let half = (first % 0x1_0000_0000) as u32;
+    let other_half = (second % 0x1_0000_0000) as u32;
+    [
+        Cause::NoDosSignature,
+        Cause::DosMagic(short),
+        Cause::NoPePointer,
+        Cause::NoPeSignature(number),
+        Cause::PeMagic(half),
+        Cause::StubBeforeStart(half),
+        Cause::StubPastEnd(number, other),
+        Cause::NoDans,
+        Cause::RichBounds(number, other),
+        Cause::StrippedSize(half),
+        Cause::CoffLength,
+        Cause::DirectoryIndex(number),
+        Cause::DirectoryCount(number),
+        Cause::NameText,
+        Cause::NameBase64,
+        Cause::NameDecimal,
+        Cause::NameOffset(number),
+        Cause::SymbolName(half),
+        Cause::StringTable(number, other),
+        Cause::FieldTooWide,
+        Cause::Unmapped(number),
+        Cause::NameRead(number),
+        Cause::HintEntry(number),
+        Cause::LookupEnd(number),
+        Cause::ImportRecordEnd(number),
+        Cause::ExportTable(number),
+        Cause::Forwarder,
+        Cause::ForwarderOrdinal,
+        Cause::RelocRange(number, other_half),
+        Cause::BlockSize(half),
+        Cause::BlockRange(number, other),
+        Cause::Overflow,
+        Cause::SlotCount(number, other),
+    ]
+}
+
+// The cause with these numbers.
+fn cause_of(fault: &PeFault) -> Option<Cause>
+    ensures { result ≡ cause_of fault.now }
+{
+    if fault.cause < FIRST_CAUSE {
+        return None;
+    }
+    let causes = causes(fault.first, fault.second);
+    Some(*causes.get((fault.cause - FIRST_CAUSE) as usize)?)
+}
+
+// What a file is too short for, by its number.
+fn word_of(number: u32) -> Option<&'static str>
+    ensures { option_map (λ s. s.now) result ≡ word_of number }
+{
+    match number {
+        0 => Some("entries"),
+        1 => Some("sections"),
+        2 => Some("name pointers"),
+        3 => Some("address table entries"),
+        _ => None,
+    }
+}
+
+// Why a read was refused, by its number.
+fn read_fault_of(number: u32) -> Option<ReadFault>
+    ensures { result ≡ read_fault_of number }
+{
+    match number {
+        1 => Some(ReadFault::BadOffset),
+        2 => Some(ReadFault::TooBig),
+        3 => Some(ReadFault::BadInput),
+        _ => None,
+    }
+}
+
+// The refusal with these numbers.
+fn error_of(fault: &PeFault) -> Option<Error>
+    ensures { option_map error_text result ≡ refusal_text fault.now }
+{
+    Some(match Status::of(fault.status)? {
+        Status::Ok => return None,
+        Status::Malformed => Error::Malformed(cause_of(fault)?),
+        Status::BadMagic => Error::BadMagic(fault.first),
+        Status::BufferTooShort => {
+            Error::BufferTooShort(fault.first as usize, word_of(fault.cause)?)
+        }
+        Status::Read => Error::Read(read_fault_of(fault.cause)?),
+        Status::Memory => Error::Memory(AllocError),
+    })
+}
+
+/// The text of the refusal with these numbers, cut where it has no room; none where they are of no
+/// refusal.
+pub fn text_of(fault: &PeFault) -> InlineText<TEXT_ROOM>
+    ensures { IsTextOf fault.now (inline_text result) }
+{
+    match error_of(fault) {
+        Some(error) => InlineText::of(error),
+        None => InlineText::new(),
+    }
+}
+
+/// Puts a text where there is room for it, and answers how long it is.
+pub fn put_text(text: &mut [u8], whole: &[u8]) -> usize
+    ensures filled { Filled (λ b. b) whole.now text.old text.new }
+    ensures length { result ≡ length whole.now }
+{
+    let count = whole.len().min(text.len());
+    text[..count].copy_from_slice(&whole[..count]);
+    whole.len()
+}

@@ -1,0 +1,68 @@
+//! The records of a file as a whole, and of how a table of it stands.
+
+ghost use Rattle.std.specs.Prelude.{◌≡◌};
+ghost use Rattle.goblin_pe_records.specs.States.{state_number};
+
+use crate::block::PeBaseRelocations;
+use crate::headers::PeOptionalHeader;
+use crate::rich::PeRichHeader;
+use goblin_pe_head::header::{CoffHeader, DosHeader};
+
+/// How a table of the file stands.
+#[derive(Copy, Clone)]
+pub enum State {
+    /// The file has no such table, or it was not asked for.
+    Absent = 0,
+    /// It was read.
+    Read = 1,
+    /// It is refused and was passed over, as permissive mode does.
+    Refused = 2,
+}
+
+/// A table of the file.
+#[repr(C)]
+#[derive(Copy, Clone)]
+pub struct PeTable {
+    /// How many entries it has, whatever the room.
+    pub count: usize,
+    /// How it stands, as a [`State`]: 0 the file has no such table, 1 it was read, 2 it is refused
+    /// and was passed over.
+    pub state: u32,
+}
+
+impl PeTable {
+    /// A table of so many entries that stands so.
+    pub fn new(count: usize, state: State) -> PeTable
+        ensures { result ≡ record { count = count; state = state_number state } }
+    {
+        PeTable {
+            count,
+            state: state as u32,
+        }
+    }
+}
+
+/// The file as a whole.
+#[repr(C)]
+#[derive(Copy, Clone)]
+pub struct PeFile {
+    /// The optional header.
+    pub optional_header: PeOptionalHeader,
+    /// How many data directories there are, whatever the room: sixteen, or none where there is no
+    /// optional header.
+    pub directories: usize,
+    /// How many sections there are, whatever the room.
+    pub sections: usize,
+    /// The imports.
+    pub imports: PeTable,
+    /// The exports.
+    pub exports: PeTable,
+    /// The base relocations.
+    pub relocations: PeBaseRelocations,
+    /// The Rich header.
+    pub rich_header: PeRichHeader,
+    /// The DOS header.
+    pub dos_header: DosHeader,
+    /// The COFF header.
+    pub coff_header: CoffHeader,
+}

@@ -1,0 +1,33 @@
+//! The optional header.
+
+ghost use Rattle.std.specs.Prelude.{◌≡◌};
+ghost use Rattle.goblin_pe_records.specs.Headers.{optional_record};
+
+use goblin_pe_head::optional_header::{OptionalHeader, StandardFields, WindowsFields};
+
+/// The optional header without its data directories; zeros where there is none.
+#[repr(C)]
+#[derive(Copy, Clone)]
+pub struct PeOptionalHeader {
+    /// The standard fields: what any loader of COFF files wants to know.
+    pub standard_fields: StandardFields,
+    /// The Windows fields.
+    pub windows_fields: WindowsFields,
+}
+
+/// The fields of an optional header, or zeros.
+#[inline(always)]
+pub fn optional_record(header: &Option<OptionalHeader>) -> PeOptionalHeader
+    ensures { result ≡ optional_record header.now }
+{
+    match header {
+        Some(header) => PeOptionalHeader {
+            standard_fields: header.standard_fields,
+            windows_fields: header.windows_fields,
+        },
+        None => PeOptionalHeader {
+            standard_fields: StandardFields::default(),
+            windows_fields: WindowsFields::default(),
+        },
+    }
+}

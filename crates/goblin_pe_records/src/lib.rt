@@ -1,0 +1,27 @@
+//! What callers that are not written in Rattle see of a file, but for its imports and exports: the
+//! records of headers, sections, symbols, relocations and refusals, and the functions that fill them,
+//! or write what they say.
+//!
+//! Each text in a record is a slice of the caller's bytes, so no text is copied. The crate
+//! `goblin_pe_calls` reads whole files into these records and its own. It needs the readers of imports
+//! and exports; this crate does not, and is proved beside them.
+#![tactic(auto)]
+
+pub mod block;
+pub mod directory;
+pub mod fault;
+pub mod file;
+pub mod filled;
+pub mod found;
+pub mod headers;
+pub mod image;
+pub mod kind;
+pub mod mapping;
+pub mod options;
+pub mod relocation;
+pub mod rich;
+pub mod room;
+pub mod section;
+pub mod section_data;
+pub mod symbol;
+pub mod write;

@@ -1,0 +1,44 @@
+//! How a file is read, as a caller says it.
+
+ghost use Rattle.std.specs.Prelude.{◌≡◌};
+ghost use Rattle.goblin_pe_records.specs.Options.{options_of};
+
+use goblin_pe_sect::options::{ParseMode, ParseOptions, RawPointerRule};
+
+/// What a call does and leaves out.
+#[repr(C)]
+#[derive(Copy, Clone)]
+pub struct PeOptions {
+    /// Whether damaged parts are passed over.
+    pub is_permissive: bool,
+    /// Whether an address is mapped to a file offset by the sections; where not, it is the offset.
+    pub resolve_rva: bool,
+    /// Whether the mapping rounds the raw pointer of a section down to 512, as the Windows loader
+    /// does; where not, it takes the pointer as stored.
+    pub rounds_raw_pointers: bool,
+    /// Whether the imports are read; where not, their table is absent.
+    pub parse_imports: bool,
+}
+
+/// The options that a caller says.
+pub fn options_of(options: &PeOptions) -> ParseOptions
+    ensures { result ≡ options_of options.now }
+{
+    let parse_mode = if options.is_permissive {
+        ParseMode::Permissive
+    } else {
+        ParseMode::Strict
+    };
+    let raw_pointer_rule = if options.rounds_raw_pointers {
+        RawPointerRule::RoundedTo512
+    } else {
+        RawPointerRule::AsStored
+    };
+    ParseOptions {
+        resolve_rva: options.resolve_rva,
+        parse_imports: options.parse_imports,
+        parse_mode,
+        raw_pointer_rule,
+        ..ParseOptions::default()
+    }
+}

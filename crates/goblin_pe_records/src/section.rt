@@ -1,0 +1,156 @@
+//! The records of sections.
+
+ghost use Rattle.std.specs.Prelude.{◌≡◌, ◌<◌, Bool, IfOk, OnErr, length, map, ℕ, option_map};
+ghost use Rattle.goblin_pe_sect.specs.Options.{is_strict};
+ghost use Rattle.goblin_base.specs.Answers.{GivesOrMemory};
+ghost use Rattle.goblin_pe_records.specs.Blocked.{HasNoSpareRoom};
+ghost use Rattle.goblin_pe_records.specs.Filled.{Filled, alone};
+ghost use Rattle.goblin_pe_records.specs.Sections.{named_in, real_name_in, section_said};
+
+use goblin_base::Result;
+use goblin_base::read::pread_str;
+use goblin_pe_sect::options::ParseOptions;
+use goblin_pe_sect::section_table::SectionTable;
+use std::alloc::Global;
+
+/// A section, as its record describes it.
+#[repr(C)]
+#[derive(Copy, Clone)]
+pub struct PeSection<'a> {
+    /// The name from the string table, where there is one; a name of more than eight bytes stands
+    /// there.
+    pub real_name: &'a [u8],
+    /// The eight bytes of the name, padded with NULs.
+    pub name: [u8; 8],
+    /// The section's size in memory, in bytes: what the raw data lacks of it is zeros.
+    pub virtual_size: u32,
+    /// The section's address in memory, relative to the image's base.
+    pub virtual_address: u32,
+    /// The size of the section's data in the file, in bytes; in an image rounded up, so it may be
+    /// above the virtual size.
+    pub size_of_raw_data: u32,
+    /// The file offset of the section's data, as stored.
+    pub pointer_to_raw_data: u32,
+    /// The file offset of the section's relocations, 0 where it has none.
+    pub pointer_to_relocations: u32,
+    /// The file offset of the section's line numbers, 0 where it has none.
+    pub pointer_to_linenumbers: u32,
+    /// How many relocations the section has, as its record says.
+    pub number_of_relocations: u16,
+    /// How many line numbers the section has.
+    pub number_of_linenumbers: u16,
+    /// What the section holds and how it may be used, as bits `IMAGE_SCN_*`; the loader protects
+    /// its pages by them.
+    pub characteristics: u32,
+    /// Whether the section has a name from the string table.
+    pub has_real_name: bool,
+}
+
+// The name of a section from the string table at `table`, by the number in its eight bytes.
+#[inline(never)]
+#[tactic(auto, unfolding(crate::specs::Sections::real_name_in))]
+fn name_in_table<'a>(
+    bytes: &'a [u8],
+    section: &SectionTable,
+    table: usize,
+    opts: &ParseOptions,
+) -> Option<&'a str>
+    ensures { option_map (λ s. s.now) result
+        ≡ real_name_in (is_strict opts.now.parse_mode) bytes.now table section.now.name }
+{
+    let offset = section.name_offset_with_opts(opts).ok()??;
+    pread_str(bytes, table.checked_add(offset)?).ok()
+}
+
+// The name of a section from the string table at `table`. Most names begin with no slash, and are the
+// eight bytes themselves.
+#[inline]
+#[tactic(auto, unfolding(crate::specs::Sections::real_name_in, goblin_pe_sect::specs::SectionName::name_value))]
+fn real_name<'a>(
+    bytes: &'a [u8],
+    section: &SectionTable,
+    table: usize,
+    opts: &ParseOptions,
+) -> Option<&'a str>
+    ensures { option_map (λ s. s.now) result
+        ≡ real_name_in (is_strict opts.now.parse_mode) bytes.now table section.now.name }
+{
+    if section.name[0] == b'/' {
+        name_in_table(bytes, section, table, opts)
+    } else {
+        None
+    }
+}
+
+// The record of a section with this name from the string table.
+fn section_record<'a>(
+    bytes: &'a [u8],
+    section: &SectionTable,
+    real_name: Option<&'a str>,
+) -> PeSection<'a>
+    ensures { (strict : Bool) (table : ℕ)
+        → option_map (λ s. s.now) real_name.entry
+        ≡ real_name_in strict bytes.now table section.now.name
+        → section_said result ≡ alone (named_in strict bytes.now table section.now) }
+{
+    PeSection {
+        real_name: match real_name {
+            Some(name) => name.as_bytes(),
+            None => &bytes[..0],
+        },
+        name: section.name,
+        virtual_size: section.virtual_size,
+        virtual_address: section.virtual_address,
+        size_of_raw_data: section.size_of_raw_data,
+        pointer_to_raw_data: section.pointer_to_raw_data,
+        pointer_to_relocations: section.pointer_to_relocations,
+        pointer_to_linenumbers: section.pointer_to_linenumbers,
+        number_of_relocations: section.number_of_relocations,
+        number_of_linenumbers: section.number_of_linenumbers,
+        characteristics: section.characteristics,
+        has_real_name: real_name.is_some(),
+    }
+}
+
+/// Fills the records of sections, as far as there is room.
+pub fn fill_sections<'a>(
+    records: &mut [PeSection<'a>],
+    bytes: &'a [u8],
+    sections: &[SectionTable],
+    table: usize,
+    opts: &ParseOptions,
+)
+    ensures { Filled section_said
+        (map (λ s. alone (named_in (is_strict opts.now.parse_mode) bytes.now table s)) sections.now)
+        records.old records.new }
+{
+    let count = sections.len().min(records.len());
+    'records: for i in 0..count {
+        let section = &sections[i];
+        records[i] = section_record(bytes, section, real_name(bytes, section, table, opts));
+    }
+}
+
+/// The records of sections, in memory of their own.
+pub fn section_records<'a>(
+    alloc: Global,
+    bytes: &'a [u8],
+    sections: &[SectionTable],
+    table: usize,
+    opts: &ParseOptions,
+) -> Result<Vec<PeSection<'a>>>
+    ensures made { GivesOrMemory (λ v. map section_said v.items) result
+        (map (λ s. alone (named_in (is_strict opts.now.parse_mode) bytes.now table s))
+        sections.now) }
+    ensures grown { OnErr result (0 < length sections.now) }
+    ensures none { IfOk result HasNoSpareRoom }
+{
+    let count = sections.len();
+    let mut records = Vec::with_capacity(alloc, count)?;
+    'records: for i in 0..count {
+        let section = &sections[i];
+        let name = real_name(bytes, section, table, opts);
+        records.push_reserved(section_record(bytes, section, name));
+    }
+    Ok(records)
+}
