@@ -2,7 +2,7 @@
 
 ghost use Rattle.std.specs.Prelude.{◌≡◌, ◌/◌, ◌<◌, ◌≤◌, IfSome, None, length, option_map};
 ghost use Rattle.goblin_base.specs.Reading.{Reads};
-ghost use Rattle.goblin_pe_sect.specs.Symbols.{symbol_of};
+ghost use Rattle.goblin_pe_symbol.specs.Symbols.{symbol_of};
 ghost use Rattle.goblin_pe_head.specs.CoffReadings.{symbols_of};
 ghost use Rattle.goblin_pe_calls.specs.Calls.{ReadsWithout};
 ghost use Rattle.goblin_pe_calls.specs.Symbols.{GivesSymbols, SaysSymbols, SymbolRecords};
