@@ -7,7 +7,7 @@ import textwrap
 
 HERE = pathlib.Path(__file__).resolve().parent
 HEADER = HERE / "c/goblin_pe_constants.h"
-SOURCES = ("goblin_pe_head/src/header/machine", "goblin_pe_sect/src/section_table/constants", "goblin_pe_sect/src/symbol/constants",
+SOURCES = ("goblin_pe_head/src/header/machine", "goblin_pe_sect/src/section_table/constants", "goblin_pe_symbol/src/symbol/constants",
            "goblin_pe_sect/src/relocation/constants")
 
 FRONT = """/* The numbers of the PE and COFF formats, by the names that they have there, after GOBLIN_PE_. callers/constants.py

@@ -8,7 +8,7 @@ use Rattle.goblin_base.specs.Answers.{IsMemory}
 use Rattle.goblin_base.proofs.Readings.{twins, twins_or_memory}
 use Rattle.goblin_pe_sect.specs.AddressReadings.{data_at, relocation_data}
 use Rattle.goblin_pe_sect.specs.BaseRelocations.{relocation_bytes}
-use Rattle.goblin_pe_sect.specs.Symbols.{table_bytes}
+use Rattle.goblin_pe_symbol.specs.Symbols.{table_bytes}
 use Rattle.goblin_pe_head.specs.CoffReadings.{strings_of, symbols_of}
 use Rattle.goblin_pe_head.specs.HeaderReadings.{header_without_dos}
 use Rattle.goblin_pe_head.specs.PeHeader.{header_value}

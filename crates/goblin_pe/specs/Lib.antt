@@ -21,7 +21,6 @@ pub use Rattle.goblin_base.specs.Values
 pub use Rattle.readings.specs.Reads
 pub use Rattle.readings.specs.Walks
 pub use Rattle.goblin_pe_sect.specs.AddressReadings
-pub use Rattle.goblin_pe_sect.specs.AuxiliarySymbols
 pub use Rattle.goblin_pe_sect.specs.BaseRelocations
 pub use Rattle.goblin_pe_sect.specs.DataDirectories
 pub use Rattle.goblin_pe_sect.specs.DirectoryReadings
@@ -33,11 +32,12 @@ pub use Rattle.goblin_pe_sect.specs.Relocations
 pub use Rattle.goblin_pe_sect.specs.SectionName
 pub use Rattle.goblin_pe_sect.specs.SectionReadings
 pub use Rattle.goblin_pe_sect.specs.SectionTable
-pub use Rattle.goblin_pe_sect.specs.Symbols
 pub use Rattle.goblin_pe_sect.specs.WindowIndex
 pub use Rattle.goblin_pe_sect.specs.WindowIndexFields
 pub use Rattle.goblin_pe_sect.specs.WindowOrder
 pub use Rattle.goblin_pe_sect.specs.WindowStretches
+pub use Rattle.goblin_pe_symbol.specs.AuxiliarySymbols
+pub use Rattle.goblin_pe_symbol.specs.Symbols
 pub use Rattle.goblin_pe_head.specs.CoffHeader
 pub use Rattle.goblin_pe_head.specs.CoffReadings
 pub use Rattle.goblin_pe_head.specs.DosHeader

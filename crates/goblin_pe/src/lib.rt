@@ -11,8 +11,7 @@ pub use goblin_base::{
     container, endian, error, permissive, read, strtab,
 };
 pub use goblin_pe_head::{header, optional_header};
-pub use goblin_pe_sect::{
-    data_directories, options, relocation, section_table, symbol, utils, windows,
-};
+pub use goblin_pe_sect::{data_directories, options, relocation, section_table, utils, windows};
+pub use goblin_pe_symbol::symbol;
 pub use goblin_pe_tables::{export, import, table};
 pub use whole::{Damage, FileImports, Layout, Part, Whole};

@@ -5,10 +5,10 @@ ghost use Rattle.std.specs.Prelude.{length};
 ghost use Rattle.goblin_base.specs.Bytes.{bounded_text_at};
 ghost use Rattle.goblin_base.specs.Record.{record_at};
 ghost use Rattle.goblin_base.specs.declared.endian.Endian.{Endian};
-ghost use Rattle.goblin_pe_sect.specs.AuxiliarySymbols.{begin_and_end_function_record};
-ghost use Rattle.goblin_pe_sect.specs.AuxiliarySymbols.{function_definition_record};
-ghost use Rattle.goblin_pe_sect.specs.AuxiliarySymbols.{section_definition_record};
-ghost use Rattle.goblin_pe_sect.specs.AuxiliarySymbols.{weak_external_record};
+ghost use Rattle.goblin_pe_symbol.specs.AuxiliarySymbols.{begin_and_end_function_record};
+ghost use Rattle.goblin_pe_symbol.specs.AuxiliarySymbols.{function_definition_record};
+ghost use Rattle.goblin_pe_symbol.specs.AuxiliarySymbols.{section_definition_record};
+ghost use Rattle.goblin_pe_symbol.specs.AuxiliarySymbols.{weak_external_record};
 ghost use Rattle.goblin_pe_records.specs.Found.{Puts};
 ghost use Rattle.goblin_pe_records.specs.Images.{text_view};
 

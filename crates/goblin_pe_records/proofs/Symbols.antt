@@ -3,8 +3,8 @@ use Rattle.std.proofs.Common.{◌≡◌, ◌<◌, ◌≤◌, ℕ, zero, suc, ◌
 use Rattle.std.specs.Prelude.{Some, slice_index_or}
 use Rattle.std.proofs.lemmas.List.{take_all}
 use Rattle.goblin_base.specs.Bytes.{slice_at}
-use Rattle.goblin_pe_sect.specs.Symbols.{aux, record_of, symbol_of}
-use Rattle.goblin_pe_sect.proofs.SymbolHeads.{symbols_next, symbols_past}
+use Rattle.goblin_pe_symbol.specs.Symbols.{aux, record_of, symbol_of}
+use Rattle.goblin_pe_symbol.proofs.SymbolHeads.{symbols_next, symbols_past}
 use Rattle.goblin_pe_records.specs.declared.symbol.PeNamedSymbol.{PeNamedSymbol}
 use Rattle.goblin_pe_records.specs.Symbols.{GivesSymbols, index_after, named_symbol, named_symbol_view, next_index, symbols_onward}
 use Rattle.goblin_pe_records.proofs.Filling.{IsFilling, filling-end, filling-next, filling-start}

@@ -6,8 +6,8 @@ use Rattle.goblin_base.specs.Reading.{Reading}
 use Rattle.goblin_base.specs.Strtab.{rest_at}
 use Rattle.readings.specs.Reads as reads
 use Rattle.readings.specs.Reads.{mapped}
-use Rattle.goblin_pe_sect.specs.declared.symbol.Symbol.{Symbol}
-use Rattle.goblin_pe_sect.specs.Symbols.{SymbolItem, aux, name_offset_of, symbols_from}
+use Rattle.goblin_pe_symbol.specs.declared.symbol.Symbol.{Symbol}
+use Rattle.goblin_pe_symbol.specs.Symbols.{SymbolItem, aux, name_offset_of, symbols_from}
 use Rattle.goblin_pe_head.specs.declared.header.coff.CoffHeader.{CoffHeader}
 use Rattle.goblin_pe_head.specs.CoffReadings.{strings_of, symbols_of}
 use Rattle.goblin_pe_records.specs.declared.symbol.PeNamedSymbol.{PeNamedSymbol}

@@ -2,7 +2,7 @@
 
 ghost use Rattle.std.specs.Prelude.{◌≡◌, ◌/◌, ◌<◌, ◌≤◌, IfSome, None, length, option_map};
 ghost use Rattle.goblin_base.specs.Reading.{Reads};
-ghost use Rattle.goblin_pe_sect.specs.Symbols.{symbol_of};
+ghost use Rattle.goblin_pe_symbol.specs.Symbols.{symbol_of};
 ghost use Rattle.goblin_pe_head.specs.CoffReadings.{symbols_of};
 ghost use Rattle.goblin_pe_records.specs.Calls.{ReadsWithout};
 ghost use Rattle.goblin_pe_records.specs.Symbols.{GivesSymbols, SaysSymbols, SymbolRecords};
@@ -12,7 +12,7 @@ ghost use Rattle.goblin_pe_records.specs.Symbols.{named_symbol_view, symbol_name
 use goblin_base::read::pread_slice;
 use goblin_base::{Result, Strtab};
 use goblin_pe_head::header::CoffHeader;
-use goblin_pe_sect::symbol::{COFF_SYMBOL_SIZE, Symbol};
+use goblin_pe_symbol::symbol::{COFF_SYMBOL_SIZE, Symbol};
 use std::alloc::Global;
 
 /// A symbol with its name and the bytes of its auxiliary records.

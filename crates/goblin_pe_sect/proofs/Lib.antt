@@ -1,4 +1,3 @@
-pub mod AuxiliarySymbolsRoundTrip
 pub mod BlockItems
 pub mod BlocksOf
 pub mod CutOffsets
@@ -22,7 +21,5 @@ pub mod Reordered
 pub mod SectionNameRoundTrip
 pub mod SectionTableRoundTrip
 pub mod Stretches
-pub mod SymbolHeads
-pub mod SymbolsRoundTrip
 pub mod WindowPieces
 pub mod WordItems

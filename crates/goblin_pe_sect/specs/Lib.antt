@@ -1,5 +1,4 @@
 pub mod AddressReadings
-pub mod AuxiliarySymbols
 pub mod BaseRelocations
 pub mod DataDirectories
 pub mod Digits
@@ -11,7 +10,6 @@ pub mod Relocations
 pub mod SectionName
 pub mod SectionReadings
 pub mod SectionTable
-pub mod Symbols
 pub mod WindowDivision
 pub mod WindowIndex
 pub mod WindowIndexFields

@@ -1,5 +1,5 @@
-//! The sections of a PE file, its data directories, symbols and relocations, and the mapping of
-//! addresses to file offsets.
+//! The sections of a PE file, its data directories and relocations, and the mapping of addresses to
+//! file offsets.
 #![tactic(auto)]
 
 pub mod data_directories;
@@ -8,7 +8,6 @@ pub mod footprint;
 pub mod options;
 pub mod relocation;
 pub mod section_table;
-pub mod symbol;
 pub mod utils;
 pub mod windows;
 

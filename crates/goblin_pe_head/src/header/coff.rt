@@ -8,7 +8,7 @@ ghost use Rattle.goblin_base.specs.Answers.{IsMemory, IsSliceFault, Writes};
 ghost use Rattle.goblin_base.specs.Record.{ReadsBack, WritesBack, encoding, record_over};
 ghost use Rattle.readings.specs.Reads.{record_at};
 ghost use Rattle.goblin_pe_sect.specs.Options.{is_strict};
-ghost use Rattle.goblin_pe_sect.specs.Symbols.{table_bytes};
+ghost use Rattle.goblin_pe_symbol.specs.Symbols.{table_bytes};
 ghost use Rattle.goblin_pe_head.specs.declared.header.coff.CoffHeader.{CoffHeader};
 ghost use Rattle.goblin_pe_head.specs.CoffHeader.{IsTooManySections, coff_fields, coff_header};
 ghost use Rattle.goblin_pe_head.specs.CoffHeader.{string_table_offset, symbols_end};
@@ -21,7 +21,7 @@ use goblin_base::{
 };
 use goblin_pe_sect::options::ParseOptions;
 use goblin_pe_sect::section_table::{SIZEOF_SECTION_TABLE, SectionTable};
-use goblin_pe_sect::symbol::{COFF_SYMBOL_SIZE, SymbolTable};
+use goblin_pe_symbol::symbol::{COFF_SYMBOL_SIZE, SymbolTable};
 use std::alloc::Global;
 
 /// The size of a COFF header, in bytes.

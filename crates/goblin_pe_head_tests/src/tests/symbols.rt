@@ -3,7 +3,7 @@
 use fixture::sample::put;
 use goblin_base::{Cause, Error, Strtab};
 use goblin_pe_head::CoffHeader;
-use goblin_pe_sect::symbol::{AuxSectionDefinition, Symbol, SymbolTable};
+use goblin_pe_symbol::symbol::{AuxSectionDefinition, Symbol, SymbolTable};
 use std::alloc::Global;
 use std::test::Fail;
 

@@ -8,18 +8,18 @@ ghost use Rattle.goblin_base.specs.Answers.{Answers, Writes, IsSliceFault};
 ghost use Rattle.goblin_base.specs.Bytes.{overwritten, slice_at};
 ghost use Rattle.goblin_base.specs.Reading.{Reads};
 ghost use Rattle.goblin_base.specs.Record.{record_at, ReadsBack, WritesBack, encoding, record_over};
-ghost use Rattle.goblin_pe_sect.specs.declared.symbol.Symbol.{Symbol};
-ghost use Rattle.goblin_pe_sect.specs.AuxiliarySymbols.{begin_and_end_function_record};
-ghost use Rattle.goblin_pe_sect.specs.AuxiliarySymbols.{function_definition_record};
-ghost use Rattle.goblin_pe_sect.specs.AuxiliarySymbols.{section_definition_record};
-ghost use Rattle.goblin_pe_sect.specs.AuxiliarySymbols.{weak_external_record};
-ghost use Rattle.goblin_pe_sect.specs.Symbols.{AreSymbolsOf, IsNoSymbolName};
-ghost use Rattle.goblin_pe_sect.specs.Symbols.{file_name_at, inline_name, name_offset_of};
-ghost use Rattle.goblin_pe_sect.specs.Symbols.{named_symbol, named_value, offset_name};
-ghost use Rattle.goblin_pe_sect.specs.Symbols.{stored_number, stored_offset, symbol_fields};
-ghost use Rattle.goblin_pe_sect.specs.Symbols.{symbol_item, symbol_name, symbol_record, symbols_in};
-ghost use Rattle.goblin_pe_sect.specs.Symbols.{symbol_at, symbol_table, symbols_left};
-ghost use Rattle.goblin_pe_sect.specs.Symbols.{table_bytes};
+ghost use Rattle.goblin_pe_symbol.specs.declared.symbol.Symbol.{Symbol};
+ghost use Rattle.goblin_pe_symbol.specs.AuxiliarySymbols.{begin_and_end_function_record};
+ghost use Rattle.goblin_pe_symbol.specs.AuxiliarySymbols.{function_definition_record};
+ghost use Rattle.goblin_pe_symbol.specs.AuxiliarySymbols.{section_definition_record};
+ghost use Rattle.goblin_pe_symbol.specs.AuxiliarySymbols.{weak_external_record};
+ghost use Rattle.goblin_pe_symbol.specs.Symbols.{AreSymbolsOf, IsNoSymbolName};
+ghost use Rattle.goblin_pe_symbol.specs.Symbols.{file_name_at, inline_name, name_offset_of};
+ghost use Rattle.goblin_pe_symbol.specs.Symbols.{named_symbol, named_value, offset_name};
+ghost use Rattle.goblin_pe_symbol.specs.Symbols.{stored_number, stored_offset, symbol_fields};
+ghost use Rattle.goblin_pe_symbol.specs.Symbols.{symbol_item, symbol_name, symbol_record, symbols_in};
+ghost use Rattle.goblin_pe_symbol.specs.Symbols.{symbol_at, symbol_table, symbols_left};
+ghost use Rattle.goblin_pe_symbol.specs.Symbols.{table_bytes};
 
 use goblin_base::{
     Cause, Endian, Error, Field, Record, Result, Strtab, encode_fields, field_array, field_i16,

@@ -4,7 +4,7 @@ use Rattle.std.specs.List.{All, AllPairs, Contains}
 use Rattle.std.proofs.lemmas.Bool.{cases_lt}
 use Rattle.std.proofs.lemmas.List.Elements.{All-cons, All-nil, All-weaker, Contains-append_right, Contains-get_or}
 use Rattle.std.proofs.lemmas.List.Kept.{AllPairs-cons}
-use Rattle.goblin_pe_sect.specs.Symbols.{AreSymbolsOf, IsHead, first, next, SymbolItem, aux, symbol_of, symbols_from, symbols_in}
+use Rattle.goblin_pe_symbol.specs.Symbols.{AreSymbolsOf, IsHead, first, next, SymbolItem, aux, symbol_of, symbols_from, symbols_in}
 
 -- skipped records are left out
 symbols_from-skip : (k m : ℕ) (table : List ℕ) (i : ℕ) → symbols_from m k table i ≡ symbols_from (m - k) 0 table (i + k)

@@ -3,17 +3,17 @@
 ghost use Rattle.std.specs.Prelude.{length, IfOk, ◌≡◌};
 ghost use Rattle.goblin_base.specs.Answers.{IsSliceFault, Writes};
 ghost use Rattle.goblin_base.specs.Record.{ReadsBack, WritesBack, encoding, record_over};
-ghost use Rattle.goblin_pe_sect.specs.declared.symbol.auxiliary.AuxBeginAndEndFunction.{AuxBeginAndEndFunction};
-ghost use Rattle.goblin_pe_sect.specs.declared.symbol.auxiliary.AuxFunctionDefinition.{AuxFunctionDefinition};
-ghost use Rattle.goblin_pe_sect.specs.declared.symbol.auxiliary.AuxSectionDefinition.{AuxSectionDefinition};
-ghost use Rattle.goblin_pe_sect.specs.declared.symbol.auxiliary.AuxWeakExternal.{AuxWeakExternal};
-ghost use Rattle.goblin_pe_sect.specs.AuxiliarySymbols.{begin_and_end_function_fields};
-ghost use Rattle.goblin_pe_sect.specs.AuxiliarySymbols.{begin_and_end_function_record};
-ghost use Rattle.goblin_pe_sect.specs.AuxiliarySymbols.{function_definition_fields};
-ghost use Rattle.goblin_pe_sect.specs.AuxiliarySymbols.{function_definition_record};
-ghost use Rattle.goblin_pe_sect.specs.AuxiliarySymbols.{section_definition_fields};
-ghost use Rattle.goblin_pe_sect.specs.AuxiliarySymbols.{section_definition_record};
-ghost use Rattle.goblin_pe_sect.specs.AuxiliarySymbols.{weak_external_fields, weak_external_record};
+ghost use Rattle.goblin_pe_symbol.specs.declared.symbol.auxiliary.AuxBeginAndEndFunction.{AuxBeginAndEndFunction};
+ghost use Rattle.goblin_pe_symbol.specs.declared.symbol.auxiliary.AuxFunctionDefinition.{AuxFunctionDefinition};
+ghost use Rattle.goblin_pe_symbol.specs.declared.symbol.auxiliary.AuxSectionDefinition.{AuxSectionDefinition};
+ghost use Rattle.goblin_pe_symbol.specs.declared.symbol.auxiliary.AuxWeakExternal.{AuxWeakExternal};
+ghost use Rattle.goblin_pe_symbol.specs.AuxiliarySymbols.{begin_and_end_function_fields};
+ghost use Rattle.goblin_pe_symbol.specs.AuxiliarySymbols.{begin_and_end_function_record};
+ghost use Rattle.goblin_pe_symbol.specs.AuxiliarySymbols.{function_definition_fields};
+ghost use Rattle.goblin_pe_symbol.specs.AuxiliarySymbols.{function_definition_record};
+ghost use Rattle.goblin_pe_symbol.specs.AuxiliarySymbols.{section_definition_fields};
+ghost use Rattle.goblin_pe_symbol.specs.AuxiliarySymbols.{section_definition_record};
+ghost use Rattle.goblin_pe_symbol.specs.AuxiliarySymbols.{weak_external_fields, weak_external_record};
 
 use super::COFF_SYMBOL_SIZE;
 use goblin_base::{

@@ -4,10 +4,10 @@ use Rattle.goblin_base.specs.declared.endian.Endian.{Endian}
 use Rattle.goblin_base.specs.Bytes.{number}
 use Rattle.goblin_base.specs.Record.{FieldValue}
 use Rattle.goblin_base.specs.Record.FieldValue.{octets, uint}
-use Rattle.goblin_pe_sect.specs.declared.symbol.auxiliary.AuxBeginAndEndFunction.{AuxBeginAndEndFunction}
-use Rattle.goblin_pe_sect.specs.declared.symbol.auxiliary.AuxFunctionDefinition.{AuxFunctionDefinition}
-use Rattle.goblin_pe_sect.specs.declared.symbol.auxiliary.AuxSectionDefinition.{AuxSectionDefinition}
-use Rattle.goblin_pe_sect.specs.declared.symbol.auxiliary.AuxWeakExternal.{AuxWeakExternal}
+use Rattle.goblin_pe_symbol.specs.declared.symbol.auxiliary.AuxBeginAndEndFunction.{AuxBeginAndEndFunction}
+use Rattle.goblin_pe_symbol.specs.declared.symbol.auxiliary.AuxFunctionDefinition.{AuxFunctionDefinition}
+use Rattle.goblin_pe_symbol.specs.declared.symbol.auxiliary.AuxSectionDefinition.{AuxSectionDefinition}
+use Rattle.goblin_pe_symbol.specs.declared.symbol.auxiliary.AuxWeakExternal.{AuxWeakExternal}
 
 -- Source: PE Format, "Auxiliary Symbol Records".
 

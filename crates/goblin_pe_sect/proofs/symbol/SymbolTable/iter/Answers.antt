@@ -1,5 +1,0 @@
-use Rattle.goblin_pe_sect.proofs.SymbolHeads.{are_symbols}
-use Rattle.goblin_pe_sect.proofs.symbol.SymbolTable.iter.Goals as goal
-
-pub returns-clause-heads : goal.returns-clause-heads
-returns-clause-heads c = are_symbols c.args.self.now.symbols.now

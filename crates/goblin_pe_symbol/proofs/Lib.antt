@@ -1,0 +1,3 @@
+pub mod AuxiliarySymbolsRoundTrip
+pub mod SymbolHeads
+pub mod SymbolsRoundTrip

@@ -1,0 +1,2 @@
+pub mod AuxiliarySymbols
+pub mod Symbols
