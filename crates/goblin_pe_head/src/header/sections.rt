@@ -42,7 +42,7 @@ pub(super) fn read_sections(
             opts,
         )?;
         adjust(&mut section, displacement);
-        sections.push(section)?;
+        sections.push_reserved(section);
     }
     *offset = end;
     Ok(sections)
