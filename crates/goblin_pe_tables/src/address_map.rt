@@ -113,11 +113,26 @@ impl AddressMap {
     ///
     /// # Errors
     /// As [`safe_try_name`](goblin_pe_sect::utils::safe_try_name).
-    #[tactic(auto, unfolding(goblin_pe_sect::specs::AddressReadings::name_or_none, goblin_pe_sect::specs::AddressReadings::name_at))]
     pub fn name_at<'a>(&self, bytes: &'a [u8], rva: u32) -> Result<Option<&'a str>>
         ensures { Reads (option_map (λ s. s.now)) result
             (name_or_none (reads_strictly (map_of self.now)) (offset_of (map_of self.now)) rva) bytes.now }
     {
-        safe_name_at(bytes, rva as usize, self.offset_of(rva), &self.opts)
+        let mut near = 0;
+        self.name_near(bytes, rva, &mut near)
+    }
+
+    // The same, where the address is looked for first in the piece `near`.
+    #[tactic(auto, unfolding(goblin_pe_sect::specs::AddressReadings::name_or_none, goblin_pe_sect::specs::AddressReadings::name_at))]
+    pub(crate) fn name_near<'a>(
+        &self,
+        bytes: &'a [u8],
+        rva: u32,
+        near: &mut usize,
+    ) -> Result<Option<&'a str>>
+        ensures { Reads (option_map (λ s. s.now)) result
+            (name_or_none (reads_strictly (map_of self.now)) (offset_of (map_of self.now)) rva) bytes.now }
+    {
+        let offset = self.offset_near(rva, near);
+        safe_name_at(bytes, rva as usize, offset, &self.opts)
     }
 }

@@ -190,7 +190,8 @@ impl<'a> ExportData<'a> {
             IfErr result (λ e. IsMemory e →
             IsSomeAnd (export_data (offset_of m) directory bytes.now) HasEntries) }
     {
-        let tables = TablesInFile::find(bytes, directory, address_map)?;
+        let mut near = 0;
+        let tables = TablesInFile::find(bytes, directory, address_map, &mut near)?;
         Ok(ExportData {
             name: tables.name,
             export_directory_table: tables.export_directory_table,
@@ -307,6 +308,16 @@ fn add_row<'a>(rows: &mut Vec<Export<'a>>, export: Export<'a>, expected: usize) 
 pub(crate) struct Near {
     names: usize,
     exports: usize,
+}
+
+impl Near {
+    // Both where the map found an address.
+    pub(crate) fn at(near: usize) -> Near {
+        Near {
+            names: near,
+            exports: near,
+        }
+    }
 }
 
 impl<'a> Export<'a> {

@@ -78,7 +78,7 @@ pub(crate) struct TablesInFile<'a> {
 }
 
 impl<'a> TablesInFile<'a> {
-    // The tables that a record leads to.
+    // The tables that a record leads to. Their addresses are looked for first at `near`.
     #[inline(always)]
     #[tactic(auto, unfolding(crate::specs::ExportReadings::export_tables, goblin_pe_sect::specs::AddressReadings::name_at), using(crate::proofs::WholeEntries::counted_is, crate::proofs::WholeEntries::entry_count))]
     fn of_record(
@@ -86,6 +86,7 @@ impl<'a> TablesInFile<'a> {
         table: ExportDirectoryTable,
         directory: DataDirectory,
         address_map: &AddressMap,
+        near: &mut usize,
     ) -> TablesInFile<'a>
         ensures value { let m = map_of address_map.now in
             let tables = reading.export_tables (offset_of m) directory table in
@@ -93,11 +94,11 @@ impl<'a> TablesInFile<'a> {
         ensures counted { AreCounted (tables_in result) }
     {
         let names = table.number_of_name_pointers;
-        let pointers = address_map.offset_of(table.name_pointer_rva);
-        let ordinals = address_map.offset_of(table.ordinal_table_rva);
-        let addresses = address_map.offset_of(table.export_address_table_rva);
+        let pointers = address_map.offset_near(table.name_pointer_rva, near);
+        let ordinals = address_map.offset_near(table.ordinal_table_rva, near);
+        let addresses = address_map.offset_near(table.export_address_table_rva, near);
         TablesInFile {
-            name: text_at(bytes, address_map.offset_of(table.name_rva)),
+            name: text_at(bytes, address_map.offset_near(table.name_rva, near)),
             export_directory_table: table,
             directory,
             name_pointers: whole_entries(bytes, pointers, SIZEOF_NAME_POINTER, names),
@@ -112,24 +113,26 @@ impl<'a> TablesInFile<'a> {
     }
 
     // The tables that the record at a directory's address leads to, if its counts fit the file.
+    // Addresses are looked for first where the last one was, at `near`.
     #[inline(always)]
     #[tactic(auto, unfolding(crate::specs::ExportReadings::export_data, crate::specs::ExportReadings::tables_if, crate::specs::ExportReadings::fitting))]
     pub(crate) fn find(
         bytes: &'a [u8],
         directory: DataDirectory,
         address_map: &AddressMap,
+        near: &mut usize,
     ) -> Result<TablesInFile<'a>>
         ensures value { let m = map_of address_map.now in
             Reads tables_in result (reading.export_data (offset_of m) directory) bytes.now }
         ensures counted { IfOk result (λ t. AreCounted (tables_in t)) }
     {
-        let Some(offset) = address_map.offset_of(directory.virtual_address) else {
+        let Some(offset) = address_map.offset_near(directory.virtual_address, near) else {
             let rva = directory.virtual_address as usize;
             return Err(Error::Malformed(Cause::Unmapped(rva)));
         };
         let table = ExportDirectoryTable::parse(bytes, offset)?;
         test_counts(bytes, &table)?;
-        Ok(TablesInFile::of_record(bytes, table, directory, address_map))
+        Ok(TablesInFile::of_record(bytes, table, directory, address_map, near))
     }
 
     // The name pointers in memory.

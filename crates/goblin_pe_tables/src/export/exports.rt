@@ -68,13 +68,14 @@ impl<'a, 'm> Exports<'a, 'm> {
             ≡ numbered_from (offset_of m) bytes.now (walked_tables walk) 0) }
         ensures over { IfOk result (IsOver bytes.now (map_of address_map.now)) }
     {
-        let tables = TablesInFile::find(bytes, directory, address_map)?;
+        let mut near = 0;
+        let tables = TablesInFile::find(bytes, directory, address_map, &mut near)?;
         Ok(Exports {
             bytes,
             address_map,
             tables,
             next: 0,
-            near: Near::default(),
+            near: Near::at(near),
         })
     }
 

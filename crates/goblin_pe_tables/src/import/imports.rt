@@ -90,6 +90,7 @@ fn test_untested<'a, 'e, T: Bitfield<'a>>(
     bytes: &'a [u8],
     untested: Option<u32>,
     address_map: &AddressMap,
+    near: &mut usize,
 ) -> ResultOf<'e, ()>
     ensures value { let m = map_of address_map.now in
         Reads (λ _. tt {0}) result
@@ -105,7 +106,7 @@ fn test_untested<'a, 'e, T: Bitfield<'a>>(
     if address_map.is_permissive() {
         return Ok(());
     }
-    let Some(offset) = address_map.offset_of(rva) else {
+    let Some(offset) = address_map.offset_near(rva, near) else {
         return Err(Error::Malformed(Cause::Unmapped(rva as usize)));
     };
     test_numbers::<T>(bytes, offset)
@@ -230,13 +231,14 @@ impl<'a, 'm> Walk<'a, 'm> {
     }
 
     // A walk over the library of a record from a slot on, and then over those whose records are in
-    // the directory from the offset `next` on.
+    // the directory from the offset `next` on. Addresses are looked for first at `near`.
     fn in_library<'e, T: Bitfield<'a>>(
         bytes: &'a [u8],
         entry: &ImportDirectoryEntry,
         slot: Option<usize>,
         next: usize,
         address_map: &'m AddressMap,
+        mut near: usize,
     ) -> ResultOf<'e, Walk<'a, 'm>>
         ensures gives { let m = map_of address_map.now in
             let strict = reads_strictly m in
@@ -272,8 +274,8 @@ impl<'a, 'm> Walk<'a, 'm> {
         if is_left_out::<T>(bytes, entry, address_map) {
             return Ok(Walk::from(bytes, Some(after), address_map));
         }
-        let dll = library_name(bytes, entry.name_rva, address_map)?;
-        let table = lookup_offset(entry, address_map);
+        let dll = library_name(bytes, entry.name_rva, address_map, &mut near)?;
+        let table = lookup_offset(entry, address_map, &mut near);
         Ok(Walk {
             bytes,
             address_map,
@@ -281,7 +283,7 @@ impl<'a, 'm> Walk<'a, 'm> {
             rva: entry.import_address_table_rva,
             offset: table.unwrap_or(0),
             place: begin_at(slot, table),
-            near: 0,
+            near,
             untested: Some(address_table_rva(entry)),
             next: Some(after),
         })
@@ -294,6 +296,7 @@ impl<'a, 'm> Walk<'a, 'm> {
         untested: Option<u32>,
         next: Option<ImportPosition>,
         address_map: &'m AddressMap,
+        mut near: usize,
     ) -> Option<ResultOf<'e, Walk<'a, 'm>>>
         ensures gives { let m = map_of address_map.now in
             GivesLibrary (walk_left T.format) (IsWalkCause T.format)
@@ -312,7 +315,7 @@ impl<'a, 'm> Walk<'a, 'm> {
         ensures there { IfSome result (λ r. IfErr r (λ e.
             1 ≤ one_if untested + bound_at bytes.now next)) }
     {
-        if let Err(error) = test_untested::<T>(bytes, untested, address_map) {
+        if let Err(error) = test_untested::<T>(bytes, untested, address_map, &mut near) {
             return Some(Err(error));
         }
         let Some(at) = next else {
@@ -328,7 +331,7 @@ impl<'a, 'm> Walk<'a, 'm> {
             return None;
         }
         let after = at.record + SIZEOF_IMPORT_DIRECTORY_ENTRY;
-        Some(Walk::in_library::<T>(bytes, &record, at.slot, after, address_map))
+        Some(Walk::in_library::<T>(bytes, &record, at.slot, after, address_map, near))
     }
 
     // Where the walk is.
@@ -381,7 +384,13 @@ impl<'a, 'm> Walk<'a, 'm> {
                 }
                 None => {}
             }
-            match Walk::next_library::<T>(self.bytes, self.untested, self.next, self.address_map) {
+            match Walk::next_library::<T>(
+                self.bytes,
+                self.untested,
+                self.next,
+                self.address_map,
+                self.near,
+            ) {
                 Some(Ok(walk)) => *self = walk,
                 Some(Err(error)) => {
                     self.end();

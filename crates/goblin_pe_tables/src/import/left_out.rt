@@ -102,7 +102,8 @@ fn of_record<'a, T: Bitfield<'a>>(
             entries: 0,
         };
     }
-    let entries = match lookup_offset(entry, address_map) {
+    let mut near = 0;
+    let entries = match lookup_offset(entry, address_map, &mut near) {
         Some(offset) => entries_of_table::<T>(bytes, offset, address_map),
         None => 0,
     };

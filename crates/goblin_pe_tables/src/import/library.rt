@@ -94,18 +94,20 @@ fn lookup_table_if<'a, 'e, T: Bitfield<'a>>(
     Ok((Some(table), slots))
 }
 
-// The name of a library; in permissive mode the empty one where none can be read.
+// The name of a library; in permissive mode the empty one where none can be read. Its address is
+// looked for first where the last one was, at `near`.
 #[tactic(auto, unfolding(goblin_pe_sect::specs::AddressReadings::name_or_none), using(crate::proofs::LibraryNames::taken, crate::proofs::LibraryNames::missing))]
 pub(super) fn library_name<'a>(
     bytes: &'a [u8],
     rva: u32,
     address_map: &AddressMap,
+    near: &mut usize,
 ) -> Result<&'a str>
     ensures { let m = map_of address_map.now in
         Reads (λ s. s.now) result
         (or_else (reads_strictly m) [] (name_at (offset_of m) rva)) bytes.now }
 {
-    let name = address_map.name_at(bytes, rva)?;
+    let name = address_map.name_near(bytes, rva, near)?;
     Ok(name.unwrap_or(no_text(bytes)))
 }
 
@@ -121,15 +123,20 @@ pub(super) fn directory_offset(rva: u32, address_map: &AddressMap) -> Option<usi
     }
 }
 
-// The offset of a record's lookup table: at its own address, or at that of the address table.
-pub(crate) fn lookup_offset(entry: &ImportDirectoryEntry, address_map: &AddressMap) -> Option<usize>
+// The offset of a record's lookup table: at its own address, or at that of the address table. They
+// are looked for first where the last one was, at `near`.
+pub(crate) fn lookup_offset(
+    entry: &ImportDirectoryEntry,
+    address_map: &AddressMap,
+    near: &mut usize,
+) -> Option<usize>
     ensures { result ≡ lookup_offset (offset_of (map_of address_map.now)) entry.now }
 {
     let lookup_rva = entry.import_lookup_table_rva;
     let address_rva = entry.import_address_table_rva;
-    match address_map.offset_of(lookup_rva) {
+    match address_map.offset_near(lookup_rva, near) {
         Some(offset) => Some(offset),
-        None => address_map.offset_of(address_rva),
+        None => address_map.offset_near(address_rva, near),
     }
 }
 
@@ -244,8 +251,9 @@ impl<'a> SyntheticImportDirectoryEntry<'a> {
             import_directory_entry) }
     {
         let record = &import_directory_entry;
-        let name = library_name(bytes, record.name_rva, address_map)?;
-        let lookup_offset = lookup_offset(record, address_map);
+        let mut near = 0;
+        let name = library_name(bytes, record.name_rva, address_map, &mut near)?;
+        let lookup_offset = lookup_offset(record, address_map, &mut near);
         let (import_lookup_table, import_lookup_slots) = lookup_table_if::<T>(
             alloc,
             bytes,
@@ -253,7 +261,7 @@ impl<'a> SyntheticImportDirectoryEntry<'a> {
             address_map,
         )?;
         let address_rva = address_table_rva(record);
-        let Some(offset) = address_map.offset_of(address_rva) else {
+        let Some(offset) = address_map.offset_near(address_rva, &mut near) else {
             return Err(Error::Malformed(Cause::Unmapped(address_rva as usize)));
         };
         let import_address_table = address_table::<T>(alloc, bytes, offset)?;

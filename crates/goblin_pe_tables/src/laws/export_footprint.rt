@@ -231,7 +231,8 @@ pub fn add_exports<'e>(
         OnErr result (0 < length reached) }
 {
     add_export_data(ranges, bytes, directory, address_map)?;
-    let Ok(tables) = TablesInFile::find(bytes, directory, address_map) else {
+    let mut near = 0;
+    let Ok(tables) = TablesInFile::find(bytes, directory, address_map, &mut near) else {
         return Ok(());
     };
     add_pointers(ranges, bytes, &tables, address_map)

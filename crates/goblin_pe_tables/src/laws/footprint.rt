@@ -143,7 +143,8 @@ fn add_library<'a, 'e, T: Bitfield<'a>>(
     if let Some(offset) = address_map.offset_of(entry.name_rva) {
         add_stretch(ranges, bytes, offset)?;
     }
-    if let Some(offset) = lookup_offset(entry, address_map) {
+    let mut near = 0;
+    if let Some(offset) = lookup_offset(entry, address_map, &mut near) {
         add_lookup_table::<T>(ranges, bytes, offset, address_map)?;
     }
     if let Some(offset) = address_map.offset_of(address_table_rva(entry)) {
