@@ -13,7 +13,7 @@ use goblin_pe::{Layout, Part};
 use goblin_pe_records::block::PeBaseRelocations;
 use goblin_pe_records::directory::directories_of;
 use goblin_pe_records::file::{PeFile, PeTable, State};
-use goblin_pe_records::headers::optional_record;
+use goblin_pe_records::headers::fill_optional;
 use goblin_pe_records::rich::PeRichHeader;
 
 // How a table of records stands.
@@ -28,32 +28,32 @@ fn table_of<T>(table: &Part<Vec<T>>) -> PeTable
     }
 }
 
-/// What is said of a file as a whole: with what is said of its base relocations and its Rich header.
+/// Says in `file` what a file is as a whole, with what is said of its base relocations and its Rich
+/// header.
 #[inline(always)]
-pub(crate) fn file_of<'a>(
+pub(crate) fn fill_file<'a>(
+    file: &mut PeFile,
     layout: &Layout<'a, '_>,
     records: &FileRecords<'a>,
     relocations: PeBaseRelocations,
     rich_header: PeRichHeader,
-) -> PeFile
+)
     requires relocations { let v = records_view layout.now records.now in
         relocations ≡ relocations_of v.relocations }
     requires rich_header { rich_header ≡ rich_of (header_value layout.now.header.now).rich_header }
     ensures { let v = records_view layout.now records.now in
-        result
+        file.new
         ≡ summary v.header (length v.sections) (table_of v.imports) (table_of v.exports.exports)
         v.relocations }
 {
     let header = layout.header();
-    PeFile {
-        optional_header: optional_record(&header.optional_header),
-        directories: directories_of(&header.optional_header).len(),
-        sections: layout.sections().len(),
-        imports: table_of(&records.imports),
-        exports: table_of(&records.exports.exports),
-        relocations,
-        rich_header,
-        dos_header: header.dos_header,
-        coff_header: header.coff_header,
-    }
+    fill_optional(&mut file.optional_header, &header.optional_header);
+    file.directories = directories_of(&header.optional_header).len();
+    file.sections = layout.sections().len();
+    file.imports = table_of(&records.imports);
+    file.exports = table_of(&records.exports.exports);
+    file.relocations = relocations;
+    file.rich_header = rich_header;
+    file.dos_header = header.dos_header;
+    file.coff_header = header.coff_header;
 }

@@ -5,6 +5,7 @@ ghost use Rattle.std.specs.Prelude.{option_map};
 ghost use Rattle.goblin_base.specs.Answers.{IsMemory};
 ghost use Rattle.goblin_pe_sect.specs.Options.{is_strict};
 ghost use Rattle.goblin_pe_head.specs.HeaderReadings.{pe_header};
+ghost use Rattle.goblin_pe_head.specs.PeHeader.{header_value};
 ghost use Rattle.goblin_pe.specs.Whole.{part_map, whole_file};
 ghost use Rattle.goblin_pe_records.specs.Blocks.{block_view};
 ghost use Rattle.goblin_pe_calls.specs.Blocks.{blocks_in, relocations_of};
@@ -24,7 +25,7 @@ ghost use Rattle.goblin_pe_records.specs.Sections.{section_said};
 use crate::block::block_records;
 use crate::export::{ExportRecords, PeExport};
 use crate::export_directory::{PeExportAddress, PeExportDirectory};
-use crate::file::file_of;
+use crate::file::fill_file;
 use crate::import::PeImport;
 use crate::records::{FileRecords, file_records};
 use goblin_pe::header::{Header, RichMetadata};
@@ -170,6 +171,36 @@ fn handed_over<'a>(
     }
 }
 
+// As `open`, of a file whose header was read.
+#[inline(always)]
+fn open_by<'a>(
+    alloc: Global,
+    bytes: &'a [u8],
+    opts: &ParseOptions,
+    header: &Header<'a>,
+    file: &mut PeFile,
+    directories: &mut [PeDirectory],
+    tables: &mut PeTables<'a>,
+) -> Result<()>
+    requires { (pe_header (is_strict opts.now.parse_mode)).value bytes.now
+        ≡ Some (header_value header.now) }
+    ensures { let old : Opened =
+        record { file = file.old; directories = directories.old; tables = tables.old } in
+        let new : Opened =
+        record { file = file.new; directories = directories.new; tables = tables.new } in
+        ReadsInto (pe_header (is_strict opts.now.parse_mode)) (TakesRecords opts.now bytes.now)
+        (whole_file opts.now) bytes.now (λ w. Opens opts.now bytes.now w old new) (new ≡ old) result }
+{
+    let layout = Layout::of(alloc, bytes, header, opts)?;
+    let records = file_records(alloc, &layout)?;
+    let made = made_of(alloc, &layout, &records, bytes, opts)?;
+    fill_directories(directories, directories_of(&header.optional_header));
+    fill_file(file, &layout, &records, made.relocations, made.rich_header);
+    let dos_stub = header.dos_stub.bytes;
+    *tables = handed_over(made, records.imports, records.exports, dos_stub);
+    Ok(())
+}
+
 /// Reads a whole file: says in `file` what it is, fills the records of its data directories as far as
 /// there is room, and puts its tables into `tables`, each a block of memory of its own.
 ///
@@ -190,13 +221,7 @@ pub fn open<'a>(
         ReadsInto (pe_header (is_strict opts.now.parse_mode)) (TakesRecords opts.now bytes.now)
         (whole_file opts.now) bytes.now (λ w. Opens opts.now bytes.now w old new) (new ≡ old) result }
 {
-    let header = Header::parse_with_opts(bytes, opts)?;
-    let layout = Layout::of(alloc, bytes, &header, opts)?;
-    let records = file_records(alloc, &layout)?;
-    let made = made_of(alloc, &layout, &records, bytes, opts)?;
-    fill_directories(directories, directories_of(&header.optional_header));
-    *file = file_of(&layout, &records, made.relocations, made.rich_header);
-    let dos_stub = header.dos_stub.bytes;
-    *tables = handed_over(made, records.imports, records.exports, dos_stub);
-    Ok(())
+    let mut header = Header::default();
+    header.read_with_opts(bytes, opts)?;
+    open_by(alloc, bytes, opts, &header, file, directories, tables)
 }

@@ -102,6 +102,7 @@ impl WrittenHeader {
 }
 
 // The fields of an optional header for 32 bits.
+#[inline(always)]
 fn fields_32(bytes: &[u8]) -> Result<FixedFields>
     ensures value { Reads (λ f. f) result reading.fields_32 bytes.now }
     ensures size { IfOk result (λ f. f.size ≡ 96) }
@@ -119,6 +120,7 @@ fn fields_32(bytes: &[u8]) -> Result<FixedFields>
 }
 
 // The fields of an optional header for 64 bits.
+#[inline(always)]
 fn fields_64(bytes: &[u8]) -> Result<FixedFields>
     ensures value { Reads (λ f. f) result reading.fields_64 bytes.now }
     ensures size { IfOk result (λ f. f.size ≡ 112) }

@@ -15,19 +15,19 @@ pub struct PeOptionalHeader {
     pub windows_fields: WindowsFields,
 }
 
-/// The fields of an optional header, or zeros.
+/// Fills a record with the fields of an optional header, or with zeros.
 #[inline(always)]
-pub fn optional_record(header: &Option<OptionalHeader>) -> PeOptionalHeader
-    ensures { result ≡ optional_record header.now }
+pub fn fill_optional(record: &mut PeOptionalHeader, header: &Option<OptionalHeader>)
+    ensures { record.new ≡ optional_record header.now }
 {
     match header {
-        Some(header) => PeOptionalHeader {
-            standard_fields: header.standard_fields,
-            windows_fields: header.windows_fields,
-        },
-        None => PeOptionalHeader {
-            standard_fields: StandardFields::default(),
-            windows_fields: WindowsFields::default(),
-        },
+        Some(header) => {
+            record.standard_fields = header.standard_fields;
+            record.windows_fields = header.windows_fields;
+        }
+        None => {
+            record.standard_fields = StandardFields::default();
+            record.windows_fields = WindowsFields::default();
+        }
     }
 }

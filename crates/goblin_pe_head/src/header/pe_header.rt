@@ -1,6 +1,6 @@
 //! The whole header of a PE file.
 
-ghost use Rattle.std.specs.Prelude.{◌≡◌, ◌+◌, ◌≤◌, IfOk, IfSome, IsSomeAnd, Some, length};
+ghost use Rattle.std.specs.Prelude.{◌≡◌, ◌+◌, ◌≤◌, IfOk, IfSome, IsSomeAnd, OnErr, OnOk, Some, length};
 ghost use Rattle.std.specs.Prelude.{option_and_then, option_map, true};
 ghost use Rattle.goblin_base.specs.declared.endian.Endian.{Endian};
 ghost use Rattle.goblin_base.specs.Reading.{Reads};
@@ -115,7 +115,6 @@ impl<'a> Header<'a> {
     /// [`Error::Read`] if the COFF header runs past the end of the file; as the reader of
     /// [`OptionalHeader`].
     #[inline(always)]
-    #[tactic(auto, unfolding(crate::specs::HeaderReadings::pe_header, crate::specs::HeaderReadings::header_at, crate::specs::HeaderReadings::rich_header))]
     pub fn parse_with_opts(bytes: &'a [u8], opts: &ParseOptions) -> Result<Self>
         ensures value { Reads header_value result
             (reading.pe_header (is_strict opts.now.parse_mode)) bytes.now }
@@ -123,11 +122,31 @@ impl<'a> Header<'a> {
         ensures rich { IfOk result (λ header.
             reading.rich_header.value bytes.now ≡ Some (option_map rich_value header.rich_header)) }
     {
+        let mut header = Header::default();
+        header.read_with_opts(bytes, opts)?;
+        Ok(header)
+    }
+
+    /// Reads the header of a file, as [`Header::parse_with_opts`], in place of this one: a header
+    /// is large, and is not moved so.
+    ///
+    /// # Errors
+    /// As [`Header::parse_with_opts`]; this header is then unchanged.
+    #[inline(always)]
+    #[tactic(auto, unfolding(crate::specs::HeaderReadings::pe_header, crate::specs::HeaderReadings::header_at, crate::specs::HeaderReadings::rich_header))]
+    pub fn read_with_opts(&mut self, bytes: &'a [u8], opts: &ParseOptions) -> Result<()>
+        ensures value { Reads (λ _. header_value self.new) result
+            (reading.pe_header (is_strict opts.now.parse_mode)) bytes.now }
+        ensures padding { OnOk result (IfSome self.new.rich_header PaddingFits) }
+        ensures rich { OnOk result
+            (reading.rich_header.value bytes.now ≡ Some (option_map rich_value self.new.rich_header)) }
+        ensures kept { OnErr result (self.new ≡ self.old) }
+    {
         let dos_header = DosHeader::parse(bytes)?;
         let dos_stub = stub_in(bytes, dos_header.pe_pointer, opts)?;
         let rich_header = RichHeader::parse_at(bytes, dos_header.pe_pointer)?;
         let offset = dos_header.pe_pointer as usize;
-        Header::parse_at(bytes, offset, dos_header, dos_stub, rich_header)
+        self.read_at(bytes, offset, dos_header, dos_stub, rich_header)
     }
 
     /// Reads a header without a DOS header: its signature is the first four bytes of `bytes`,
@@ -141,23 +160,28 @@ impl<'a> Header<'a> {
     pub fn parse_without_dos(bytes: &'a [u8]) -> Result<Self>
         ensures { Reads header_value result reading.header_without_dos bytes.now }
     {
-        Header::parse_at(bytes, 0, DosHeader::default(), DosStub::default(), None)
+        let mut header = Header::default();
+        header.read_at(bytes, 0, DosHeader::default(), DosStub::default(), None)?;
+        Ok(header)
     }
 
     // Reads the parts from the signature at `offset` on.
     #[inline(always)]
     #[tactic(auto, unfolding(crate::specs::HeaderReadings::header_at, crate::specs::HeaderReadings::parts_at))]
-    fn parse_at(
+    fn read_at(
+        &mut self,
         bytes: &'a [u8],
         offset: usize,
         dos_header: DosHeader,
         dos_stub: DosStub<'a>,
         rich_header: Option<RichHeader<'a>>,
-    ) -> Result<Self>
+    ) -> Result<()>
         ensures value { let stub = stub_bytes dos_stub.entry in
             let rich = option_map rich_value rich_header.entry in
-            Reads header_value result (reading.header_at dos_header stub rich offset) bytes.now }
-        ensures rich { IfOk result (λ header. header.rich_header ≡ rich_header.entry) }
+            Reads (λ _. header_value self.new) result
+            (reading.header_at dos_header stub rich offset) bytes.now }
+        ensures rich { OnOk result (self.new.rich_header ≡ rich_header.entry) }
+        ensures kept { OnErr result (self.new ≡ self.old) }
     {
         let Ok(signature) = pread_u32(bytes, offset, Endian::Little) else {
             return Err(Error::Malformed(Cause::NoPeSignature(offset)));
@@ -165,14 +189,15 @@ impl<'a> Header<'a> {
         let mut end = offset + SIZEOF_PE_MAGIC;
         let coff_header = CoffHeader::parse(bytes, &mut end)?;
         let optional_header = optional_at(bytes, end, coff_header.size_of_optional_header)?;
-        Ok(Header {
+        *self = Header {
             dos_header,
             dos_stub,
             rich_header,
             signature,
             coff_header,
             optional_header,
-        })
+        };
+        Ok(())
     }
 
     /// Writes the header to the front of `bytes` and returns how many bytes it takes: the DOS

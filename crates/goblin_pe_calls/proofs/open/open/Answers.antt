@@ -1,91 +1,17 @@
-use Rattle.std.proofs.Common.{◌≡◌, ◌<◌, Some, ap, inl, length, refl, rules, subst, sym}
+use Rattle.std.proofs.Common.{refl}
 use Rattle.std.proofs.lemmas.Result.{err_from_is_err_and}
 use Rattle.goblin_pe_sect.specs.Options.{is_strict}
 use Rattle.goblin_pe_head.specs.HeaderReadings.{pe_header}
-use Rattle.goblin_pe_head.specs.PeHeader.{PeHeader, header_value}
-use Rattle.goblin_pe.proofs.Layouts.{header-refused, sections-refused}
-use Rattle.goblin_pe.proofs.SectionRoom.{has_room, sections_counted}
-use Rattle.goblin_pe.specs.Whole.{whole_file}
-use Rattle.goblin_pe_calls.specs.Growth.{FileBegins, HasRecords}
-use Rattle.goblin_pe_calls.specs.Opened.{records_view}
-use Rattle.goblin_pe_calls.proofs.Growth.{as-read, either-way, layout-begins, layout-kept, made-kept, sections-kept, takes-records}
-use Rattle.goblin_pe_calls.proofs.Opened.{file-of-records, records-read, records-refused}
-use Rattle.goblin_pe_calls.proofs.Refusals.{room-there}
+use Rattle.goblin_pe.proofs.Layouts.{header-refused}
 use Rattle.goblin_pe_calls.proofs.open.open.Goals as goal
 
-pub returns-in_err-header : goal.returns-in_err-header
-returns-in_err-header c =
+pub returns-in_err-read_with_opts : goal.returns-in_err-read_with_opts
+returns-in_err-read_with_opts c =
     let opts = c.args.opts.now in
     let bytes = c.args.bytes.now in
     let error = err_from_is_err_and c.from_residual.result c.from_residual.ensures.1 in
     rw (error.1, error.2) (
-      λ other. header-refused opts bytes _ c.in_err-header.ensures.value,
-      λ memory. absurd ((pe_header (is_strict opts.parse_mode)).not_memory bytes _ c.in_err-header.ensures.value.1 memory),
+      λ other. header-refused opts bytes _ c.in_err-read_with_opts.ensures.value,
+      λ memory. absurd ((pe_header (is_strict opts.parse_mode)).not_memory bytes _ c.in_err-read_with_opts.ensures.value.1 memory),
       refl,
     )
-
-pub returns-in_err-layout : goal.returns-in_err-layout
-returns-in_err-layout c =
-    let opts = c.args.opts.now in
-    let bytes = c.args.bytes.now in
-    let h = header_value c.in_ok-header.header in
-    let found = c.in_ok-header.ensures.value in
-    let error = err_from_is_err_and c.from_residual-in_err-layout.result c.from_residual-in_err-layout.ensures.1 in
-    rw (error.1, error.2) (
-      λ other. sections-refused opts bytes h found _ (c.in_err-layout.ensures.value other),
-      λ memory. takes-records opts bytes h found
-          (has_room h.coff_header.number_of_sections bytes _ c.in_err-layout.ensures.first memory)
-          (either-way ((whole_file opts).value bytes) HasRecords (FileBegins opts bytes h)
-          (sections-kept opts bytes h found (c.in_err-layout.ensures.grown memory).0)
-          (inl (c.in_err-layout.ensures.grown memory).0)),
-      refl,
-    )
-
-pub returns-in_err-records : goal.returns-in_err-records
-returns-in_err-records c =
-    let opts = c.args.opts.now in
-    let bytes = c.args.bytes.now in
-    let found = c.in_ok-header.ensures.value in
-    let error = err_from_is_err_and c.from_residual-in_err-records.result c.from_residual-in_err-records.ensures.1 in
-    rw (error.1, error.2) (
-      λ other. records-refused opts bytes c.in_ok-header.header found c.in_ok-layout.layout c.in_ok-layout.ensures.value c.in_ok-layout.ensures.over _ c.in_err-records.ensures.value other,
-      λ memory. takes-records opts bytes (header_value c.in_ok-header.header) found
-          (room-there (Some (header_value c.in_ok-header.header)) bytes c.in_ok-layout.ensures.first refl)
-          (either-way ((whole_file opts).value bytes) HasRecords (FileBegins opts bytes (header_value c.in_ok-header.header))
-          (layout-kept opts bytes c.in_ok-header.header found c.in_ok-layout.layout c.in_ok-layout.ensures.value c.in_ok-layout.ensures.over c.in_err-records.ensures.grown)
-          (layout-begins opts bytes c.in_ok-header.header c.in_ok-layout.layout c.in_ok-layout.ensures.value c.in_ok-layout.ensures.over (c.in_err-records.ensures.begun memory))),
-      refl,
-    )
-
-pub made_of-requires : goal.made_of-requires
-made_of-requires c =
-    records-read c.args.opts.now c.args.bytes.now c.in_ok-header.header c.in_ok-header.ensures.value c.in_ok-layout.layout c.in_ok-layout.ensures.value c.in_ok-layout.ensures.over c.in_ok-records.records c.in_ok-records.ensures.value
-
-pub returns-in_err-made : goal.returns-in_err-made
-returns-in_err-made c =
-    let opts = c.args.opts.now in
-    let bytes = c.args.bytes.now in
-    let h = header_value c.in_ok-header.header in
-    let found = c.in_ok-header.ensures.value in
-    let v = records_view c.in_ok-layout.layout c.in_ok-records.records in
-    let read = records-read opts bytes c.in_ok-header.header found c.in_ok-layout.layout c.in_ok-layout.ensures.value c.in_ok-layout.ensures.over c.in_ok-records.records c.in_ok-records.ensures.value in
-    let of = file-of-records opts bytes v read in
-    let after : v.header ≡ h = ap header_value c.in_ok-layout.ensures.over.after in
-    let counted = λ (some : 0 < length v.sections). subst (λ (x : PeHeader). 0 < x.coff_header.number_of_sections) (sym after) (sections_counted (is_strict opts.parse_mode) h bytes v.sections c.in_ok-layout.ensures.value some) in
-    let error = err_from_is_err_and c.from_residual-in_err-made.result c.from_residual-in_err-made.ensures.1 in
-    rw (error.1, error.2) (
-      λ other. absurd (other c.in_err-made.ensures.refused),
-      λ memory. takes-records opts bytes h found (room-there (Some h) bytes c.in_ok-layout.ensures.first refl)
-          (as-read ((whole_file opts).value bytes) _ HasRecords (FileBegins opts bytes h) of.read
-          (made-kept opts bytes v of counted c.in_err-made.ensures.grown)),
-      refl,
-    )
-
-pub returns : goal.returns
-returns c =
-    let opts = c.args.opts.now in
-    let bytes = c.args.bytes.now in
-    let v = records_view c.in_ok-layout.layout c.in_ok-records.records in
-    let read = records-read opts bytes c.in_ok-header.header c.in_ok-header.ensures.value c.in_ok-layout.layout c.in_ok-layout.ensures.value c.in_ok-layout.ensures.over c.in_ok-records.records c.in_ok-records.ensures.value in
-    let of = file-of-records opts bytes v read in
-    rw (of.read, of.exports, of.header, of.sections, of.relocations, of.imports, of.imports_table, of.exports_table) (search rules)

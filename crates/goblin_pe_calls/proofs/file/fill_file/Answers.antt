@@ -2,10 +2,10 @@ use Rattle.std.proofs.Common.{rules, ◌∙◌}
 use Rattle.goblin_pe_calls.specs.Exports.{export_view}
 use Rattle.goblin_pe_calls.specs.Imports.{import_view}
 use Rattle.goblin_pe_calls.proofs.Opened.{table-viewed}
-use Rattle.goblin_pe_calls.proofs.file.file_of.Goals as goal
+use Rattle.goblin_pe_calls.proofs.file.fill_file.Goals as goal
 
 pub returns : goal.returns
 returns c =
-    let imports = c.table_of.ensures ∙ table-viewed import_view c.args.records.now.imports in
-    let exports = c.table_of-2.ensures ∙ table-viewed export_view c.args.records.now.exports.exports in
+    let imports = c.table_of-file.ensures ∙ table-viewed import_view c.args.records.now.imports in
+    let exports = c.table_of-file-2.ensures ∙ table-viewed export_view c.args.records.now.exports.exports in
     rw (imports, exports) (search rules)
