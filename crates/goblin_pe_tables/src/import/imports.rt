@@ -443,13 +443,16 @@ impl<'a, 'm, 'e, T: Bitfield<'a>> Imports<'a, 'm, 'e, T> {
         ensures position { IfOk result (HasPosition T.format) }
     {
         let rva = directory.virtual_address;
-        let Some(offset) = directory_offset(rva, address_map) else {
+        let mut near = 0;
+        let Some(offset) = directory_offset(rva, address_map, &mut near) else {
             return Err(Error::Malformed(Cause::Unmapped(rva as usize)));
         };
         if address_map.is_permissive() && offset == 0 {
             return Ok(Imports::from_position(bytes, None, address_map));
         }
-        Ok(Imports::at(bytes, offset, address_map))
+        let mut imports = Imports::at(bytes, offset, address_map);
+        imports.walk.near = near;
+        Ok(imports)
     }
 
     /// The imports of the libraries of the directory at the file offset `offset`.

@@ -96,6 +96,7 @@ fn lookup_table_if<'a, 'e, T: Bitfield<'a>>(
 
 // The name of a library; in permissive mode the empty one where none can be read. Its address is
 // looked for first where the last one was, at `near`.
+#[inline(always)]
 #[tactic(auto, unfolding(goblin_pe_sect::specs::AddressReadings::name_or_none), using(crate::proofs::LibraryNames::taken, crate::proofs::LibraryNames::missing))]
 pub(super) fn library_name<'a>(
     bytes: &'a [u8],
@@ -112,12 +113,17 @@ pub(super) fn library_name<'a>(
 }
 
 // The offset of the directory at an address: permissive mode treats an address without an offset as
-// one that leads to the front of the file.
-pub(super) fn directory_offset(rva: u32, address_map: &AddressMap) -> Option<usize>
+// one that leads to the front of the file. It is looked for first at `near`.
+#[inline(always)]
+pub(super) fn directory_offset(
+    rva: u32,
+    address_map: &AddressMap,
+    near: &mut usize,
+) -> Option<usize>
     ensures { let m = map_of address_map.now in
         result ≡ in_its_place (reads_strictly m) 0 (offset_of m rva) }
 {
-    match address_map.offset_of(rva) {
+    match address_map.offset_near(rva, near) {
         None if address_map.is_permissive() => Some(0),
         offset => offset,
     }
@@ -125,6 +131,7 @@ pub(super) fn directory_offset(rva: u32, address_map: &AddressMap) -> Option<usi
 
 // The offset of a record's lookup table: at its own address, or at that of the address table. They
 // are looked for first where the last one was, at `near`.
+#[inline(always)]
 pub(crate) fn lookup_offset(
     entry: &ImportDirectoryEntry,
     address_map: &AddressMap,
