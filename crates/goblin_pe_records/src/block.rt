@@ -1,14 +1,15 @@
 //! The records of base relocation blocks.
 
-ghost use Rattle.std.specs.Prelude.{◌≡◌, ◌<◌, IfErr, IfOk, OnErr, length, map};
+ghost use Rattle.std.specs.Prelude.{◌≡◌, ◌<◌, ◌++◌, ◌∷◌, [], IfErr, IfOk, OnErr, OnOk, length, map};
 ghost use Rattle.goblin_base.specs.Answers.{IsMemory};
 ghost use Rattle.goblin_pe_sect.specs.BaseRelocations.{block_items, block_value, relocation_bytes};
-ghost use Rattle.goblin_pe_records.specs.Blocked.{HasNoIdleBlock};
+ghost use Rattle.goblin_pe_records.specs.Blocked.{HasLittleRoom};
 ghost use Rattle.goblin_pe_records.specs.Blocks.{block_view};
 ghost use Rattle.goblin_pe_records.specs.Items.{rest_of, values_of};
 
 use crate::fault::{PeFault, fault_of, no_fault};
 use crate::file::PeTable;
+use crate::room::make_room;
 use goblin_base::Result;
 use goblin_pe_sect::relocation::{RelocationBlock, RelocationData};
 use std::alloc::Global;
@@ -47,6 +48,21 @@ fn block_record<'a>(block: &RelocationBlock<'a>) -> PeBlock<'a>
     }
 }
 
+// For how many records room is made first.
+const FIRST_ROOM: usize = 4;
+
+// Adds the record of a block.
+#[inline(always)]
+fn push_block<'a>(records: &mut Vec<PeBlock<'a>>, block: PeBlock<'a>) -> Result<()>
+    ensures refused { IfErr result IsMemory }
+    ensures items { OnOk result (records.new.items ≡ records.old.items ++ block.entry ∷ []) }
+    ensures room { OnOk result (HasLittleRoom records.old → HasLittleRoom records.new) }
+{
+    make_room(records, FIRST_ROOM)?;
+    records.push_reserved(block);
+    Ok(())
+}
+
 /// The records of the blocks of a directory, in memory of their own, and why a rest is none.
 ///
 /// # Errors
@@ -62,14 +78,14 @@ pub fn item_records<'a>(
         ≡ values_of (block_items (relocation_bytes relocations.now) 0)) }
     ensures rest { IfOk result
         (λ made. made.1 ≡ rest_of (block_items (relocation_bytes relocations.now) 0)) }
-    ensures none { IfOk result (λ made. HasNoIdleBlock made.0) }
+    ensures none { IfOk result (λ made. HasLittleRoom made.0) }
     ensures grown { OnErr result
         (0 < length (values_of (block_items (relocation_bytes relocations.now) 0))) }
 {
     let mut records = Vec::new(alloc);
     'blocks: for block in relocations.blocks() {
         match block {
-            Ok(block) => records.push(block_record(&block))?,
+            Ok(block) => push_block(&mut records, block_record(&block))?,
             Err(error) => return Ok((records, fault_of(&error))),
         }
     }

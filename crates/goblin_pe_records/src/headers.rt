@@ -17,17 +17,17 @@ pub struct PeOptionalHeader {
 
 /// Fills a record with the fields of an optional header, or with zeros.
 #[inline(always)]
-pub fn fill_optional(record: &mut PeOptionalHeader, header: &Option<OptionalHeader>)
-    ensures { record.new ≡ optional_record header.now }
+pub fn fill_optional(fields: &mut PeOptionalHeader, header: &Option<OptionalHeader>)
+    ensures { fields.new ≡ optional_record header.now }
 {
     match header {
         Some(header) => {
-            record.standard_fields = header.standard_fields;
-            record.windows_fields = header.windows_fields;
+            fields.standard_fields = header.standard_fields;
+            fields.windows_fields = header.windows_fields;
         }
         None => {
-            record.standard_fields = StandardFields::default();
-            record.windows_fields = WindowsFields::default();
+            fields.standard_fields = StandardFields::default();
+            fields.windows_fields = WindowsFields::default();
         }
     }
 }

@@ -8,12 +8,12 @@ use Rattle.goblin_pe_records.proofs.Making.{items-some, items-start, items-next,
 use Rattle.goblin_pe_records.proofs.block.item_records.Goals as goal
 
 pub blocks-2-init : goal.blocks-2-init
-blocks-2-init c = (items-start _ _ _ _ c.new-records.ensures.items (ap blocks_left c.into_iter-block-iterator.ensures.into_iter_gives ∙ c.blocks-block-items.ensures.items), λ _. c.new-records.ensures.capacity)
+blocks-2-init c = (items-start _ _ _ _ c.new-records.ensures.items (ap blocks_left c.into_iter-block-iterator.ensures.into_iter_gives ∙ c.blocks-block-items.ensures.items), (λ _. c.new-records.ensures.capacity, omega (arith, c.new-records.ensures.capacity)))
 
 pub blocks-2-preserved : goal.blocks-2-preserved
 blocks-2-preserved c =
     let next = c.in-Some.ensures.steps ∙ ap (λ (x : Result RelocationBlock ErrorOf). block_item x ∷ blocks_left c.next.new.self) c.in-Ok.is in
-    (items-next _ _ _ _ _ _ _ _ c.blocks-2.invariant.0 next c.block_record.ensures c.in_ok-push-in-Ok.ensures.items, λ none. absurd (omega (arith, none, ap length c.in_ok-push-in-Ok.ensures.items, length-append c.blocks-2.records.items (c.block_record.result ∷ []))))
+    (items-next _ _ _ _ _ _ _ _ c.blocks-2.invariant.0 next c.block_record.ensures c.in_ok-push_block-in-Ok.ensures.items, c.in_ok-push_block-in-Ok.ensures.room c.blocks-2.invariant.1)
 
 pub returns-in-Err-clause-values : goal.returns-in-Err-clause-values
 returns-in-Err-clause-values c =
@@ -37,7 +37,7 @@ returns-in-Err-clause-none c = c.blocks-2.invariant.1
 pub returns-clause-none : goal.returns-clause-none
 returns-clause-none c = c.blocks-2.invariant.1
 
-pub returns-in_err-push-in-Ok-clause-grown : goal.returns-in_err-push-in-Ok-clause-grown
-returns-in_err-push-in-Ok-clause-grown c =
+pub returns-in_err-push_block-in-Ok-clause-grown : goal.returns-in_err-push_block-in-Ok-clause-grown
+returns-in_err-push_block-in-Ok-clause-grown c =
     let next = c.in-Some.ensures.steps ∙ ap (λ (x : Result RelocationBlock ErrorOf). block_item x ∷ blocks_left c.next.new.self) c.in-Ok.is in
     whichever _ _ (items-some _ _ _ _ _ _ c.blocks-2.invariant.0 next)
