@@ -181,7 +181,8 @@ pub fn give_imports<'a>(
         (λ m places. IsImportsFault m places bytes.now old)
         ((new ≡ old) × (count.new ≡ count.old)) result }
 {
-    let header = Header::parse_with_opts(bytes, opts)?;
+    let mut header = Header::default();
+    header.read_with_opts(bytes, opts)?;
     let layout = Layout::of(alloc, bytes, &header, opts)?;
     *count = next_imports(&layout, position, records)?;
     Ok(())
@@ -267,7 +268,8 @@ pub fn give_exports<'a>(
         (λ m places. IsExportsFault m places bytes.now)
         ((new ≡ old) × (count.new ≡ count.old)) result }
 {
-    let header = Header::parse_with_opts(bytes, opts)?;
+    let mut header = Header::default();
+    header.read_with_opts(bytes, opts)?;
     let layout = Layout::of(alloc, bytes, &header, opts)?;
     *count = next_exports(&layout, position, records)?;
     Ok(())

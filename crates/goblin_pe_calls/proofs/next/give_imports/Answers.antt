@@ -8,11 +8,11 @@ use Rattle.goblin_pe_calls.specs.Batches.{ImportBatch, GivesImports, IsImportsFa
 use Rattle.goblin_pe_calls.proofs.InFile.{fault-in, given-in, layout-fault, layout-in, no-header, no-sections}
 use Rattle.goblin_pe_calls.proofs.next.give_imports.Goals as goal
 
-pub returns-in_err-header : goal.returns-in_err-header
-returns-in_err-header c =
+pub returns-in_err-read_with_opts : goal.returns-in_err-read_with_opts
+returns-in_err-read_with_opts c =
     let opts = c.args.opts.now in
     let bytes = c.args.bytes.now in
-    let refused = c.in_err-header.ensures.value in
+    let refused = c.in_err-read_with_opts.ensures.value in
     let e = err_from_is_err_and c.from_residual.result c.from_residual.ensures.1 in
     rw (e.1, e.2) (
       λ other. no-header opts bytes _ _ refused.0 refused.1,
@@ -24,10 +24,10 @@ pub returns-in_err-layout : goal.returns-in_err-layout
 returns-in_err-layout c =
     let opts = c.args.opts.now in
     let bytes = c.args.bytes.now in
-    let found = c.in_ok-header.ensures.value in
+    let found = c.in_ok-read_with_opts.ensures.value in
     let e = err_from_is_err_and c.from_residual-in_err-layout.result c.from_residual-in_err-layout.ensures.1 in
     rw (e.1, e.2) (
-      λ other. (let refused = c.in_err-layout.ensures.value other in no-sections opts bytes _ (header_value c.in_ok-header.header) found _ refused.0 refused.1),
+      λ other. (let refused = c.in_err-layout.ensures.value other in no-sections opts bytes _ (header_value c.read_with_opts.new.self) found _ refused.0 refused.1),
       λ memory. rw found (c.in_err-layout.ensures.grown memory),
       (refl, refl),
     )
@@ -36,13 +36,13 @@ pub returns-in_err-count : goal.returns-in_err-count
 returns-in_err-count c =
     let opts = c.args.opts.now in
     let bytes = c.args.bytes.now in
-    let h = header_value c.in_ok-header.header in
+    let h = header_value c.read_with_opts.new.self in
     let l = c.in_ok-layout.layout in
     let old : ImportBatch = record { position = c.args.position.now; records = c.args.records.now } in
     let e = err_from_is_err_and c.from_residual-in_err-count.result c.from_residual-in_err-count.ensures.1 in
     rw (e.1, e.2) (
-      λ other. fault-in opts bytes (λ l e. IsImportsFault (map_in opts l) (places_in l.0.optional_header) bytes old e) h c.in_ok-header.ensures.value l.sections.items c.in_ok-layout.ensures.value _
-          (layout-fault opts bytes c.in_ok-header.header l c.in_ok-layout.ensures.over (λ m places b e. IsImportsFault m places b old e) _ c.in_err-count.ensures.filled.0),
+      λ other. fault-in opts bytes (λ l e. IsImportsFault (map_in opts l) (places_in l.0.optional_header) bytes old e) h c.in_ok-read_with_opts.ensures.value l.sections.items c.in_ok-layout.ensures.value _
+          (layout-fault opts bytes c.read_with_opts.new.self l c.in_ok-layout.ensures.over (λ m places b e. IsImportsFault m places b old e) _ c.in_err-count.ensures.filled.0),
       λ memory. absurd (c.in_err-count.ensures.refused memory),
       (c.in_err-count.ensures.filled.1, refl),
     )
@@ -51,10 +51,10 @@ pub returns : goal.returns
 returns c =
     let opts = c.args.opts.now in
     let bytes = c.args.bytes.now in
-    let h = header_value c.in_ok-header.header in
+    let h = header_value c.read_with_opts.new.self in
     let l = c.in_ok-layout.layout in
     let old : ImportBatch = record { position = c.args.position.now; records = c.args.records.now } in
     let new : ImportBatch = record { position = c.next_imports.new.position; records = c.next_imports.new.records } in
     let count = c.in_ok-count.field-0 in
-    given-in opts bytes (λ l. GivesImports (map_in opts l) (places_in l.0.optional_header) bytes old new count) h l.sections.items c.in_ok-header.ensures.value c.in_ok-layout.ensures.value
-    (layout-in opts bytes c.in_ok-header.header l c.in_ok-layout.ensures.over (λ m places b. GivesImports m places b old new count) c.in_ok-count.ensures.filled)
+    given-in opts bytes (λ l. GivesImports (map_in opts l) (places_in l.0.optional_header) bytes old new count) h l.sections.items c.in_ok-read_with_opts.ensures.value c.in_ok-layout.ensures.value
+    (layout-in opts bytes c.read_with_opts.new.self l c.in_ok-layout.ensures.over (λ m places b. GivesImports m places b old new count) c.in_ok-count.ensures.filled)
