@@ -1,6 +1,6 @@
 //! The readers of headers and of single tables, on two files.
 
-ghost use Rattle.std.specs.Prelude.{IfErr, IsSomeAnd};
+ghost use Rattle.std.specs.Prelude.{ℕ, IfErr, IsSomeAnd, List};
 ghost use Rattle.goblin_base.specs.Answers.{IsMemory};
 ghost use Rattle.goblin_base.specs.Reading.{ReadsOrMemory};
 ghost use Rattle.goblin_pe_head.specs.TeReadings.{te_header, te_image};
@@ -96,6 +96,60 @@ fn read_parts<'a, 'e, D: TryFromCtx<'a>>(
     }
 }
 
+// What reads a file into an answer. Its users know the answer as a type parameter: the proof that two
+// answers which own as much as `PartsOf` may be moved is too large for the checker.
+trait ReadsInto<'a, T> {
+    ghost is_answer: { Self → List ℕ → T → Type 0 };
+
+    fn read(&self, bytes: &'a [u8]) -> T
+        ensures { is_answer self.now bytes.now result };
+}
+
+// A reader's answers for two files.
+fn both_of<'a, T, R: ReadsInto<'a, T>>(reader: &R, a: &'a [u8], b: &'a [u8]) -> (T, T)
+    ensures first { R.is_answer reader.now a.now result.0 }
+    ensures second { R.is_answer reader.now b.now result.1 }
+{
+    let first = reader.read(a);
+    let second = reader.read(b);
+    (first, second)
+}
+
+// What the readers of a file are asked for.
+#[derive(Copy, Clone)]
+struct Asked<'s> {
+    alloc: Global,
+    coff_header: CoffHeader,
+    offset: usize,
+    relocations: DataDirectory,
+    value: DataDirectory,
+    sections: &'s [SectionTable],
+    file_alignment: u32,
+    opts: &'s ParseOptions,
+}
+
+impl<'a, 'e, 's, D: TryFromCtx<'a>> ReadsInto<'a, PartsOf<'a, 'e, D>> for Asked<'s> {
+    ghost is_answer = { λ reader bytes parts.
+        let m = map_by reader.opts.now reader.sections.now reader.file_alignment in
+        let asked = asked_by reader.coff_header reader.offset reader.relocations reader.value in
+        AreParts D.plain D.value_of D.refusal (reads_strictly m) (offset_of m) asked bytes parts
+        × ArePartsGrown asked bytes parts };
+
+    fn read(&self, bytes: &'a [u8]) -> PartsOf<'a, 'e, D> {
+        read_parts(
+            self.alloc,
+            bytes,
+            self.coff_header,
+            self.offset,
+            self.relocations,
+            self.value,
+            self.sections,
+            self.file_alignment,
+            self.opts,
+        )
+    }
+}
+
 /// Runs the readers of [`Parts`] on two files: the sections of `coff_header` at `offset`, where a
 /// Terse Executable is read too; its symbols and strings; the base relocations of the directory
 /// `relocations`, and the value at the address of the directory `value`, by the given table of
@@ -132,9 +186,8 @@ pub fn twin_parts<'a, 'e, D: TryFromCtx<'a>>(
     ensures second_grown { let asked = asked_by coff_header offset relocations value in
         ArePartsGrown asked b.now result.1 }
 {
-    let first = read_parts(
+    let asked = Asked {
         alloc,
-        a,
         coff_header,
         offset,
         relocations,
@@ -142,37 +195,6 @@ pub fn twin_parts<'a, 'e, D: TryFromCtx<'a>>(
         sections,
         file_alignment,
         opts,
-    );
-    let second = read_parts(
-        alloc,
-        b,
-        coff_header,
-        offset,
-        relocations,
-        value,
-        sections,
-        file_alignment,
-        opts,
-    );
-    // Field by field: the proof that all of it may be moved at once is too large for the checker.
-    (
-        PartsOf {
-            header: first.header,
-            sections: first.sections,
-            symbols: first.symbols,
-            strings: first.strings,
-            te: first.te,
-            relocations: first.relocations,
-            value: first.value,
-        },
-        PartsOf {
-            header: second.header,
-            sections: second.sections,
-            symbols: second.symbols,
-            strings: second.strings,
-            te: second.te,
-            relocations: second.relocations,
-            value: second.value,
-        },
-    )
+    };
+    both_of(&asked, a, b)
 }
