@@ -127,8 +127,8 @@ impl<'a> Header<'a> {
         Ok(header)
     }
 
-    /// Reads the header of a file, as [`Header::parse_with_opts`], in place of this one: a header
-    /// is large, and is not moved so.
+    /// Reads the header of a file, as [`Header::parse_with_opts`], in place of this one, so that
+    /// the header, which is large, is not moved.
     ///
     /// # Errors
     /// As [`Header::parse_with_opts`]; this header is then unchanged.
