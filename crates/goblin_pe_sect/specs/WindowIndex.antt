@@ -20,8 +20,7 @@ pub record Pieces : Type 0 where
   pub begins : List ℕ
   pub owners : List (Option Owner)
 
--- an index has pieces, and a list windows: addresses are mapped, by an alignment that is a power of
--- two
+-- an index has pieces: addresses are mapped, by an alignment that is a power of two
 abbrev pub HasPieces : ParseOptions → ℕ → Type 0
 HasPieces opts alignment = IsTrue opts.resolve_rva × IsTrue (is_power_of_two alignment)
 
