@@ -3,7 +3,7 @@ use Rattle.std.proofs.Common.{◌≡◌, ℕ, zero, suc, ◌+◌, ◌-◌, ◌*�
 use Rattle.std.specs.List.{prefix_len}
 use Rattle.std.specs.List.Sorted.{IsStrictlyIncreasing}
 use Rattle.std.proofs.lemmas.List.Kept.{AllPairs-from_increasing}
-use Rattle.std.proofs.lemmas.List.Sums.{prefix_len_is, prefix_len_passes, prefix_len_stops}
+use Rattle.std.proofs.lemmas.List.Sums.{prefix_len-le-length, prefix_len_is, prefix_len_passes, prefix_len_stops}
 use Rattle.std.proofs.lemmas.Bool.{cases_lt}
 use Rattle.std.proofs.lemmas.Nat.{pow-add, pow_pos}
 use Rattle.goblin_pe_sect.specs.WindowIndex.{reached, halvings_within, halvings}
@@ -75,7 +75,7 @@ rising_to xs up i j le within =
     ]
 
 -- the place that a search looks for lies above a number that begins at or before the address
-reached-above : (begins : List ℕ) (rva half : ℕ) → IsStrictlyIncreasing begins → half < length begins → slice_index begins half ≤ rva → half < reached begins rva
+pub reached-above : (begins : List ℕ) (rva half : ℕ) → IsStrictlyIncreasing begins → half < length begins → slice_index begins half ≤ rva → half < reached begins rva
 reached-above begins rva half up within reaches =
     elim (cases_lt half (reached begins rva)) [
       | inl less ↦ less
@@ -87,7 +87,7 @@ reached-above begins rva half up within reaches =
     ]
 
 -- and at or below one that begins after it
-reached-below : (begins : List ℕ) (rva half : ℕ) → rva < slice_index begins half → reached begins rva ≤ half
+pub reached-below : (begins : List ℕ) (rva half : ℕ) → rva < slice_index begins half → reached begins rva ≤ half
 reached-below begins rva half passes =
     elim (cases_lt half (reached begins rva)) [
       | inl less ↦
@@ -96,6 +96,11 @@ reached-below begins rva half passes =
           absurd (omega (arith, before, passes))
       | inr ge ↦ ge
     ]
+
+-- no more numbers begin at or before an address than there are
+pub reached-within : (begins : List ℕ) (rva : ℕ) → reached begins rva ≤ length begins
+unfolding reached
+reached-within begins rva = prefix_len-le-length (λ b. nat_le b rva) begins
 
 -- half of a number has a digit less
 pub half_below : (e s : ℕ) → 0 < s → s < 2 ^ e → (1 ≤ e) × (s / 2 < 2 ^ (e - 1))

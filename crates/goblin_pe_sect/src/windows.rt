@@ -6,7 +6,7 @@
 //! address is then found among n pieces by about log n comparisons.
 
 ghost use Rattle.std.specs.Prelude.{◌≡◌, ℕ, ◌+◌, ◌-◌, ◌*◌, ◌^◌, ◌<◌, ◌≤◌, IsTrue, IfOk, IfErr};
-ghost use Rattle.std.specs.Prelude.{IfSome, length, map, []};
+ghost use Rattle.std.specs.Prelude.{IfSome, Some, length, map, []};
 ghost use Rattle.std.specs.Int.{is_power_of_two};
 ghost use Rattle.std.specs.Option.{option_map};
 ghost use Rattle.std.specs.List.Sorted.{IsStrictlyIncreasing};
@@ -31,10 +31,12 @@ use std::alloc::Global;
 use std::marker::Model;
 
 // How many pieces begin at or before the address, and how many bounds were looked at.
+#[inline(never)]
 fn count_reached(bounds: &Bounds, rva: usize) -> (usize, usize)
     requires { IsStrictlyIncreasing bounds.now }
     ensures value { result.0 ≡ reached bounds.now rva }
     ensures most { (d : ℕ) → length bounds.now < 2 ^ d → result.1 ≤ d }
+    ensures few { result.1 ≤ 64 }
     ensures fewest { (d : ℕ) → 2 ^ d ≤ length bounds.now + 1 → d ≤ result.1 }
     ensures counted { result.1 ≡ halvings (length bounds.now) (reached bounds.now rva) }
 {
@@ -52,29 +54,49 @@ fn count_reached(bounds: &Bounds, rva: usize) -> (usize, usize)
     (low, probes)
 }
 
-// How many pieces begin at or before the address, if the last of them is piece `i`.
+// How many pieces begin at or before the address, if the last of them is piece `i`, and how many
+// bounds were looked at.
 #[inline(always)]
 #[tactic(auto, using(crate::proofs::Halving::reached_last, crate::proofs::Halving::reached_before))]
-fn count_in_piece(bounds: &Bounds, i: usize, rva: usize) -> Option<usize>
+fn count_in_piece(bounds: &Bounds, i: usize, rva: usize) -> (Option<usize>, usize)
     requires { IsStrictlyIncreasing bounds.now }
-    ensures { IfSome result (λ count. count ≡ reached bounds.now rva) }
+    ensures value { IfSome result.0 (λ count. count ≡ reached bounds.now rva) }
+    ensures found { reached bounds.now rva ≡ i + 1 → result.0 ≡ Some (i + 1) }
+    ensures few { result.1 ≤ 2 }
 {
     let count = bounds.len();
-    if i >= count {
-        return None;
-    }
     let mut probes = 0;
+    if i >= count {
+        return (None, probes);
+    }
     if !bounds.reaches(i, rva, &mut probes) {
-        return None;
+        return (None, probes);
     }
     let next = i + 1;
     if next == count {
-        return Some(next);
+        return (Some(next), probes);
     }
     if bounds.reaches(next, rva, &mut probes) {
-        return None;
+        return (None, probes);
     }
-    Some(next)
+    (Some(next), probes)
+}
+
+// How many pieces begin at or before the address, and how many bounds were looked at, those of piece
+// `near` first, and no others where the address lies in it.
+#[inline(always)]
+fn count_near(bounds: &Bounds, near: usize, rva: usize) -> (usize, usize)
+    requires { IsStrictlyIncreasing bounds.now }
+    ensures value { result.0 ≡ reached bounds.now rva }
+    ensures most { (d : ℕ) → length bounds.now < 2 ^ d → result.1 ≤ d + 2 }
+    ensures there { reached bounds.now rva ≡ near + 1 → result.1 ≤ 2 }
+{
+    let (found, first) = count_in_piece(bounds, near, rva);
+    let Some(count) = found else {
+        let (count, probes) = count_reached(bounds, rva);
+        return (count, first + probes);
+    };
+    (count, first)
 }
 
 /// The address space, cut into pieces at the windows of sections. Each piece keeps the index, the
@@ -207,25 +229,14 @@ impl WindowIndex {
     /// The file offset of the address `rva`, as [`WindowIndex::find`] returns it. Piece `near`,
     /// which may be any number, is looked at first, and no other where the address lies in it;
     /// `near` is then the piece of the address, or 0 where there is none. So addresses that lie near
-    /// one another are found with two probes each.
+    /// one another are found with two probes each, and any other with two more than `find` makes.
     #[inline(always)]
     pub fn find_near(&self, rva: usize, near: &mut usize) -> Option<usize>
         ensures value { result ≡ located self.now rva }
         ensures piece { near.new ≡ reached self.now.begins rva - 1 }
     {
-        let count = match count_in_piece(&self.bounds, *near, rva) {
-            Some(count) => count,
-            None => self.count(rva),
-        };
+        let (count, _) = count_near(&self.bounds, *near, rva);
         *near = count.saturating_sub(1);
         self.offset_by_count(count, rva)
-    }
-
-    // How many pieces begin at or before the address.
-    #[inline(never)]
-    fn count(&self, rva: usize) -> usize
-        ensures { result ≡ reached self.now.begins rva }
-    {
-        count_reached(&self.bounds, rva).0
     }
 }

@@ -19,6 +19,11 @@ halving-preserved c =
 pub returns-clause-value : goal.returns-clause-value
 returns-clause-value c = searched_all _ _ _ _ _ c.halving.invariant.0 c.halving-test.false
 
+pub returns-clause-few : goal.returns-clause-few
+returns-clause-few c =
+    let fits : length c.args.bounds.now < 2 ^ 64 = omega arith in
+    (c.halving.invariant.0.most 64 fits).0
+
 pub returns-clause-fewest : goal.returns-clause-fewest
 returns-clause-fewest c = searched_fewest _ _ _ _ _ c.halving.invariant.0 c.halving-test.false
 
