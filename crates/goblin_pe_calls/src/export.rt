@@ -125,7 +125,7 @@ fn push_export<'a>(
     ensures value { let made = export_said (walked_export export.now) ∷ [] in
         GivesOrMemory (λ _. map export_view records.new.items) result
         (map export_view records.old.items ++ made) }
-    ensures kept { OnOk result (HasLittleRoom records.old → HasLittleRoom records.new) }
+    ensures room { OnOk result (HasLittleRoom records.old → HasLittleRoom records.new) }
 {
     make_room(records, expected)?;
     records.push_reserved(export_record(bytes, export));

@@ -82,7 +82,7 @@ fn push_import<'a>(
     ensures value { let made = import_said (walked_value import.now) ∷ [] in
         GivesOrMemory (λ _. map import_view records.new.items) result
         (map import_view records.old.items ++ made) }
-    ensures kept { OnOk result (HasLittleRoom records.old → HasLittleRoom records.new) }
+    ensures room { OnOk result (HasLittleRoom records.old → HasLittleRoom records.new) }
 {
     make_room(records, FIRST_ROOM)?;
     records.push_reserved(import_record(bytes, import));

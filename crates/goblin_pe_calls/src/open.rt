@@ -9,7 +9,7 @@ ghost use Rattle.goblin_pe_head.specs.PeHeader.{header_value};
 ghost use Rattle.goblin_pe.specs.Whole.{part_map, whole_file};
 ghost use Rattle.goblin_pe_records.specs.Blocks.{block_view};
 ghost use Rattle.goblin_pe_calls.specs.Blocks.{blocks_in, relocations_of};
-ghost use Rattle.goblin_pe_records.specs.Blocked.{HasLittleRoom, HasNoIdleBlock, HasNoSpareRoom};
+ghost use Rattle.goblin_pe_records.specs.Blocked.{HasLittleRoom, HasNoSpareRoom};
 ghost use Rattle.goblin_pe_calls.specs.Blocked.{HasLittleRoomIn, HaveLittleRoom};
 ghost use Rattle.goblin_pe_records.specs.Calls.{ReadsInto};
 ghost use Rattle.goblin_pe_calls.specs.Exports.{export_view, export_views, exports_view};
@@ -94,7 +94,7 @@ fn made_of<'a>(
     ensures blocks { let v = records_view layout.now records.now in
         IfOk result (λ m. map block_view m.blocks.items ≡ blocks_in v.relocations) }
     ensures none { IfOk result
-        (λ m. HasNoIdleBlock m.rich_entries × HasNoSpareRoom m.sections × HasLittleRoom m.blocks) }
+        (λ m. HasNoSpareRoom m.rich_entries × HasNoSpareRoom m.sections × HasLittleRoom m.blocks) }
     ensures grown { let v = records_view layout.now records.now in
         OnErr result (0 < length v.sections + length (entries_in v.header.rich_header)
         + length (blocks_in v.relocations)) }
@@ -144,7 +144,7 @@ fn handed_over<'a>(
     exports: ExportRecords<'a>,
     dos_stub: &'a [u8],
 ) -> PeTables<'a>
-    requires none { HasNoIdleBlock made.rich_entries × HasNoSpareRoom made.sections
+    requires none { HasNoSpareRoom made.rich_entries × HasNoSpareRoom made.sections
         × HasLittleRoom made.blocks }
     requires no_imports { HasLittleRoomIn imports }
     requires no_exports { HaveLittleRoom exports }

@@ -3,12 +3,12 @@
 ghost use Rattle.std.specs.Prelude.{◌≡◌, ◌<◌, IfErr, IfOk, OnErr, length, option_map};
 ghost use Rattle.goblin_base.specs.Answers.{IsMemory};
 ghost use Rattle.goblin_pe_head.specs.RichHeader.{rich_value};
-ghost use Rattle.goblin_pe_records.specs.Blocked.{HasNoIdleBlock};
+ghost use Rattle.goblin_pe_records.specs.Blocked.{HasNoSpareRoom};
 ghost use Rattle.goblin_pe_records.specs.Items.{rest_of, values_of};
 ghost use Rattle.goblin_pe_records.specs.RichHeaders.{entries_in, entry_items, rich_of};
 
 use crate::fault::{PeFault, fault_of, no_fault};
-use goblin_base::Result;
+use goblin_base::{Record, Result};
 use goblin_pe_head::header::{RichHeader, RichMetadata};
 use std::alloc::Global;
 
@@ -38,17 +38,18 @@ fn item_records(alloc: Global, rich: &RichHeader) -> Result<(Vec<RichMetadata>, 
     ensures values { IfOk result
         (λ made. made.0.items ≡ values_of (entry_items (rich_value rich.now))) }
     ensures rest { IfOk result (λ made. made.1 ≡ rest_of (entry_items (rich_value rich.now))) }
-    ensures none { IfOk result (λ made. HasNoIdleBlock made.0) }
+    ensures none { IfOk result (λ made. HasNoSpareRoom made.0) }
     ensures grown { OnErr result (0 < length (values_of (entry_items (rich_value rich.now)))) }
 {
-    let mut records = Vec::new(alloc);
     // No header that was read has more padding than data.
     if rich.padding_size > rich.bytes.len() {
-        return Ok((records, no_fault()));
+        return Ok((Vec::new(alloc), no_fault()));
     }
+    let count = (rich.bytes.len() - rich.padding_size) / RichMetadata::size();
+    let mut records = Vec::with_capacity(alloc, count)?;
     'entries: for entry in rich.metadatas() {
         match entry {
-            Ok(entry) => records.push(entry)?,
+            Ok(entry) => records.push_reserved(entry),
             Err(error) => return Ok((records, fault_of(&error))),
         }
     }
@@ -65,7 +66,7 @@ pub fn entry_records(
     ensures values { IfOk result
         (λ made. made.0.items ≡ entries_in (option_map rich_value rich.now)) }
     ensures said { IfOk result (λ made. made.1 ≡ rich_of (option_map rich_value rich.now)) }
-    ensures none { IfOk result (λ made. HasNoIdleBlock made.0) }
+    ensures none { IfOk result (λ made. HasNoSpareRoom made.0) }
     ensures grown { OnErr result (0 < length (entries_in (option_map rich_value rich.now))) }
 {
     match rich {

@@ -98,7 +98,7 @@ fn read_parts<'a, 'e, D: TryFromCtx<'a>>(
 
 // What reads a file into an answer. Its users know the answer as a type parameter: the proof that two
 // answers which own as much as `PartsOf` may be moved is too large for the checker.
-trait ReadsInto<'a, T> {
+trait Reader<'a, T> {
     ghost is_answer: { Self → List ℕ → T → Type 0 };
 
     fn read(&self, bytes: &'a [u8]) -> T
@@ -106,7 +106,7 @@ trait ReadsInto<'a, T> {
 }
 
 // A reader's answers for two files.
-fn both_of<'a, T, R: ReadsInto<'a, T>>(reader: &R, a: &'a [u8], b: &'a [u8]) -> (T, T)
+fn both_of<'a, T, R: Reader<'a, T>>(reader: &R, a: &'a [u8], b: &'a [u8]) -> (T, T)
     ensures first { R.is_answer reader.now a.now result.0 }
     ensures second { R.is_answer reader.now b.now result.1 }
 {
@@ -128,7 +128,7 @@ struct Asked<'s> {
     opts: &'s ParseOptions,
 }
 
-impl<'a, 'e, 's, D: TryFromCtx<'a>> ReadsInto<'a, PartsOf<'a, 'e, D>> for Asked<'s> {
+impl<'a, 'e, 's, D: TryFromCtx<'a>> Reader<'a, PartsOf<'a, 'e, D>> for Asked<'s> {
     ghost is_answer = { λ reader bytes parts.
         let m = map_by reader.opts.now reader.sections.now reader.file_alignment in
         let asked = asked_by reader.coff_header reader.offset reader.relocations reader.value in

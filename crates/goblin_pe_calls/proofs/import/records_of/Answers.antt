@@ -20,7 +20,7 @@ returns-in_err-import-clause-value g c =
 
 pub imports-preserved : goal.imports-preserved
 imports-preserved g c =
-    (made-more (imports_left g.T.Bitfield.format) (IsImportsCause g.T.Bitfield.format) import_said c.args.imports _ _ c.imports.invariant.0 walked_value _ _ c.in-Some.ensures.steps.0 _ c.in_ok-import.was _ (sym c.in_ok-push_import.ensures.value), c.in_ok-push_import.ensures.kept c.imports.invariant.1)
+    (made-more (imports_left g.T.Bitfield.format) (IsImportsCause g.T.Bitfield.format) import_said c.args.imports _ _ c.imports.invariant.0 walked_value _ _ c.in-Some.ensures.steps.0 _ c.in_ok-import.was _ (sym c.in_ok-push_import.ensures.value), c.in_ok-push_import.ensures.room c.imports.invariant.1)
 
 pub returns-clause-value : goal.returns-clause-value
 returns-clause-value g c =
