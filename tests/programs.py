@@ -86,11 +86,18 @@ def build_pe_list():
 
 
 @functools.cache
-def folder():
-    """A folder for what is built once for all tests, until they end."""
+def shared_folder():
+    """A folder that is there until the tests end."""
     made = tempfile.mkdtemp()
     atexit.register(shutil.rmtree, made)
     return pathlib.Path(made)
+
+
+def folder():
+    """A folder for what is built once for all tests of a process."""
+    made = shared_folder() / str(os.getpid())
+    made.mkdir(exist_ok=True)
+    return made
 
 
 @functools.cache
@@ -104,17 +111,19 @@ def preloaded(name):
 
 @functools.cache
 def built_library():
-    return run([CALLERS / "build", folder() / "lib"])
+    """Builds the library for callers over what is proved: its folder, what came of it, and what was said."""
+    status, _, said = run([CALLERS / "build", shared_folder() / "lib"])
+    return shared_folder() / "lib", status, said
 
 
 def library():
     """The folder with the library for callers: one that GOBLIN_PE_LIB names, or else it is built over what is proved."""
     if "GOBLIN_PE_LIB" in os.environ:
         return pathlib.Path(os.environ["GOBLIN_PE_LIB"]).resolve()
-    status, _, said = built_library()
+    made, status, said = built_library()
     if status:
         raise AssertionError(f"callers/build: {said.decode()}")
-    return folder() / "lib"
+    return made
 
 
 def environment(**more):
