@@ -10,8 +10,8 @@ use Rattle.goblin_pe_sect.specs.declared.data_directories.DataDirectory.{DataDir
 use Rattle.goblin_pe_sect.specs.declared.options.ParseOptions.{ParseOptions}
 use Rattle.goblin_pe_sect.specs.SectionTable.{Section}
 use Rattle.goblin_pe_head.specs.PeHeader.{PeHeader}
-use Rattle.goblin_pe_tables.specs.ExportRecords.{ExportTables}
-use Rattle.goblin_pe_tables.specs.Imports.{ImportValue}
+use Rattle.goblin_pe_export.specs.ExportRecords.{ExportTables}
+use Rattle.goblin_pe_import.specs.Imports.{ImportValue}
 use Rattle.goblin_pe.specs.declared.whole.Part.{Part}
 use Rattle.goblin_pe.specs.declared.whole.Part.TheVariants.{Absent}
 use Rattle.goblin_pe.specs.Whole.{CollectedFileValue, CollectedParts}

@@ -16,12 +16,12 @@ use Rattle.goblin_pe_sect.specs.declared.data_directories.DataDirectory.{DataDir
 use Rattle.goblin_pe_sect.specs.declared.options.ParseOptions.{ParseOptions}
 use Rattle.goblin_pe_sect.specs.AddressReadings.{offset_at}
 use Rattle.goblin_pe_sect.specs.Options.{is_strict}
-use Rattle.goblin_pe_tables.specs.declared.import.directory_entry.ImportDirectoryEntry.{ImportDirectoryEntry}
-use Rattle.goblin_pe_tables.specs.ImportEntries.{EntryValue}
-use Rattle.goblin_pe_tables.specs.ImportReadings.{import_data, kept_library, libraries_at}
-use Rattle.goblin_pe_tables.specs.ImportReadings.{libraries_past_front, library_of}
-use Rattle.goblin_pe_tables.specs.ImportRecords.{ImportedLibrary, import_slots}
-use Rattle.goblin_pe_tables.specs.Imports.{ImportValue, kept_imports}
+use Rattle.goblin_pe_import.specs.declared.import.directory_entry.ImportDirectoryEntry.{ImportDirectoryEntry}
+use Rattle.goblin_pe_import.specs.ImportEntries.{EntryValue}
+use Rattle.goblin_pe_import.specs.ImportReadings.{import_data, kept_library, libraries_at}
+use Rattle.goblin_pe_import.specs.ImportReadings.{libraries_past_front, library_of}
+use Rattle.goblin_pe_import.specs.ImportRecords.{ImportedLibrary, import_slots}
+use Rattle.goblin_pe_import.specs.Imports.{ImportValue, kept_imports}
 use Rattle.goblin_pe.specs.declared.whole.Part.{Part}
 use Rattle.goblin_pe.specs.declared.whole.Part.TheVariants.{Absent, Refused}
 use Rattle.goblin_pe.specs.declared.whole.Part.TheVariants as part

@@ -9,12 +9,12 @@ use Rattle.readings.specs.Walks.{GivesNext}
 use Rattle.goblin_pe_sect.specs.declared.data_directories.DataDirectory.{DataDirectory}
 use Rattle.goblin_pe_sect.specs.declared.options.ParseOptions.{ParseOptions}
 use Rattle.goblin_pe_sect.specs.Options.{is_strict}
-use Rattle.goblin_pe_tables.specs.Addresses.{MapOfAddresses, map_of, offset_of, reads_strictly}
-use Rattle.goblin_pe_tables.specs.ImportPositions.{first_import}
-use Rattle.goblin_pe_tables.specs.ImportWalks.{IsAfterImport, IsInTable, IsOver, position_of, walked_value}
-use Rattle.goblin_pe_tables.specs.declared.import.imports.ImportPosition.{ImportPosition}
-use Rattle.goblin_pe_tables.specs.declared.import.imports.Imports.{Imports}
-use Rattle.goblin_pe_tables.specs.declared.import.imports.WalkedImport.{WalkedImport}
+use Rattle.goblin_pe_sect.specs.Addresses.{MapOfAddresses, map_of, offset_of, reads_strictly}
+use Rattle.goblin_pe_import.specs.ImportPositions.{first_import}
+use Rattle.goblin_pe_import.specs.ImportWalks.{IsAfterImport, IsInTable, IsOver, position_of, walked_value}
+use Rattle.goblin_pe_import.specs.declared.import.imports.ImportPosition.{ImportPosition}
+use Rattle.goblin_pe_import.specs.declared.import.imports.Imports.{Imports}
+use Rattle.goblin_pe_import.specs.declared.import.imports.WalkedImport.{WalkedImport}
 use Rattle.goblin_pe.specs.declared.whole.Part.{Part}
 use Rattle.goblin_pe.specs.declared.whole.Part.TheVariants as part
 use Rattle.goblin_pe.specs.declared.whole.imports.FileImports.{FileImports}

@@ -13,9 +13,9 @@ use Rattle.goblin_base.proofs.Below.{join-parts}
 use Rattle.goblin_base.proofs.Steps.{same_value, step}
 use Rattle.goblin_pe_sect.specs.declared.options.ParseOptions.{ParseOptions}
 use Rattle.goblin_pe_sect.specs.Options.{is_strict}
-use Rattle.goblin_pe_tables.specs.ImportRecords.{ImportedLibrary}
-use Rattle.goblin_pe_tables.specs.Imports.{ImportValue, imports_of, kept_imports, library_imports}
-use Rattle.goblin_pe_tables.proofs.Imports.{imported_at}
+use Rattle.goblin_pe_import.specs.ImportRecords.{ImportedLibrary}
+use Rattle.goblin_pe_import.specs.Imports.{ImportValue, imports_of, kept_imports, library_imports}
+use Rattle.goblin_pe_import.proofs.Imports.{imported_at}
 use Rattle.goblin_pe.specs.declared.whole.Part.{Part}
 use Rattle.goblin_pe.specs.declared.whole.Part.TheVariants.{Absent, Refused}
 use Rattle.goblin_pe.specs.declared.whole.Part.TheVariants as part

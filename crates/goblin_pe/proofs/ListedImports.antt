@@ -7,10 +7,10 @@ use Rattle.goblin_pe_sect.specs.declared.data_directories.DataDirectory.{DataDir
 use Rattle.goblin_pe_sect.specs.declared.options.ParseOptions.{ParseOptions}
 use Rattle.goblin_pe_sect.specs.Options.{is_strict}
 use Rattle.goblin_base.specs.Reading.{Reading}
-use Rattle.goblin_pe_tables.specs.ImportReadings as directory
-use Rattle.goblin_pe_tables.specs.ImportRecords.{ImportedLibrary}
-use Rattle.goblin_pe_tables.specs.Imports.{imports_of}
-use Rattle.goblin_pe_tables.proofs.ListedImports.{imports_of-there}
+use Rattle.goblin_pe_import.specs.ImportReadings as directory
+use Rattle.goblin_pe_import.specs.ImportRecords.{ImportedLibrary}
+use Rattle.goblin_pe_import.specs.Imports.{imports_of}
+use Rattle.goblin_pe_import.proofs.ListedImports.{imports_of-there}
 use Rattle.goblin_pe.specs.declared.whole.Part.{Part}
 use Rattle.goblin_pe.specs.declared.whole.Part.TheVariants.{Absent, Refused}
 use Rattle.goblin_pe.specs.declared.whole.Part.TheVariants as part

@@ -6,10 +6,10 @@ use Rattle.goblin_pe_sect.specs.declared.data_directories.DataDirectory.{DataDir
 use Rattle.goblin_pe_sect.specs.declared.options.ParseOptions.{ParseOptions}
 use Rattle.goblin_pe_sect.specs.Options.{is_strict}
 use Rattle.goblin_pe_head.specs.HeaderReadings.{pe_header}
-use Rattle.goblin_pe_tables.specs.ExportReadings.{export_data, export_read}
-use Rattle.goblin_pe_tables.specs.ExportRecords.{ExportRow, ExportTables}
-use Rattle.goblin_pe_tables.specs.ExportWalks.{numbered_from}
-use Rattle.goblin_pe_tables.proofs.ExportWalk.{read_walked}
+use Rattle.goblin_pe_export.specs.ExportReadings.{export_data, export_read}
+use Rattle.goblin_pe_export.specs.ExportRecords.{ExportRow, ExportTables}
+use Rattle.goblin_pe_export.specs.ExportWalks.{numbered_from}
+use Rattle.goblin_pe_export.proofs.ExportWalk.{read_walked}
 use Rattle.goblin_pe.specs.declared.whole.Part.{Part}
 use Rattle.goblin_pe.specs.declared.whole.Part.TheVariants.{Absent, Refused}
 use Rattle.goblin_pe.specs.declared.whole.Part.TheVariants as part

@@ -26,13 +26,13 @@ use Rattle.goblin_pe_head.proofs.PermissiveReads.{repeats-header, sections_at-ke
 use Rattle.goblin_pe.specs.declared.whole.Part.{Part}
 use Rattle.goblin_pe.specs.declared.whole.Part.TheVariants.{Absent, Refused}
 use Rattle.goblin_pe.specs.declared.whole.Part.TheVariants as part
-use Rattle.goblin_pe_tables.specs.ExportReadings.{export_read}
-use Rattle.goblin_pe_tables.specs.ImportEntries.{EntryValue}
-use Rattle.goblin_pe_tables.specs.ImportReadings.{import_data, libraries_at, libraries_past_front}
-use Rattle.goblin_pe_tables.specs.ImportRecords.{ImportedLibrary}
-use Rattle.goblin_pe_tables.specs.Imports.{ImportValue, imports_of}
-use Rattle.goblin_pe_tables.proofs.ImportBound.{pair_of-left, pair_of-right}
-use Rattle.goblin_pe_tables.proofs.PermissiveReads.{libraries_at-repeats}
+use Rattle.goblin_pe_export.specs.ExportReadings.{export_read}
+use Rattle.goblin_pe_import.specs.ImportEntries.{EntryValue}
+use Rattle.goblin_pe_import.specs.ImportReadings.{import_data, libraries_at, libraries_past_front}
+use Rattle.goblin_pe_import.specs.ImportRecords.{ImportedLibrary}
+use Rattle.goblin_pe_import.specs.Imports.{ImportValue, imports_of}
+use Rattle.goblin_pe_import.proofs.ImportBound.{pair_of-left, pair_of-right}
+use Rattle.goblin_pe_import.proofs.PermissiveReads.{libraries_at-repeats}
 use Rattle.goblin_pe.specs.Modes.{ReadsInModes, in_mode, in_permissive_mode, is_front}
 use Rattle.goblin_pe.specs.Modes.{unless_front}
 use Rattle.goblin_pe.specs.Whole.{TableParts, TablePlaces, WholeFile, entry_format, export_part}

@@ -20,12 +20,12 @@ use Rattle.goblin_pe_sect.specs.Options.{is_strict}
 use Rattle.goblin_pe_sect.specs.SectionTable.{Section}
 use Rattle.goblin_pe.specs.declared.laws.order.Request.{Request}
 use Rattle.goblin_pe.specs.declared.laws.order.TablesOf.{TablesOf}
-use Rattle.goblin_pe_tables.specs.ExportReadings.{export_read}
-use Rattle.goblin_pe_tables.specs.Exports.{export_read_view}
-use Rattle.goblin_pe_tables.specs.ImportLookup.{EntryValue, entry_view}
-use Rattle.goblin_pe_tables.specs.ImportReadings.{import_data}
-use Rattle.goblin_pe_tables.specs.LookupReadings.{lookup_table}
-use Rattle.goblin_pe_tables.proofs.PermissiveReads.{lookup_table-repeats}
+use Rattle.goblin_pe_export.specs.ExportReadings.{export_read}
+use Rattle.goblin_pe_export.specs.Exports.{export_read_view}
+use Rattle.goblin_pe_import.specs.ImportLookup.{EntryValue, entry_view}
+use Rattle.goblin_pe_import.specs.ImportReadings.{import_data}
+use Rattle.goblin_pe_import.specs.LookupReadings.{lookup_table}
+use Rattle.goblin_pe_import.proofs.PermissiveReads.{lookup_table-repeats}
 use Rattle.goblin_pe.specs.Modes.{in_mode, unless_front}
 use Rattle.goblin_pe.specs.TableRuns.{AreAlike, AreGrown, AreInModes, AreTables}
 use Rattle.goblin_pe.proofs.PermissiveReads.{in_modes, map-mode, reads_in_modes}

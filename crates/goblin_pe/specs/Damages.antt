@@ -11,9 +11,9 @@ use Rattle.goblin_pe_sect.specs.declared.options.ParseOptions.{ParseOptions}
 use Rattle.goblin_pe_sect.specs.SectionTable.{Section}
 use Rattle.goblin_pe_head.specs.HeaderReadings.{stub_at}
 use Rattle.goblin_pe_head.specs.PeHeader.{PeHeader}
-use Rattle.goblin_pe_tables.specs.declared.import.left_out.LeftOut.{LeftOut}
-use Rattle.goblin_pe_tables.specs.ImportEntries.{EntryValue}
-use Rattle.goblin_pe_tables.specs.LeftOut.{entries_left_out, libraries_left_out}
+use Rattle.goblin_pe_import.specs.declared.import.left_out.LeftOut.{LeftOut}
+use Rattle.goblin_pe_import.specs.ImportEntries.{EntryValue}
+use Rattle.goblin_pe_import.specs.LeftOut.{entries_left_out, libraries_left_out}
 use Rattle.goblin_pe.specs.declared.whole.damage.Damage.{Damage}
 use Rattle.goblin_pe.specs.Modes.{in_mode, in_permissive_mode}
 use Rattle.goblin_pe.specs.Whole.{TablePlaces, entry_format, export_part, import_list, layout, offset_by}

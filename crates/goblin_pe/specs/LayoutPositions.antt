@@ -7,13 +7,13 @@ use Rattle.readings.specs.Reads.{given, mapped, pick}
 use Rattle.goblin_pe_sect.specs.declared.data_directories.DataDirectory.{DataDirectory}
 use Rattle.goblin_pe_sect.specs.declared.options.ParseOptions.{ParseOptions}
 use Rattle.goblin_pe_sect.specs.Options.{is_strict}
-use Rattle.goblin_pe_tables.specs.Addresses.{MapOfAddresses, offset_of, reads_strictly}
-use Rattle.goblin_pe_tables.specs.ImportLookup.{entries_32, entries_64}
-use Rattle.goblin_pe_tables.specs.ImportPositions.{IsFaultAt, first_import}
-use Rattle.goblin_pe_tables.specs.Imports.{ImportValue}
-use Rattle.goblin_pe_tables.specs.ImportWalks.{HasPosition, IsInTable, IsOver, imports_at, position_of}
-use Rattle.goblin_pe_tables.specs.declared.import.imports.ImportPosition.{ImportPosition}
-use Rattle.goblin_pe_tables.specs.declared.import.imports.WalkedImport.{WalkedImport}
+use Rattle.goblin_pe_sect.specs.Addresses.{MapOfAddresses, offset_of, reads_strictly}
+use Rattle.goblin_pe_import.specs.ImportLookup.{entries_32, entries_64}
+use Rattle.goblin_pe_import.specs.ImportPositions.{IsFaultAt, first_import}
+use Rattle.goblin_pe_import.specs.Imports.{ImportValue}
+use Rattle.goblin_pe_import.specs.ImportWalks.{HasPosition, IsInTable, IsOver, imports_at, position_of}
+use Rattle.goblin_pe_import.specs.declared.import.imports.ImportPosition.{ImportPosition}
+use Rattle.goblin_pe_import.specs.declared.import.imports.WalkedImport.{WalkedImport}
 use Rattle.goblin_pe.specs.declared.whole.Part.{Part}
 use Rattle.goblin_pe.specs.declared.whole.Part.TheVariants.{Absent, Refused}
 use Rattle.goblin_pe.specs.declared.whole.Part.TheVariants as part

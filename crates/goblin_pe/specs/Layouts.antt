@@ -5,20 +5,20 @@ use Rattle.goblin_base.specs.Reading.{Reading}
 use Rattle.readings.specs.Walks.{IsWalkOf}
 use Rattle.goblin_pe_sect.specs.declared.options.ParseOptions.{ParseOptions}
 use Rattle.goblin_pe_head.specs.declared.header.pe_header.Header.{Header}
-use Rattle.goblin_pe_tables.specs.Addresses.{MapOfAddresses, map_by, map_of, offset_of}
-use Rattle.goblin_pe_tables.specs.declared.export.exports.Exports.{Exports}
-use Rattle.goblin_pe_tables.specs.ExportRecords.{ExportRow, ExportTables}
-use Rattle.goblin_pe_tables.specs.ExportWalks.{IsOver, exports_left, numbered_from, walked_tables}
-use Rattle.goblin_pe_tables.specs.ImportLookup.{entries_32, entries_64}
-use Rattle.goblin_pe_tables.specs.Imports.{ImportValue}
-use Rattle.goblin_pe_tables.specs.ImportWalks.{GivesImport, IsImportsCause, imports_bound, imports_left}
+use Rattle.goblin_pe_sect.specs.Addresses.{MapOfAddresses, map_by, map_of, offset_of}
+use Rattle.goblin_pe_export.specs.declared.export.exports.Exports.{Exports}
+use Rattle.goblin_pe_export.specs.ExportRecords.{ExportRow, ExportTables}
+use Rattle.goblin_pe_export.specs.ExportWalks.{IsOver, exports_left, numbered_from, walked_tables}
+use Rattle.goblin_pe_import.specs.ImportLookup.{entries_32, entries_64}
+use Rattle.goblin_pe_import.specs.Imports.{ImportValue}
+use Rattle.goblin_pe_import.specs.ImportWalks.{GivesImport, IsImportsCause, imports_bound, imports_left}
 use Rattle.goblin_pe.specs.declared.whole.Part.{Part}
 use Rattle.goblin_pe.specs.declared.whole.Part.TheVariants.{Absent, Refused}
 use Rattle.goblin_pe.specs.declared.whole.Part.TheVariants as part
 use Rattle.goblin_pe.specs.declared.whole.imports.FileImports.{FileImports}
 use Rattle.goblin_pe.specs.declared.whole.imports.FileImports.TheVariants.{Narrow, Wide}
 use Rattle.goblin_pe.specs.declared.whole.layout.Layout.{Layout}
-use Rattle.goblin_pe_tables.specs.declared.import.imports.WalkedImport.{WalkedImport}
+use Rattle.goblin_pe_import.specs.declared.import.imports.WalkedImport.{WalkedImport}
 use Rattle.goblin_pe.specs.Whole.{TablePlaces, places_in, table_places}
 
 -- ---- what all tables are read by

@@ -14,13 +14,13 @@ use Rattle.goblin_pe_sect.specs.declared.options.ParseOptions.{ParseOptions}
 use Rattle.goblin_pe_sect.specs.SectionTable.{Section}
 use Rattle.goblin_pe.specs.declared.laws.order.Request.{Request}
 use Rattle.goblin_pe.specs.declared.laws.order.TablesOf.{TablesOf}
-use Rattle.goblin_pe_tables.specs.Addresses.{TakesMap}
-use Rattle.goblin_pe_tables.specs.ExportReadings.{export_read}
-use Rattle.goblin_pe_tables.specs.Exports.{HasEntries, export_data, export_read_view}
-use Rattle.goblin_pe_tables.specs.ImportDirectory.{HasRecords}
-use Rattle.goblin_pe_tables.specs.ImportLookup.{EntryValue, KeepsEntries, entry_view}
-use Rattle.goblin_pe_tables.specs.ImportReadings.{import_data}
-use Rattle.goblin_pe_tables.specs.LookupReadings.{lookup_table}
+use Rattle.goblin_pe_sect.specs.Addresses.{TakesMap}
+use Rattle.goblin_pe_export.specs.ExportReadings.{export_read}
+use Rattle.goblin_pe_export.specs.Exports.{HasEntries, export_data, export_read_view}
+use Rattle.goblin_pe_import.specs.ImportDirectory.{HasRecords}
+use Rattle.goblin_pe_import.specs.ImportLookup.{EntryValue, KeepsEntries, entry_view}
+use Rattle.goblin_pe_import.specs.ImportReadings.{import_data}
+use Rattle.goblin_pe_import.specs.LookupReadings.{lookup_table}
 use Rattle.goblin_pe.specs.Modes.{ReadsInModes, unless_front}
 
 -- Each answer is its reader's own, over a map of addresses to file offsets.

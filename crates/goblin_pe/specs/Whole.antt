@@ -31,15 +31,15 @@ use Rattle.goblin_pe.specs.declared.whole.Part.TheVariants.{Absent, Refused}
 use Rattle.goblin_pe.specs.declared.whole.Part.TheVariants as part
 use Rattle.goblin_pe.specs.declared.whole.listed.ListedTables.{ListedTables}
 use Rattle.goblin_pe.specs.declared.whole.places.Places.{Places}
-use Rattle.goblin_pe_tables.specs.ExportReadings.{export_read}
-use Rattle.goblin_pe_tables.specs.ExportRecords.{ExportRow, ExportTables, export_read_view}
-use Rattle.goblin_pe_tables.specs.ExportWalks.{NumberedExport, numbered_from}
-use Rattle.goblin_pe_tables.specs.ImportEntries.{EntryValue}
-use Rattle.goblin_pe_tables.specs.ImportLookup.{entries_32, entries_64}
-use Rattle.goblin_pe_tables.specs.ImportReadings.{import_data}
-use Rattle.goblin_pe_tables.specs.ImportRecords.{ImportedLibrary}
-use Rattle.goblin_pe_tables.specs.Imports.{ImportValue, IsImportsFault}
-use Rattle.goblin_pe_tables.specs.Imports.{first_without_slots, imports_of, kept_imports}
+use Rattle.goblin_pe_export.specs.ExportReadings.{export_read}
+use Rattle.goblin_pe_export.specs.ExportRecords.{ExportRow, ExportTables, export_read_view}
+use Rattle.goblin_pe_export.specs.ExportWalks.{NumberedExport, numbered_from}
+use Rattle.goblin_pe_import.specs.ImportEntries.{EntryValue}
+use Rattle.goblin_pe_import.specs.ImportLookup.{entries_32, entries_64}
+use Rattle.goblin_pe_import.specs.ImportReadings.{import_data}
+use Rattle.goblin_pe_import.specs.ImportRecords.{ImportedLibrary}
+use Rattle.goblin_pe_import.specs.Imports.{ImportValue, IsImportsFault}
+use Rattle.goblin_pe_import.specs.Imports.{first_without_slots, imports_of, kept_imports}
 
 -- ---- parts
 

@@ -25,10 +25,9 @@ mod parts;
 mod whole;
 
 pub use footprint::footprint_whole;
+pub use goblin_pe_export::laws::{ExportRead, footprint_exports, twin_exports};
 pub use goblin_pe_head::laws::footprint_header;
-pub use goblin_pe_tables::laws::{
-    ExportRead, footprint_exports, footprint_imports, twin_exports, twin_imports, twin_lookup,
-};
+pub use goblin_pe_import::laws::{footprint_imports, twin_imports, twin_lookup};
 pub use header::twin_header;
 pub use modes::{mode_header, mode_tables, mode_whole};
 pub use order::{Request, Tables, TablesOf, reorder_whole_tables};

@@ -10,8 +10,11 @@ pub use goblin_base::{
     Cause, Container, Endian, Error, Permissive, ReadFault, Result, ResultOf, Strtab, TryFromCtx,
     container, endian, error, permissive, read, strtab,
 };
+pub use goblin_pe_export::export;
 pub use goblin_pe_head::{header, optional_header};
-pub use goblin_pe_sect::{data_directories, options, relocation, section_table, utils, windows};
+pub use goblin_pe_import::import;
+pub use goblin_pe_sect::{
+    data_directories, options, relocation, section_table, table, utils, windows,
+};
 pub use goblin_pe_symbol::symbol;
-pub use goblin_pe_tables::{export, import, table};
 pub use whole::{Damage, FileImports, Layout, Part, Whole};

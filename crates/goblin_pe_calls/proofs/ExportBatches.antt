@@ -2,8 +2,8 @@
 use Rattle.std.proofs.Common.{◌≡◌, ◌⊎◌, ℕ, zero, suc, ◌+◌, ◌<◌, ◌≤◌, List, [], ◌∷◌, ◌++◌, length, drop, set, ap, refl, subst, sym, arith, ◌∙◌, inl, inr}
 use Rattle.std.specs.Prelude.{IsSomeAnd, Option, None, Some}
 use Rattle.std.specs.Iterator.{YieldsFirstBy}
-use Rattle.goblin_pe_tables.specs.declared.export.exports.Exports.{Exports}
-use Rattle.goblin_pe_tables.specs.declared.export.exports.WalkedExport.{WalkedExport}
+use Rattle.goblin_pe_export.specs.declared.export.exports.Exports.{Exports}
+use Rattle.goblin_pe_export.specs.declared.export.exports.WalkedExport.{WalkedExport}
 use Rattle.goblin_pe.specs.Addresses.{MapOfAddresses, map_of, offset_of}
 use Rattle.goblin_pe.specs.ExportRecords.{ExportRow, ExportTables}
 use Rattle.goblin_pe.specs.ExportWalks.{KeepsOver, NumberedExport, exports_at, exports_left, numbered_from, walked_export, walked_tables}

@@ -8,8 +8,8 @@ use Rattle.readings.specs.Reads.{given, pick}
 use Rattle.readings.proofs.Walked.{AtWalk, walk-more, walk-start}
 use Rattle.goblin_pe_sect.specs.Options.{is_strict}
 use Rattle.goblin_pe_sect.specs.declared.data_directories.DataDirectory.{DataDirectory}
-use Rattle.goblin_pe_tables.specs.declared.import.imports.ImportPosition.{ImportPosition}
-use Rattle.goblin_pe_tables.specs.declared.import.imports.WalkedImport.{WalkedImport}
+use Rattle.goblin_pe_import.specs.declared.import.imports.ImportPosition.{ImportPosition}
+use Rattle.goblin_pe_import.specs.declared.import.imports.WalkedImport.{WalkedImport}
 use Rattle.goblin_pe.specs.Addresses.{MapOfAddresses, offset_of}
 use Rattle.goblin_pe.specs.Imports.{ImportValue}
 use Rattle.goblin_pe.specs.ImportWalks.{IsInTable, imports_at, walked_value}

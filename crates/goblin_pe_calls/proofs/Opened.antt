@@ -15,9 +15,9 @@ use Rattle.goblin_pe_sect.specs.SectionTable.{Section}
 use Rattle.goblin_pe_head.specs.declared.header.pe_header.Header.{Header}
 use Rattle.goblin_pe_head.specs.HeaderReadings.{pe_header}
 use Rattle.goblin_pe_head.specs.PeHeader.{PeHeader, header_value}
-use Rattle.goblin_pe_tables.specs.ExportRecords.{ExportTables}
-use Rattle.goblin_pe_tables.specs.ExportWalks.{numbered_from}
-use Rattle.goblin_pe_tables.specs.Addresses.{MapOfAddresses, map_by, offset_of}
+use Rattle.goblin_pe_export.specs.ExportRecords.{ExportTables}
+use Rattle.goblin_pe_export.specs.ExportWalks.{numbered_from}
+use Rattle.goblin_pe_sect.specs.Addresses.{MapOfAddresses, map_by, offset_of}
 use Rattle.goblin_pe.specs.declared.whole.Part.{Part}
 use Rattle.goblin_pe.specs.declared.whole.Part.TheVariants.{Absent, Refused}
 use Rattle.goblin_pe.specs.declared.whole.Part.TheVariants as part

@@ -7,7 +7,7 @@ use Rattle.goblin_base.specs.Answers.{FirstFault, IsMemory}
 use Rattle.goblin_pe_sect.specs.declared.options.ParseOptions.{ParseOptions}
 use Rattle.goblin_pe_sect.specs.Options.{is_strict}
 use Rattle.goblin_pe_sect.specs.SectionTable.{Section}
-use Rattle.goblin_pe_tables.specs.declared.import.imports.ImportPosition.{ImportPosition}
+use Rattle.goblin_pe_import.specs.declared.import.imports.ImportPosition.{ImportPosition}
 use Rattle.goblin_pe.specs.Addresses.{MapOfAddresses, map_by, offset_of}
 use Rattle.goblin_pe.specs.ExportRecords.{ExportRow, ExportTables}
 use Rattle.goblin_pe.specs.ExportWalks.{NumberedExport, numbered_from}

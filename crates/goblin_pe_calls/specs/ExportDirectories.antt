@@ -1,10 +1,10 @@
 -- The records of what an export directory says, and of the export address table, as definitions.
 use Rattle.std.specs.Prelude.{ℕ, Bool, true, false, List, [], unwrap_or}
 use Rattle.std.specs.Option.{is_some}
-use Rattle.goblin_pe_tables.specs.declared.export.tables.ExportAddressTableEntry.{ExportAddressTableEntry}
-use Rattle.goblin_pe_tables.specs.declared.export.tables.ExportAddressTableEntry.TheVariants.{ExportRVA}
-use Rattle.goblin_pe_tables.specs.declared.export.tables.ExportAddressTableEntry.TheVariants.{ForwarderRVA}
-use Rattle.goblin_pe_tables.specs.declared.export.tables.ExportDirectoryTable.{ExportDirectoryTable}
+use Rattle.goblin_pe_export.specs.declared.export.tables.ExportAddressTableEntry.{ExportAddressTableEntry}
+use Rattle.goblin_pe_export.specs.declared.export.tables.ExportAddressTableEntry.TheVariants.{ExportRVA}
+use Rattle.goblin_pe_export.specs.declared.export.tables.ExportAddressTableEntry.TheVariants.{ForwarderRVA}
+use Rattle.goblin_pe_export.specs.declared.export.tables.ExportDirectoryTable.{ExportDirectoryTable}
 use Rattle.goblin_pe.specs.ExportRecords.{ExportTables}
 use Rattle.goblin_pe_calls.specs.declared.export_directory.PeExportAddress.{PeExportAddress}
 use Rattle.goblin_pe_calls.specs.declared.export_directory.PeExportDirectory.{PeExportDirectory}

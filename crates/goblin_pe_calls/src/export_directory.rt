@@ -2,7 +2,7 @@
 
 ghost use Rattle.std.specs.Prelude.{◌≡◌, ◌<◌, IfOk, OnErr, length, map};
 ghost use Rattle.goblin_base.specs.Answers.{GivesOrMemory};
-ghost use Rattle.goblin_pe_tables.specs.ExportWalks.{walked_tables};
+ghost use Rattle.goblin_pe_export.specs.ExportWalks.{walked_tables};
 ghost use Rattle.goblin_pe_records.specs.Blocked.{HasNoSpareRoom};
 ghost use Rattle.goblin_pe_calls.specs.ExportDirectories.{address_said, directory_said, directory_view};
 ghost use Rattle.goblin_pe_calls.specs.ExportDirectories.{no_directory};

@@ -5,8 +5,8 @@ ghost use Rattle.std.specs.Prelude.{option_map};
 ghost use Rattle.goblin_base.specs.Answers.{AnswersOrMemory, GivesOrMemory, IsMemory, all_of};
 ghost use Rattle.goblin_base.specs.Reading.{ReadsOrMemory};
 ghost use Rattle.goblin_pe.specs.Reads.{mapped};
-ghost use Rattle.goblin_pe_tables.specs.Addresses.{offset_of};
-ghost use Rattle.goblin_pe_tables.specs.ImportWalks.{IsImportsCause, imports_left, walked_value};
+ghost use Rattle.goblin_pe_sect.specs.Addresses.{offset_of};
+ghost use Rattle.goblin_pe_import.specs.ImportWalks.{IsImportsCause, imports_left, walked_value};
 ghost use Rattle.goblin_pe.specs.Layouts.{IsFileImportsCause, file_imports_left, layout_map};
 ghost use Rattle.goblin_pe.specs.Layouts.{layout_places};
 ghost use Rattle.goblin_pe.specs.Whole.{AreListed, collected_imports, import_list, import_parts};
@@ -46,7 +46,7 @@ pub struct PeImport<'a> {
 
 /// The record of an import of these bytes.
 #[inline(always)]
-#[tactic(auto, unfolding(goblin_pe_tables::specs::Imports::import_of))]
+#[tactic(auto, unfolding(goblin_pe_import::specs::Imports::import_of))]
 pub fn import_record<'a>(bytes: &'a [u8], import: &WalkedImport<'a>) -> PeImport<'a>
     ensures { import_view result ≡ import_said (walked_value import.now) }
 {

@@ -2,8 +2,8 @@
 
 ghost use Rattle.std.specs.Prelude.{◌≡◌, ◌<◌, IfErr, MatchResult, Some, drop, length};
 ghost use Rattle.goblin_base.specs.Answers.{IsMemory};
-ghost use Rattle.goblin_pe_tables.specs.Addresses.{offset_of};
-ghost use Rattle.goblin_pe_tables.specs.ExportWalks.{KeepsOver, exports_at, exports_left};
+ghost use Rattle.goblin_pe_sect.specs.Addresses.{offset_of};
+ghost use Rattle.goblin_pe_export.specs.ExportWalks.{KeepsOver, exports_at, exports_left};
 ghost use Rattle.goblin_pe.specs.Layouts.{IsFileImportsCause, file_imports_left, layout_map};
 ghost use Rattle.goblin_pe.specs.Layouts.{layout_places};
 ghost use Rattle.goblin_pe.specs.LayoutPositions.{StartsAt, import_start};

@@ -1,3 +1,4 @@
+mod AddressMaps
 pub mod BlockItems
 pub mod BlocksOf
 pub mod CutOffsets

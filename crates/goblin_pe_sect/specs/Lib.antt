@@ -1,4 +1,5 @@
 pub mod AddressReadings
+pub mod Addresses
 pub mod BaseRelocations
 pub mod DataDirectories
 pub mod Digits

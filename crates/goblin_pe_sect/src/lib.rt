@@ -1,13 +1,15 @@
-//! The sections of a PE file, its data directories and relocations, and the mapping of addresses to
-//! file offsets.
+//! The sections of a PE file, its data directories and relocations, the mapping of addresses to
+//! file offsets, and tables of entries.
 #![tactic(auto)]
 
+pub mod address_map;
 pub mod data_directories;
 mod digits;
 pub mod footprint;
 pub mod options;
 pub mod relocation;
 pub mod section_table;
+pub mod table;
 pub mod utils;
 pub mod windows;
 

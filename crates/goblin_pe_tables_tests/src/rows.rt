@@ -7,8 +7,8 @@ ghost use Rattle.goblin_base.specs.declared.endian.Endian.TheVariants.{Little};
 ghost use Rattle.goblin_pe_tables_tests.specs.ShortEntry.{short_value};
 
 use goblin_base::{Endian, field_u16};
-use goblin_pe_tables::export::{Export, Reexport};
-use goblin_pe_tables::import::{
+use goblin_pe_export::export::{Export, Reexport};
+use goblin_pe_import::import::{
     Bitfield, Import, ImportDirectoryEntry, ImportLookupTable, SyntheticImportDirectoryEntry,
     SyntheticImportLookupTableEntry,
 };

@@ -10,9 +10,9 @@ use goblin_pe::import::{
 };
 use goblin_pe::laws::{footprint_exports, footprint_header, footprint_imports, footprint_whole};
 use goblin_pe::{Layout, Whole};
+use goblin_pe_export::laws::read_exports;
 use goblin_pe_head::Header;
 use goblin_pe_sect::{ParseOptions, SectionTable, WindowIndex};
-use goblin_pe_tables::laws::read_exports;
 use std::io;
 
 /// Makes the call of this name by options, and shows its answer.

@@ -6,20 +6,21 @@ ghost use Rattle.std.specs.List.{All};
 ghost use Rattle.goblin_base.specs.Answers.{IsMemory};
 ghost use Rattle.goblin_base.specs.Footprints.{Covers};
 ghost use Rattle.goblin_pe_head.specs.PeHeader.{header_value};
-ghost use Rattle.goblin_pe_tables.specs.Addresses.{map_of, offset_of, reads_strictly};
-ghost use Rattle.goblin_pe_tables.specs.ImportReadings.{import_data};
+ghost use Rattle.goblin_pe_sect.specs.Addresses.{map_of, offset_of, reads_strictly};
+ghost use Rattle.goblin_pe_import.specs.ImportReadings.{import_data};
 ghost use Rattle.goblin_pe.specs.Whole.{entry_format, export_part, import_parts, places_in};
 ghost use Rattle.goblin_pe.specs.Whole.{relocation_part, table_parts, whole_after};
 ghost use Rattle.goblin_pe.specs.Whole.{whole_file, whole_with};
 
 use goblin_base::footprint::add_slice;
 use goblin_base::{ResultOf, is_passed_over};
+use goblin_pe_export::laws::add_exports;
 use goblin_pe_head::header::{Header, SIZEOF_COFF_HEADER, SIZEOF_PE_MAGIC};
 use goblin_pe_head::laws::{add_header, add_sections};
 use goblin_pe_head::optional_header::{MAGIC_32, OptionalHeader};
+use goblin_pe_import::laws::add_imports;
+use goblin_pe_sect::address_map::AddressMap;
 use goblin_pe_sect::{ParseOptions, SectionTable};
-use goblin_pe_tables::address_map::AddressMap;
-use goblin_pe_tables::laws::{add_exports, add_imports};
 use std::alloc::Global;
 
 // Adds the footprint of import data whose entries have four bytes by the magic, or else eight.

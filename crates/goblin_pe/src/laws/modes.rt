@@ -7,7 +7,7 @@ ghost use Rattle.goblin_base.specs.Reading.{InModes, Reads, ReadsOrMemory};
 ghost use Rattle.goblin_pe_sect.specs.Options.{is_strict};
 ghost use Rattle.goblin_pe_head.specs.HeaderReadings.{pe_header};
 ghost use Rattle.goblin_pe_head.specs.PeHeader.{header_value};
-ghost use Rattle.goblin_pe_tables.specs.Addresses.{map_by, offset_of};
+ghost use Rattle.goblin_pe_sect.specs.Addresses.{map_by, offset_of};
 ghost use Rattle.goblin_pe.specs.Modes.{ReadsInModes, in_mode, in_permissive_mode};
 ghost use Rattle.goblin_pe.specs.TableRuns.{AreGrown, AreInModes};
 ghost use Rattle.goblin_pe.specs.SectionRoom.{HasRoom};

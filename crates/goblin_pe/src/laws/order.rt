@@ -1,7 +1,7 @@
 //! The readers that map addresses, under two tables of sections.
 
 ghost use Rattle.goblin_pe_sect.specs.WindowOrder.{IsReordering};
-ghost use Rattle.goblin_pe_tables.specs.Addresses.{map_by, offset_of, reads_strictly};
+ghost use Rattle.goblin_pe_sect.specs.Addresses.{map_by, offset_of, reads_strictly};
 ghost use Rattle.goblin_pe.specs.TableRuns.{AreAlike, AreGrown, AreTables};
 
 use crate::data_directories::DataDirectory;
@@ -11,7 +11,7 @@ use crate::relocation::RelocationData;
 use crate::section_table::SectionTable;
 use crate::utils::{get_data_with_opts, safe_try_name};
 use goblin_base::{ResultOf, TryFromCtx};
-use goblin_pe_tables::laws::{ExportRead, read_exports};
+use goblin_pe_export::laws::{ExportRead, read_exports};
 use std::alloc::Global;
 
 /// What the readers of [`Tables`] are asked for.

@@ -4,7 +4,7 @@ ghost use Rattle.std.specs.Prelude.{ℕ, IfErr, IsSomeAnd, List};
 ghost use Rattle.goblin_base.specs.Answers.{IsMemory};
 ghost use Rattle.goblin_base.specs.Reading.{ReadsOrMemory};
 ghost use Rattle.goblin_pe_head.specs.TeReadings.{te_header, te_image};
-ghost use Rattle.goblin_pe_tables.specs.Addresses.{map_by, offset_of, reads_strictly};
+ghost use Rattle.goblin_pe_sect.specs.Addresses.{map_by, offset_of, reads_strictly};
 ghost use Rattle.goblin_pe.specs.SectionRoom.{TakesSections};
 ghost use Rattle.goblin_pe.specs.TwinParts.{AreParts, ArePartsGrown, AreTwinParts, asked_by};
 ghost use Rattle.goblin_pe.specs.TwinParts.{te_view};

@@ -4,7 +4,7 @@ ghost use Rattle.std.specs.Prelude.{◌≡◌, ℕ, IfSome, List};
 ghost use Rattle.std.specs.Iterator.{UpTo, at_most};
 ghost use Rattle.std.specs.Iterator.SizeHint.{IsWithinCount};
 ghost use Rattle.goblin_base.specs.declared.error.ErrorOf.{ErrorOf};
-ghost use Rattle.goblin_pe_tables.specs.Addresses.{MapOfAddresses};
+ghost use Rattle.goblin_pe_sect.specs.Addresses.{MapOfAddresses};
 ghost use Rattle.goblin_pe.specs.LayoutPositions.{IsFileFaultAt, IsImportWalk, file_imports_at};
 ghost use Rattle.goblin_pe.specs.LayoutPositions.{file_position};
 ghost use Rattle.goblin_pe.specs.Layouts.{GivesFileImport, IsFileImportsCause, file_imports_bound};

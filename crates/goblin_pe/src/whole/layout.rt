@@ -7,7 +7,7 @@ ghost use Rattle.goblin_pe_sect.specs.BaseRelocations.{relocation_bytes};
 ghost use Rattle.goblin_pe_sect.specs.Options.{is_strict};
 ghost use Rattle.goblin_pe_head.specs.PeHeader.{header_value};
 ghost use Rattle.goblin_pe_head.specs.CoffHeader.{IsTooManySections};
-ghost use Rattle.goblin_pe_tables.specs.Addresses.{offset_of, strict_map};
+ghost use Rattle.goblin_pe_sect.specs.Addresses.{offset_of, strict_map};
 ghost use Rattle.goblin_pe.specs.Damages.{left_out_of};
 ghost use Rattle.goblin_pe.specs.LayoutPositions.{StartsAt, import_start};
 ghost use Rattle.goblin_pe.specs.Layouts.{IsExportWalk, IsFileImportsCause, IsLayoutOf, PartWalks};
@@ -24,9 +24,9 @@ use crate::whole::places::Places;
 use crate::whole::{FileImports, Part};
 use goblin_base::{Result, ResultOf};
 use goblin_pe_head::header::{Header, SIZEOF_COFF_HEADER, SIZEOF_PE_MAGIC};
+use goblin_pe_sect::address_map::AddressMap;
 use goblin_pe_sect::relocation::RelocationData;
 use goblin_pe_sect::{ParseOptions, SectionTable};
-use goblin_pe_tables::address_map::AddressMap;
 use std::alloc::Global;
 
 /// What all tables of a file are read by: its header, its sections, and where its addresses lie in

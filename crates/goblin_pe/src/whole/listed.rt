@@ -3,11 +3,11 @@
 ghost use Rattle.std.specs.Prelude.{◌≡◌};
 ghost use Rattle.goblin_base.specs.Answers.{AnswersOrMemory};
 ghost use Rattle.goblin_base.specs.Reading.{ReadsOrMemory};
-ghost use Rattle.goblin_pe_tables.specs.Addresses.{map_of, offset_of, reads_strictly};
-ghost use Rattle.goblin_pe_tables.specs.ExportReadings.{export_read};
-ghost use Rattle.goblin_pe_tables.specs.ExportRecords.{export_read_view};
-ghost use Rattle.goblin_pe_tables.specs.ImportReadings.{import_data};
-ghost use Rattle.goblin_pe_tables.specs.Imports.{IsImportsFault, imports_of};
+ghost use Rattle.goblin_pe_sect.specs.Addresses.{map_of, offset_of, reads_strictly};
+ghost use Rattle.goblin_pe_export.specs.ExportReadings.{export_read};
+ghost use Rattle.goblin_pe_export.specs.ExportRecords.{export_read_view};
+ghost use Rattle.goblin_pe_import.specs.ImportReadings.{import_data};
+ghost use Rattle.goblin_pe_import.specs.Imports.{IsImportsFault, imports_of};
 ghost use Rattle.goblin_pe.specs.Whole.{IsImportsPartFault, entry_format, export_part, import_part};
 ghost use Rattle.goblin_pe.specs.Whole.{import_parts, import_read_view, imports_part, items_part};
 ghost use Rattle.goblin_pe.specs.Whole.{listed_view, part_map, table_parts, table_places};
@@ -17,9 +17,9 @@ use crate::import::{Import, ImportData};
 use crate::whole::Part;
 use crate::whole::places::{Places, part_of};
 use goblin_base::{Result, is_passed_over};
+use goblin_pe_sect::address_map::AddressMap;
 use goblin_pe_sect::relocation::RelocationData;
 use goblin_pe_sect::{DataDirectory, ParseOptions, SectionTable};
-use goblin_pe_tables::address_map::AddressMap;
 use std::alloc::Global;
 
 impl Places {
@@ -188,7 +188,7 @@ pub(super) struct ListedTables<'a> {
 }
 
 // The export data of a directory, and the exports that it lists.
-#[tactic(auto, unfolding(goblin_pe_tables::specs::ExportReadings::export_read, goblin_pe_tables::specs::ExportReadings::exports))]
+#[tactic(auto, unfolding(goblin_pe_export::specs::ExportReadings::export_read, goblin_pe_export::specs::ExportReadings::exports))]
 fn exports_of<'a>(
     alloc: Global,
     bytes: &'a [u8],

@@ -7,10 +7,10 @@ ghost use Rattle.readings.specs.Reads.{mapped};
 ghost use Rattle.readings.specs.Walks.{Walks};
 ghost use Rattle.goblin_pe_sect.specs.BaseRelocations.{relocation_bytes};
 ghost use Rattle.goblin_pe_sect.specs.Options.{is_strict};
-ghost use Rattle.goblin_pe_tables.specs.Addresses.{map_of, offset_of, reads_strictly};
-ghost use Rattle.goblin_pe_tables.specs.ImportPositions.{first_import};
-ghost use Rattle.goblin_pe_tables.specs.ImportReadings.{import_data};
-ghost use Rattle.goblin_pe_tables.specs.Imports.{kept_imports};
+ghost use Rattle.goblin_pe_sect.specs.Addresses.{map_of, offset_of, reads_strictly};
+ghost use Rattle.goblin_pe_import.specs.ImportPositions.{first_import};
+ghost use Rattle.goblin_pe_import.specs.ImportReadings.{import_data};
+ghost use Rattle.goblin_pe_import.specs.Imports.{kept_imports};
 ghost use Rattle.goblin_pe.specs.Damages.{left_out_at, left_out_of};
 ghost use Rattle.goblin_pe.specs.LayoutPositions.{GivesFirst, GivesFrom, StartsAt, import_start};
 ghost use Rattle.goblin_pe.specs.Layouts.{IsExportWalk, IsFileImportsCause, PartWalks};
@@ -23,9 +23,9 @@ use crate::import::{ImportPosition, Imports, LeftOut};
 use crate::whole::{FileImports, Part};
 use goblin_base::{Result, ResultOf, is_passed_over};
 use goblin_pe_head::optional_header::{MAGIC_32, OptionalHeader};
+use goblin_pe_sect::address_map::AddressMap;
 use goblin_pe_sect::relocation::RelocationData;
 use goblin_pe_sect::{DataDirectory, ParseOptions};
-use goblin_pe_tables::address_map::AddressMap;
 
 // What becomes of a table that was asked for. Permissive mode passes over each refusal but
 // `Error::Memory`.

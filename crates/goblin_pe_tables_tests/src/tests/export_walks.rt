@@ -2,9 +2,9 @@
 
 use crate::rows::{ExportRow, FORWARDED, PLAIN};
 use fixture::sample::{ALIGNMENT, EXPORTS, sample_section, sample_with};
+use goblin_pe_export::export::{Exports, Reexport, WalkedExport};
 use goblin_pe_sect::ParseOptions;
-use goblin_pe_tables::address_map::AddressMap;
-use goblin_pe_tables::export::{Exports, Reexport, WalkedExport};
+use goblin_pe_sect::address_map::AddressMap;
 use std::alloc::Global;
 use std::test::Fail;
 

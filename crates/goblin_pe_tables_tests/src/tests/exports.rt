@@ -2,7 +2,7 @@
 
 use fixture::sample::{ALIGNMENT, EXPORTS, put, sample_section, sample_with};
 use goblin_base::{Cause, Error, ResultOf};
-use goblin_pe_tables::export::{Export, ExportData, Reexport};
+use goblin_pe_export::export::{Export, ExportData, Reexport};
 use std::alloc::{AllocError, Global};
 use std::test::Fail;
 

@@ -7,7 +7,7 @@ use fixture::sample::{
     ALIGNMENT, IMPORTS, LOOKUP, MODES, in_mode, sample, sample_section, sample_with,
 };
 use goblin_base::{Cause, Error, ParseMode, ResultOf};
-use goblin_pe_tables::import::{
+use goblin_pe_import::import::{
     Bitfield, Import, ImportData, ImportDirectoryEntry, ImportLookupTable,
     SyntheticImportDirectoryEntry, SyntheticImportLookupTableEntry,
 };

@@ -4,8 +4,8 @@ use fixture::sample::{
     ALIGNMENT, IMPORT_RECORD, IMPORTS, LOOKUP, MODES, in_mode, put, sample_section, sample_with,
 };
 use goblin_base::ParseMode;
-use goblin_pe_tables::address_map::AddressMap;
-use goblin_pe_tables::import::LeftOut;
+use goblin_pe_import::import::LeftOut;
+use goblin_pe_sect::address_map::AddressMap;
 use std::alloc::{AllocError, Global};
 use std::test::Fail;
 

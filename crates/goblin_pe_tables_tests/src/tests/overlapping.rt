@@ -4,14 +4,14 @@
 use crate::rows::are_exports;
 use fixture::sample::{ALIGNMENT, directory, put_all, section};
 use goblin_base::{Endian, Record};
-use goblin_pe_sect::utils::find_offset;
-use goblin_pe_sect::{ParseOptions, RawPointerRule, SectionTable};
-use goblin_pe_tables::address_map::AddressMap;
-use goblin_pe_tables::export::{Export, ExportData, Exports};
-use goblin_pe_tables::import::{
+use goblin_pe_export::export::{Export, ExportData, Exports};
+use goblin_pe_import::import::{
     ImportData, ImportDirectoryEntry, ImportLookupTable, Imports, SyntheticImportDirectoryEntry,
     SyntheticImportLookupTableEntry,
 };
+use goblin_pe_sect::address_map::AddressMap;
+use goblin_pe_sect::utils::find_offset;
+use goblin_pe_sect::{ParseOptions, RawPointerRule, SectionTable};
 use std::alloc::{AllocError, Global};
 
 /// What stands in the file: an import record at the address 0x1000 and an export record at 0x1100,

@@ -3,10 +3,10 @@
 use crate::rows::{GO, ImportRow, SEVEN};
 use fixture::sample::{ALIGNMENT, IMPORTS, MODES, in_mode, sample, sample_section};
 use goblin_base::ParseMode;
-use goblin_pe_tables::address_map::AddressMap;
-use goblin_pe_tables::import::{
+use goblin_pe_import::import::{
     Bitfield, ImportPosition, Imports, SyntheticImportLookupTableEntry, WalkedImport,
 };
+use goblin_pe_sect::address_map::AddressMap;
 use std::alloc::Global;
 use std::test::Fail;
 

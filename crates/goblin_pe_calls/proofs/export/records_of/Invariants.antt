@@ -1,5 +1,5 @@
 use Rattle.std.proofs.Common.{◌≡◌, ◌++◌, map, length}
-use Rattle.goblin_pe_tables.specs.ExportWalks.{exports_left}
+use Rattle.goblin_pe_export.specs.ExportWalks.{exports_left}
 use Rattle.goblin_pe_records.specs.Blocked.{HasLittleRoom}
 use Rattle.goblin_pe_calls.specs.Exports.{export_said, export_view}
 use Rattle.goblin_pe_calls.proofs.export.records_of.Given as goal

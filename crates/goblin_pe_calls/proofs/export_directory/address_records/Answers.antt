@@ -1,7 +1,7 @@
 use Rattle.std.proofs.Common.{◌∙◌, ◌++◌, ◌∷◌, [], List, ap, arith, map, sym, take}
 use Rattle.std.proofs.lemmas.List.{map_more}
 use Rattle.std.proofs.lemmas.Option.{get_or_from_slice_get, slice_get_within}
-use Rattle.goblin_pe_tables.specs.ExportWalks.{walked_tables}
+use Rattle.goblin_pe_export.specs.ExportWalks.{walked_tables}
 use Rattle.goblin_pe_calls.specs.declared.export_directory.PeExportAddress.{PeExportAddress}
 use Rattle.goblin_pe_calls.specs.ExportDirectories.{address_said}
 use Rattle.goblin_pe_calls.proofs.export_directory.address_records.Goals as goal

@@ -1,6 +1,6 @@
 use Rattle.std.proofs.Common.{None, Ok, subst}
 use Rattle.std.proofs.lemmas.Result.{err_from_is_err_and}
-use Rattle.goblin_pe_tables.specs.Addresses.{offset_of}
+use Rattle.goblin_pe_sect.specs.Addresses.{offset_of}
 use Rattle.goblin_pe.specs.declared.whole.Part.{Part}
 use Rattle.goblin_pe.specs.declared.whole.imports.FileImports.{FileImports}
 use Rattle.goblin_pe.specs.Layouts.{IsFileImportsCause, PartWalks, file_imports_left, layout_map, layout_places}

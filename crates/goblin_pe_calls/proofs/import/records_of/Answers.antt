@@ -1,6 +1,6 @@
 use Rattle.std.proofs.Common.{arith, sym}
 use Rattle.std.proofs.lemmas.Result.{err_from_is_err_and}
-use Rattle.goblin_pe_tables.specs.ImportWalks.{IsImportsCause, imports_left, walked_value}
+use Rattle.goblin_pe_import.specs.ImportWalks.{IsImportsCause, imports_left, walked_value}
 use Rattle.goblin_pe_calls.specs.Imports.{import_said}
 use Rattle.goblin_pe.proofs.Walked.{made-all, made-fault, made-more, made-start}
 use Rattle.goblin_pe_calls.proofs.Growth.{never-memory, walk-begins, walk-begun, wherever}

@@ -1,5 +1,5 @@
 use Rattle.std.proofs.Common.{map}
-use Rattle.goblin_pe_tables.specs.ImportWalks.{IsImportsCause, imports_left}
+use Rattle.goblin_pe_import.specs.ImportWalks.{IsImportsCause, imports_left}
 use Rattle.goblin_pe_records.specs.Blocked.{HasLittleRoom}
 use Rattle.goblin_pe_calls.specs.Imports.{import_said, import_view}
 use Rattle.goblin_pe.proofs.Walked.{AtMade}

@@ -1,6 +1,6 @@
 use Rattle.std.proofs.Common.{◌<◌, ◌^◌, None, Some, Ok, Result, length, arith, subst}
 use Rattle.goblin_base.specs.declared.error.ErrorOf.{ErrorOf}
-use Rattle.goblin_pe_tables.specs.declared.import.imports.WalkedImport.{WalkedImport}
+use Rattle.goblin_pe_import.specs.declared.import.imports.WalkedImport.{WalkedImport}
 use Rattle.goblin_pe.specs.Layouts.{GivesFileImport, layout_map, layout_places}
 use Rattle.goblin_pe.proofs.ImportStarts.{file-given, file-kept}
 use Rattle.goblin_pe_calls.proofs.ImportBatches.{goes-after, goes-end, imports-end, imports-full, imports-more, imports-refused}

@@ -1,6 +1,6 @@
 use Rattle.std.proofs.Common.{arith, inl, inr}
 use Rattle.std.proofs.lemmas.Result.{err_from_is_err_and}
-use Rattle.goblin_pe_tables.specs.Addresses.{offset_of}
+use Rattle.goblin_pe_sect.specs.Addresses.{offset_of}
 use Rattle.goblin_pe.specs.Layouts.{layout_map, layout_places}
 use Rattle.goblin_pe.specs.Whole.{collected_exports, collected_imports, export_part}
 use Rattle.goblin_pe.specs.Whole.{import_parts, relocation_part, table_parts}

@@ -1,8 +1,8 @@
 use Rattle.std.proofs.Common.{subst}
 use Rattle.goblin_pe_sect.specs.declared.options.ParseOptions.{ParseOptions}
 use Rattle.goblin_pe_sect.specs.Options.{is_strict}
-use Rattle.goblin_pe_tables.specs.Addresses.{map_of, offset_of, reads_strictly}
-use Rattle.goblin_pe_tables.specs.ExportReadings.{export_read}
+use Rattle.goblin_pe_sect.specs.Addresses.{map_of, offset_of, reads_strictly}
+use Rattle.goblin_pe_export.specs.ExportReadings.{export_read}
 use Rattle.goblin_pe.specs.Layouts.{IsExportWalk, walked_exports}
 use Rattle.goblin_pe.specs.Whole.{BecomesPart, export_part}
 use Rattle.goblin_pe.proofs.Parts.{becomes_kept, becomes_read, kept_both}

@@ -3,9 +3,9 @@ use Rattle.std.specs.Prelude.{◌⊎◌}
 use Rattle.std.specs.List.{flat_map}
 use Rattle.std.proofs.lemmas.Result.{err_from_is_err_and}
 use Rattle.goblin_pe_sect.specs.declared.options.ParseOptions.{ParseOptions}
-use Rattle.goblin_pe_tables.specs.Addresses.{map_of, offset_of, reads_strictly}
-use Rattle.goblin_pe_tables.specs.ImportReadings.{import_data}
-use Rattle.goblin_pe_tables.specs.Imports.{kept_imports}
+use Rattle.goblin_pe_sect.specs.Addresses.{map_of, offset_of, reads_strictly}
+use Rattle.goblin_pe_import.specs.ImportReadings.{import_data}
+use Rattle.goblin_pe_import.specs.Imports.{kept_imports}
 use Rattle.goblin_pe.specs.Whole.{entry_format, import_list, import_part, part_map, table_places}
 use Rattle.goblin_pe.proofs.Collected.{unasked_mapped}
 use Rattle.goblin_pe.proofs.ImportParts.{list-refused, list-walked}

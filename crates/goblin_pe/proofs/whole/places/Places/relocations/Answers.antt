@@ -4,7 +4,7 @@ use Rattle.goblin_pe_sect.specs.declared.options.ParseOptions.{ParseOptions}
 use Rattle.goblin_pe_sect.specs.AddressReadings.{relocation_data}
 use Rattle.goblin_pe_sect.specs.BaseRelocations.{relocation_bytes}
 use Rattle.goblin_pe_sect.specs.Options.{is_strict}
-use Rattle.goblin_pe_tables.specs.Addresses.{map_of, offset_of, reads_strictly}
+use Rattle.goblin_pe_sect.specs.Addresses.{map_of, offset_of, reads_strictly}
 use Rattle.goblin_pe.specs.Whole.{BecomesPart, relocation_part}
 use Rattle.goblin_pe.proofs.Parts.{becomes_read}
 use Rattle.goblin_pe.proofs.whole.places.Places.relocations.Goals as goal

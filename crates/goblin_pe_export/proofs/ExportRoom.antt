@@ -1,0 +1,85 @@
+-- How many exports are expected: no more than there are, where they are more than a few.
+use Rattle.std.proofs.Common.{◌≡◌, ◌<◌, ◌≤◌, ◌+◌, ◌/◌, ℕ, zero, suc, List, length}
+use Rattle.std.proofs.Common.{◌-◌, Option, Some, None, refl, arith, inl, inr}
+use Rattle.std.specs.Prelude.{if◌then◌else◌, max, option_and_then, option_to_list, slice_get, Vec}
+use Rattle.std.specs.Prelude.{vec_capacity, vec_len}
+use Rattle.std.specs.Global.{Global}
+use Rattle.std.proofs.lemmas.List.{length-append}
+use Rattle.std.proofs.lemmas.Option.{slice_get_cases}
+use Rattle.goblin_base.specs.Tables.{concat_below}
+use Rattle.readings.specs.Reads.{◌>>=◌, taken}
+use Rattle.goblin_pe_export.specs.ExportReadings as reading
+use Rattle.goblin_pe_export.specs.ExportRecords.{ExportRow, ExportTables}
+use Rattle.goblin_pe_export.specs.Exports.{TakesRoomFor, export_row, is_own, leads_to_own}
+use Rattle.goblin_pe_export.specs.Exports.{own_exports}
+use Rattle.goblin_pe_export.specs.declared.export.tables.ExportAddressTableEntry.TheVariants.{ExportRVA, ForwarderRVA}
+
+module _ (offset_of : ℕ → Option ℕ) (bytes : List ℕ) (tables : ExportTables) where
+  -- the row of a name pointer and an entry of the ordinal table
+  abbrev row : Option ℕ → Option ℕ → Option ExportRow
+  row pointer ordinal =
+      (taken pointer
+      >>= (λ pointer.
+      taken ordinal
+      >>= (λ ordinal.
+      taken (slice_get tables.export_address_table ordinal) >>= reading.row_of offset_of pointer))).value bytes
+
+  -- one that leads to an address that is not a forwarder's has a row
+  has-row : (pointer : ℕ) (ordinal : Option ℕ)
+      → (if is_own (option_and_then (slice_get tables.export_address_table) ordinal) then 1 else 0)
+      ≤ length (option_to_list (row (Some pointer) ordinal))
+  unfolding reading.row_of reading.reexport_of
+  has-row pointer None = omega arith
+  has-row pointer (Some ordinal) =
+      elim (slice_get tables.export_address_table ordinal) as (λ o.
+      (if is_own o then 1 else 0)
+      ≤ length (option_to_list ((taken o >>= reading.row_of offset_of pointer).value bytes))) [
+        | None ↦ omega arith
+        | Some (ExportRVA rva) ↦ omega arith
+        | Some (ForwarderRVA rva) ↦ omega arith
+      ]
+
+  own-row : (x : ℕ) → x < length tables.export_name_pointer_table
+      → (if leads_to_own tables x then 1 else 0)
+      ≤ length (option_to_list (export_row offset_of bytes tables x))
+  unfolding reading.export_row
+  own-row x below =
+      elim (slice_get_cases tables.export_name_pointer_table x).1 [
+        | inl found ↦ rw found.2 (has-row found.0 (slice_get tables.export_ordinal_table x))
+        | inr past ↦ absurd (omega (arith, past.0))
+      ]
+
+  -- each that leads there is listed
+  own_listed : (n : ℕ) → n ≤ length tables.export_name_pointer_table
+      → own_exports tables n
+      ≤ length (concat_below (λ x. option_to_list (export_row offset_of bytes tables x)) n)
+  unfolding own_exports concat_below
+  own_listed zero within = omega arith
+  own_listed (suc n) within =
+      omega (
+        arith,
+        own_listed n (omega arith),
+        own-row n (omega arith),
+        length-append (concat_below (λ x. option_to_list (export_row offset_of bytes tables x)) n)
+            (option_to_list (export_row offset_of bytes tables n)),
+      )
+
+  -- room for as many as are expected is room for a few, or for those that are listed
+  pub room_expected : (expected : ℕ) (v : Vec ExportRow Global)
+      → (length tables.export_name_pointer_table ≤ 32
+      → expected ≡ length tables.export_name_pointer_table)
+      → (32 < length tables.export_name_pointer_table
+      → expected ≡ max 32 (own_exports tables (length tables.export_name_pointer_table)))
+      → v.items ≡ concat_below (λ x. option_to_list (export_row offset_of bytes tables x))
+      (length tables.export_name_pointer_table)
+      → TakesRoomFor expected v → TakesRoomFor 32 v
+  room_expected expected v few own listed room =
+      let n = length tables.export_name_pointer_table in
+      let there : own_exports tables n ≤ vec_len v =
+      rw (v.ok.0, listed) (own_listed n (omega arith)) in (
+        room.0,
+        elim (n - 32) as (λ d. n - 32 ≡ d → vec_capacity v ≤ max 32 (vec_len v + vec_len v / 2)) [
+          | zero ↦ λ most. omega (arith, most, room.1, few (omega (arith, most)))
+          | suc d ↦ λ more. omega (arith, more, room.1, there, own (omega (arith, more)))
+        ] refl,
+      )

@@ -1,0 +1,40 @@
+-- The exports, row by row.
+use Rattle.std.proofs.Common.{◌≡◌, ◌++◌, ◌+◌, ℕ, List, [], ◌∷◌, Option, Some, None, length, refl}
+use Rattle.std.proofs.Common.{sym, ap, ◌∙◌, append-nil}
+use Rattle.std.specs.Prelude.{◌==◌, false, option_to_list}
+use Rattle.goblin_base.specs.Tables.{concat_below}
+use Rattle.goblin_base.proofs.Below.{concat_below-next}
+use Rattle.goblin_pe_export.specs.ExportReadings as reading
+use Rattle.goblin_pe_export.specs.ExportRecords.{ExportTables}
+use Rattle.goblin_pe_export.specs.Exports.{export_row}
+
+pub rows_none : {A : Type 0} → (row : ℕ → Option A) → concat_below (λ x. option_to_list (row x)) 0 ≡ []
+unfolding concat_below
+rows_none row = refl
+
+module _ {A : Type 0} (row : ℕ → Option A) (n : ℕ) (rows : List A)
+    (so_far : rows ≡ concat_below (λ x. option_to_list (row x)) n) where
+  rows-more : (o : Option A) → o ≡ row n
+      → rows ++ option_to_list o ≡ concat_below (λ x. option_to_list (row x)) (n + 1)
+  rows-more o is =
+      ap (λ (xs : List A). xs ++ option_to_list o) so_far
+      ∙ ap (λ (x : Option A). concat_below (λ x. option_to_list (row x)) n ++ option_to_list x) is
+      ∙ sym (concat_below-next (λ x. option_to_list (row x)) n)
+
+  -- one name pointer further, which has a row
+  pub row_more : (x : A) → Some x ≡ row n
+      → rows ++ x ∷ [] ≡ concat_below (λ x. option_to_list (row x)) (n + 1)
+  row_more x is = rows-more (Some x) is
+
+  -- one that has none
+  pub row_none : None ≡ row n → rows ≡ concat_below (λ x. option_to_list (row x)) (n + 1)
+  row_none is = sym (append-nil rows) ∙ rows-more None is
+
+-- a file with bytes lists these rows
+pub rows_listed : (offset_of : ℕ → Option ℕ) (bytes : List ℕ) (tables : ExportTables)
+    → (length bytes == 0) ≡ false
+    → (reading.exports offset_of tables).value bytes
+    ≡ Some (concat_below (λ x. option_to_list (export_row offset_of bytes tables x))
+    (length tables.export_name_pointer_table))
+unfolding reading.exports
+rows_listed offset_of bytes tables some = rw some refl

@@ -1,0 +1,144 @@
+-- What comes of a walk over exports.
+use Rattle.std.proofs.Common.{◌≡◌, ◌<◌, ◌≤◌, ◌++◌, ◌+◌, ◌-◌, ℕ, zero, suc, List, [], ◌∷◌, Option}
+use Rattle.std.proofs.Common.{Some, None, length, map, refl, sym, ap, ◌∙◌, arith}
+use Rattle.std.specs.Prelude.{◌==◌, false, filter_map, option_map, option_to_list}
+use Rattle.std.specs.List.{cons_option, range_with_len}
+use Rattle.std.proofs.lemmas.Bool.{ne_eqb}
+use Rattle.std.proofs.lemmas.List.Elements.{filter_map-append}
+use Rattle.std.proofs.lemmas.List.FromFn.{length-range_with_len}
+use Rattle.goblin_base.specs.declared.endian.Endian.TheVariants.{Little}
+use Rattle.goblin_base.specs.Tables.{concat_below}
+use Rattle.goblin_base.proofs.Records.{record_at-some}
+use Rattle.goblin_base.proofs.Steps.{step}
+use Rattle.readings.proofs.WalkValues.{range-next}
+use Rattle.goblin_pe_sect.specs.declared.data_directories.DataDirectory.{DataDirectory}
+use Rattle.goblin_pe_export.specs.ExportReadings as reading
+use Rattle.goblin_pe_export.specs.ExportRecords.{ExportRow, ExportTables, export_directory_record}
+use Rattle.goblin_pe_export.specs.Exports.{export_data, export_row}
+use Rattle.goblin_pe_export.specs.ExportWalks.{NumberedExport, numbered_export, numbered_from}
+use Rattle.goblin_pe_export.proofs.ExportRows.{rows_listed}
+
+-- ---- what is kept of a list of indexes
+
+module _ {A : Type 0} (f : ℕ → Option A) where
+  single : (n : ℕ) → option_to_list (f n) ≡ filter_map f (n ∷ [])
+  single n = elim (f n) as (λ o. option_to_list o ≡ cons_option o []) [ None ↦ refl | Some x ↦ refl ]
+
+  -- joined below n, they are those of the first n indexes
+  joined : (n : ℕ) → concat_below (λ i. option_to_list (f i)) n ≡ filter_map f (range_with_len 0 n)
+  unfolding concat_below
+  joined zero = refl
+  joined (suc n) =
+      ap (λ (xs : List A). xs ++ option_to_list (f n)) (joined n)
+      ∙ ap (λ (xs : List A). filter_map f (range_with_len 0 n) ++ xs) (single n)
+      ∙ sym (filter_map-append f (range_with_len 0 n) (n ∷ []))
+      ∙ ap (filter_map f) (sym (range-next n))
+
+  -- no more are kept than there are indexes
+  length-kept : (xs : List ℕ) → length (filter_map f xs) ≤ length xs
+  length-kept [] = omega arith
+  length-kept (x ∷ xs) =
+      let rest = length-kept xs in
+      elim (f x) as (λ o. length (cons_option o (filter_map f xs)) ≤ length (x ∷ xs)) [
+        | None ↦ omega arith
+        | Some y ↦ omega arith
+      ]
+
+  -- what is made of each that is kept
+  map-kept : {B : Type 0} (of : A → B) (g : ℕ → Option B)
+      → ((i : ℕ) → option_map of (f i) ≡ g i) → (xs : List ℕ)
+      → map of (filter_map f xs) ≡ filter_map g xs
+  map-kept of g same [] = refl
+  map-kept {B} of g same (x ∷ xs) =
+      elim (f x) as (λ o. option_map of o ≡ g x
+      → map of (cons_option o (filter_map f xs)) ≡ cons_option (g x) (filter_map g xs)) [
+        | None ↦ λ is. map-kept of g same xs ∙ ap (λ (o : Option B). cons_option o (filter_map g xs)) is
+        | Some y ↦ λ is.
+            ap (λ (ys : List B). of y ∷ ys) (map-kept of g same xs)
+            ∙ ap (λ (o : Option B). cons_option o (filter_map g xs)) is
+      ] (same x)
+
+-- ---- the exports from a name pointer on
+
+module _ (offset_of : ℕ → Option ℕ) (bytes : List ℕ) (tables : ExportTables) where
+  abbrev numbered : ℕ → Option NumberedExport
+  numbered = numbered_export offset_of bytes tables
+
+  abbrev count : ℕ
+  count = length tables.export_name_pointer_table
+
+  taken-back : (of : ExportRow → NumberedExport) → ((row : ExportRow) → (of row).row ≡ row)
+      → (o : Option ExportRow) → option_map (λ n. n.row) (option_map of o) ≡ o
+  taken-back of same None = refl
+  taken-back of same (Some row) = ap (λ (r : ExportRow). Some r) (same row)
+
+  row-of : (x : ℕ) → option_map (λ n. n.row) (numbered x) ≡ export_row offset_of bytes tables x
+  unfolding numbered_export
+  row-of x =
+      taken-back _ (λ row. refl) (export_row offset_of bytes tables x)
+
+  -- the rows of all that come are those that export data lists
+  pub rows_numbered : map (λ n. n.row) (numbered_from offset_of bytes tables 0)
+      ≡ concat_below (λ x. option_to_list (export_row offset_of bytes tables x)) count
+  unfolding numbered_from
+  rows_numbered =
+      let all : count - 0 ≡ count = omega arith in
+      ap (λ (k : ℕ). map (λ n. n.row) (filter_map numbered (range_with_len 0 k))) all
+      ∙ map-kept numbered (λ n. n.row) (export_row offset_of bytes tables) row-of (range_with_len 0 count)
+      ∙ sym (joined (export_row offset_of bytes tables) count)
+
+  -- those from x on begin with that of x, if it has one
+  from-first : (x : ℕ) → x < count
+      → numbered_from offset_of bytes tables x
+      ≡ cons_option (numbered x) (numbered_from offset_of bytes tables (x + 1))
+  unfolding numbered_from
+  from-first x below =
+      let more : count - x ≡ suc (count - (x + 1)) = omega arith in
+      ap (λ (k : ℕ). filter_map numbered (range_with_len x k)) more
+
+  pub from_export : (x : ℕ) (n : NumberedExport) → x < count → numbered x ≡ Some n
+      → numbered_from offset_of bytes tables x ≡ n ∷ numbered_from offset_of bytes tables (x + 1)
+  from_export x n below is =
+      from-first x below
+      ∙ ap (λ (o : Option NumberedExport). cons_option o (numbered_from offset_of bytes tables (x + 1))) is
+
+  pub from_none : (x : ℕ) → x < count → numbered x ≡ None
+      → numbered_from offset_of bytes tables x ≡ numbered_from offset_of bytes tables (x + 1)
+  from_none x below is =
+      from-first x below
+      ∙ ap (λ (o : Option NumberedExport). cons_option o (numbered_from offset_of bytes tables (x + 1))) is
+
+  pub from_end : (x : ℕ) → count ≤ x → numbered_from offset_of bytes tables x ≡ []
+  unfolding numbered_from
+  from_end x past =
+      let none : count - x ≡ 0 = omega arith in
+      ap (λ (k : ℕ). filter_map numbered (range_with_len x k)) none
+
+  -- no more come than there are name pointers left
+  pub from_most : (x : ℕ) → length (numbered_from offset_of bytes tables x) ≤ count - x
+  unfolding numbered_from
+  from_most x =
+      omega (arith, length-kept numbered (range_with_len x (count - x)), length-range_with_len x (count - x))
+
+-- ---- a directory that was read
+
+-- the file has bytes, since it has the record
+data-there : (offset_of : ℕ → Option ℕ) (d : DataDirectory) (bytes : List ℕ)
+    (tables : ExportTables) → export_data offset_of d bytes ≡ Some tables
+    → (length bytes == 0) ≡ false
+unfolding reading.export_data
+data-there offset_of d bytes tables is =
+    let at = step (offset_of d.virtual_address) _ tables is in
+    let here = step ((reading.record_here at.value).value bytes) _ tables at.then in
+    let found = record_at-some 40 (export_directory_record Little) bytes at.value here.value here.is in
+    ne_eqb (length bytes) 0 (λ none. omega (arith, found.start))
+
+-- the tables of a directory with the rows of all that comes are what is read
+pub read_walked : (offset_of : ℕ → Option ℕ) (d : DataDirectory) (bytes : List ℕ)
+    (tables : ExportTables) → export_data offset_of d bytes ≡ Some tables
+    → (reading.export_read offset_of d).value bytes
+    ≡ Some (tables, map (λ n. n.row) (numbered_from offset_of bytes tables 0))
+unfolding reading.export_read
+read_walked offset_of d bytes tables is =
+    rw (is, rows_listed offset_of bytes tables (data-there offset_of d bytes tables is))
+    (ap (λ (rows : List ExportRow). Some (tables, rows)) (sym (rows_numbered offset_of bytes tables)))

@@ -1,0 +1,8 @@
+pub mod ExportDirectoryRoundTrip
+mod ExportGrowths
+mod ExportRanges
+mod ExportRoom
+mod ExportRows
+pub mod ExportWalk
+mod Grammar
+mod WholeEntries

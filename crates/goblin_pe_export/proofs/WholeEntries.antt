@@ -1,0 +1,177 @@
+-- The whole entries of a table of a given count: as bytes, and as values.
+use Rattle.std.proofs.Common.{◌≡◌, ◌<◌, ◌≤◌, ◌+◌, ◌-◌, ◌*◌, ◌/◌, ℕ, zero, suc}
+use Rattle.std.proofs.Common.{true, false, List, [], drop, length, map, Option, Some, None, refl}
+use Rattle.std.proofs.Common.{sym, ap, ◌∙◌, arith, add-one, inl, inr}
+use Rattle.std.specs.Prelude.{is_none, min, nat_le, nat_lt, option_map, option_to_list}
+use Rattle.std.specs.Prelude.{slice_get, slice_range}
+use Rattle.std.specs.List.{range_with_len}
+use Rattle.std.proofs.Math.Bool.{and-false}
+use Rattle.std.proofs.Math.Nat.{mul-div_cancel_left, mul-le-mul_left, zero-div}
+use Rattle.std.proofs.lemmas.Bool.{cases_lt, le-leb, lt-leb, lt-ltb}
+use Rattle.std.proofs.lemmas.List.{length-drop, length-take}
+use Rattle.std.proofs.lemmas.List.FromFn.{get_or-map-range_with_len, length-map-range_with_len}
+use Rattle.std.proofs.lemmas.List.FromFn.{map-range_with_len_more}
+use Rattle.std.proofs.lemmas.Option.{slice_get-get_or, slice_get_past}
+use Rattle.goblin_base.specs.Bytes.{slice_at}
+use Rattle.goblin_base.specs.Tables.{Format, concat_below, counted_table, counted_table_if, entry_at}
+use Rattle.goblin_base.specs.Tables.{records_in, whole_entries}
+use Rattle.goblin_base.proofs.Below.{least-is}
+use Rattle.goblin_base.proofs.Numbers.{slice-of_slice}
+use Rattle.goblin_base.proofs.RecordItems.{length-records_in, records_in-none}
+use Rattle.goblin_pe_export.specs.ExportRecords.{entries_in, table_bytes}
+
+-- ---- entries of w bytes among n bytes
+
+next-entry : (w i : ℕ) → w * suc i ≡ w * i + w
+next-entry w i = grind arith
+
+-- so many whole entries are there
+pub entry_inside : (w n i : ℕ) → 0 < w → i < n / w → w * i + w ≤ n
+entry_inside w n i wide h =
+    let below : w * suc i ≤ w * (n / w) = mul-le-mul_left w (omega arith) in
+    omega (arith, below, next-entry w i)
+
+-- and no more
+pub entry_outside : (w n i : ℕ) → 0 < w → n / w ≤ i → n < w * i + w
+entry_outside w n i wide h =
+    let below : w * (n / w) ≤ w * i = mul-le-mul_left w h in
+    omega (arith, below)
+
+-- where there is an entry, those that are counted end inside
+pub entries_inside : (w n o count : ℕ) → 0 < w → 0 < min ((n - o) / w) count
+    → o + w * min ((n - o) / w) count ≤ n
+entries_inside w n o count wide some =
+    let k : ℕ = min ((n - o) / w) count in
+    let fits : w * k ≤ w * ((n - o) / w) = mul-le-mul_left w (omega arith) in
+    let all : w * ((n - o) / w) ≤ n - o = omega (arith, wide) in
+    omega (arith, fits, all)
+
+slice-there : (bytes : List ℕ) (p n : ℕ) → 0 < n → p + n ≤ length bytes
+    → slice_at bytes p n ≡ Some (slice_range bytes p (p + n))
+slice-there bytes p n wide h =
+    let begins : nat_lt p (length bytes) ≡ true = lt-ltb p (length bytes) (omega arith) in
+    let ends : nat_le (p + n) (length bytes) ≡ true = le-leb (p + n) (length bytes) h in
+    rw (begins, ends) refl
+
+slice-missing : (bytes : List ℕ) (p n : ℕ) → length bytes < p + n → slice_at bytes p n ≡ None
+slice-missing bytes p n h =
+    let ends : nat_le (p + n) (length bytes) ≡ false = lt-leb (p + n) (length bytes) h in
+    rw (ends, and-false (nat_lt p (length bytes))) refl
+
+-- the entry at an index is that of its bytes
+pub entry_read : {V : Type 0} (w : ℕ) (value : List ℕ → V) (bytes : List ℕ) (i : ℕ) → 0 < w
+    → slice_get (records_in w value bytes) i ≡ option_map value (slice_at bytes (w * i) w)
+unfolding records_in
+entry_read {V} w value bytes i wide =
+    let of : ℕ → V = λ (j : ℕ). value (slice_range bytes (w * j) (w * j + w)) in
+    let n = length bytes / w in
+    let long : length (map of (range_with_len 0 n)) ≡ n = length-map-range_with_len of 0 n in
+    elim (cases_lt i n) [
+      | inl inside ↦
+          let there : slice_at bytes (w * i) w ≡ Some (slice_range bytes (w * i) (w * i + w)) =
+          slice-there bytes (w * i) w wide (entry_inside w (length bytes) i wide inside) in
+          slice_get-get_or (map of (range_with_len 0 n)) i (of i) (omega (arith, long, inside))
+          ∙ ap (λ (x : V). Some x)
+          (get_or-map-range_with_len of 0 n i i (of i) inside (omega arith))
+          ∙ sym (ap (option_map value) there)
+      | inr outside ↦
+          let none : slice_at bytes (w * i) w ≡ None =
+          slice-missing bytes (w * i) w (entry_outside w (length bytes) i wide outside) in
+          slice_get_past (map of (range_with_len 0 n)) i (omega (arith, long, outside))
+          ∙ sym (ap (option_map value) none)
+    ]
+
+-- so many entries are there
+pub entry_count : {V : Type 0} (w : ℕ) (value : List ℕ → V) (bytes : List ℕ)
+    → length (records_in w value bytes) ≡ length bytes / w
+entry_count w value bytes = length-records_in w value bytes
+
+-- ---- a table of a given count
+
+-- pieces that are all there
+concat-there : {V : Type 0} (entry : ℕ → Option V) (of : ℕ → V) (n : ℕ)
+    → ((i : ℕ) → i < n → entry i ≡ Some (of i))
+    → concat_below (λ i. option_to_list (entry i)) n ≡ map of (range_with_len 0 n)
+unfolding concat_below
+concat-there entry of zero there = refl
+concat-there entry of (suc n) there =
+    let before = concat-there entry of n (λ i l. there i (omega arith)) in
+    let here = there n (omega arith) in
+    let more = map-range_with_len_more of 0 n n (omega arith) in
+    rw (before, here) (sym (ap (λ (k : ℕ). map of (range_with_len 0 k)) (sym (add-one n)) ∙ more))
+
+module _ {V : Type 0} (format : Format V) (count : ℕ) (bytes : List ℕ) (o : ℕ)
+    (wide : 0 < format.width) where
+  abbrev room : ℕ
+  room = (length bytes - o) / format.width
+
+  abbrev held : List ℕ
+  held = table_bytes format.width count bytes (Some o)
+
+  abbrev entry : ℕ → Option V
+  entry i = entry_at format bytes o i
+
+  abbrev of : ℕ → V
+  of i =
+      format.value_of (slice_range held (format.width * i) (format.width * i + format.width))
+
+  entry-there : (i : ℕ) → i < min room count → entry i ≡ Some (of i)
+  entry-there i h =
+      let w : ℕ = format.width in
+      let n : ℕ = min room count in
+      let inside : w * i + w ≤ length bytes - o =
+      entry_inside w (length bytes - o) i wide (omega arith) in
+      let below : w * suc i ≤ w * n = mul-le-mul_left w h in
+      let within : w * i + w ≤ w * n = omega (arith, below, next-entry w i) in
+      let there : slice_at bytes (o + w * i) w
+      ≡ Some (slice_range bytes (o + w * i) (o + w * i + w)) =
+      slice-there bytes (o + w * i) w wide (omega (arith, inside, wide)) in
+      let part = slice-of_slice bytes o (w * n) (w * i) w within in
+      ap (option_map format.value_of) there
+      ∙ ap (λ (own : List ℕ). Some (format.value_of own)) (sym part)
+
+  entry-missing : min room count < count → entry (min room count) ≡ None
+  entry-missing h =
+      let w : ℕ = format.width in
+      let n : ℕ = min room count in
+      let past : length bytes - o < w * n + w =
+      entry_outside w (length bytes - o) n wide (omega arith) in
+      let none : slice_at bytes (o + w * n) w ≡ None =
+      slice-missing bytes (o + w * n) w (omega (arith, past)) in
+      ap (option_map format.value_of) none
+
+  pub whole-is : whole_entries format count bytes o ≡ min room count
+  unfolding whole_entries
+  whole-is =
+      least-is (λ i. is_none (entry i)) count (min room count) (omega arith)
+      (λ j l. ap is_none (entry-there j l)) (λ l. ap is_none (entry-missing l))
+
+  held-length : length held ≡ format.width * min room count
+  held-length =
+      let w : ℕ = format.width in
+      let n : ℕ = min room count in
+      let fits : w * n ≤ w * room = mul-le-mul_left w (omega arith) in
+      let all : w * room ≤ length bytes - o = omega (arith, wide) in
+      omega (arith, length-take (o + w * n - o) (drop o bytes), length-drop o bytes, fits, all)
+
+  held-count : length held / format.width ≡ min room count
+  held-count =
+      ap (λ (m : ℕ). m / format.width) held-length
+      ∙ mul-div_cancel_left (min room count) wide
+
+  some-is : counted_table format count bytes o ≡ entries_in format held
+  unfolding counted_table records_in
+  some-is =
+      ap (concat_below (λ i. option_to_list (entry i))) whole-is
+      ∙ concat-there entry of (min room count) entry-there
+      ∙ ap (λ (m : ℕ). map of (range_with_len 0 m)) (sym held-count)
+
+-- the entries of a table are those that its bytes hold
+pub counted_is : {V : Type 0} (format : Format V) (count : ℕ) (bytes : List ℕ)
+    (place : Option ℕ) → 0 < format.width
+    → counted_table_if format count bytes place
+    ≡ records_in format.width format.value_of (table_bytes format.width count bytes place)
+unfolding counted_table_if
+counted_is format count bytes None wide =
+    sym (records_in-none format.width format.value_of [] (zero-div format.width))
+counted_is format count bytes (Some o) wide = some-is format count bytes o wide

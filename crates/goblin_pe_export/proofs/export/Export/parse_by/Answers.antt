@@ -1,0 +1,49 @@
+use Rattle.std.proofs.Common.{List, Option, [], ap, arith, length, refl, sym, unwrap_or, ◌≡◌, ◌∙◌}
+use Rattle.std.specs.Option.{option_to_list}
+use Rattle.std.proofs.lemmas.Result.{err_from_is_err_and}
+use Rattle.goblin_base.specs.Tables.{concat_below}
+use Rattle.goblin_pe_sect.specs.Addresses.{map_of, offset_of}
+use Rattle.goblin_pe_export.specs.ExportRecords.{ExportRow}
+use Rattle.goblin_pe_export.specs.Exports.{export_row}
+use Rattle.goblin_pe_export.proofs.ExportRoom.{room_expected}
+use Rattle.goblin_pe_export.proofs.ExportRows.{row_more, row_none, rows_listed, rows_none}
+use Rattle.goblin_pe_export.proofs.export.Export.parse_by.Goals as goal
+use Rattle.goblin_pe_export.proofs.export.Export.parse_by.Goals.{in-Some+in_ok-add_row, in_default}
+
+pub rows-init : goal.rows-init
+rows-init c =
+    (c.new-rows.ensures.items ∙ sym (rows_none _), (λ _. c.new-rows.ensures.capacity, omega (arith, c.new-rows.ensures.capacity)))
+
+pub rows-preserved : goal.rows-preserved
+rows-preserved c =
+    elim c.match-export.branch [
+      | in-Some+in_ok-add_row w ↦
+          rw w.rows-is
+          (w.in_ok-add_row.ensures.added ∙ row_more _ _ _ c.rows.invariant.0 _ (sym w.in-Some.ensures.0), w.in_ok-add_row.ensures.room c.rows.invariant.1)
+      | in_default w ↦ rw w.rows-is (row_none _ _ _ c.rows.invariant.0 (sym w.in_default.ensures), c.rows.invariant.1)
+    ]
+
+pub returns-in_err-add_row-clause-grown : goal.returns-in_err-add_row-clause-grown
+returns-in_err-add_row-clause-grown c =
+    let e = err_from_is_err_and c.from_residual.result c.from_residual.ensures.1 in
+    rw e.1 (c.rows.index, omega (arith, c.rows-test.true, c.pointers-index-end.ensures), rw c.in-Some.ensures.0 refl)
+
+pub returns-clause-value : goal.returns-clause-value
+returns-clause-value c =
+    let offset_of = offset_of (map_of c.args.address_map.now) in
+    let all : length c.args.export_data.now.export_name_pointer_table ≡ c.rows.index =
+    omega (arith, c.rows-test.false, c.pointers-index-end.ensures) in
+    ap (λ (o : Option (List ExportRow)). unwrap_or o [])
+    (rows_listed offset_of c.args.bytes.now c.args.export_data.now (sym c.is_empty.ensures ∙ c.if-is_empty.false))
+    ∙ ap (concat_below (λ x. option_to_list (export_row offset_of c.args.bytes.now c.args.export_data.now x))) all
+    ∙ sym c.rows.invariant.0
+
+pub returns-clause-room : goal.returns-clause-room
+returns-clause-room c =
+    let offset_of = offset_of (map_of c.args.address_map.now) in
+    let tables = c.args.export_data.now in
+    let all : length tables.export_name_pointer_table ≡ c.rows.index =
+    omega (arith, c.rows-test.false, c.pointers-index-end.ensures) in
+    room_expected offset_of c.args.bytes.now tables _ c.rows.rows c.expected_count-expected.ensures.few c.expected_count-expected.ensures.own
+    (c.rows.invariant.0 ∙ ap (concat_below (λ x. option_to_list (export_row offset_of c.args.bytes.now tables x))) (sym all))
+    c.rows.invariant.1

@@ -1,0 +1,48 @@
+use Rattle.std.proofs.Common.{ap, arith, length, sym, ◌∙◌}
+use Rattle.std.specs.Prelude.{option_map}
+use Rattle.goblin_pe_export.specs.ExportRecords.{ExportTables, name_pointers}
+use Rattle.goblin_pe_export.specs.ExportWalks.{walked_export}
+use Rattle.goblin_pe_export.proofs.ExportWalk.{from_end, from_export, from_none}
+use Rattle.goblin_pe_export.proofs.WholeEntries.{entry_count}
+use Rattle.goblin_pe_export.proofs.export.exports.ExportsIterator.next.Goals as goal
+
+pub pointers-preserved : goal.pointers-preserved
+pointers-preserved c =
+    let before = c.pointers.invariant in
+    let count = ap (λ (t : ExportTables). length t.export_name_pointer_table) before.over.1 in
+    record {
+      begun = omega (arith, before.begun);
+      at = omega arith;
+      over = before.over;
+      left = before.left
+          ∙ from_none _ _ _ c.pointers.index (omega (arith, c.pointers-test.true, c.pointers-index-end.ensures, count))
+          (sym c.export_at.ensures ∙ ap (option_map walked_export) c.in_default.is);
+    }
+
+pub returns-in-Some-clause-steps : goal.returns-in-Some-clause-steps
+returns-in-Some-clause-steps c =
+    let before = c.pointers.invariant in
+    let count = ap (λ (t : ExportTables). length t.export_name_pointer_table) before.over.1 in
+    before.left
+    ∙ from_export _ _ _ c.pointers.index _ (omega (arith, c.pointers-test.true, c.pointers-index-end.ensures, count))
+    (sym c.export_at.ensures ∙ ap (option_map walked_export) c.in-Some.is)
+
+pub returns-in-Some-clause-goes : goal.returns-in-Some-clause-goes
+returns-in-Some-clause-goes c =
+    let before = c.pointers.invariant in
+    let count = ap (λ (t : ExportTables). length t.export_name_pointer_table) before.over.1 in
+    let first = entry_count 4 name_pointers.value_of c.args.self.now.tables.name_pointers.now in
+    let now = entry_count 4 name_pointers.value_of c.pointers.self.tables.name_pointers.now in
+    record {
+      on = λ _. (tt, tt, omega (arith, before.begun, c.pointers-test.true, c.pointers-index-end.ensures, count, first, now));
+      keeps = tt;
+      rests = λ _. tt;
+    }
+
+pub returns-clause-steps : goal.returns-clause-steps
+returns-clause-steps c =
+    let before = c.pointers.invariant in
+    let count = ap (λ (t : ExportTables). length t.export_name_pointer_table) before.over.1 in
+    let past = from_end _ _ _ c.pointers.index (omega (arith, c.pointers-test.false, c.pointers-index-end.ensures, count)) in
+    let none = from_end _ _ _ c.pointers.self.next (omega (arith, before.at, c.pointers-test.false, c.pointers-index-end.ensures, count)) in
+    (before.left ∙ past, none)

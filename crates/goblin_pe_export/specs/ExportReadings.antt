@@ -1,0 +1,110 @@
+-- The exports: the export directory, its tables, and a row for each name pointer, over a map of
+-- addresses to file offsets.
+use Rattle.std.specs.Prelude.{ℕ, ◌==◌, if◌then◌else◌, List, [], length, slice_get}
+use Rattle.std.specs.Prelude.{Option, Some, None}
+use Rattle.goblin_base.specs.declared.endian.Endian.TheVariants.{Little}
+use Rattle.goblin_base.specs.declared.error.CauseOf.TheVariants.{ExportTable}
+use Rattle.goblin_base.specs.Reading.{Reading}
+use Rattle.readings.specs.Reads.{◌>>=◌, ◌beside◌, because, counted_if, each_kept}
+use Rattle.readings.specs.Reads.{file_length, given, mapped, needs_by, or_none, record_at}
+use Rattle.readings.specs.Reads.{taken}
+use Rattle.goblin_pe_sect.specs.declared.data_directories.DataDirectory.{DataDirectory}
+use Rattle.goblin_pe_export.specs.ExportRecords.{ExportRow, ExportTables, IsCountFault, addresses}
+use Rattle.goblin_pe_export.specs.ExportRecords.{count-not_memory, counts_fit}
+use Rattle.goblin_pe_export.specs.ExportRecords.{export_directory_record, name_pointers, ordinals}
+use Rattle.goblin_pe_export.specs.ExportRecords.{rva_of}
+use Rattle.goblin_pe_export.specs.Forwarders.{Forwarder, forwarder_at}
+use Rattle.goblin_pe_sect.specs.AddressReadings.{at_address, name_at}
+use Rattle.goblin_pe_export.specs.declared.export.tables.ExportAddressTableEntry.{ExportAddressTableEntry}
+use Rattle.goblin_pe_export.specs.declared.export.tables.ExportAddressTableEntry.TheVariants.{ExportRVA}
+use Rattle.goblin_pe_export.specs.declared.export.tables.ExportAddressTableEntry.TheVariants.{ForwarderRVA}
+use Rattle.goblin_pe_export.specs.declared.export.tables.ExportDirectoryTable.{ExportDirectoryTable}
+
+-- ---- export data
+
+-- the record at an offset
+abbrev pub record_here : ℕ → Reading ExportDirectoryTable
+record_here p = because (ExportTable p) (record_at 40 (export_directory_record Little) p)
+
+-- a record, if it counts no more entries of any table than the file has bytes
+unfoldable pub fitting : ExportDirectoryTable → Reading ExportDirectoryTable
+fitting t =
+    file_length
+    >>= (λ n.
+    needs_by (if counts_fit n t then Some t else None) (IsCountFault n t) (count-not_memory n t))
+
+-- What a record leads to: the library's name, and the three tables, each empty where its address
+-- has no offset. There are as many ordinals as name pointers by the record's number, not by the
+-- pointers that are whole.
+unfoldable pub export_tables : (ℕ → Option ℕ) → DataDirectory → ExportDirectoryTable
+    → Reading ExportTables
+export_tables offset_of d t =
+    mapped (λ parts. record {
+      name = parts.0.0.0;
+      export_directory_table = t;
+      export_name_pointer_table = parts.0.0.1;
+      export_ordinal_table = parts.0.1;
+      export_address_table = parts.1;
+    })
+    (or_none (name_at offset_of t.name_rva)
+    beside counted_if name_pointers t.number_of_name_pointers (offset_of t.name_pointer_rva)
+    beside counted_if ordinals t.number_of_name_pointers (offset_of t.ordinal_table_rva)
+    beside counted_if (addresses d) t.address_table_entries (offset_of t.export_address_table_rva))
+
+-- what a record leads to, where its counts fit the file
+unfoldable pub tables_if : (ℕ → Option ℕ) → DataDirectory → ExportDirectoryTable
+    → Reading ExportTables
+tables_if offset_of d t = fitting t >>= export_tables offset_of d
+
+-- the export data of a directory: what the record at its address leads to
+unfoldable pub export_data : (ℕ → Option ℕ) → DataDirectory → Reading ExportTables
+export_data offset_of d =
+    at_address offset_of d.virtual_address (λ p. record_here p >>= tables_if offset_of d)
+
+-- ---- the exports
+
+-- What an entry stands for in another library: nothing, or what its forwarder says, if there is
+-- one.
+unfoldable pub reexport_of : (ℕ → Option ℕ) → ExportAddressTableEntry → Reading (Option Forwarder)
+reexport_of offset_of (ExportRVA rva) = given None
+reexport_of offset_of (ForwarderRVA rva) =
+    mapped (λ f. Some f) (at_address offset_of rva forwarder_at)
+
+-- the row of a name pointer and an address: it stays without a name that can't be read
+unfoldable pub row_of : (ℕ → Option ℕ) → ℕ → ExportAddressTableEntry → Reading ExportRow
+row_of offset_of pointer address =
+    mapped (λ parts. record {
+      name = parts.0;
+      offset = offset_of (rva_of address);
+      rva = rva_of address;
+      size = 0;
+      reexport = parts.1;
+    })
+    (or_none (name_at offset_of pointer) beside reexport_of offset_of address)
+
+-- an entry of a table that was read; without it there is no row, so there is no cause
+abbrev pub entry_of : {A : Type 0} → List A → ℕ → Reading A
+entry_of entries x = taken (slice_get entries x)
+
+-- The row of the name pointer at index x. Its ordinal is at x too, and numbers its address.
+unfoldable pub export_row : (ℕ → Option ℕ) → ExportTables → ℕ → Reading ExportRow
+export_row offset_of tables x =
+    entry_of tables.export_name_pointer_table x
+    >>= (λ pointer.
+    entry_of tables.export_ordinal_table x
+    >>= (λ ordinal.
+    entry_of tables.export_address_table ordinal >>= row_of offset_of pointer))
+
+-- The exports that export data lists: the existing rows, in the order of the name pointers. An
+-- empty file has none.
+unfoldable pub exports : (ℕ → Option ℕ) → ExportTables → Reading (List ExportRow)
+exports offset_of tables =
+    mapped (λ read. if read.0 == 0 then [] else read.1)
+    (file_length
+    beside each_kept (export_row offset_of tables) (length tables.export_name_pointer_table))
+
+-- the export data of a directory, and the exports that it lists
+unfoldable pub export_read : (ℕ → Option ℕ) → DataDirectory
+    → Reading (ExportTables × List ExportRow)
+export_read offset_of d =
+    export_data offset_of d >>= (λ tables. given tables beside exports offset_of tables)

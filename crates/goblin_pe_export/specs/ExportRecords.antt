@@ -1,0 +1,148 @@
+-- The record of an export directory, the entries of its tables, and the exports that these list, as
+-- values.
+use Rattle.std.specs.Prelude.{◌≤◌, ◌⊎◌, ℕ, ◌+◌, ◌&&◌, nat_le, nat_lt, if◌then◌else◌, Bool}
+use Rattle.std.specs.Prelude.{List, [], ◌∷◌, codes, None, Option, Some, Vec}
+use Rattle.std.specs.Prelude.{◌*◌, ◌-◌, ◌/◌, length, min, option_map, slice_range}
+use Rattle.std.specs.Global.{Global}
+use Rattle.std.proofs.Common.{inl, inr}
+use Rattle.goblin_base.specs.declared.endian.Endian.{Endian}
+use Rattle.goblin_base.specs.declared.endian.Endian.TheVariants.{Little}
+use Rattle.goblin_base.specs.declared.error.ErrorOf.{ErrorOf}
+use Rattle.goblin_base.specs.Answers.{IsMemory, IsTooShort}
+use Rattle.goblin_base.specs.Bytes.{number}
+use Rattle.goblin_base.specs.Record.{FieldValue, uint}
+use Rattle.goblin_base.specs.Tables.{Format, records_in}
+use Rattle.goblin_base.proofs.Picks.{by_cases-not_memory}
+use Rattle.goblin_pe_sect.specs.declared.data_directories.DataDirectory.{DataDirectory}
+use Rattle.goblin_pe_export.specs.declared.export.entries.TablesInFile.{TablesInFile}
+use Rattle.goblin_pe_export.specs.declared.export.tables.ExportAddressTableEntry.{ExportAddressTableEntry}
+use Rattle.goblin_pe_export.specs.declared.export.tables.ExportAddressTableEntry.TheVariants.{ExportRVA}
+use Rattle.goblin_pe_export.specs.declared.export.tables.ExportAddressTableEntry.TheVariants.{ForwarderRVA}
+use Rattle.goblin_pe_export.specs.declared.export.tables.ExportDirectoryTable.{ExportDirectoryTable}
+use Rattle.goblin_pe_export.specs.Forwarders.{Forwarder}
+
+-- Source: PE Format, "The .edata Section (Image Only)".
+
+-- ---- the record
+
+-- the export directory in a record's 40 bytes
+unfoldable pub export_directory_record : Endian → List ℕ → ExportDirectoryTable
+export_directory_record endian bytes = record {
+  export_flags = number endian 4 bytes 0;
+  time_date_stamp = number endian 4 bytes 4;
+  major_version = number endian 2 bytes 8;
+  minor_version = number endian 2 bytes 10;
+  name_rva = number endian 4 bytes 12;
+  ordinal_base = number endian 4 bytes 16;
+  address_table_entries = number endian 4 bytes 20;
+  number_of_name_pointers = number endian 4 bytes 24;
+  export_address_table_rva = number endian 4 bytes 28;
+  name_pointer_rva = number endian 4 bytes 32;
+  ordinal_table_rva = number endian 4 bytes 36;
+}
+
+-- the fields of an export directory, in order
+unfoldable pub export_directory_fields : ExportDirectoryTable → List FieldValue
+export_directory_fields t =
+    uint 4 t.export_flags ∷ uint 4 t.time_date_stamp ∷ uint 2 t.major_version
+    ∷ uint 2 t.minor_version ∷ uint 4 t.name_rva ∷ uint 4 t.ordinal_base
+    ∷ uint 4 t.address_table_entries ∷ uint 4 t.number_of_name_pointers
+    ∷ uint 4 t.export_address_table_rva ∷ uint 4 t.name_pointer_rva ∷ uint 4 t.ordinal_table_rva
+    ∷ []
+
+-- it counts at most n entries of each table
+abbrev pub counts_fit : ℕ → ExportDirectoryTable → Bool
+counts_fit n t = nat_le t.number_of_name_pointers n && nat_le t.address_table_entries n
+
+-- Which cause is true of a record that says more than n entries: there are too many name pointers,
+-- or, where these fit, too many addresses.
+abbrev pub IsCountFault : ℕ → ExportDirectoryTable → ErrorOf → Type 0
+IsCountFault n t e =
+    IsTooShort t.number_of_name_pointers (codes "name pointers") n e
+    ⊎ ((t.number_of_name_pointers ≤ n)
+    × IsTooShort t.address_table_entries (codes "address table entries") n e)
+
+too_short-not_memory : (count : ℕ) (kind : List ℕ) (n : ℕ) (e : ErrorOf)
+    → IsTooShort count kind n e → ¬ IsMemory e
+too_short-not_memory count kind n = by_cases-not_memory (IsTooShort count kind n) (λ m h. h)
+
+pub count-not_memory : (n : ℕ) (t : ExportDirectoryTable) (e : ErrorOf)
+    → IsCountFault n t e → ¬ IsMemory e
+count-not_memory n t e (inl h) =
+    too_short-not_memory t.number_of_name_pointers (codes "name pointers") n e h
+count-not_memory n t e (inr h) =
+    too_short-not_memory t.address_table_entries (codes "address table entries") n e h.1
+
+-- ---- the tables
+
+-- name pointers: addresses of four bytes
+abbrev pub name_pointers : Format ℕ
+name_pointers = record { width = 4; value_of = λ bytes. number Little 4 bytes 0 }
+
+-- ordinals: two bytes each
+abbrev pub ordinals : Format ℕ
+ordinals = record { width = 2; value_of = λ bytes. number Little 2 bytes 0 }
+
+-- the address lies in the directory
+abbrev pub is_in_directory : DataDirectory → ℕ → Bool
+is_in_directory d rva = nat_le d.virtual_address rva && nat_lt rva (d.virtual_address + d.size)
+
+-- What an address stands for: a forwarder's text where it lies in the export directory, else an
+-- export.
+unfoldable pub address_entry : DataDirectory → ℕ → ExportAddressTableEntry
+address_entry d rva = if is_in_directory d rva then ForwarderRVA rva else ExportRVA rva
+
+-- addresses: four bytes each
+abbrev pub addresses : DataDirectory → Format ExportAddressTableEntry
+addresses d = record { width = 4; value_of = λ bytes. address_entry d (number Little 4 bytes 0) }
+
+-- the address that an entry holds
+abbrev pub rva_of : ExportAddressTableEntry → ℕ
+rva_of (ExportRVA rva) = rva
+rva_of (ForwarderRVA rva) = rva
+
+-- what an export directory leads to: the library's name, the record itself, and the three tables
+pub record ExportTables : Type 0 where
+  pub name : Option (List ℕ)
+  pub export_directory_table : ExportDirectoryTable
+  pub export_name_pointer_table : List ℕ
+  pub export_ordinal_table : List ℕ
+  pub export_address_table : List ExportAddressTableEntry
+
+-- ---- the tables as bytes of the file
+
+-- The bytes of a table of `count` entries of `width` bytes at a place, up to the first that is not
+-- whole. A table without a place has none.
+abbrev pub table_bytes : ℕ → ℕ → List ℕ → Option ℕ → List ℕ
+table_bytes width count bytes None = []
+table_bytes width count bytes (Some o) =
+    slice_range bytes o (o + width * min ((length bytes - o) / width) count)
+
+-- the consecutive entries that bytes hold
+abbrev pub entries_in : {V : Type 0} → Format V → List ℕ → List V
+entries_in format bytes = records_in format.width format.value_of bytes
+
+-- the tables whose entries are these bytes of the file
+abbrev pub tables_in : TablesInFile → ExportTables
+tables_in t = record {
+  name = option_map (λ s. s.now) t.name;
+  export_directory_table = t.export_directory_table;
+  export_name_pointer_table = entries_in name_pointers t.name_pointers.now;
+  export_ordinal_table = entries_in ordinals t.ordinals.now;
+  export_address_table = entries_in (addresses t.directory) t.addresses.now;
+}
+
+-- ---- the exports
+
+-- An export: its name, where it has one that can be read, its file offset and address, its size,
+-- which is not known, and what it stands for in another library.
+pub record ExportRow : Type 0 where
+  pub name : Option (List ℕ)
+  pub offset : Option ℕ
+  pub rva : ℕ
+  pub size : ℕ
+  pub reexport : Option Forwarder
+
+-- tables and exports, as their reader returns them
+abbrev pub export_read_view : ExportTables × Vec ExportRow Global → ExportTables × List ExportRow
+export_read_view read = (read.0, read.1.items)

@@ -1,0 +1,68 @@
+-- The walk over the exports of an image: what is still to come.
+use Rattle.std.specs.Prelude.{◌≡◌, ℕ, ◌+◌, ◌-◌, ◌/◌, List, Option, filter_map, length}
+use Rattle.std.specs.Prelude.{option_map, slice_get, unwrap_or}
+use Rattle.std.specs.List.{range_with_len}
+use Rattle.goblin_pe_sect.specs.Addresses.{MapOfAddresses, map_of, offset_of}
+use Rattle.goblin_pe_export.specs.ExportRecords.{ExportRow, ExportTables, tables_in}
+use Rattle.goblin_pe_export.specs.Exports.{export_row}
+use Rattle.goblin_pe_export.specs.declared.export.exports.Exports.{Exports}
+use Rattle.goblin_pe_export.specs.declared.export.exports.WalkedExport.{WalkedExport}
+
+-- ---- the exports with their numbers
+
+-- an export, with the index of its name pointer and its own ordinal
+pub record NumberedExport : Type 0 where
+  pub hint : ℕ
+  pub ordinal : ℕ
+  pub row : ExportRow
+
+-- The export of the name pointer at index x, where that has one. Its ordinal is the entry of the
+-- ordinal table at x, and the ordinal base added; an export has that entry.
+unfoldable pub numbered_export : (ℕ → Option ℕ) → List ℕ → ExportTables → ℕ
+    → Option NumberedExport
+numbered_export offset_of bytes tables x =
+    option_map (λ row. record {
+      hint = x;
+      ordinal = tables.export_directory_table.ordinal_base
+          + unwrap_or (slice_get tables.export_ordinal_table x) 0;
+      row = row;
+    })
+    (export_row offset_of bytes tables x)
+
+-- the exports of the name pointers from x on, in order
+unfoldable pub numbered_from : (ℕ → Option ℕ) → List ℕ → ExportTables → ℕ → List NumberedExport
+numbered_from offset_of bytes tables x =
+    filter_map (numbered_export offset_of bytes tables)
+    (range_with_len x (length tables.export_name_pointer_table - x))
+
+-- ---- the walk as callers see it
+
+-- an export that a walk yields
+abbrev pub walked_export : WalkedExport → NumberedExport
+walked_export x = record { hint = x.hint; ordinal = x.ordinal; row = x.export }
+
+-- the tables that a walk reads
+abbrev pub walked_tables : Exports → ExportTables
+walked_tables walk = tables_in walk.tables
+
+-- what comes of a walk from a name pointer on
+abbrev pub exports_at : Exports → ℕ → List NumberedExport
+exports_at walk x =
+    numbered_from (offset_of (map_of walk.address_map.now)) walk.bytes.now (walked_tables walk) x
+
+-- what is still to come
+abbrev pub exports_left : Exports → List NumberedExport
+exports_left walk = exports_at walk walk.next
+
+-- the walk is over these bytes, whose addresses are mapped so
+abbrev pub IsOver : List ℕ → MapOfAddresses → Exports → Type 0
+IsOver bytes m walk = (walk.bytes.now ≡ bytes) × (map_of walk.address_map.now ≡ m)
+
+-- the second walk is over what the first is over
+abbrev pub KeepsOver : Exports → Exports → Type 0
+KeepsOver s t =
+    IsOver s.bytes.now (map_of s.address_map.now) t × (walked_tables t ≡ walked_tables s)
+
+-- no more than this comes
+abbrev pub exports_bound : Exports → ℕ
+exports_bound walk = length walk.tables.name_pointers.now / 4 - walk.next

@@ -1,0 +1,67 @@
+-- Export directories, the tables that they lead to, and the exports that these list, over a map of
+-- addresses to file offsets. The words here are parts of the readings of `ExportReadings`.
+use Rattle.std.specs.Prelude.{◌≡◌, ◌<◌, ◌≤◌, ◌⊎◌, ◌+◌, ◌/◌, max, Vec, vec_capacity, vec_len, ℕ, zero, suc, Bool, true, false, if◌then◌else◌, List, [], length, IsSome, Option, Some, None, option_and_then, slice_get, unwrap_or}
+use Rattle.std.specs.Global.{Global}
+use Rattle.goblin_pe_export.specs.declared.export.tables.ExportAddressTableEntry.{ExportAddressTableEntry}
+use Rattle.goblin_pe_export.specs.declared.export.tables.ExportAddressTableEntry.TheVariants.{ExportRVA, ForwarderRVA}
+use Rattle.goblin_pe_sect.specs.declared.data_directories.DataDirectory.{DataDirectory}
+pub use Rattle.goblin_pe_export.specs.ExportRecords.{ExportRow, ExportTables, address_entry}
+pub use Rattle.goblin_pe_export.specs.ExportRecords.{addresses, export_directory_fields}
+pub use Rattle.goblin_pe_export.specs.ExportRecords.{export_directory_record, export_read_view}
+pub use Rattle.goblin_pe_export.specs.ExportRecords.{is_in_directory, name_pointers, ordinals}
+pub use Rattle.goblin_pe_export.specs.ExportRecords.{rva_of}
+use Rattle.goblin_pe_export.specs.ExportReadings as reading
+
+-- the export data of a directory
+abbrev pub export_data : (ℕ → Option ℕ) → DataDirectory → List ℕ → Option ExportTables
+export_data offset_of d bytes = (reading.export_data offset_of d).value bytes
+
+-- a record counts entries of a table
+abbrev pub HasEntries : ExportTables → Type 0
+HasEntries tables =
+    let t = tables.export_directory_table in
+    (0 < t.number_of_name_pointers) ⊎ (0 < t.address_table_entries)
+
+-- where a table has entries, the record counts some
+abbrev pub AreCounted : ExportTables → Type 0
+AreCounted tables =
+    let t = tables.export_directory_table in
+    (0 < length tables.export_name_pointer_table → 0 < t.number_of_name_pointers)
+    × (0 < length tables.export_ordinal_table → 0 < t.number_of_name_pointers)
+    × (0 < length tables.export_address_table → 0 < t.address_table_entries)
+
+-- the row of the name pointer at index x
+abbrev pub export_row : (ℕ → Option ℕ) → List ℕ → ExportTables → ℕ → Option ExportRow
+export_row offset_of bytes tables x = (reading.export_row offset_of tables x).value bytes
+
+-- there is an export: a name pointer has a row
+abbrev pub HasExports : (ℕ → Option ℕ) → List ℕ → ExportTables → Type 0
+HasExports offset_of bytes tables =
+    (x : ℕ) × (x < length tables.export_name_pointer_table)
+    × IsSome (export_row offset_of bytes tables x)
+
+-- the exports that export data lists; there always is a list
+abbrev pub exports : (ℕ → Option ℕ) → List ℕ → ExportTables → List ExportRow
+exports offset_of bytes tables = unwrap_or ((reading.exports offset_of tables).value bytes) []
+
+-- whether the name pointer at index x leads to an address that is not a forwarder's
+abbrev pub is_own : Option ExportAddressTableEntry → Bool
+is_own None = false
+is_own (Some (ExportRVA rva)) = true
+is_own (Some (ForwarderRVA rva)) = false
+
+abbrev pub leads_to_own : ExportTables → ℕ → Bool
+leads_to_own tables x =
+    is_own (option_and_then (slice_get tables.export_address_table) (slice_get tables.export_ordinal_table x))
+
+-- how many of the first n name pointers do
+unfoldable pub own_exports : ExportTables → ℕ → ℕ
+own_exports tables zero = 0
+own_exports tables (suc n) = own_exports tables n + (if leads_to_own tables n then 1 else 0)
+
+-- The room of a list: none where nothing is in it, and else at most for so many, or for half as many
+-- again as there are.
+abbrev pub TakesRoomFor : {A : Type 0} → ℕ → Vec A Global → Type 0
+TakesRoomFor many v =
+    (vec_len v ≡ 0 → vec_capacity v ≡ 0)
+    × (vec_capacity v ≤ max many (vec_len v + vec_len v / 2))

@@ -1,0 +1,6 @@
+pub mod ExportReadings
+pub mod ExportRecords
+pub mod ExportWalks
+pub mod Exports
+pub mod ForwarderLaws
+pub mod Forwarders

@@ -1,0 +1,462 @@
+//! The exports of an image: what its export directory leads to, and the forwarders among them.
+//!
+//! Source: PE Format, "The .edata Section (Image Only)". The export directory's record leads to
+//! three tables. A name pointer and the ordinal with its index are a named export; the ordinal is
+//! the index of its address. An address inside the directory is that of a forwarder's text.
+
+ghost use Rattle.std.specs.Prelude.{◌<◌, ◌≤◌, ◌≡◌, ◌+◌, ◌/◌, ◌++◌, ◌∷◌, ◌⊎◌, ℕ, [], IfErr, IfOk};
+ghost use Rattle.std.specs.Prelude.{IsOk, IsSomeAnd, MatchOption, None, OnErr, OnOk, Option, Some};
+ghost use Rattle.std.specs.Prelude.{length, max, option_and_then, option_map, slice_get};
+ghost use Rattle.std.specs.Prelude.{vec_capacity, vec_len};
+ghost use Rattle.goblin_base.specs.Answers.{GivesOrMemory, IsMemory};
+ghost use Rattle.goblin_base.specs.Bytes.{text_at};
+ghost use Rattle.goblin_base.specs.Reading.{ReadsOrMemory};
+ghost use Rattle.goblin_pe_sect.specs.Options.{default_options};
+ghost use Rattle.goblin_pe_sect.specs.Addresses.{TakesMap, map_by, map_of, offset_of};
+ghost use Rattle.goblin_pe_export.specs.ExportReadings as reading;
+ghost use Rattle.goblin_pe_export.specs.Exports.{HasEntries, HasExports, export_data, export_row};
+ghost use Rattle.goblin_pe_export.specs.Exports.{TakesRoomFor, exports, own_exports, rva_of};
+ghost use Rattle.goblin_pe_export.specs.Forwarders.{forwarder_at, forwarder_value};
+
+use goblin_base::{Result, pread_str};
+use goblin_pe_sect::address_map::AddressMap;
+use goblin_pe_sect::{DataDirectory, ParseOptions, SectionTable};
+use std::alloc::Global;
+use std::marker::Model;
+
+mod entries;
+mod exports;
+mod forwarder;
+mod tables;
+
+pub(crate) use entries::{Entries, TablesInFile};
+pub use exports::{Exports, WalkedExport};
+pub use forwarder::Reexport;
+pub(crate) use tables::{SIZEOF_NAME_POINTER, SIZEOF_ORDINAL, room, test_counts};
+pub use tables::{
+    ExportAddressTable, ExportAddressTableEntry, ExportDirectoryTable, ExportNamePointerTable,
+    ExportOrdinalTable, SIZEOF_EXPORT_ADDRESS_TABLE_ENTRY, SIZEOF_EXPORT_DIRECTORY_TABLE,
+};
+
+// The text at an offset, where there are both.
+fn text_at(bytes: &[u8], offset: Option<usize>) -> Option<&str>
+    ensures { option_map (λ s. s.now) result ≡ option_and_then (text_at bytes.now) offset }
+{
+    pread_str(bytes, offset?).ok()
+}
+
+// The forwarder at an offset, where there are both.
+#[inline(never)]
+fn forwarder_at(bytes: &[u8], offset: Option<usize>) -> Option<Reexport<'_>>
+    ensures { option_map forwarder_value result
+        ≡ option_and_then (λ p. (forwarder_at p).value bytes.now) offset }
+{
+    Reexport::parse(bytes, offset?).ok()
+}
+
+// The address that an entry of the address table holds.
+fn rva_of(address: ExportAddressTableEntry) -> u32
+    ensures { result ≡ rva_of address }
+{
+    match address {
+        ExportAddressTableEntry::ExportRVA(rva) | ExportAddressTableEntry::ForwarderRVA(rva) => rva,
+    }
+}
+
+// What an entry of the address table stands for in another library, if it is a forwarder that can
+// be read at the offset of its address.
+#[tactic(auto, unfolding(crate::specs::ExportReadings::reexport_of))]
+fn reexport_of<'a>(
+    bytes: &'a [u8],
+    address: ExportAddressTableEntry,
+    offset: Option<usize>,
+) -> Option<Option<Reexport<'a>>>
+    ensures { (offset_of : ℕ → Option ℕ) → offset_of (rva_of address) ≡ offset
+        → option_map (option_map forwarder_value) result
+        ≡ (reading.reexport_of offset_of address).value bytes.now }
+{
+    match address {
+        ExportAddressTableEntry::ExportRVA(_) => Some(None),
+        ExportAddressTableEntry::ForwarderRVA(_) => {
+            let forwarder = forwarder_at(bytes, offset)?;
+            Some(Some(forwarder))
+        }
+    }
+}
+
+/// What an export directory leads to: the library's name and the three tables.
+///
+/// Source: PE Format, "The .edata Section (Image Only)".
+#[derive(Debug, Drop)]
+pub struct ExportData<'a> {
+    /// The library's own name, as it was linked; `None` if there is no text at its address.
+    pub name: Option<&'a str>,
+    /// The record itself, as it stands in the file.
+    pub export_directory_table: ExportDirectoryTable,
+    /// The addresses of the exports' names. The format requires them in the order of the names, for
+    /// the loader's search; no reader here relies on that.
+    pub export_name_pointer_table: ExportNamePointerTable,
+    /// For each name pointer the index of its address in the address table, without the ordinal
+    /// base.
+    pub export_ordinal_table: ExportOrdinalTable,
+    /// The exports' addresses, by index: the ordinal of an export is its index plus the ordinal
+    /// base. Here are also those without a name.
+    pub export_address_table: ExportAddressTable,
+}
+
+impl<'a> Model for ExportData<'a> {
+    ghost use Rattle.std.specs.Prelude.{option_map};
+    ghost use Rattle.goblin_pe_export.specs.Exports.{ExportTables};
+
+    ghost Value = { ExportTables };
+
+    ghost view = { λ x. record {
+      name = option_map (λ s. s.now) x.name;
+      export_directory_table = x.export_directory_table;
+      export_name_pointer_table = x.export_name_pointer_table;
+      export_ordinal_table = x.export_ordinal_table;
+      export_address_table = x.export_address_table;
+    } };
+}
+
+impl<'a> ExportData<'a> {
+    /// Reads the export data of an export directory, as [`ExportData::parse_with_opts`] reads it by
+    /// the default options.
+    ///
+    /// # Errors
+    /// As [`ExportData::parse_with_opts`].
+    pub fn parse(
+        alloc: Global,
+        bytes: &'a [u8],
+        directory: DataDirectory,
+        sections: &[SectionTable],
+        file_alignment: u32,
+    ) -> Result<ExportData<'a>>
+        ensures value { let m = map_by default_options sections.now file_alignment in
+            ReadsOrMemory (λ x. x) result (reading.export_data (offset_of m) directory) bytes.now }
+        ensures grown { let m = map_by default_options sections.now file_alignment in
+            IfErr result (λ e. IsMemory e →
+            IsSomeAnd (export_data (offset_of m) directory bytes.now) HasEntries
+            ⊎ TakesMap default_options sections.now file_alignment) }
+    {
+        let opts = ParseOptions::default();
+        ExportData::parse_with_opts(alloc, bytes, directory, sections, file_alignment, &opts)
+    }
+
+    /// Reads the export data of an export directory: the record at its address, and what the record
+    /// leads to. A table is empty if its address has no file offset, and is cut at the first
+    /// incomplete entry. An address is a forwarder's if it lies in the directory, by the
+    /// directory's address and size. The library's name is `None` if it can't be read. Both modes
+    /// give the same answer.
+    ///
+    /// # Errors
+    /// [`Error::Malformed`]: [`Cause::Unmapped`] if the directory's address has no file offset,
+    /// [`Cause::ExportTable`] if the record there runs past the end of the file;
+    /// [`Error::BufferTooShort`] if the record counts more name pointers, or else more addresses,
+    /// than the file has bytes; [`Error::Memory`] if memory is refused.
+    pub fn parse_with_opts(
+        alloc: Global,
+        bytes: &'a [u8],
+        directory: DataDirectory,
+        sections: &[SectionTable],
+        file_alignment: u32,
+        opts: &ParseOptions,
+    ) -> Result<ExportData<'a>>
+        ensures value { let m = map_by opts.now sections.now file_alignment in
+            ReadsOrMemory (λ x. x) result (reading.export_data (offset_of m) directory) bytes.now }
+        ensures grown { let m = map_by opts.now sections.now file_alignment in
+            IfErr result (λ e. IsMemory e →
+            IsSomeAnd (export_data (offset_of m) directory bytes.now) HasEntries
+            ⊎ TakesMap opts.now sections.now file_alignment) }
+    {
+        let address_map = AddressMap::prepare(alloc, sections, file_alignment, opts)?;
+        ExportData::parse_by(alloc, bytes, directory, &address_map)
+    }
+
+    /// The export data as [`ExportData::parse_with_opts`] reads it, by addresses that are mapped
+    /// already.
+    ///
+    /// # Errors
+    /// As [`ExportData::parse_with_opts`].
+    pub fn parse_by(
+        alloc: Global,
+        bytes: &'a [u8],
+        directory: DataDirectory,
+        address_map: &AddressMap,
+    ) -> Result<ExportData<'a>>
+        ensures value { let m = map_of address_map.now in
+            ReadsOrMemory (λ x. x) result (reading.export_data (offset_of m) directory) bytes.now }
+        ensures grown { let m = map_of address_map.now in
+            IfErr result (λ e. IsMemory e →
+            IsSomeAnd (export_data (offset_of m) directory bytes.now) HasEntries) }
+    {
+        let mut near = 0;
+        let tables = TablesInFile::find(bytes, directory, address_map, &mut near)?;
+        Ok(ExportData {
+            name: tables.name,
+            export_directory_table: tables.export_directory_table,
+            export_name_pointer_table: tables.name_pointers(alloc)?,
+            export_ordinal_table: tables.ordinals(alloc)?,
+            export_address_table: tables.addresses(alloc)?,
+        })
+    }
+}
+
+/// An export that has a name pointer. Those without one, which can only be imported by ordinal, are
+/// in the address table of [`ExportData`].
+///
+/// Source: PE Format, "The .edata Section (Image Only)".
+#[derive(Debug, Default, Drop)]
+pub struct Export<'a> {
+    /// The export's name; `None` if there is no text at its address.
+    pub name: Option<&'a str>,
+    /// The file offset of `rva`, as [`find_offset`](goblin_pe_sect::utils::find_offset) returns it:
+    /// `None` if no section maps it or the file alignment is not a power of two; where the options
+    /// say that addresses are offsets, `rva` itself.
+    pub offset: Option<usize>,
+    /// The export's address, relative to the image's base; of a forwarder that of its text.
+    pub rva: usize,
+    /// How many bytes it has: the tables don't say it, so 0.
+    pub size: usize,
+    /// What it stands for in another library, which the loader then loads; `None` if it is not a
+    /// forwarder.
+    pub reexport: Option<Reexport<'a>>,
+}
+
+impl<'a> Model for Export<'a> {
+    ghost use Rattle.std.specs.Prelude.{option_map};
+    ghost use Rattle.goblin_pe_export.specs.Exports.{ExportRow};
+    ghost use Rattle.goblin_pe_export.specs.Forwarders.{forwarder_value};
+
+    ghost Value = { ExportRow };
+
+    ghost view = { λ x. record {
+      name = option_map (λ s. s.now) x.name;
+      offset = x.offset;
+      rva = x.rva;
+      size = x.size;
+      reexport = option_map forwarder_value x.reexport;
+    } };
+}
+
+// For so few exports room is made without a look at what their name pointers lead to.
+const FEW: usize = 32;
+
+// For how many exports to make room first: for as many as there are name pointers, if these are
+// few, else for those that are not forwarders, of which each is there, or for a few if those are
+// fewer.
+#[tactic(auto, unfolding(crate::specs::Exports::own_exports))]
+fn expected_count(tables: &ExportData) -> usize
+    ensures few { let pointers = length tables.now.export_name_pointer_table in
+        pointers ≤ 32 → result ≡ pointers }
+    ensures own { let t = tables.now in
+        32 < length t.export_name_pointer_table
+        → result ≡ max 32 (own_exports t (length t.export_name_pointer_table)) }
+{
+    let pointers = tables.pointers();
+    if pointers <= FEW {
+        return pointers;
+    }
+    let mut count = 0;
+    'pointers: for index in 0..pointers {
+        if let Some(ordinal) = tables.ordinal(index) {
+            let address = tables.address(usize::from(ordinal));
+            if let Some(ExportAddressTableEntry::ExportRVA(_)) = address {
+                count += 1;
+            }
+        }
+    }
+    FEW.max(count)
+}
+
+// Makes room for another export where it doesn't fit: for as many as `first` where there are none
+// yet, else for half as many as there are and one.
+fn make_room(rows: &mut Vec<Export>, first: usize) -> Result<()>
+    requires { 0 < first }
+    ensures kept { rows.new.items ≡ rows.old.items }
+    ensures refused { IfErr result IsMemory }
+    ensures room { OnOk result (vec_len rows.new < vec_capacity rows.new) }
+    ensures first { OnOk result (vec_len rows.old ≡ 0 → vec_capacity rows.old ≡ 0
+        → vec_capacity rows.new ≡ first) }
+    ensures more { OnOk result (0 < vec_len rows.old → vec_capacity rows.old ≡ vec_len rows.old
+        → vec_capacity rows.new ≡ vec_len rows.old + (vec_len rows.old / 2 + 1)) }
+    ensures same { OnOk result (vec_len rows.old < vec_capacity rows.old
+        → vec_capacity rows.new ≡ vec_capacity rows.old) }
+{
+    let count = rows.len();
+    if count == rows.capacity() {
+        let more = if count == 0 { first } else { count / 2 + 1 };
+        rows.reserve_exact(more)?;
+    }
+    Ok(())
+}
+
+// Adds an export; before the first, makes room for as many as are expected.
+fn add_row<'a>(rows: &mut Vec<Export<'a>>, export: Export<'a>, expected: usize) -> Result<()>
+    requires { 0 < expected }
+    ensures added { OnOk result (rows.new.items ≡ rows.old.items ++ export.entry ∷ []) }
+    ensures refused { IfErr result IsMemory }
+    ensures room { OnOk result (TakesRoomFor expected rows.old → TakesRoomFor expected rows.new) }
+{
+    make_room(rows, expected)?;
+    rows.push_reserved(export);
+    Ok(())
+}
+
+// Where the map found the last addresses: those of names, and those of exports.
+#[derive(Copy, Clone, Default)]
+pub(crate) struct Near {
+    names: usize,
+    exports: usize,
+}
+
+impl Near {
+    // Both where the map found an address.
+    pub(crate) fn at(near: usize) -> Near {
+        Near {
+            names: near,
+            exports: near,
+        }
+    }
+}
+
+impl<'a> Export<'a> {
+    // The export of a name pointer and an address, where the text of a forwarder is there.
+    #[inline(always)]
+    #[tactic(auto, unfolding(crate::specs::ExportReadings::row_of, goblin_pe_sect::specs::AddressReadings::name_at))]
+    fn of_address(
+        bytes: &'a [u8],
+        pointer: u32,
+        address: ExportAddressTableEntry,
+        address_map: &AddressMap,
+        near: &mut Near,
+    ) -> Option<Export<'a>>
+        ensures { let m = map_of address_map.now in
+            result ≡ (reading.row_of (offset_of m) pointer address).value bytes.now }
+    {
+        let rva = rva_of(address);
+        let offset = address_map.offset_near(rva, &mut near.exports);
+        let reexport = reexport_of(bytes, address, offset)?;
+        Some(Export {
+            name: text_at(bytes, address_map.offset_near(pointer, &mut near.names)),
+            offset,
+            rva: rva as usize,
+            size: 0,
+            reexport,
+        })
+    }
+
+    // The export of the name pointer at an index, with its entry of the ordinal table, where its
+    // ordinal, its address and, of a forwarder, the text are there.
+    #[inline(always)]
+    #[tactic(auto, unfolding(crate::specs::ExportReadings::export_row))]
+    fn of_pointer<T: Entries>(
+        bytes: &'a [u8],
+        tables: &T,
+        index: usize,
+        address_map: &AddressMap,
+        near: &mut Near,
+    ) -> Option<(u16, Export<'a>)>
+        ensures { let m = map_of address_map.now in
+            let t = T.entries tables.now in
+            let row = export_row (offset_of m) bytes.now t index in
+            MatchOption result (row ≡ None)
+            (λ x. (row ≡ Some x.1) × (slice_get t.export_ordinal_table index ≡ Some x.0)) }
+    {
+        let pointer = tables.pointer(index)?;
+        let ordinal = tables.ordinal(index)?;
+        let address = tables.address(usize::from(ordinal))?;
+        let export = Export::of_address(bytes, pointer, address, address_map, near)?;
+        Some((ordinal, export))
+    }
+
+    /// The exports that export data lists, as [`Export::parse_with_opts`] reads them by the default
+    /// options.
+    ///
+    /// # Errors
+    /// Only [`Error::Memory`].
+    pub fn parse(
+        alloc: Global,
+        bytes: &'a [u8],
+        export_data: &ExportData,
+        sections: &[SectionTable],
+        file_alignment: u32,
+    ) -> Result<Vec<Export<'a>>>
+        ensures value { let m = map_by default_options sections.now file_alignment in
+            GivesOrMemory (λ v. v.items) result (exports (offset_of m) bytes.now export_data.now) }
+        ensures empty { length bytes.now ≡ 0 → IsOk result }
+        ensures room { IfOk result (TakesRoomFor 32) }
+        ensures grown { let m = map_by default_options sections.now file_alignment in
+            OnErr result (HasExports (offset_of m) bytes.now export_data.now
+            ⊎ TakesMap default_options sections.now file_alignment) }
+    {
+        let opts = ParseOptions::default();
+        Export::parse_with_opts(alloc, bytes, export_data, sections, file_alignment, &opts)
+    }
+
+    /// The exports that export data lists, one for each name pointer, in their order. There is none
+    /// for a name pointer whose ordinal is missing, whose ordinal has no address, or whose
+    /// forwarder can't be read. An export whose name can't be read is kept without it. An empty
+    /// file has no exports. Both modes give the same answer. Room is made for at most 32 exports,
+    /// or for half as many again as there are.
+    ///
+    /// # Errors
+    /// Only [`Error::Memory`], never for an empty file, which takes no memory, and otherwise only
+    /// if there is an export or addresses are mapped by sections.
+    #[tactic(auto, unfolding(crate::specs::ExportReadings::exports))]
+    pub fn parse_with_opts(
+        alloc: Global,
+        bytes: &'a [u8],
+        export_data: &ExportData,
+        sections: &[SectionTable],
+        file_alignment: u32,
+        opts: &ParseOptions,
+    ) -> Result<Vec<Export<'a>>>
+        ensures value { let m = map_by opts.now sections.now file_alignment in
+            GivesOrMemory (λ v. v.items) result (exports (offset_of m) bytes.now export_data.now) }
+        ensures empty { length bytes.now ≡ 0 → IsOk result }
+        ensures room { IfOk result (TakesRoomFor 32) }
+        ensures grown { let m = map_by opts.now sections.now file_alignment in
+            OnErr result (HasExports (offset_of m) bytes.now export_data.now
+            ⊎ TakesMap opts.now sections.now file_alignment) }
+    {
+        if bytes.is_empty() {
+            return Ok(Vec::new(alloc));
+        }
+        let address_map = AddressMap::prepare(alloc, sections, file_alignment, opts)?;
+        Export::parse_by(alloc, bytes, export_data, &address_map)
+    }
+
+    /// The exports as [`Export::parse_with_opts`] reads them, by addresses that are mapped already.
+    ///
+    /// # Errors
+    /// As [`Export::parse_with_opts`].
+    #[tactic(auto, unfolding(crate::specs::ExportReadings::exports))]
+    pub fn parse_by(
+        alloc: Global,
+        bytes: &'a [u8],
+        export_data: &ExportData,
+        address_map: &AddressMap,
+    ) -> Result<Vec<Export<'a>>>
+        ensures value { let m = map_of address_map.now in
+            GivesOrMemory (λ v. v.items) result (exports (offset_of m) bytes.now export_data.now) }
+        ensures empty { length bytes.now ≡ 0 → IsOk result }
+        ensures room { IfOk result (TakesRoomFor 32) }
+        ensures grown { let m = map_of address_map.now in
+            OnErr result (HasExports (offset_of m) bytes.now export_data.now) }
+    {
+        let mut rows = Vec::new(alloc);
+        if bytes.is_empty() {
+            return Ok(rows);
+        }
+        let expected = expected_count(export_data);
+        let mut near = Near::default();
+        'rows: for index in 0..export_data.pointers() {
+            let export = Export::of_pointer(bytes, export_data, index, address_map, &mut near);
+            if let Some((_, export)) = export {
+                add_row(&mut rows, export, expected)?;
+            }
+        }
+        Ok(rows)
+    }
+}

@@ -1,0 +1,261 @@
+//! The entries of an export directory's tables, in memory or as bytes of the file.
+
+ghost use Rattle.std.specs.Prelude.{◌≡◌, ◌<◌, ◌*◌, IfOk, IfSome, List, OnErr, Some, length, option_map};
+ghost use Rattle.std.specs.Prelude.{slice_get, vec_capacity};
+ghost use Rattle.goblin_base.specs.Answers.{GivesOrMemory};
+ghost use Rattle.goblin_base.specs.Bytes.{slice_at};
+ghost use Rattle.goblin_base.specs.Reading.{Reads};
+ghost use Rattle.goblin_pe_sect.specs.Addresses.{map_of, offset_of};
+ghost use Rattle.goblin_pe_export.specs.ExportReadings as reading;
+ghost use Rattle.goblin_pe_export.specs.ExportRecords.{ExportTables, tables_in};
+ghost use Rattle.goblin_pe_export.specs.Exports.{AreCounted};
+
+use crate::export::tables::{
+    ExportAddressTable, ExportAddressTableEntry, ExportDirectoryTable, ExportNamePointerTable,
+    ExportOrdinalTable, SIZEOF_EXPORT_ADDRESS_TABLE_ENTRY, SIZEOF_NAME_POINTER, SIZEOF_ORDINAL,
+    test_counts, whole_entries,
+};
+use crate::export::{ExportData, text_at};
+use goblin_base::{Cause, Endian, Error, Result, ResultOf, field_u16, field_u32};
+use goblin_pe_sect::DataDirectory;
+use goblin_pe_sect::address_map::AddressMap;
+use goblin_pe_sect::table::Table;
+use std::alloc::Global;
+
+// The entries of the tables that an export directory leads to.
+pub(crate) trait Entries {
+    // All of them.
+    ghost entries: { Self → ExportTables };
+
+    // How many name pointers there are.
+    fn pointers(&self) -> usize
+        ensures { result ≡ length (entries self.now).export_name_pointer_table };
+
+    // The name pointer at an index, where there is one.
+    fn pointer(&self, index: usize) -> Option<u32>
+        ensures { result ≡ slice_get (entries self.now).export_name_pointer_table index };
+
+    // The ordinal at an index, where there is one.
+    fn ordinal(&self, index: usize) -> Option<u16>
+        ensures { result ≡ slice_get (entries self.now).export_ordinal_table index };
+
+    // What the address table has at an index, if it has anything there.
+    fn address(&self, index: usize) -> Option<ExportAddressTableEntry>
+        ensures { result ≡ slice_get (entries self.now).export_address_table index };
+}
+
+impl<'a> Entries for ExportData<'a> {
+    ghost entries = { λ tables. tables };
+
+    fn pointers(&self) -> usize {
+        self.export_name_pointer_table.len()
+    }
+
+    fn pointer(&self, index: usize) -> Option<u32> {
+        Some(*self.export_name_pointer_table.as_slice().get(index)?)
+    }
+
+    fn ordinal(&self, index: usize) -> Option<u16> {
+        Some(*self.export_ordinal_table.as_slice().get(index)?)
+    }
+
+    fn address(&self, index: usize) -> Option<ExportAddressTableEntry> {
+        Some(*self.export_address_table.as_slice().get(index)?)
+    }
+}
+
+// What an export directory leads to, where the tables are the bytes of their entries in the file.
+#[derive(Copy, Clone)]
+pub(crate) struct TablesInFile<'a> {
+    // The library's own name, if there is a text at its address.
+    pub(super) name: Option<&'a str>,
+    // The record itself.
+    pub(super) export_directory_table: ExportDirectoryTable,
+    directory: DataDirectory,
+    name_pointers: &'a [u8],
+    ordinals: &'a [u8],
+    addresses: &'a [u8],
+}
+
+impl<'a> TablesInFile<'a> {
+    // The tables that a record leads to. Their addresses are looked for first at `near`.
+    #[inline(always)]
+    #[tactic(auto, unfolding(crate::specs::ExportReadings::export_tables, goblin_pe_sect::specs::AddressReadings::name_at), using(crate::proofs::WholeEntries::counted_is, crate::proofs::WholeEntries::entry_count))]
+    fn of_record(
+        bytes: &'a [u8],
+        table: ExportDirectoryTable,
+        directory: DataDirectory,
+        address_map: &AddressMap,
+        near: &mut usize,
+    ) -> TablesInFile<'a>
+        ensures value { let m = map_of address_map.now in
+            let tables = reading.export_tables (offset_of m) directory table in
+            tables.value bytes.now ≡ Some (tables_in result) }
+        ensures counted { AreCounted (tables_in result) }
+    {
+        let names = table.number_of_name_pointers;
+        let pointers = address_map.offset_near(table.name_pointer_rva, near);
+        let ordinals = address_map.offset_near(table.ordinal_table_rva, near);
+        let addresses = address_map.offset_near(table.export_address_table_rva, near);
+        TablesInFile {
+            name: text_at(bytes, address_map.offset_near(table.name_rva, near)),
+            export_directory_table: table,
+            directory,
+            name_pointers: whole_entries(bytes, pointers, SIZEOF_NAME_POINTER, names),
+            ordinals: whole_entries(bytes, ordinals, SIZEOF_ORDINAL, names),
+            addresses: whole_entries(
+                bytes,
+                addresses,
+                SIZEOF_EXPORT_ADDRESS_TABLE_ENTRY,
+                table.address_table_entries,
+            ),
+        }
+    }
+
+    // The tables that the record at a directory's address leads to, if its counts fit the file.
+    // Addresses are looked for first where the last one was, at `near`.
+    #[inline(always)]
+    #[tactic(auto, unfolding(crate::specs::ExportReadings::export_data, crate::specs::ExportReadings::tables_if, crate::specs::ExportReadings::fitting))]
+    pub(crate) fn find(
+        bytes: &'a [u8],
+        directory: DataDirectory,
+        address_map: &AddressMap,
+        near: &mut usize,
+    ) -> Result<TablesInFile<'a>>
+        ensures value { let m = map_of address_map.now in
+            Reads tables_in result (reading.export_data (offset_of m) directory) bytes.now }
+        ensures counted { IfOk result (λ t. AreCounted (tables_in t)) }
+    {
+        let Some(offset) = address_map.offset_near(directory.virtual_address, near) else {
+            let rva = directory.virtual_address as usize;
+            return Err(Error::Malformed(Cause::Unmapped(rva)));
+        };
+        let table = ExportDirectoryTable::parse(bytes, offset)?;
+        test_counts(bytes, &table)?;
+        Ok(TablesInFile::of_record(bytes, table, directory, address_map, near))
+    }
+
+    // The name pointers in memory.
+    pub(super) fn name_pointers(&self, alloc: Global) -> Result<ExportNamePointerTable>
+        ensures value { let entries = (tables_in self.now).export_name_pointer_table in
+            GivesOrMemory (λ t. t) result entries }
+        ensures grown { let entries = (tables_in self.now).export_name_pointer_table in
+            OnErr result (0 < length entries) }
+    {
+        table_of(alloc, self.pointers(), |index| self.pointer(index))
+    }
+
+    // The ordinals in memory.
+    #[tactic(auto, using(crate::proofs::WholeEntries::entry_count))]
+    pub(super) fn ordinals(&self, alloc: Global) -> Result<ExportOrdinalTable>
+        ensures value { let entries = (tables_in self.now).export_ordinal_table in
+            GivesOrMemory (λ t. t) result entries }
+        ensures grown { let entries = (tables_in self.now).export_ordinal_table in
+            OnErr result (0 < length entries) }
+    {
+        let count = self.ordinals.len() / SIZEOF_ORDINAL;
+        table_of(alloc, count, |index| self.ordinal(index))
+    }
+
+    // How many addresses there are.
+    #[tactic(auto, using(crate::proofs::WholeEntries::entry_count))]
+    pub(super) fn address_count(&self) -> usize
+        ensures { result ≡ length (tables_in self.now).export_address_table }
+    {
+        self.addresses.len() / SIZEOF_EXPORT_ADDRESS_TABLE_ENTRY
+    }
+
+    // The addresses in memory.
+    pub(super) fn addresses(&self, alloc: Global) -> Result<ExportAddressTable>
+        ensures value { let entries = (tables_in self.now).export_address_table in
+            GivesOrMemory (λ t. t) result entries }
+        ensures grown { let entries = (tables_in self.now).export_address_table in
+            OnErr result (0 < length entries) }
+    {
+        table_of(alloc, self.address_count(), |index| self.address(index))
+    }
+}
+
+// The `count` entries of a table, with room for no more.
+fn entries_of<'e, V: Drop, F: Fn(usize) -> Option<V>>(
+    alloc: Global,
+    count: usize,
+    entry: F,
+) -> ResultOf<'e, Vec<V>>
+    requires { (index : _) → F.pre entry index }
+    ensures value { (entries : List V) → length entries ≡ count
+        → ((index : _) (found : _) → F.post entry index found
+        → found ≡ slice_get entries index)
+        → GivesOrMemory (λ v. v.items) result entries }
+    ensures room { IfOk result (λ v. vec_capacity v ≡ count) }
+    ensures grown { OnErr result (0 < count) }
+{
+    let mut entries = Vec::with_capacity(alloc, count)?;
+    'entries: for index in 0..count {
+        let Some(found) = entry(index) else {
+            return Ok(entries);
+        };
+        entries.push_reserved(found);
+    }
+    Ok(entries)
+}
+
+// The table of them.
+fn table_of<'e, V: Drop, F: Fn(usize) -> Option<V>>(
+    alloc: Global,
+    count: usize,
+    entry: F,
+) -> ResultOf<'e, Table<V>>
+    requires { (index : _) → F.pre entry index }
+    ensures value { (entries : List V) → length entries ≡ count
+        → ((index : _) (found : _) → F.post entry index found
+        → found ≡ slice_get entries index)
+        → GivesOrMemory (λ t. t) result entries }
+    ensures grown { OnErr result (0 < count) }
+{
+    let entries = entries_of(alloc, count, entry)?;
+    Ok(Table::from(entries))
+}
+
+// The bytes of the entry of `width` bytes at an index, where there is one.
+#[tactic(auto, using(crate::proofs::WholeEntries::entry_inside, crate::proofs::WholeEntries::entry_outside))]
+fn entry_of(entries: &[u8], width: usize, index: usize) -> Option<&[u8]>
+    requires { 0 < width }
+    ensures value { option_map (λ s. s.now) result ≡ slice_at entries.now (width * index) width }
+    ensures len { IfSome result (λ s. length s.now ≡ width) }
+{
+    if index < entries.len() / width {
+        let begin = width * index;
+        Some(&entries[begin..begin + width])
+    } else {
+        None
+    }
+}
+
+impl<'a> Entries for TablesInFile<'a> {
+    ghost entries = { tables_in };
+
+    #[tactic(auto, using(crate::proofs::WholeEntries::entry_count))]
+    fn pointers(&self) -> usize {
+        self.name_pointers.len() / SIZEOF_NAME_POINTER
+    }
+
+    #[tactic(auto, using(crate::proofs::WholeEntries::entry_read))]
+    fn pointer(&self, index: usize) -> Option<u32> {
+        let entry = entry_of(self.name_pointers, SIZEOF_NAME_POINTER, index)?;
+        Some(field_u32(entry, 0, Endian::Little))
+    }
+
+    #[tactic(auto, using(crate::proofs::WholeEntries::entry_read))]
+    fn ordinal(&self, index: usize) -> Option<u16> {
+        let entry = entry_of(self.ordinals, SIZEOF_ORDINAL, index)?;
+        Some(field_u16(entry, 0, Endian::Little))
+    }
+
+    #[tactic(auto, using(crate::proofs::WholeEntries::entry_read))]
+    fn address(&self, index: usize) -> Option<ExportAddressTableEntry> {
+        let entry = entry_of(self.addresses, SIZEOF_EXPORT_ADDRESS_TABLE_ENTRY, index)?;
+        let rva = field_u32(entry, 0, Endian::Little);
+        Some(ExportAddressTableEntry::of_rva(self.directory, rva))
+    }
+}

@@ -1,0 +1,203 @@
+//! A walk over the exports of an image.
+
+ghost use Rattle.std.specs.Prelude.{◌≡◌, ◌≤◌, ⊤, IfOk, IfSome, Some, length, map, option_map};
+ghost use Rattle.std.specs.Prelude.{slice_get};
+ghost use Rattle.std.specs.Iterator.{MakesProgress, UpTo, YieldsFirstBy, at_most};
+ghost use Rattle.std.specs.Iterator.SizeHint.{IsWithinCount};
+ghost use Rattle.goblin_base.specs.Reading.{Reads};
+ghost use Rattle.goblin_pe_sect.specs.Addresses.{map_of, offset_of};
+ghost use Rattle.goblin_pe_export.specs.ExportReadings.{export_read};
+ghost use Rattle.goblin_pe_export.specs.ExportWalks.{IsOver, KeepsOver, exports_at, exports_bound};
+ghost use Rattle.goblin_pe_export.specs.ExportWalks.{exports_left, numbered_export, numbered_from};
+ghost use Rattle.goblin_pe_export.specs.ExportWalks.{walked_export, walked_tables};
+
+use crate::export::entries::{Entries, TablesInFile};
+use crate::export::tables::{ExportAddressTableEntry, ExportDirectoryTable};
+use crate::export::{Export, Near};
+use goblin_base::Result;
+use goblin_pe_sect::DataDirectory;
+use goblin_pe_sect::address_map::AddressMap;
+use std::fmt;
+use std::iter::FusedIterator;
+
+/// An export, as a walk yields it: without memory.
+#[derive(Debug, Drop)]
+pub struct WalkedExport<'a> {
+    /// The index of its name pointer: what imports by name give as a hint.
+    pub hint: usize,
+    /// Its own ordinal: the index of its address, and the ordinal base added.
+    pub ordinal: usize,
+    /// The export itself.
+    pub export: Export<'a>,
+}
+
+/// The exports of an image, in the order of their name pointers, without memory: those that
+/// [`Export::parse_by`] lists for what [`ExportData::parse_by`](crate::export::ExportData::parse_by)
+/// reads.
+///
+/// The three tables are read where they stand in the file, one name pointer at a time. Once the
+/// record that leads to them is read, nothing is refused.
+#[derive(Drop)]
+pub struct Exports<'a, 'm> {
+    bytes: &'a [u8],
+    address_map: &'m AddressMap,
+    tables: TablesInFile<'a>,
+    // The index of the name pointer that is read next.
+    next: usize,
+    near: Near,
+}
+
+impl<'a, 'm> Exports<'a, 'm> {
+    /// The exports of an export directory. Both modes give the same answer.
+    ///
+    /// # Errors
+    /// As [`ExportData::parse_by`](crate::export::ExportData::parse_by), but never
+    /// [`Error::Memory`](goblin_base::Error::Memory).
+    #[inline(always)]
+    #[tactic(auto, unfolding(crate::specs::ExportReadings::export_read), using(crate::proofs::ExportWalk::read_walked))]
+    pub fn of(
+        bytes: &'a [u8],
+        directory: DataDirectory,
+        address_map: &'m AddressMap,
+    ) -> Result<Exports<'a, 'm>>
+        ensures value { let m = map_of address_map.now in
+            Reads (λ walk. (walked_tables walk, map (λ x. x.row) (exports_left walk))) result
+            (export_read (offset_of m) directory) bytes.now }
+        ensures left { let m = map_of address_map.now in
+            IfOk result (λ walk. exports_left walk
+            ≡ numbered_from (offset_of m) bytes.now (walked_tables walk) 0) }
+        ensures over { IfOk result (IsOver bytes.now (map_of address_map.now)) }
+    {
+        let mut near = 0;
+        let tables = TablesInFile::find(bytes, directory, address_map, &mut near)?;
+        Ok(Exports {
+            bytes,
+            address_map,
+            tables,
+            next: 0,
+            near: Near::at(near),
+        })
+    }
+
+    /// The exports from a position on, as [`Exports::position`] gave it: what was still to come
+    /// there.
+    pub fn from_position(self, position: usize) -> Exports<'a, 'm>
+        ensures left { exports_left result ≡ exports_at self.entry position }
+        ensures over { KeepsOver self.entry result }
+    {
+        Exports {
+            bytes: self.bytes,
+            address_map: self.address_map,
+            tables: self.tables,
+            next: position,
+            near: self.near,
+        }
+    }
+
+    /// Where the walk is, the index of the name pointer that is read next: what is still to come is
+    /// what comes from it on.
+    pub fn position(&self) -> usize
+        ensures { exports_left self.now ≡ exports_at self.now result }
+    {
+        self.next
+    }
+
+    /// The library's own name, as it was linked; `None` if there is no text at its address.
+    pub fn name(&self) -> Option<&'a str>
+        ensures { option_map (λ s. s.now) result ≡ (walked_tables self.now).name }
+    {
+        self.tables.name
+    }
+
+    /// The record itself, as it stands in the file.
+    pub fn directory_table(&self) -> &ExportDirectoryTable
+        ensures { result.now ≡ (walked_tables self.now).export_directory_table }
+    {
+        &self.tables.export_directory_table
+    }
+
+    /// How many entries the export address table has: those that are whole.
+    pub fn address_count(&self) -> usize
+        ensures { result ≡ length (walked_tables self.now).export_address_table }
+    {
+        self.tables.address_count()
+    }
+
+    /// The entry of the export address table at an index, where there is one. The index and the
+    /// ordinal base are the ordinal that it stands for.
+    pub fn address(&self, index: usize) -> Option<ExportAddressTableEntry>
+        ensures { result ≡ slice_get (walked_tables self.now).export_address_table index }
+    {
+        self.tables.address(index)
+    }
+
+    // The export of the name pointer at an index, where that has one.
+    #[inline(always)]
+    #[tactic(auto, unfolding(crate::specs::ExportWalks::numbered_export))]
+    fn export_at(&self, index: usize, near: &mut Near) -> Option<WalkedExport<'a>>
+        ensures { let m = map_of self.now.address_map.now in
+            option_map walked_export result
+            ≡ numbered_export (offset_of m) self.now.bytes.now (walked_tables self.now) index }
+    {
+        let (ordinal, export) = Export::of_pointer(
+            self.bytes,
+            &self.tables,
+            index,
+            self.address_map,
+            near,
+        )?;
+        let base = self.tables.export_directory_table.ordinal_base;
+        Some(WalkedExport {
+            hint: index,
+            ordinal: base as usize + usize::from(ordinal),
+            export,
+        })
+    }
+}
+
+impl<'a, 'm> Iterator for Exports<'a, 'm> {
+    type Item = WalkedExport<'a>;
+
+    ghost next_gives = { YieldsFirstBy walked_export exports_left };
+
+    ghost remaining = { λ walk. at_most (exports_bound walk) };
+
+    #[inline(always)]
+    fn next(&mut self) -> Option<WalkedExport<'a>>
+        ensures steps { YieldsFirstBy walked_export exports_left self.old result self.new }
+        ensures goes { MakesProgress (λ _. ⊤) (λ walk. at_most (exports_bound walk))
+            self.old result self.new }
+        ensures over { KeepsOver self.old self.new }
+    {
+        let mut near = self.near;
+        'pointers: for index in self.next..self.tables.pointers() {
+            self.next = index + 1;
+            if let Some(export) = self.export_at(index, &mut near) {
+                self.near = near;
+                return Some(export);
+            }
+        }
+        None
+    }
+
+    /// No more come than there are name pointers left.
+    #[tactic(auto, using(crate::proofs::ExportWalk::from_most, crate::proofs::WholeEntries::entry_count))]
+    fn size_hint(&self) -> (usize, Option<usize>)
+        ensures lower { IsWithinCount result.0 (at_most (exports_bound self.now)) }
+        ensures upper { IfSome result.1 (UpTo (at_most (exports_bound self.now))) }
+        ensures most { IfSome result.1 (λ n. length (exports_left self.now) ≤ n) }
+        ensures value { result ≡ (0, Some (exports_bound self.now)) }
+    {
+        (0, Some(self.tables.pointers().saturating_sub(self.next)))
+    }
+}
+
+impl<'a, 'm> FusedIterator for Exports<'a, 'm> {}
+
+impl<'a, 'm> fmt::Debug for Exports<'a, 'm> {
+    fn fmt<W: fmt::Write>(&self, f: &mut fmt::Formatter<W>) -> fmt::Result {
+        f.debug_struct("Exports")
+            .field("position", &self.next)
+            .finish_non_exhaustive()
+    }
+}

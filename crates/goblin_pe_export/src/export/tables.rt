@@ -1,0 +1,243 @@
+//! The export directory's record, and the three tables that it leads to.
+
+ghost use Rattle.std.specs.Prelude.{◌≡◌, ◌<◌, ◌-◌, ◌/◌, IfOk, length, min};
+ghost use Rattle.goblin_base.specs.Answers.{IsSliceFault, Writes};
+ghost use Rattle.goblin_base.specs.Reading.{Reads};
+ghost use Rattle.goblin_base.specs.Record.{ReadsBack, WritesBack, encoding, record_over};
+ghost use Rattle.goblin_pe_export.specs.declared.export.tables.ExportDirectoryTable.{ExportDirectoryTable};
+ghost use Rattle.goblin_pe_export.specs.ExportReadings.{fitting, record_here};
+ghost use Rattle.goblin_pe_export.specs.ExportRecords.{address_entry};
+ghost use Rattle.goblin_pe_export.specs.ExportRecords.{export_directory_fields};
+ghost use Rattle.goblin_pe_export.specs.ExportRecords.{export_directory_record};
+ghost use Rattle.goblin_pe_export.specs.ExportRecords.{table_bytes};
+
+use goblin_base::{Cause, Endian, Error, Field, Record, Result, field_u16, field_u32, put_fields};
+use goblin_pe_sect::DataDirectory;
+use goblin_pe_sect::table::Table;
+use goblin_pe_sect::utils::is_in_range;
+
+/// The size of an export directory's record, in bytes.
+pub const SIZEOF_EXPORT_DIRECTORY_TABLE: usize = 40;
+
+const _: () = prove!(SIZEOF_EXPORT_DIRECTORY_TABLE == 40);
+
+/// The size of an entry of the export address table, in bytes.
+pub const SIZEOF_EXPORT_ADDRESS_TABLE_ENTRY: usize = 4;
+
+const _: () = prove!(SIZEOF_EXPORT_ADDRESS_TABLE_ENTRY == 4);
+
+// The sizes of a name pointer and of an ordinal, in bytes.
+pub(crate) const SIZEOF_NAME_POINTER: usize = 4;
+
+pub(crate) const SIZEOF_ORDINAL: usize = 2;
+
+/// The record that an image's exports begin with.
+///
+/// Source: PE Format, "Export Directory Table". Numbers are as stored; the record has 40 bytes, and
+/// `at` gives a field's offset in it. Addresses are relative to the image's base.
+#[repr(C)]
+#[derive(Debug, PartialEq, Copy, Clone, Default)]
+pub struct ExportDirectoryTable {
+    /// Reserved, 0, at 0.
+    pub export_flags: u32,
+    /// When the exports were made, in seconds since the start of 1970, at 4.
+    pub time_date_stamp: u32,
+    /// The major version, at 8. It is the maker's own.
+    pub major_version: u16,
+    /// The minor version, at 10.
+    pub minor_version: u16,
+    /// The address of the library's name, at 12.
+    pub name_rva: u32,
+    /// The ordinal of the first entry of the address table, at 16; mostly 1. It is added to an
+    /// index to make an ordinal, and counts in no table.
+    pub ordinal_base: u32,
+    /// How many entries the address table has, at 20.
+    pub address_table_entries: u32,
+    /// How many entries the name pointer table has, and as many has the ordinal table, at 24.
+    pub number_of_name_pointers: u32,
+    /// The address of the address table, at 28.
+    pub export_address_table_rva: u32,
+    /// The address of the name pointer table, at 32.
+    pub name_pointer_rva: u32,
+    /// The address of the ordinal table, at 36.
+    pub ordinal_table_rva: u32,
+}
+
+impl Record for ExportDirectoryTable {
+    ghost width = { 40 };
+
+    ghost value = { export_directory_record };
+
+    ghost fields = { export_directory_fields };
+
+    fn size() -> usize {
+        SIZEOF_EXPORT_DIRECTORY_TABLE
+    }
+
+    #[tactic(auto, unfolding(crate::specs::ExportRecords::export_directory_record))]
+    fn in_record(bytes: &[u8], endian: Endian) -> ExportDirectoryTable {
+        ExportDirectoryTable {
+            export_flags: field_u32(bytes, 0, endian),
+            time_date_stamp: field_u32(bytes, 4, endian),
+            major_version: field_u16(bytes, 8, endian),
+            minor_version: field_u16(bytes, 10, endian),
+            name_rva: field_u32(bytes, 12, endian),
+            ordinal_base: field_u32(bytes, 16, endian),
+            address_table_entries: field_u32(bytes, 20, endian),
+            number_of_name_pointers: field_u32(bytes, 24, endian),
+            export_address_table_rva: field_u32(bytes, 28, endian),
+            name_pointer_rva: field_u32(bytes, 32, endian),
+            ordinal_table_rva: field_u32(bytes, 36, endian),
+        }
+    }
+
+    #[tactic(auto, unfolding(crate::specs::ExportRecords::export_directory_fields), using(crate::proofs::ExportDirectoryRoundTrip::export_directory_back, crate::proofs::ExportDirectoryRoundTrip::export_directory_again))]
+    fn put(self, bytes: &mut [u8], endian: Endian) {
+        let fields = [
+            Field::U32(self.export_flags),
+            Field::U32(self.time_date_stamp),
+            Field::U16(self.major_version),
+            Field::U16(self.minor_version),
+            Field::U32(self.name_rva),
+            Field::U32(self.ordinal_base),
+            Field::U32(self.address_table_entries),
+            Field::U32(self.number_of_name_pointers),
+            Field::U32(self.export_address_table_rva),
+            Field::U32(self.name_pointer_rva),
+            Field::U32(self.ordinal_table_rva),
+        ];
+        put_fields(bytes, SIZEOF_EXPORT_DIRECTORY_TABLE, &fields, endian);
+    }
+}
+
+impl ExportDirectoryTable {
+    /// Reads the record at the file offset `offset`.
+    ///
+    /// # Errors
+    /// [`Error::Malformed`] with [`Cause::ExportTable`] if the 40 bytes run past the end of the
+    /// file.
+    pub fn parse(bytes: &[u8], offset: usize) -> Result<ExportDirectoryTable>
+        ensures { Reads (λ t. t) result (record_here offset) bytes.now }
+    {
+        match ExportDirectoryTable::read_at(bytes, offset, Endian::Little) {
+            Ok(table) => Ok(table),
+            Err(_) => Err(Error::Malformed(Cause::ExportTable(offset))),
+        }
+    }
+
+    /// Writes the record to the front of `bytes`, and returns its size, 40. A record that was read
+    /// is written back unchanged, and any record reads back from what was written, in the same byte
+    /// order.
+    ///
+    /// # Errors
+    /// [`Error::Read`] if there is no room for 40 bytes; `bytes` is then unchanged.
+    pub fn try_into_ctx(self, bytes: &mut [u8], endian: Endian) -> Result<usize>
+        ensures size { IfOk result (λ n. n ≡ 40) }
+        ensures written { let own = encoding endian (export_directory_fields self) in
+            let after = record_over 40 own bytes.old in
+            Writes result after bytes.old bytes.new (IsSliceFault bytes.old 0 40) }
+        ensures long { let own = encoding endian (export_directory_fields self) in
+            IfOk result (λ n. length own ≡ 40) }
+        ensures back { IfOk result (λ n.
+            WritesBack 40 export_directory_record export_directory_fields) }
+        ensures again { IfOk result (λ n.
+            ReadsBack 40 export_directory_record export_directory_fields self) }
+    {
+        Record::try_into_ctx(self, bytes, endian)
+    }
+
+    /// The size of the record in bytes: 40 in either byte order.
+    pub fn size_with(endian: &Endian) -> usize
+        ensures { result ≡ 40 }
+    {
+        <ExportDirectoryTable as Record>::size_with(endian)
+    }
+}
+
+/// An entry of the export address table.
+///
+/// Source: PE Format, "Export Address Table".
+#[derive(Debug, PartialEq, Copy, Clone)]
+pub enum ExportAddressTableEntry {
+    /// The address of an export in this image, relative to its base. 0 stands for an ordinal that
+    /// is not used.
+    ExportRVA(u32),
+    /// The address of a forwarder's text, which lies in the export directory.
+    ForwarderRVA(u32),
+}
+
+/// The exports' addresses, which ordinals number.
+///
+/// Source: PE Format, "Export Address Table".
+pub type ExportAddressTable = Table<ExportAddressTableEntry>;
+
+/// The addresses of the exports' names.
+///
+/// Source: PE Format, "Export Name Pointer Table".
+pub type ExportNamePointerTable = Table<u32>;
+
+/// For each name pointer the index of its address in the address table.
+///
+/// Source: PE Format, "Export Ordinal Table".
+pub type ExportOrdinalTable = Table<u16>;
+
+impl ExportAddressTableEntry {
+    // What an address stands for under an export directory.
+    #[tactic(auto, unfolding(crate::specs::ExportRecords::address_entry))]
+    pub(super) fn of_rva(directory: DataDirectory, rva: u32) -> ExportAddressTableEntry
+        ensures { result ≡ address_entry directory rva }
+    {
+        let begin = directory.virtual_address as usize;
+        let end = begin + directory.size as usize;
+        if is_in_range(rva as usize, begin, end) {
+            ExportAddressTableEntry::ForwarderRVA(rva)
+        } else {
+            ExportAddressTableEntry::ExportRVA(rva)
+        }
+    }
+}
+
+// The bytes of a table of `count` entries of `width` bytes, up to the first that is not whole;
+// without an offset it has none.
+#[tactic(auto, using(crate::proofs::WholeEntries::entries_inside))]
+pub(super) fn whole_entries(bytes: &[u8], offset: Option<usize>, width: usize, count: u32) -> &[u8]
+    requires { 0 < width }
+    ensures value { result.now ≡ table_bytes width count bytes.now offset }
+    ensures none { count ≡ 0 → length result.now ≡ 0 }
+{
+    let Some(begin) = offset else {
+        return &bytes[..0];
+    };
+    let whole = room(bytes, begin, width, count);
+    if whole == 0 {
+        return &bytes[..0];
+    }
+    &bytes[begin..begin + width * whole]
+}
+
+// How many whole entries of `width` bytes the file has from here on, of `count`.
+pub(crate) fn room(bytes: &[u8], begin: usize, width: usize, count: u32) -> usize
+    requires { 0 < width }
+    ensures { result ≡ min ((length bytes.now - begin) / width) count }
+{
+    if bytes.len() < begin {
+        return 0;
+    }
+    ((bytes.len() - begin) / width).min(count as usize)
+}
+
+// Refuses a record that counts more entries than the file has bytes.
+#[tactic(auto, unfolding(crate::specs::ExportReadings::fitting))]
+pub(crate) fn test_counts(bytes: &[u8], table: &ExportDirectoryTable) -> Result<()>
+    ensures { Reads (λ fits. table.now) result (fitting table.now) bytes.now }
+{
+    let name_pointers = table.number_of_name_pointers as usize;
+    if name_pointers > bytes.len() {
+        return Err(Error::BufferTooShort(name_pointers, "name pointers"));
+    }
+    let addresses = table.address_table_entries as usize;
+    if addresses > bytes.len() {
+        return Err(Error::BufferTooShort(addresses, "address table entries"));
+    }
+    Ok(())
+}

@@ -1,0 +1,8 @@
+//! Laws about two reads of exports, and the bytes of a file that these depend on;
+//! `goblin_pe::laws` explains them.
+
+mod exports;
+mod footprint;
+
+pub use exports::{ExportRead, read_exports, twin_exports};
+pub use footprint::{add_exports, footprint_exports};

@@ -1,0 +1,86 @@
+//! The exports of two files.
+
+ghost use Rattle.std.specs.Prelude.{◌⊎◌, IfErr, IsSomeAnd};
+ghost use Rattle.goblin_base.specs.Answers.{IsMemory};
+ghost use Rattle.goblin_base.specs.Reading.{ReadsOrMemory, TwinsOrMemory};
+ghost use Rattle.goblin_pe_sect.specs.Addresses.{TakesMap, map_by, offset_of};
+ghost use Rattle.goblin_pe_export.specs.ExportReadings.{export_read};
+ghost use Rattle.goblin_pe_export.specs.Exports.{HasEntries, export_data, export_read_view};
+
+use crate::export::{Export, ExportData};
+use goblin_base::Result;
+use goblin_pe_sect::data_directories::DataDirectory;
+use goblin_pe_sect::options::ParseOptions;
+use goblin_pe_sect::section_table::SectionTable;
+use std::alloc::Global;
+
+/// The export data of a directory, and the exports that it lists.
+pub type ExportRead<'a> = (ExportData<'a>, Vec<Export<'a>>);
+
+/// The export data of a directory, and the exports that it lists.
+///
+/// # Errors
+/// As [`ExportData::parse_with_opts`] and [`Export::parse_with_opts`].
+#[tactic(auto, unfolding(crate::specs::ExportReadings::export_read, crate::specs::ExportReadings::exports))]
+pub fn read_exports<'a>(
+    alloc: Global,
+    bytes: &'a [u8],
+    directory: DataDirectory,
+    sections: &[SectionTable],
+    file_alignment: u32,
+    opts: &ParseOptions,
+) -> Result<ExportRead<'a>>
+    ensures value { let m = map_by opts.now sections.now file_alignment in
+        ReadsOrMemory export_read_view result (export_read (offset_of m) directory) bytes.now }
+    ensures grown { let m = map_by opts.now sections.now file_alignment in
+        IfErr result (λ e. IsMemory e →
+        IsSomeAnd (export_data (offset_of m) directory bytes.now) HasEntries
+        ⊎ TakesMap opts.now sections.now file_alignment) }
+{
+    let tables = ExportData::parse_with_opts(
+        alloc,
+        bytes,
+        directory,
+        sections,
+        file_alignment,
+        opts,
+    )?;
+    let exports = Export::parse_with_opts(alloc, bytes, &tables, sections, file_alignment, opts)?;
+    Ok((tables, exports))
+}
+
+/// The export data of one directory, with the exports that it lists, in two files.
+///
+/// The footprint of the read: the record at the directory's address; the text of the library's
+/// name; of the three tables each entry that is read, where the record's counts fit; and for each
+/// name pointer with an ordinal and an address the text of its name, and that of its forwarder if
+/// it is one.
+///
+/// # Errors
+/// For each file as [`ExportData::parse_with_opts`] and [`Export::parse_with_opts`]; memory is
+/// asked for only if the record counts entries or addresses are mapped by sections.
+#[tactic(auto, using(goblin_base::proofs::Readings::twins_or_memory))]
+pub fn twin_exports<'a>(
+    alloc: Global,
+    a: &'a [u8],
+    b: &'a [u8],
+    directory: DataDirectory,
+    sections: &[SectionTable],
+    file_alignment: u32,
+    opts: &ParseOptions,
+) -> (Result<ExportRead<'a>>, Result<ExportRead<'a>>)
+    ensures twins { let m = map_by opts.now sections.now file_alignment in
+        TwinsOrMemory export_read_view (export_read (offset_of m) directory) a.now b.now result }
+    ensures first_grown { let m = map_by opts.now sections.now file_alignment in
+        IfErr result.0 (λ e. IsMemory e →
+        IsSomeAnd (export_data (offset_of m) directory a.now) HasEntries
+        ⊎ TakesMap opts.now sections.now file_alignment) }
+    ensures second_grown { let m = map_by opts.now sections.now file_alignment in
+        IfErr result.1 (λ e. IsMemory e →
+        IsSomeAnd (export_data (offset_of m) directory b.now) HasEntries
+        ⊎ TakesMap opts.now sections.now file_alignment) }
+{
+    let first = read_exports(alloc, a, directory, sections, file_alignment, opts);
+    let second = read_exports(alloc, b, directory, sections, file_alignment, opts);
+    (first, second)
+}

@@ -1,0 +1,275 @@
+-- A walk over imports that is between two calls of `next`: what is still to come follows from its
+-- position.
+use Rattle.std.proofs.Common.{◌≡◌, ◌+◌, ◌-◌, ℕ, Bool, true, List, ◌++◌, Option, Some, None}
+use Rattle.std.proofs.Common.{refl, sym, ap, subst, ◌∙◌, arith}
+use Rattle.std.specs.Prelude.{◌<◌, ◌&&◌, ◌==◌, not, false, IfOk, IfSome, IsSomeAnd, Result, Ok, Err, unwrap_or}
+use Rattle.goblin_base.specs.declared.endian.Endian.TheVariants.{Little}
+use Rattle.goblin_base.specs.declared.error.ErrorOf.{ErrorOf}
+use Rattle.goblin_base.specs.Answers.{FirstFault, all_of}
+use Rattle.goblin_base.specs.declared.error.CauseOf.TheVariants.{Unmapped}
+use Rattle.goblin_base.specs.declared.error.ErrorOf.TheVariants.{Malformed}
+use Rattle.goblin_base.specs.Reading.{Reading}
+use Rattle.goblin_base.specs.Tables.{Format}
+use Rattle.goblin_base.proofs.Records.{record_at-some}
+use Rattle.readings.specs.Reads.{in_its_place}
+use Rattle.readings.specs.Walks.{until_refused}
+use Rattle.readings.proofs.Walks.{slot-going}
+use Rattle.goblin_pe_import.specs.declared.import.directory_entry.ImportDirectoryEntry.{ImportDirectoryEntry}
+use Rattle.goblin_pe_import.specs.declared.import.imports.ImportPosition.{ImportPosition}
+use Rattle.goblin_pe_import.specs.declared.import.imports.Walk.{Walk}
+use Rattle.goblin_pe_import.specs.declared.import.imports.Imports.{Imports}
+use Rattle.goblin_pe_import.specs.declared.import.imports.WalkedImport.{WalkedImport}
+use Rattle.goblin_pe_sect.specs.Addresses.{MapOfAddresses, map_of, offset_of, reads_strictly}
+use Rattle.goblin_pe_import.specs.ImportPositions.{BeginsAt, GoesOnAt}
+use Rattle.goblin_pe_import.specs.ImportPositions.{first_import, first_position}
+use Rattle.goblin_pe_import.specs.ImportEntries.{EntryValue}
+use Rattle.goblin_pe_import.specs.ImportRecords.{address_table_rva, import_record, is_last_record}
+use Rattle.goblin_pe_import.specs.Imports.{ImportValue}
+use Rattle.goblin_pe_import.specs.ImportWalks.{IsCauseAt, IsEntriesCause, IsInTable, IsLaterCause}
+use Rattle.goblin_pe_import.specs.ImportWalks.{IsLibraryBy, IsPlaced, IsWalkCause, entries_from}
+use Rattle.goblin_pe_import.specs.ImportWalks.{IsRecordCause, imports_at, imports_from}
+use Rattle.goblin_pe_import.specs.ImportWalks.{imports_in, later_items, library_items}
+use Rattle.goblin_pe_import.specs.ImportWalks.{begin_at, position_by, walk_left}
+use Rattle.goblin_pe_import.proofs.ImportsWalk.{IsWholeCause, cause-again, cause-entered}
+use Rattle.goblin_pe_import.proofs.ImportsWalk.{from_record, imports-once, parts_left, walk-entered, whole}
+
+module _ (format : Format EntryValue) (w : Walk) where
+  abbrev strict : Bool
+  strict = reads_strictly (map_of w.address_map.now)
+
+  abbrev places : ℕ → Option ℕ
+  places = offset_of (map_of w.address_map.now)
+
+  abbrev file : List ℕ
+  file = w.bytes.now
+
+  -- the parts of the walk, at another place
+  abbrev left_by : Option ℕ → Option ImportPosition → List (Option ImportValue)
+  left_by place next =
+      until_refused
+      (imports_in strict format places file w.dll.now w.rva w.offset place
+      ++ later_items strict format places file w.untested next)
+
+  abbrev IsCauseBy : Option ℕ → Option ImportPosition → ErrorOf → Type 0
+  IsCauseBy place next e =
+      (strict ≡ true)
+      × FirstFault (all_of (entries_from strict format places file w.offset place))
+      (IsEntriesCause strict format places file place)
+      (λ _. IsLaterCause strict format places file w.untested next) e
+
+  abbrev IsCauseOf : Option ImportPosition → ErrorOf → Type 0
+  IsCauseOf position e = (strict ≡ true) × IsCauseAt strict format places file position e
+
+  module _ (place : ℕ) (at : ImportPosition) (l : IsLibraryBy format w (Some place) (Some at)) where
+    abbrev begin : ℕ
+    begin = at.«record» - 20
+
+    past : begin + 20 ≡ at.«record»
+    past = omega (arith, l.past)
+
+    -- the walk by what its library's record says
+    parts : left_by (Some place) (Some at)
+        ≡ whole strict format places file l.entry (Some place) at.«record»
+    unfolding imports_at
+    parts =
+        let entered =
+        walk-entered strict format places file l.entry (Some place) at.«record» w.dll.now l.named
+        l.kept in
+        let here : parts_left strict format places file l.entry (Some place) at.«record» w.dll.now
+        l.entry.import_address_table_rva w.offset (Some place) w.untested
+        ≡ whole strict format places file l.entry (Some place) at.«record» =
+        rw (l.tested)
+        (subst
+        (λ (table : Option ℕ).
+        parts_left strict format places file l.entry (Some place) at.«record» w.dll.now
+        l.entry.import_address_table_rva (unwrap_or table 0) (begin_at (Some place) table) (Some (address_table_rva l.entry))
+        ≡ whole strict format places file l.entry (Some place) at.«record»)
+        l.table entered) in
+        rw (← l.addresses, l.first) here
+
+    placed-in : left_by (Some place) (Some at)
+        ≡ imports_at strict format places file (position_by (Some place) (Some at))
+    unfolding imports_at
+    placed-in =
+        parts
+        ∙ sym (ap (from_record strict format places file begin (Some place)) l.is
+        ∙ slot-going strict is_last_record (library_items strict format places file (Some place))
+        (imports_from strict format places file (begin + 20)) l.entry l.going
+        ∙ ap
+        (λ (p : ℕ). until_refused (library_items strict format places file (Some place) l.entry
+        ++ imports_from strict format places file p)) past)
+
+  placed-by : (place : Option ℕ) (next : Option ImportPosition) → IsLibraryBy format w place next
+      → (place ≡ None → w.untested ≡ None)
+      → left_by place next ≡ imports_at strict format places file (position_by place next)
+  unfolding entries_from imports_at until_refused
+  placed-by None next l tested =
+      subst
+      (λ (untested : Option ℕ). until_refused (later_items strict format places file untested next)
+      ≡ imports_at strict format places file next)
+      (sym (tested refl)) (once next)
+    where
+      once : (next : Option ImportPosition)
+          → until_refused (imports_at strict format places file next)
+          ≡ imports_at strict format places file next
+      once None = refl
+      once (Some at) = imports-once strict format places file at.«record» at.slot
+  placed-by (Some place) None l tested = absurd l
+  placed-by (Some place) (Some at) l tested = placed-in place at l
+
+  -- the causes of both are the same
+  module _ (place : ℕ) (at : ImportPosition) (l : IsLibraryBy format w (Some place) (Some at))
+      (e : ErrorOf) where
+    -- these causes, for a lookup table, an address table and a slot in other words
+    abbrev IsCauseIn : Option ℕ → Option ℕ → Option ℕ → Type 0
+    IsCauseIn table untested slot =
+        (strict ≡ true)
+        × FirstFault
+        (all_of
+        (entries_from strict format places file (unwrap_or table 0) (begin_at (Some place) table)))
+        (IsEntriesCause strict format places file (begin_at (Some place) table))
+        (λ _. IsLaterCause strict format places file untested
+        (Some (record { «record» = at.«record»; slot = slot }))) e
+
+    abbrev address : Option ℕ
+    address = Some (address_table_rva l.entry)
+
+    abbrev IsRecord : Option ImportDirectoryEntry → Type 0
+    IsRecord entry =
+        IsRecordCause strict format places file (Some place) (begin place at l) entry e
+
+    abbrev IsWhole : ℕ → Type 0
+    IsWhole p = IsWholeCause strict format places file l.entry (Some place) p e
+
+    cause-in : IsCauseBy (Some place) (Some at) e
+        → IsCauseOf (position_by (Some place) (Some at)) e
+    cause-in fault =
+        let parts =
+        subst (λ (table : Option ℕ). IsCauseIn table address None) (sym l.table)
+        (subst (λ (untested : Option ℕ). IsCauseIn (Some w.offset) untested None) l.tested
+        (subst (λ (slot : Option ℕ). IsCauseIn (Some w.offset) w.untested slot) l.first fault)) in
+        let whole =
+        cause-entered strict format places file l.entry (Some place) at.«record» w.dll.now l.named
+        l.kept e parts in (
+          whole.0,
+          subst IsRecord (sym l.is) (l.going, subst IsWhole (sym (past place at l)) whole.1),
+        )
+
+    cause-out : IsCauseOf (position_by (Some place) (Some at)) e
+        → IsCauseBy (Some place) (Some at) e
+    cause-out fault =
+        let here = subst IsRecord l.is fault.1 in
+        let parts =
+        cause-again strict format places file l.entry (Some place) at.«record» w.dll.now l.named
+        l.kept e (fault.0, subst IsWhole (past place at l) here.1) in
+        subst (λ (slot : Option ℕ). IsCauseIn (Some w.offset) w.untested slot) (sym l.first)
+        (subst (λ (untested : Option ℕ). IsCauseIn (Some w.offset) untested None) (sym l.tested)
+        (subst (λ (table : Option ℕ). IsCauseIn table address None) l.table parts))
+
+  -- which of the two is true of the other
+  pub record AreCauses (place : Option ℕ) (next : Option ImportPosition) (e : ErrorOf) : Type 0
+    where
+      pub there : IsCauseBy place next e → IsCauseOf (position_by place next) e
+      pub back : IsCauseOf (position_by place next) e → IsCauseBy place next e
+
+  causes-by : (place : Option ℕ) (next : Option ImportPosition) → IsLibraryBy format w place next
+      → (place ≡ None → w.untested ≡ None) → (e : ErrorOf) → AreCauses place next e
+  unfolding entries_from all_of
+  causes-by None next l tested e =
+      let IsCauseIn : Option ℕ → Type 0 = λ untested.
+      (strict ≡ true) × IsLaterCause strict format places file untested next e in
+      record {
+        there = subst IsCauseIn (tested refl);
+        back = subst IsCauseIn (sym (tested refl));
+      }
+  causes-by (Some place) None l tested e = absurd l
+  causes-by (Some place) (Some at) l tested e =
+      record { there = cause-in place at l e; back = cause-out place at l e }
+
+  module _ (h : IsPlaced format w) where
+    abbrev position : Option ImportPosition
+    position = position_by w.place w.next
+
+    -- what is still to come is what comes from the position on
+    pub placed-left : walk_left format w ≡ imports_at strict format places file position
+    placed-left = placed-by w.place w.next h.0 h.1
+
+    pub placed-cause : (e : ErrorOf) → strict ≡ true → IsCauseAt strict format places file position e
+        → IsWalkCause format w e
+    placed-cause e is fault = (causes-by w.place w.next h.0 h.1 e).back (is, fault)
+
+  -- the same of a walk that begins at a position
+  module _ (none : w.place ≡ None) (tested : w.untested ≡ None) where
+    pub begun-placed : IsPlaced format w
+    begun-placed =
+        (subst (λ (place : Option ℕ). IsLibraryBy format w place w.next) (sym none) tt, λ _. tested)
+
+    begun : position_by w.place w.next ≡ w.next
+    begun = rw none refl
+
+    pub begun-left : walk_left format w ≡ imports_at strict format places file w.next
+    begun-left =
+        placed-left begun-placed ∙ ap (imports_at strict format places file) begun
+
+    pub begun-cause : (e : ErrorOf) → IsWalkCause format w e
+        → (strict ≡ true) × IsCauseAt strict format places file w.next e
+    begun-cause e fault =
+        subst (λ (position : Option ImportPosition). IsCauseOf position e) begun
+        ((causes-by w.place w.next begun-placed.0 begun-placed.1 e).there fault)
+
+  -- among the entries of a library, its record is in the file
+  in-table-by : (place : Option ℕ) (next : Option ImportPosition) → IsLibraryBy format w place next
+      → IsSomeAnd place (λ place. 0 < place) → IsInTable file (position_by place next)
+  in-table-by None next l inside = absurd inside
+  in-table-by (Some place) None l inside = absurd l
+  in-table-by (Some place) (Some at) l inside =
+      let there = record_at-some 20 (import_record Little) file (at.«record» - 20) l.entry l.is in
+      (there.start, inside)
+
+  pub in-table : IsPlaced format w → IsSomeAnd w.place (λ place. 0 < place)
+      → IsInTable file (position_by w.place w.next)
+  in-table h inside = in-table-by w.place w.next h.0 inside
+
+-- a walk that has just given an import is in the file
+pub after-import : (format : Format EntryValue) (w : Walk)
+    (result : Option (Result WalkedImport ErrorOf)) → IsPlaced format w
+    → IfSome result (λ r. IfOk r (λ import. IsSomeAnd w.place (λ place. 0 < place)))
+    → IfSome result (λ r. IfOk r (λ import. IsInTable w.bytes.now (position_by w.place w.next)))
+after-import format w None placed inside = tt
+after-import format w (Some (Ok import)) placed inside = in-table format w placed inside
+after-import format w (Some (Err e)) placed inside = tt
+
+-- ---- where a directory begins
+
+module _ (m : MapOfAddresses) (format : Format EntryValue) (bytes : List ℕ) (rva : ℕ) where
+  abbrev found : Option ℕ
+  found = in_its_place (reads_strictly m) 0 (offset_of m rva)
+
+  abbrev first : Reading (Option ImportPosition)
+  first = first_import (reads_strictly m) (offset_of m) rva
+
+  pub begins-nowhere : found ≡ None → (e : ErrorOf) → e ≡ Malformed (Unmapped rva)
+      → (first.value bytes ≡ None) × first.IsCause bytes e
+  begins-nowhere none e is = (rw none refl, is)
+
+  begins-at : {T : Type 0} (o : ℕ) → found ≡ Some o → (it : Imports T)
+      → GoesOnAt m format bytes (first_position (reads_strictly m) o) it
+      → BeginsAt m format bytes first (Ok it)
+  begins-at o at it goes = rw at goes
+
+  pub begins-front : {T : Type 0} → found ≡ Some 0 → reads_strictly m ≡ false → (it : Imports T)
+      → GoesOnAt m format bytes None it → BeginsAt m format bytes first (Ok it)
+  begins-front at permissive it goes =
+      let none : first_position (reads_strictly m) 0 ≡ None = rw permissive refl in
+      begins-at 0 at it
+      (subst (λ (p : Option ImportPosition). GoesOnAt m format bytes p it) (sym none) goes)
+
+  pub begins-past : {T : Type 0} (o : ℕ) → found ≡ Some o
+      → (not (reads_strictly m) && o == 0) ≡ false → (it : Imports T)
+      → GoesOnAt m format bytes (Some (record { «record» = o; slot = None })) it
+      → BeginsAt m format bytes first (Ok it)
+  begins-past o at past it goes =
+      let here : first_position (reads_strictly m) o ≡ Some (record { «record» = o; slot = None }) =
+      rw past refl in
+      begins-at o at it
+      (subst (λ (p : Option ImportPosition). GoesOnAt m format bytes p it) (sym here) goes)

@@ -1,0 +1,183 @@
+-- The loop that looks for the next import.
+use Rattle.std.proofs.Common.{◌≡◌, ◌≤◌, ◌+◌, ℕ, Bool, true, List, [], ◌∷◌, Option, Some}
+use Rattle.std.proofs.Common.{None, refl, sym, subst, ◌∙◌, arith}
+use Rattle.std.specs.Prelude.{Err, IfErr, IfOk, Ok, Result}
+use Rattle.goblin_base.specs.declared.error.ErrorOf.{ErrorOf}
+use Rattle.goblin_base.specs.Answers.{FirstFault, ◌>>=◌, all_of}
+use Rattle.goblin_base.specs.Tables.{Format}
+use Rattle.readings.specs.Walks.{GivesNext, until_refused}
+use Rattle.goblin_pe_import.specs.declared.import.imports.Walk.{Walk}
+use Rattle.goblin_pe_import.specs.declared.import.kept.KeptEntry.{KeptEntry}
+use Rattle.goblin_pe_sect.specs.Addresses.{map_of, offset_of, reads_strictly}
+use Rattle.goblin_pe_import.specs.ImportEntries.{EntryValue}
+use Rattle.goblin_pe_import.specs.Imports.{ImportValue}
+use Rattle.goblin_pe_import.specs.ImportWalks.{GivesLibrary, IsEntriesCause, IsInLibrary, IsLaterCause}
+use Rattle.goblin_pe_import.specs.ImportWalks.{IsPlaced, IsWalkCause, KeptValue, bound_at}
+use Rattle.goblin_pe_import.specs.ImportWalks.{entries_from, imports_at, kept_import, kept_value, later_items}
+use Rattle.goblin_pe_import.specs.ImportWalks.{place_after, walk_bound, walk_left}
+
+one_before : {A : Type 0} (x : A) (o : Option (List A)) (IsNow IsNext IsLater : ErrorOf → Type 0)
+    (e : ErrorOf) → (IsNext e → IsNow e) → FirstFault o IsNext (λ _. IsLater) e
+    → FirstFault (o >>= λ others. Some (x ∷ others)) IsNow (λ _. IsLater) e
+one_before x None IsNow IsNext IsLater e chain fault = chain fault
+one_before x (Some xs) IsNow IsNext IsLater e chain fault = fault
+
+-- The walk that began a call of `next` at `start` is now at `now`.
+pub record AtImports (format : Format EntryValue) (start now : Walk) : Type 0 where
+  pub same : walk_left format start ≡ walk_left format now
+  pub cause : (e : ErrorOf) → IsWalkCause format now e → IsWalkCause format start e
+  pub bound : walk_bound now ≤ walk_bound start
+  pub placed : IsPlaced format start → IsInLibrary format now
+  pub bytes : now.bytes.now ≡ start.bytes.now
+  pub address_map : now.address_map.now ≡ start.address_map.now
+
+-- the walk at another place, whose last address was found in a piece
+abbrev pub moved : Walk → ℕ → ℕ → Walk
+moved s place near = record {
+  bytes = s.bytes;
+  address_map = s.address_map;
+  dll = s.dll;
+  rva = s.rva;
+  offset = s.offset;
+  place = Some place;
+  near = near;
+  untested = s.untested;
+  next = s.next;
+}
+
+pub imports-start : (format : Format EntryValue) (start : Walk) → AtImports format start start
+imports-start format start = record {
+  same = refl;
+  cause = λ e fault. fault;
+  bound = omega arith;
+  placed = λ placed. placed.0;
+  bytes = refl;
+  address_map = refl;
+}
+
+-- a walk that has ended
+pub record HasEnded (t : Walk) : Type 0 where
+  pub place : t.place ≡ None
+  pub untested : t.untested ≡ None
+  pub next : t.next ≡ None
+
+module _ (format : Format EntryValue) (t : Walk) (h : HasEnded t) where
+  pub ended-left : walk_left format t ≡ []
+  unfolding until_refused entries_from imports_at
+  ended-left = rw (h.place, h.untested, h.next) refl
+
+module _ (format : Format EntryValue) (start s : Walk) (h : AtImports format start s) where
+  abbrev strict : Bool
+  strict = reads_strictly (map_of s.address_map.now)
+
+  abbrev places : ℕ → Option ℕ
+  places = offset_of (map_of s.address_map.now)
+
+  abbrev left : Option ℕ → List (Option KeptValue)
+  left = entries_from strict format places s.bytes.now s.offset
+
+  abbrev IsCause : Option ℕ → ErrorOf → Type 0
+  IsCause = IsEntriesCause strict format places s.bytes.now
+
+  abbrev IsLater : ErrorOf → Type 0
+  IsLater = IsLaterCause strict format places s.bytes.now s.untested s.next
+
+  abbrev later : List (Option ImportValue)
+  later = later_items strict format places s.bytes.now s.untested s.next
+
+  abbrev Steps : Option (Result KeptEntry ErrorOf) → Type 0
+  Steps r = GivesNext kept_value left IsCause s.place r (place_after format.width r)
+
+  module _ (r : Result KeptEntry ErrorOf) (given : Steps (Some r)) where
+    -- an entry is kept
+    module _ (kept : KeptEntry) (is : r ≡ Ok kept) (place : ℕ) (to : place ≡ kept.place + format.width) (near : ℕ)
+      where
+        steps : Steps (Some (Ok kept))
+        steps = subst (λ (q : Result KeptEntry ErrorOf). Steps (Some q)) is given
+
+        abbrev item : ImportValue
+        item = kept_import format.width s.dll.now s.rva s.offset (kept_value kept)
+
+        pub next-one : (walk_left format start ≡ Some item ∷ walk_left format (moved s place near))
+            × ((e : ErrorOf) → IsWalkCause format (moved s place near) e → IsWalkCause format start e)
+        unfolding until_refused all_of
+        next-one = (
+          h.same ∙ rw (steps.0, to) refl,
+          λ e fault.
+              h.cause e (
+                fault.0,
+                rw (steps.0)
+                    (one_before (kept_value kept) (all_of (left (Some (kept.place + format.width))))
+                    (IsCause s.place) (IsCause (Some (kept.place + format.width))) IsLater e (steps.1 e)
+                    (subst
+                    (λ (p : ℕ). FirstFault (all_of (left (Some p))) (IsCause (Some p)) (λ _. IsLater) e)
+                    to fault.1)),
+              ),
+        )
+
+    -- an entry is refused
+    pub next-fault : (e : ErrorOf) → r ≡ Err e → IfErr r (λ e. strict ≡ true) → (t : Walk)
+        → HasEnded t
+        → (walk_left format start ≡ None ∷ []) × (walk_left format t ≡ [])
+        × IsWalkCause format start e
+    unfolding until_refused all_of
+    next-fault e is strictly_if t ended =
+        let strictly =
+        subst (λ (q : Result KeptEntry ErrorOf). IfErr q (λ e. strict ≡ true)) is strictly_if in
+        let steps = subst (λ (q : Result KeptEntry ErrorOf). Steps (Some q)) is given in (
+          h.same ∙ rw (steps.0) refl,
+          ended-left format t ended,
+          h.cause e (strictly, rw (steps.0) (steps.2)),
+        )
+
+  -- no entries are left
+  module _ (none : Steps None) where
+    abbrev Gives : Option (Result Walk ErrorOf) → Type 0
+    Gives r =
+        GivesLibrary (walk_left format) (IsWalkCause format) later
+        (λ e. (strict ≡ true) × IsLater e) r
+
+    same_later : walk_left format start ≡ until_refused later
+    same_later = h.same ∙ rw (none.0) refl
+
+    cause_later : (e : ErrorOf) → (strict ≡ true) × IsLater e → IsWalkCause format start e
+    unfolding all_of
+    cause_later e fault = h.cause e (fault.0, rw (none.0) (fault.1))
+
+    pub next-none : Gives None → (t : Walk) → HasEnded t
+        → (walk_left format start ≡ []) × (walk_left format t ≡ [])
+    next-none gives t ended = (same_later ∙ gives, ended-left format t ended)
+
+    pub next-refused : (r : Result Walk ErrorOf) (e : ErrorOf) → Gives (Some r) → r ≡ Err e
+        → (t : Walk) → HasEnded t
+        → (walk_left format start ≡ None ∷ []) × (walk_left format t ≡ [])
+        × IsWalkCause format start e
+    next-refused r e given is t ended =
+        let gives = subst (λ (q : Result Walk ErrorOf). Gives (Some q)) is given in
+        (same_later ∙ gives.0, ended-left format t ended, cause_later e gives.1)
+
+    pub next-library : (r : Result Walk ErrorOf) (walk : Walk) → Gives (Some r) → r ≡ Ok walk
+        → IfOk r (λ t. t.bytes.now ≡ s.bytes.now)
+        → IfOk r (λ t. t.address_map.now ≡ s.address_map.now)
+        → IfOk r (λ t. walk_bound t ≤ bound_at s.bytes.now s.next)
+        → IfOk r (λ t. IsInLibrary format t) → AtImports format start walk
+    next-library r walk given is same_if map_if bound_if placed_if =
+        let gives = subst (λ (q : Result Walk ErrorOf). Gives (Some q)) is given in
+        let same =
+        subst (λ (q : Result Walk ErrorOf). IfOk q (λ t. t.bytes.now ≡ s.bytes.now)) is same_if in
+        let bound =
+        subst
+        (λ (q : Result Walk ErrorOf). IfOk q (λ t. walk_bound t ≤ bound_at s.bytes.now s.next)) is
+        bound_if in
+        record {
+          same = same_later ∙ sym gives.0;
+          cause = λ e fault. cause_later e (gives.1 e fault);
+          bound = omega (arith, bound, h.bound);
+          placed = λ _. subst (λ (q : Result Walk ErrorOf). IfOk q (λ t. IsInLibrary format t)) is
+              placed_if;
+          bytes = same ∙ h.bytes;
+          address_map = subst
+              (λ (q : Result Walk ErrorOf). IfOk q (λ t. t.address_map.now ≡ s.address_map.now)) is
+              map_if
+              ∙ h.address_map;
+        }

@@ -1,0 +1,487 @@
+-- What a walk over all imports collects is what import data has.
+use Rattle.std.proofs.Common.{◌≡◌, ◌<◌, ◌≤◌, ◌+◌, ◌-◌, ◌*◌, ◌^◌, ℕ, Bool, true, false, cond, List, ◌⊎◌, ◌↔◌, ◌≢◌, IsTrue}
+use Rattle.std.proofs.Common.{[], ◌∷◌, ◌++◌, map, length, Option, Some, None, refl, sym, ap, subst, ◌∙◌}
+use Rattle.std.proofs.Common.{append-nil, arith, zero, suc, IsSome, not, ◌&&◌, ◌==◌, inl, inr}
+use Rattle.std.specs.Prelude.{is_none, option_map, slice_get, unwrap_or}
+use Rattle.std.specs.List.{flat_map}
+use Rattle.std.specs.Option.{is_some}
+use Rattle.std.proofs.lemmas.Bool.{and_left, cases_Bool, eq-eqb, lt-ltb, ne_eqb}
+use Rattle.std.proofs.lemmas.List.{get_or_append_left, length-append, length-map, map-append, map-id}
+use Rattle.std.proofs.lemmas.List.Concat.{flat_map-append}
+use Rattle.std.proofs.lemmas.Option.{slice_get-get_or}
+use Rattle.std.proofs.Math.Seq.{get_or-append_seam}
+use Rattle.goblin_base.specs.declared.endian.Endian.TheVariants.{Little}
+use Rattle.goblin_base.specs.declared.error.CauseOf.TheVariants.{Unmapped}
+use Rattle.goblin_base.specs.declared.error.ErrorOf.{ErrorOf}
+use Rattle.goblin_base.specs.declared.error.ErrorOf.TheVariants.{Malformed}
+use Rattle.goblin_base.specs.declared.permissive.ParseMode.{ParseMode}
+use Rattle.goblin_base.specs.declared.permissive.ParseMode.TheVariants.{Permissive, Strict}
+use Rattle.goblin_base.specs.Answers.{◌>>=◌, all_at, all_of}
+use Rattle.goblin_base.specs.Bytes.{IsBytes}
+use Rattle.goblin_base.specs.Reading.{Reading}
+use Rattle.goblin_base.specs.Tables.{Format, concat_below, each_below, ends_table, join, made_of}
+use Rattle.goblin_base.specs.Tables.{or_left_out, slot_at, slot_place, slot_table, stop}
+use Rattle.goblin_base.proofs.Below.{each_below-there, least-before}
+use Rattle.goblin_base.proofs.Records.{record_at-some}
+use Rattle.goblin_base.proofs.Footprints.{same-all_at}
+use Rattle.goblin_base.proofs.Steps.{all_at-more, all_at-zero, same_value, step}
+use Rattle.readings.specs.Reads.{given, in_its_place, mapped, pair_of, with_slots}
+use Rattle.readings.specs.Walks.{IsWalkOf, end_items, items_at, refusal_of, table_walk}
+use Rattle.readings.proofs.WalkValues.{all_of-append, all_of-until, walk-holds}
+use Rattle.goblin_pe_sect.specs.Options.{is_strict}
+use Rattle.goblin_pe_import.specs.declared.import.directory_entry.ImportDirectoryEntry.{ImportDirectoryEntry}
+use Rattle.goblin_pe_sect.specs.Addresses.{offset_of}
+use Rattle.goblin_pe_import.specs.ImportEntries.{EntryValue, LookupEntry, entry_slots}
+use Rattle.goblin_pe_import.specs.ImportReadings.{import_data, kept_library, libraries_at}
+use Rattle.goblin_pe_import.specs.ImportReadings.{libraries_past_front, library_of, lookup_if}
+use Rattle.goblin_pe_import.specs.ImportRecords.{ImportedLibrary, import_record, import_slots, lookup_offset}
+use Rattle.goblin_pe_import.specs.Imports.{ImportValue, import_at, import_of, imports_by, kept_imports}
+use Rattle.goblin_pe_import.specs.ImportWalks.{IsCauseAt, KeptValue, addresses_of}
+use Rattle.goblin_pe_import.specs.ImportWalks.{begin_at, entries_from, imports_at, imports_from}
+use Rattle.goblin_pe_import.specs.ImportWalks.{in_two, kept_at, kept_import, library_items}
+use Rattle.goblin_pe_import.specs.ImportWalks.{library_name}
+use Rattle.goblin_pe_import.specs.LookupReadings.{kept_entry}
+use Rattle.goblin_pe_import.proofs.ImportBound.{kept_entry-few}
+use Rattle.goblin_pe_import.proofs.ImportsWalk.{in_two_if, listed}
+use Rattle.goblin_pe_import.proofs.ListedImports.{address-low}
+use Rattle.goblin_pe_import.proofs.LookupWalk.{by_index, in_slot}
+use Rattle.goblin_pe_import.proofs.PermissiveReads.{entry-never, name_strict}
+
+-- ---- one more import
+
+one_read : {A : Type 0} (xs : List A) (x : A) (i : ℕ) → i < length xs
+    → slice_get (xs ++ x ∷ []) i ≡ slice_get xs i
+one_read xs x i below =
+    slice_get-get_or (xs ++ x ∷ []) i x (omega (arith, below, length-append xs (x ∷ [])))
+    ∙ ap (λ y. Some y) (get_or_append_left xs (x ∷ []) x i below)
+    ∙ sym (slice_get-get_or xs i x below)
+
+last_read : {A : Type 0} (xs : List A) (x : A) (n : ℕ) → length xs ≡ n
+    → slice_get (xs ++ x ∷ []) n ≡ Some x
+last_read xs x n long =
+    ap (slice_get (xs ++ x ∷ [])) (sym long)
+    ∙ slice_get-get_or (xs ++ x ∷ []) (length xs) x (omega (arith, length-append xs (x ∷ [])))
+    ∙ ap (λ y. Some y) (get_or-append_seam xs x [] x)
+
+-- the imports of one more entry, which has a slot
+imports_by-more : (size : ℕ) (dll : List ℕ) (rva : ℕ) (entries : List LookupEntry) (slots : List ℕ)
+    (made : List ImportValue) (entry : LookupEntry) (slot offset : ℕ)
+    → length entries ≡ length slots → offset ≡ rva + size * slot → offset < 2 ^ 64
+    → imports_by size dll rva entries slots ≡ Some made
+    → imports_by size dll rva (entries ++ entry ∷ []) (slots ++ slot ∷ [])
+    ≡ Some (made ++ import_of dll slot offset size entry ∷ [])
+unfolding imports_by
+imports_by-more size dll rva entries slots made entry slot offset counted at low so_far =
+    let n = length entries in
+    let before : ℕ → Option ImportValue = import_at size dll rva entries slots in
+    let now : ℕ → Option ImportValue =
+    import_at size dll rva (entries ++ entry ∷ []) (slots ++ slot ∷ []) in
+    let below : rva + size * slot < 2 ^ 64 = omega (arith, at, low) in
+    let same : all_at before n ≡ all_at now n =
+    same-all_at before now n (λ j within.
+    let in_slots : j < length slots = omega (arith, counted, within) in
+    rw (one_read entries entry j within, one_read slots slot j in_slots) refl) in
+    let in_slot = last_read slots slot n (sym counted) in
+    let fits = lt-ltb (rva + size * slot) (2 ^ 64) below in
+    let x : ImportValue = import_of dll slot offset size entry in
+    let here : now n ≡ Some x = rw (last_read entries entry n refl, in_slot, fits, at) refl in
+    let long : length (entries ++ entry ∷ []) ≡ n + 1 =
+    omega (arith, length-append entries (entry ∷ [])) in
+    ap (all_at now) long ∙ all_at-more now n made x (sym same ∙ so_far) here
+
+-- ---- the imports of a lookup table
+
+module _ (strict : Bool) (format : Format EntryValue) (offset_of : ℕ → Option ℕ)
+    (bytes : List ℕ) (o : ℕ) (wide : 1 ≤ format.width) (dll : List ℕ) (rva : ℕ)
+    (short : length bytes < 2 ^ 63) (low : rva < 2 ^ 32) where
+  -- the imports of these kept entries
+  abbrev imports : List KeptValue → List ImportValue
+  imports kept = map (kept_import format.width dll rva o) kept
+
+  abbrev AreImports : List KeptValue → Type 0
+  AreImports kept =
+      imports_by format.width dll rva (in_two kept).0 (in_two kept).1 ≡ Some (imports kept)
+
+  abbrev made : ℕ → Option (List LookupEntry)
+  made i =
+      made_of (entry_slots format) (λ v. (kept_entry strict offset_of v).value bytes) bytes o i
+
+  abbrev item : ℕ → LookupEntry → KeptValue
+  item i = kept_at format.width o (slot_place (entry_slots format) o i)
+
+  one_more : (n : ℕ) (kept : List KeptValue) (xs : List LookupEntry) → made n ≡ Some xs
+      → length xs ≤ 1 → AreImports kept → AreImports (kept ++ map (item n) xs)
+  one_more n kept [] is few so_far = rw (append-nil kept) so_far
+  one_more n kept (x ∷ []) is few so_far =
+      let s = step (slot_at (entry_slots format) bytes o n)
+      (λ v. (kept_entry strict offset_of v).value bytes) (x ∷ []) is in
+      let there = record_at-some format.width format.value_of bytes (o + format.width * n) s.value s.is
+      in
+      let slot = in_slot format.width o n wide in
+      let distance : o + format.width * n - o ≡ format.width * n = omega arith in
+      let below : rva + format.width * n < 2 ^ 64 = omega (arith, there.end, short, low) in
+      let counted =
+      length-map kept (λ (k : KeptValue). k.entry)
+      ∙ sym (length-map kept (λ (k : KeptValue). k.slot)) in
+      let longer =
+      imports_by-more format.width dll rva (map (λ k. k.entry) kept) (map (λ k. k.slot) kept)
+      (imports kept) x n (rva + format.width * n) counted refl below so_far in
+      rw (
+        map-append (λ (k : KeptValue). k.entry) kept (item n x ∷ []),
+        map-append (λ (k : KeptValue). k.slot) kept (item n x ∷ []),
+        map-append (kept_import format.width dll rva o) kept (item n x ∷ []),
+        slot,
+        distance,
+      )
+      longer
+  one_more n kept (x ∷ y ∷ xs) is few so_far = absurd (omega (arith, few))
+
+  -- what a walk over a lookup table collects has these imports
+  pub entries-imports : (kept : List KeptValue)
+      → all_of (entries_from strict format offset_of bytes o (Some o)) ≡ Some kept
+      → AreImports kept
+  unfolding imports_by
+  entries-imports kept e =
+      walk-holds item made AreImports (all_at-zero (import_at format.width dll rva [] []))
+      (λ n items xs is so_far.
+      let s = step (slot_at (entry_slots format) bytes o n)
+      (λ v. (kept_entry strict offset_of v).value bytes) xs is in
+      one_more n items xs is (kept_entry-few strict offset_of bytes s.value xs s.then) so_far)
+      strict (slot_at (entry_slots format) bytes o (stop (entry_slots format) bytes o))
+      (stop (entry_slots format) bytes o) kept
+      (ap all_of (sym (by_index strict format offset_of bytes o)) ∙ e)
+
+-- ---- permissive mode refuses no lookup table
+
+is_there : {A : Type 0} (o : Option A) → (o ≡ None → ⊥) → IsSome o
+is_there None never = absurd (never refl)
+is_there (Some x) never = refl
+
+still_there : {A B : Type 0} (kept : List ℕ) (h : A × List ℕ → B) (test : Bool) (o : Option A)
+    → test ≡ false → IsSome o → IsSome (option_map h (with_slots kept (cond test None o)))
+still_there kept h true o is there = absurd cc
+still_there kept h false None is there = absurd cc
+still_there kept h false (Some x) is there = refl
+
+module _ (strict : Bool) (format : Format EntryValue) (offset_of : ℕ → Option ℕ)
+    (bytes : List ℕ) (permissive : strict ≡ false) where
+  slot_there : (slot : Option EntryValue)
+      → ends_table (entry_slots format).is_last slot ≡ false
+      → IsSome (slot >>= λ v. (kept_entry strict offset_of v).value bytes)
+  slot_there None e = absurd cc
+  slot_there (Some v) e =
+      is_there ((kept_entry strict offset_of v).value bytes)
+      (λ none. entry-never strict offset_of v bytes none permissive)
+
+  pub table-there : (at : Option ℕ) → IsSome ((lookup_if strict format offset_of at).value bytes)
+  unfolding lookup_if slot_table stop
+  table-there None = refl
+  table-there (Some o) =
+      let slots = entry_slots format in
+      still_there _ _ _ _ (and_left strict _ permissive)
+      (each_below-there (made_of slots (λ v. (kept_entry strict offset_of v).value bytes) bytes o)
+      (stop slots bytes o)
+      (λ j below.
+      slot_there (slot_at slots bytes o j)
+      (least-before (λ i. ends_table slots.is_last (slot_at slots bytes o i)) (length bytes) j
+      below)))
+
+-- ---- a library
+
+all_of-mapped : {A B : Type 0} (f : A → B) (items : List (Option A))
+    → all_of (map (option_map f) items) ≡ option_map (map f) (all_of items)
+unfolding all_of
+all_of-mapped f [] = refl
+all_of-mapped f (None ∷ items) = refl
+all_of-mapped {A} {B} f (Some x ∷ items) =
+    ap (λ (o : Option (List B)). o >>= λ others. Some (f x ∷ others)) (all_of-mapped f items)
+    ∙ later (all_of items)
+  where
+    later : (o : Option (List A))
+        → (option_map (map f) o >>= λ others. Some (f x ∷ others))
+        ≡ option_map (map f) (o >>= λ others. Some (x ∷ others))
+    later None = refl
+    later (Some xs) = refl
+
+library-value : {W A B L R X : Type 0} (strict : Bool) (make : (A × B) × R → L) (g : W → B)
+    (imports_in : W → List X) (f : L → List X) (text : A) (walked : Option W)
+    (addresses : Option R) → (not strict && is_none addresses) ≡ false
+    → (strict ≡ false → IsSome (option_map g walked))
+    → ((ks : W) (t : R) → walked ≡ Some ks → f (make ((text, g ks), t)) ≡ imports_in ks)
+    → join (option_map imports_in walked) (all_of (refusal_of addresses))
+    ≡ option_map (flat_map f)
+    (or_left_out strict (option_map make (pair_of (pair_of (Some text) (option_map g walked)) addresses)))
+unfolding join all_of
+library-value true make g imports_in f text None None kept there made = refl
+library-value true make g imports_in f text None (Some t) kept there made = refl
+library-value true make g imports_in f text (Some ks) None kept there made = refl
+library-value {X = X} true make g imports_in f text (Some ks) (Some t) kept there made =
+    ap (λ (xs : List X). Some (xs ++ [])) (sym (made ks t refl))
+library-value false make g imports_in f text None addresses kept there made =
+    let never = there refl in absurd cc
+library-value false make g imports_in f text (Some ks) None kept there made = absurd cc
+library-value {X = X} false make g imports_in f text (Some ks) (Some t) kept there made =
+    ap (λ (xs : List X). Some (xs ++ [])) (sym (made ks t refl))
+
+join-mapped : {L X : Type 0} (f : L → List X) (xs ys : Option (List L))
+    → join (option_map (flat_map f) xs) (option_map (flat_map f) ys)
+    ≡ option_map (flat_map f) (join xs ys)
+unfolding join
+join-mapped f None ys = refl
+join-mapped f (Some xs) None = refl
+join-mapped {X = X} f (Some xs) (Some ys) =
+    ap (λ (zs : List X). Some zs) (sym (flat_map-append f xs ys))
+
+end-value : {V X : Type 0} (needed : Bool) (end : Option V) (o : Option (List X))
+    → join o (all_of (end_items needed end)) ≡ cond (needed && not (is_some end)) None o
+unfolding join all_of
+end-value true None None = refl
+end-value true None (Some xs) = refl
+end-value true (Some v) None = refl
+end-value {X = X} true (Some v) (Some xs) = ap (λ (ys : List X). Some ys) (append-nil xs)
+end-value false end None = refl
+end-value {X = X} false end (Some xs) = ap (λ (ys : List X). Some ys) (append-nil xs)
+
+test-mapped : {L X : Type 0} (f : List L → X) (test : Bool) (o : Option (List L))
+    → cond test None (option_map f o) ≡ option_map f (cond test None o)
+test-mapped f true o = refl
+test-mapped f false o = refl
+
+unnamed : {L X : Type 0} (f : L → List X) (mode test : Bool) → mode ≡ true
+    → all_of {A = X} (cond (not mode && test) [] (None ∷ []))
+    ≡ option_map (flat_map f) (or_left_out mode None)
+unfolding all_of
+unnamed f true test is = refl
+unnamed f false test is = absurd cc
+
+left-out : {A B L X : Type 0} (make : A × B → L) (f : L → List X) (mode : Bool) (b : Option B)
+    (a : Option A) → (not mode && is_none b) ≡ true
+    → all_of {A = X} [] ≡ option_map (flat_map f) (or_left_out mode (option_map make (pair_of a b)))
+unfolding all_of
+left-out make f true b a out = absurd cc
+left-out make f false (Some y) a out = absurd cc
+left-out make f false None None out = refl
+left-out make f false None (Some x) out = refl
+
+module _ (strict : Bool) (format : Format EntryValue) (offset_of : ℕ → Option ℕ)
+    (bytes : List ℕ) (wide : 1 ≤ format.width) (short : length bytes < 2 ^ 63) where
+  -- the imports of a library
+  abbrev imports_in : ImportedLibrary → List ImportValue
+  imports_in = kept_imports (λ x. x) format.width
+
+  module _ (r : ImportDirectoryEntry) (low : r.import_address_table_rva < 2 ^ 32) where
+    abbrev at : Option ℕ
+    at = lookup_offset offset_of r
+
+    abbrev entries : List (Option KeptValue)
+    entries = entries_from strict format offset_of bytes (unwrap_or at 0) (begin_at None at)
+
+    abbrev import_in : List ℕ → KeptValue → ImportValue
+    import_in dll = kept_import format.width dll r.import_address_table_rva (unwrap_or at 0)
+
+    abbrev library : List ℕ → Option (List LookupEntry) × List ℕ → List ℕ → ImportedLibrary
+    library dll both addresses = record {
+      import_directory_entry = r;
+      name = dll;
+      import_lookup_table = both.0;
+      import_lookup_slots = both.1;
+      import_address_table = addresses;
+    }
+
+    abbrev table : Reading (List ℕ)
+    table = addresses_of format offset_of r
+
+    by_count : (counted : Bool) (made : Option (List ImportValue)) (xs : List ImportValue)
+        → counted ≡ true → made ≡ Some xs
+        → map (λ x. x) (unwrap_or (cond counted made None) []) ≡ xs
+    by_count true made xs is e = rw e (map-id xs)
+    by_count false made xs is e = absurd cc
+
+    library-imports : (dll : List ℕ) (place : Option ℕ) (ks : List KeptValue) (addresses : List ℕ)
+        → all_of (entries_from strict format offset_of bytes (unwrap_or place 0) (begin_at None place))
+        ≡ Some ks
+        → imports_in (library dll (in_two_if place ks) addresses)
+        ≡ map (kept_import format.width dll r.import_address_table_rva (unwrap_or place 0)) ks
+    unfolding entries_from all_of imports_by
+    library-imports dll None ks addresses e =
+        let none = same_value [] ks e in
+        by_count true (imports_by format.width dll r.import_address_table_rva [] []) _ refl
+        (all_at-zero (import_at format.width dll r.import_address_table_rva [] [])
+        ∙ ap
+        (λ (ks : List KeptValue). Some
+        (map (kept_import format.width dll r.import_address_table_rva 0) ks))
+        none)
+    library-imports dll (Some o) ks addresses e =
+        let counted =
+        length-map ks (λ (k : KeptValue). k.entry)
+        ∙ sym (length-map ks (λ (k : KeptValue). k.slot)) in
+        by_count _ (imports_by format.width dll r.import_address_table_rva (in_two ks).0 (in_two ks).1) _
+        (eq-eqb (length (in_two ks).0) (length (in_two ks).1) counted)
+        (entries-imports strict format offset_of bytes o wide dll r.import_address_table_rva short
+        low ks e)
+
+    -- collecting what comes of a record gives the imports of its library
+    record-value : all_of (library_items strict format offset_of bytes None r)
+        ≡ option_map (flat_map imports_in) ((kept_library strict format offset_of r).value bytes)
+    unfolding library_items library_of
+    record-value = by_name ((library_name strict offset_of r).value bytes) refl
+      where
+        by_name : (name : Option (List ℕ))
+            → (library_name strict offset_of r).value bytes ≡ name
+            → all_of (library_items strict format offset_of bytes None r)
+            ≡ option_map (flat_map imports_in)
+            ((kept_library strict format offset_of r).value bytes)
+        by_name None is = rw is (unnamed imports_in strict _ (name_strict strict _ is))
+        by_name (Some dll) is =
+            elim (cases_Bool (not strict && is_none (table.value bytes))) [
+              | inl out ↦ rw out (left-out _ imports_in strict (table.value bytes) _ out)
+              | inr kept ↦
+                  let same = listed strict format offset_of bytes wide at in
+                  rw (kept, is, same)
+                  (all_of-append (map (option_map (import_in dll)) entries)
+                  (refusal_of (table.value bytes))
+                  ∙ ap
+                  (λ (o : Option (List ImportValue)). join o
+                  (all_of {A = ImportValue} (refusal_of (table.value bytes))))
+                  (all_of-mapped (import_in dll) entries)
+                  ∙ library-value strict _ (in_two_if at) (map (import_in dll)) imports_in dll
+                  (all_of entries) (table.value bytes) kept
+                  (λ permissive.
+                  subst IsSome same (table-there strict format offset_of bytes permissive at))
+                  (λ ks t here. library-imports dll at ks t here))
+            ]
+
+  -- ---- the directory
+
+  module _ (octets : IsBytes bytes) (o : ℕ) where
+    abbrev record_at : ℕ → Option ImportDirectoryEntry
+    record_at i = slot_at import_slots bytes o i
+
+    abbrev piece : ImportDirectoryEntry → Option (List ImportedLibrary)
+    piece r = (kept_library strict format offset_of r).value bytes
+
+    abbrev comes_of : ℕ → List (Option ImportValue)
+    comes_of i =
+        items_at (λ p r. library_items strict format offset_of bytes None r) (slot_place import_slots o i)
+        (record_at i)
+
+    slot-value : (i : ℕ) (slot : Option ImportDirectoryEntry) → record_at i ≡ slot
+        → all_of
+        (items_at (λ p r. library_items strict format offset_of bytes None r)
+        (slot_place import_slots o i) slot)
+        ≡ option_map (flat_map imports_in) (slot >>= piece)
+    unfolding all_of
+    slot-value i None is = refl
+    slot-value i (Some r) is =
+        let there = record_at-some 20 (import_record Little) bytes (slot_place import_slots o i) r is
+        in
+        let low : r.import_address_table_rva < 2 ^ 32 =
+        subst (λ (r : ImportDirectoryEntry). r.import_address_table_rva < 2 ^ 32) (sym there.is)
+        (address-low strict format offset_of bytes octets (slot_place import_slots o i)) in
+        record-value r low
+
+    below-value : (n : ℕ) → all_of (concat_below comes_of n)
+        ≡ option_map (flat_map imports_in) (each_below (λ i. record_at i >>= piece) n)
+    unfolding concat_below each_below all_of
+    below-value zero = refl
+    below-value (suc n) =
+        all_of-append (concat_below comes_of n) (comes_of n)
+        ∙ ap (λ (o : Option (List ImportValue)). join o (all_of (comes_of n))) (below-value n)
+        ∙ ap
+        (λ (o : Option (List ImportValue)).
+        join (option_map (flat_map imports_in) (each_below (λ i. record_at i >>= piece) n)) o)
+        (slot-value n (record_at n) refl)
+        ∙ join-mapped imports_in (each_below (λ i. record_at i >>= piece) n) (record_at n >>= piece)
+
+    -- collecting a walk over all imports gives those of the directory's libraries
+    pub imports-value : all_of (imports_from strict format offset_of bytes o)
+        ≡ (mapped (flat_map imports_in) (libraries_at strict format offset_of o)).value bytes
+    unfolding imports_from table_walk slot_table
+    imports-value =
+        let n = stop import_slots bytes o in
+        let end = record_at n in
+        all_of-until (concat_below comes_of n ++ end_items strict end)
+        ∙ all_of-append (concat_below comes_of n) (end_items strict end)
+        ∙ end-value strict end (all_of (concat_below comes_of n))
+        ∙ ap
+        (λ (o : Option (List ImportValue)). cond (strict && not (is_some end)) None o)
+        (below-value n)
+        ∙ test-mapped (flat_map imports_in) (strict && not (is_some end))
+        (each_below (λ i. record_at i >>= piece) n)
+
+same_option : {A : Type 0} (o : Option A) → option_map (λ x. x) o ≡ o
+same_option None = refl
+same_option (Some x) = refl
+
+-- the same of a walk that begins at a directory
+pub imports-walked : (strict : Bool) (format : Format EntryValue) (offset_of : ℕ → Option ℕ)
+    (bytes : List ℕ) (o : ℕ) → 1 ≤ format.width → length bytes < 2 ^ 63 → IsBytes bytes
+    → (left : List (Option ImportValue)) (IsCause : ErrorOf → Type 0)
+    → left ≡ imports_at strict format offset_of bytes (Some (record { «record» = o; slot = None }))
+    → ((e : ErrorOf) → IsCause e
+    → (strict ≡ true)
+    × IsCauseAt strict format offset_of bytes (Some (record { «record» = o; slot = None })) e)
+    → IsWalkOf (λ xs. xs)
+    (mapped (flat_map (kept_imports (λ x. x) format.width)) (libraries_at strict format offset_of o))
+    bytes left IsCause
+unfolding imports_at
+imports-walked strict format offset_of bytes o wide short octets left IsCause from cause = record {
+  value =
+      same_option (all_of left)
+      ∙ ap all_of from ∙ imports-value strict format offset_of bytes wide short octets o;
+  cause = λ e fault. (cause e fault).1;
+}
+
+-- ---- the directory at an address
+
+-- a directory that permissive mode does not treat as empty
+pub past-front : (mode : ParseMode) (permissive : Bool) (o : ℕ)
+    → (IsTrue permissive ↔ (mode ≡ Permissive))
+    → ((permissive ≡ true) × (o ≢ 0)) ⊎ (permissive ≡ false)
+    → (not (is_strict mode) && o == 0) ≡ false
+past-front Strict permissive o says which = refl
+past-front Permissive permissive o says (inl both) = ne_eqb o 0 both.1
+past-front Permissive permissive o says (inr not) =
+    let true_here = says.1 refl in
+    absurd cc
+
+module _ (strict : Bool) (format : Format EntryValue) (offset_of : ℕ → Option ℕ)
+    (bytes : List ℕ) (rva : ℕ) (left : List (Option ImportValue)) (IsCause : ErrorOf → Type 0) where
+  -- where the directory is
+  abbrev found : Option ℕ
+  found = in_its_place strict 0 (offset_of rva)
+
+  abbrev imports_of : Reading (List ImportedLibrary) → Reading (List ImportValue)
+  imports_of libraries = mapped (flat_map (kept_imports (λ x. x) format.width)) libraries
+
+  pub data-unmapped : found ≡ None → (e : ErrorOf) → e ≡ Malformed (Unmapped rva)
+      → ((imports_of (import_data strict format offset_of rva)).value bytes ≡ None)
+      × (import_data strict format offset_of rva).IsCause bytes e
+  unfolding import_data
+  data-unmapped none e is = (rw none refl, rw none is)
+
+  -- permissive mode treats it as empty
+  pub data-front : found ≡ Some 0 → strict ≡ false
+      → left ≡ imports_at strict format offset_of bytes None → ((e : ErrorOf) → IsCause e → ⊥)
+      → IsWalkOf (λ xs. xs) (imports_of (import_data strict format offset_of rva)) bytes left IsCause
+  unfolding import_data libraries_past_front all_of imports_at
+  data-front at permissive none never =
+      record { value = rw (none, at, permissive) refl; cause = λ e fault. absurd (never e fault) }
+
+  past_front : (libraries : Reading (List ImportedLibrary)) (test : Bool) → test ≡ false
+      → IsWalkOf (λ xs. xs) (imports_of libraries) bytes left IsCause
+      → IsWalkOf (λ xs. xs) (imports_of (cond test (given []) libraries)) bytes left IsCause
+  past_front libraries true past is = absurd cc
+  past_front libraries false past is = is
+
+  pub data-at : (o : ℕ) → found ≡ Some o → (not strict && o == 0) ≡ false
+      → IsWalkOf (λ xs. xs) (imports_of (libraries_at strict format offset_of o)) bytes left IsCause
+      → IsWalkOf (λ xs. xs) (imports_of (import_data strict format offset_of rva)) bytes left IsCause
+  unfolding import_data libraries_past_front
+  data-at o at past walk =
+      let is =
+      past_front (libraries_at strict format offset_of o) (not strict && o == 0) past walk in
+      record {
+        value = is.value ∙ sym (rw at refl);
+        cause = λ e fault. rw at (is.cause e fault);
+      }

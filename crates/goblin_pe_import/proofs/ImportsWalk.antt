@@ -1,0 +1,470 @@
+-- The walk over all imports: from one library to the next.
+use Rattle.std.proofs.Common.{◌≡◌, ◌≤◌, ◌+◌, ◌-◌, ◌*◌, ℕ, Bool, true, false, not, ◌&&◌, List, [], ◌∷◌}
+use Rattle.std.proofs.Common.{◌++◌, length, Option, Some, None, refl, sym, ap, subst, ◌∙◌, append_assoc}
+use Rattle.std.proofs.Common.{lit≤, arith}
+use Rattle.std.proofs.Math.Nat.{mul-le-mul_left}
+use Rattle.std.specs.Prelude.{Err, IfOk, IfSome, MatchResult, Ok, Result, is_none, option_map}
+use Rattle.std.specs.Prelude.{unwrap_or}
+use Rattle.goblin_base.specs.declared.error.ErrorOf.{ErrorOf}
+use Rattle.goblin_base.specs.Answers.{FirstFault, all_of}
+use Rattle.goblin_base.specs.Reading.{Reading}
+use Rattle.goblin_base.specs.Tables.{Format, or_left_out}
+use Rattle.goblin_base.proofs.SlotTables.{reads}
+use Rattle.readings.specs.Reads.{given, pair_of, pick}
+use Rattle.readings.specs.Walks.{IsSlotCause, from_slot, refusal_of, until_refused}
+use Rattle.readings.proofs.Walks.{cause-slot, slot-end, slot-going, slot-last, slot-missing, slot-once}
+use Rattle.readings.proofs.Walks.{walk-slot}
+use Rattle.goblin_pe_import.specs.declared.import.directory_entry.ImportDirectoryEntry.{ImportDirectoryEntry}
+use Rattle.goblin_pe_import.specs.declared.import.imports.ImportPosition.{ImportPosition}
+use Rattle.goblin_pe_import.specs.declared.import.imports.Walk.{Walk}
+use Rattle.goblin_pe_import.specs.ImportEntries.{EntryValue, LookupEntry}
+use Rattle.goblin_pe_import.specs.ImportReadings.{kept_library, library_of, lookup_if, record_here}
+use Rattle.goblin_pe_import.specs.ImportRecords.{address_table_rva, import_slots, is_last_record}
+use Rattle.goblin_pe_import.specs.ImportRecords.{lookup_offset}
+use Rattle.goblin_pe_import.specs.Imports.{ImportValue}
+use Rattle.goblin_pe_import.specs.ImportWalks.{GivesLibrary, IsCauseAt, IsCauseBy, IsEntriesCause}
+use Rattle.goblin_pe_import.specs.ImportWalks.{IsLaterCause, IsNamedCause, IsRecordCause, IsRecordsCause}
+use Rattle.goblin_pe_import.specs.ImportWalks.{KeptValue, addresses_of, begin_at, bound_at, bound_by}
+use Rattle.goblin_pe_import.specs.ImportWalks.{entries_from, imports_at, one_if, records_bound, slots_bound}
+use Rattle.goblin_pe_import.specs.ImportWalks.{walk_bound}
+use Rattle.goblin_pe_import.specs.ImportWalks.{imports_by_slot, imports_from, imports_in, in_two}
+use Rattle.goblin_pe_import.specs.ImportWalks.{later_items, library_items, library_name, untested_table}
+use Rattle.goblin_pe_import.proofs.Imports.{unmapped}
+use Rattle.goblin_pe_import.proofs.LookupWalk.{lookup_walked}
+use Rattle.goblin_pe_import.proofs.PermissiveReads.{name_strict}
+
+-- ---- values that may be missing
+
+permissive_by : (strict b : Bool) → (not strict && b) ≡ true → strict ≡ false
+permissive_by true b e = absurd cc
+permissive_by false b e = refl
+
+two_maps : {A B C : Type 0} (f : A → B) (h : B → C) (o : Option A)
+    → option_map h (option_map f o) ≡ option_map (λ x. h (f x)) o
+two_maps f h None = refl
+two_maps f h (Some x) = refl
+
+-- Which cause is true of a library, by what its walk collects of its entries.
+library-fault : {W A B L R : Type 0} (mode : Bool) (make : (A × B) × R → L) (g : W → B)
+    (name : Option A) (walked : Option W) (listed : Option B) (addresses : Option R)
+    (IsName IsListed IsAddressed IsLater : ErrorOf → Type 0) (e : ErrorOf) → mode ≡ true
+    → listed ≡ option_map g walked
+    → FirstFault name IsName
+    (λ _. FirstFault walked IsListed (λ _. FirstFault addresses IsAddressed (λ _. IsLater))) e
+    → FirstFault (or_left_out mode (option_map make (pair_of (pair_of name listed) addresses)))
+    (FirstFault (pair_of name listed) (FirstFault name IsName (λ _. IsListed)) (λ _. IsAddressed))
+    (λ _. IsLater) e
+library-fault mode make g None walked listed addresses IsName IsListed IsAddressed IsLater e
+    strictly same fault = rw strictly fault
+library-fault mode make g (Some text) None listed addresses IsName IsListed IsAddressed IsLater e
+    strictly same fault = rw (strictly, same) fault
+library-fault mode make g (Some text) (Some x) listed None IsName IsListed IsAddressed IsLater e
+    strictly same fault = rw (strictly, same) fault
+library-fault mode make g (Some text) (Some x) listed (Some y) IsName IsListed IsAddressed IsLater e
+    strictly same fault = rw (strictly, same) fault
+
+-- kept entries and slots, where there is a table
+abbrev pub in_two_if : Option ℕ → List KeptValue → Option (List LookupEntry) × List ℕ
+in_two_if None kept = (None, [])
+in_two_if (Some o) kept = (Some (in_two kept).0, (in_two kept).1)
+
+-- ---- what comes from a position on
+
+module _ (strict : Bool) (format : Format EntryValue) (offset_of : ℕ → Option ℕ)
+    (bytes : List ℕ) where
+  -- what is collected of a library's entries is its lookup table
+  pub listed : 1 ≤ format.width → (at : Option ℕ)
+      → (lookup_if strict format offset_of at).value bytes
+      ≡ option_map (in_two_if at)
+      (all_of (entries_from strict format offset_of bytes (unwrap_or at 0) (begin_at None at)))
+  unfolding lookup_if entries_from all_of
+  listed wide None = refl
+  listed wide (Some o) =
+      ap (option_map (λ both. (Some both.0, both.1)))
+      (sym (lookup_walked strict format offset_of bytes o wide).value)
+      ∙ two_maps in_two (λ both. (Some both.0, both.1)) _
+
+  module _ (p : ℕ) where
+    abbrev slots : Option ImportDirectoryEntry
+    slots = (record_here p).value bytes
+
+    -- what comes from a slot of the library of the record at p on
+    abbrev pub from_record : Option ℕ → Option ImportDirectoryEntry → List (Option ImportValue)
+    from_record slot entry =
+        from_slot strict is_last_record (library_items strict format offset_of bytes slot)
+        (imports_from strict format offset_of bytes (p + 20)) entry
+
+    pub imports-slot : (slot : Option ℕ)
+        → imports_by_slot strict format offset_of bytes p slot ≡ from_record slot slots
+    unfolding imports_from
+    imports-slot None =
+        walk-slot import_slots (λ p r. library_items strict format offset_of bytes None r) bytes strict
+        (lit≤ tt) p slots refl
+    imports-slot (Some place) = refl
+
+    pub imports-once : (slot : Option ℕ)
+        → until_refused (imports_by_slot strict format offset_of bytes p slot)
+        ≡ imports_by_slot strict format offset_of bytes p slot
+    imports-once slot =
+        rw (imports-slot slot) (slot-once strict is_last_record (library_items strict format offset_of bytes slot)
+        (imports_from strict format offset_of bytes (p + 20)) slots)
+
+    -- a cause that is true of the rest of a directory from its first entry on is true of it
+    pub cause-record : 1 ≤ format.width → strict ≡ true → (slot : Option ℕ) (e : ErrorOf)
+        → IsRecordCause strict format offset_of bytes slot p slots e
+        → IsCauseBy strict format offset_of bytes p slot e
+    unfolding library_of lookup_if
+    cause-record wide is (Some place) e fault = fault
+    cause-record wide is None e fault =
+        cause-slot import_slots (kept_library strict format offset_of) bytes strict record_here
+        (lit≤ tt) p slots refl e (in_slot slots fault)
+      where
+        in_table : (at : Option ℕ) {A : Type 0} (o : Option A) (IsLater : ErrorOf → Type 0)
+            → FirstFault o (IsEntriesCause strict format offset_of bytes (begin_at None at))
+            (λ _. IsLater) e
+            → FirstFault o ((lookup_if strict format offset_of at).IsCause bytes) (λ _. IsLater) e
+        in_table None o IsLater fault = fault
+        in_table (Some place) o IsLater fault = fault
+
+        in_slot : (entry : Option ImportDirectoryEntry)
+            → IsRecordCause strict format offset_of bytes None p entry e
+            → IsSlotCause strict is_last_record (λ r. (kept_library strict format offset_of r).value bytes)
+            ((record_here p).IsCause bytes)
+            (λ r. (kept_library strict format offset_of r).IsCause bytes)
+            (IsRecordsCause strict format offset_of bytes (p + 20)) entry e
+        in_slot None fault = (is, fault)
+        in_slot (Some r) fault =
+            let at = lookup_offset offset_of r in
+            let name = library_name strict offset_of r in
+            let table = lookup_if strict format offset_of at in
+            let addresses = addresses_of format offset_of r in
+            let walked =
+            all_of (entries_from strict format offset_of bytes (unwrap_or at 0) (begin_at None at)) in (
+              fault.0,
+              library-fault strict _ (in_two_if at) (name.value bytes) walked (table.value bytes)
+                  (addresses.value bytes) (name.IsCause bytes) (table.IsCause bytes)
+                  (addresses.IsCause bytes) (IsRecordsCause strict format offset_of bytes (p + 20)) e is
+                  (listed wide at) (after_name (name.value bytes) fault.1),
+            )
+          where
+            after_name : (name : Option (List ℕ))
+                → FirstFault name ((library_name strict offset_of r).IsCause bytes)
+                (λ _. IsNamedCause strict format offset_of bytes None r
+                (IsRecordsCause strict format offset_of bytes (p + 20))) e
+                → FirstFault name ((library_name strict offset_of r).IsCause bytes)
+                (λ _. FirstFault
+                (all_of
+                (entries_from strict format offset_of bytes (unwrap_or (lookup_offset offset_of r) 0)
+                (begin_at None (lookup_offset offset_of r))))
+                ((lookup_if strict format offset_of (lookup_offset offset_of r)).IsCause bytes)
+                (λ _. FirstFault ((addresses_of format offset_of r).value bytes)
+                ((addresses_of format offset_of r).IsCause bytes)
+                (λ _. IsRecordsCause strict format offset_of bytes (p + 20)))) e
+            after_name None fault = fault
+            after_name (Some text) fault =
+                in_table (lookup_offset offset_of r)
+                (all_of
+                (entries_from strict format offset_of bytes (unwrap_or (lookup_offset offset_of r) 0)
+                (begin_at None (lookup_offset offset_of r))))
+                (FirstFault ((addresses_of format offset_of r).value bytes)
+                ((addresses_of format offset_of r).IsCause bytes)
+                (λ _. IsRecordsCause strict format offset_of bytes (p + 20)))
+                fault
+
+-- ---- the library of a record
+
+module _ (strict : Bool) (format : Format EntryValue) (offset_of : ℕ → Option ℕ)
+    (bytes : List ℕ) (r : ImportDirectoryEntry) (slot : Option ℕ) (next : ℕ) where
+  abbrev name : Reading (List ℕ)
+  name = library_name strict offset_of r
+
+  abbrev addresses : Reading (List ℕ)
+  addresses = addresses_of format offset_of r
+
+  -- what comes of the library, and then of those whose records are in the directory from `next` on
+  abbrev pub whole : List (Option ImportValue)
+  whole =
+      until_refused
+      (library_items strict format offset_of bytes slot r
+      ++ imports_from strict format offset_of bytes next)
+
+  abbrev pub IsWholeCause : ErrorOf → Type 0
+  IsWholeCause e =
+      FirstFault (name.value bytes) (name.IsCause bytes)
+      (λ _. IsNamedCause strict format offset_of bytes slot r
+      (IsRecordsCause strict format offset_of bytes next)) e
+
+  abbrev after : Option ImportPosition
+  after = Some (record { «record» = next; slot = None })
+
+  -- what is left of a walk of these parts
+  abbrev pub parts_left : List ℕ → ℕ → ℕ → Option ℕ → Option ℕ → List (Option ImportValue)
+  parts_left dll rva o at untested =
+      until_refused
+      (imports_in strict format offset_of bytes dll rva o at
+      ++ later_items strict format offset_of bytes untested after)
+
+  abbrev pub IsPartsCause : ℕ → Option ℕ → Option ℕ → ErrorOf → Type 0
+  IsPartsCause o at untested e =
+      (strict ≡ true)
+      × FirstFault (all_of (entries_from strict format offset_of bytes o at))
+      (IsEntriesCause strict format offset_of bytes at)
+      (λ _. IsLaterCause strict format offset_of bytes untested after) e
+
+  pub walk-left_out : (not strict && is_none (addresses.value bytes)) ≡ true
+      → (dll : List ℕ) (rva o : ℕ)
+      → (parts_left dll rva o None None ≡ whole)
+      × ((e : ErrorOf) → IsPartsCause o None None e → (strict ≡ true) × IsWholeCause e)
+  unfolding entries_from library_items imports_at
+  walk-left_out out dll rva o = (
+    rw out refl,
+    λ e fault.
+        let is = permissive_by strict _ out in
+        absurd (cc (is, fault.0)),
+  )
+
+  pub walk-unnamed : (e : ErrorOf) → name.value bytes ≡ None → name.IsCause bytes e
+      → (library_items strict format offset_of bytes slot r ≡ None ∷ []) × (strict ≡ true)
+      × (name.value bytes ≡ None) × name.IsCause bytes e
+  unfolding library_items
+  walk-unnamed e none fault =
+      let is = name_strict strict _ none in
+      (rw (none, is) refl, is, none, fault)
+
+  -- its address table is needed after its entries, if it was not tested before them
+  same_refusal : (mode : Bool) → (not mode && is_none (addresses.value bytes)) ≡ false
+      → refusal_of {B = ImportValue}
+      ((untested_table mode format offset_of (Some (address_table_rva r))).value bytes)
+      ≡ refusal_of (addresses.value bytes)
+  same_refusal true kept = refl
+  same_refusal false kept = none_missing (addresses.value bytes) kept
+    where
+      none_missing : (table : Option (List ℕ)) → is_none table ≡ false
+          → [] ≡ refusal_of {B = ImportValue} table
+      none_missing None is = absurd cc
+      none_missing (Some x) is = refl
+
+  abbrev at : Option ℕ
+  at = lookup_offset offset_of r
+
+  module _ (dll : List ℕ) (named : name.value bytes ≡ Some dll)
+      (kept : (not strict && is_none (addresses.value bytes)) ≡ false) where
+    -- a library that is walked over
+    pub walk-entered : parts_left dll r.import_address_table_rva (unwrap_or at 0) (begin_at slot at)
+        (Some (address_table_rva r)) ≡ whole
+    unfolding library_items imports_at
+    walk-entered =
+        let imports =
+        imports_in strict format offset_of bytes dll r.import_address_table_rva (unwrap_or at 0)
+        (begin_at slot at) in
+        let later = imports_from strict format offset_of bytes next in
+        rw (kept, named)
+        (ap until_refused
+        (ap (λ (items : List (Option ImportValue)). imports ++ (items ++ later))
+        (same_refusal strict kept)
+        ∙ sym (append_assoc imports (refusal_of (addresses.value bytes)) later)))
+
+    -- in strict mode a cause of the one is one of the other
+    pub cause-entered : (e : ErrorOf)
+        → IsPartsCause (unwrap_or at 0) (begin_at slot at) (Some (address_table_rva r)) e
+        → (strict ≡ true) × IsWholeCause e
+    cause-entered e fault = (
+      fault.0,
+      rw named
+          (subst
+          (λ (mode : Bool). FirstFault
+          (all_of (entries_from strict format offset_of bytes (unwrap_or at 0) (begin_at slot at)))
+          (IsEntriesCause strict format offset_of bytes (begin_at slot at))
+          (λ _. FirstFault ((pick mode addresses (given [])).value bytes)
+          ((pick mode addresses (given [])).IsCause bytes)
+          (λ _. IsRecordsCause strict format offset_of bytes next)) e)
+          fault.0 fault.1),
+    )
+
+    pub entered : (parts_left dll r.import_address_table_rva (unwrap_or at 0) (begin_at slot at)
+        (Some (address_table_rva r)) ≡ whole)
+        × ((e : ErrorOf)
+        → IsPartsCause (unwrap_or at 0) (begin_at slot at) (Some (address_table_rva r)) e
+        → (strict ≡ true) × IsWholeCause e)
+    entered = (walk-entered, cause-entered)
+
+    pub cause-again : (e : ErrorOf) → (strict ≡ true) × IsWholeCause e
+        → IsPartsCause (unwrap_or at 0) (begin_at slot at) (Some (address_table_rva r)) e
+    cause-again e fault =
+        let inside =
+        subst
+        (λ (name_value : Option (List ℕ)). FirstFault name_value (name.IsCause bytes)
+        (λ _. IsNamedCause strict format offset_of bytes slot r
+        (IsRecordsCause strict format offset_of bytes next)) e)
+        named fault.1 in (
+          fault.0,
+          subst
+              (λ (mode : Bool). FirstFault
+              (all_of (entries_from strict format offset_of bytes (unwrap_or at 0) (begin_at slot at)))
+              (IsEntriesCause strict format offset_of bytes (begin_at slot at))
+              (λ _. FirstFault ((pick mode addresses (given [])).value bytes)
+              ((pick mode addresses (given [])).IsCause bytes)
+              (λ _. IsRecordsCause strict format offset_of bytes next)) e)
+              (sym fault.0) inside,
+        )
+
+-- ---- once the entries of a library have come
+
+module _ (strict : Bool) (format : Format EntryValue) (offset_of : ℕ → Option ℕ)
+    (bytes : List ℕ) (untested : Option ℕ) where
+  abbrev table : Reading (List ℕ)
+  table = untested_table strict format offset_of untested
+
+  abbrev later : Option ImportPosition → List (Option ImportValue)
+  later next = until_refused (later_items strict format offset_of bytes untested next)
+
+  abbrev IsCause : Option ImportPosition → ErrorOf → Type 0
+  IsCause next e = IsLaterCause strict format offset_of bytes untested next e
+
+  -- its address table is missing
+  pub later-refused : (next : Option ImportPosition) (e : ErrorOf)
+      → (option_map (λ _. tt {0}) (table.value bytes) ≡ None) × table.IsCause bytes e
+      → (later next ≡ None ∷ []) × IsCause next e
+  unfolding until_refused
+  later-refused next e refused =
+      let none = unmapped (λ _. tt {0}) _ refused.0 in
+      (rw none refl, rw none refused.1)
+
+  module _ (tested : option_map (λ _. tt {0}) (table.value bytes) ≡ Some (tt {0})) where
+    is_there : (found : Option (List ℕ)) → option_map (λ _. tt {0}) found ≡ Some (tt {0})
+        → (items : List (Option ImportValue)) (IsTable IsLater : ErrorOf → Type 0)
+        → (refusal_of found ++ items ≡ items)
+        × ((e : ErrorOf) → IsLater e → FirstFault found IsTable (λ _. IsLater) e)
+    is_there None e items IsTable IsLater = absurd cc
+    is_there (Some x) e items IsTable IsLater = (refl, λ e fault. fault)
+
+    later-from : (next : Option ImportPosition)
+        → later next ≡ until_refused (imports_at strict format offset_of bytes next)
+    later-from next =
+        ap until_refused
+        (is_there (table.value bytes) tested (imports_at strict format offset_of bytes next)
+        (λ e. ⊥) (λ e. ⊥)).0
+
+    later-cause : (next : Option ImportPosition) (e : ErrorOf)
+        → IsCauseAt strict format offset_of bytes next e → IsCause next e
+    later-cause next e fault =
+        (is_there (table.value bytes) tested [] (table.IsCause bytes)
+        (IsCauseAt strict format offset_of bytes next)).1 e fault
+
+    -- there are no more records
+    pub later-none : later None ≡ []
+    unfolding imports_at until_refused
+    later-none = later-from None
+
+    module _ (wide : 1 ≤ format.width) (next : ImportPosition) where
+      abbrev p : ℕ
+      p = next.«record»
+
+      abbrev of_library : ImportDirectoryEntry → List (Option ImportValue)
+      of_library = library_items strict format offset_of bytes next.slot
+
+      abbrev from_next : List (Option ImportValue)
+      from_next = imports_from strict format offset_of bytes (p + 20)
+
+      by_record : (entry : Option ImportDirectoryEntry) → reads import_slots bytes p ≡ entry
+          → later (Some next)
+          ≡ from_record strict format offset_of bytes p next.slot entry
+      unfolding imports_at
+      by_record entry r =
+          later-from (Some next) ∙ imports-once strict format offset_of bytes p next.slot
+          ∙ imports-slot strict format offset_of bytes p next.slot
+          ∙ ap (from_record strict format offset_of bytes p next.slot) r
+
+      by_cause : (entry : Option ImportDirectoryEntry) → reads import_slots bytes p ≡ entry
+          → strict ≡ true → (e : ErrorOf)
+          → IsRecordCause strict format offset_of bytes next.slot p entry e
+          → IsCause (Some next) e
+      by_cause entry r is e fault =
+          later-cause (Some next) e
+          (cause-record strict format offset_of bytes p wide is next.slot e
+          (subst
+          (λ (entry : Option ImportDirectoryEntry).
+          IsRecordCause strict format offset_of bytes next.slot p entry e) (sym r) fault))
+
+      pub later-end : reads import_slots bytes p ≡ None → strict ≡ false → later (Some next) ≡ []
+      later-end r m = by_record None r ∙ slot-end strict is_last_record of_library from_next m
+
+      pub later-last : (v : ImportDirectoryEntry) → reads import_slots bytes p ≡ Some v
+          → is_last_record v ≡ true → later (Some next) ≡ []
+      later-last v r z = by_record (Some v) r ∙ slot-last strict is_last_record of_library from_next v z
+
+      pub later-missing : (e : ErrorOf) → reads import_slots bytes p ≡ None → strict ≡ true
+          → (record_here p).IsCause bytes e
+          → (later (Some next) ≡ None ∷ []) × (strict ≡ true) × IsCause (Some next) e
+      later-missing e r m fault = (
+        by_record None r ∙ slot-missing strict is_last_record of_library from_next m,
+        m,
+        by_cause None r m e fault,
+      )
+
+      -- what a walk goes on with, by what is made of the record's library
+      pub later-given : (v : ImportDirectoryEntry) → reads import_slots bytes p ≡ Some v
+          → is_last_record v ≡ false → {S : Type 0} (left : S → List (Option ImportValue))
+          (IsLeft : S → ErrorOf → Type 0) (result : Result S ErrorOf)
+          → MatchResult result
+          (λ t. (left t ≡ whole strict format offset_of bytes v next.slot (p + 20))
+          × ((e : ErrorOf) → IsLeft t e
+          → (strict ≡ true) × IsWholeCause strict format offset_of bytes v next.slot (p + 20) e))
+          (λ e. (library_items strict format offset_of bytes next.slot v ≡ None ∷ [])
+          × (strict ≡ true)
+          × ((library_name strict offset_of v).value bytes ≡ None)
+          × (library_name strict offset_of v).IsCause bytes e)
+          → GivesLibrary left IsLeft (later_items strict format offset_of bytes untested (Some next))
+          (λ e. (strict ≡ true) × IsCause (Some next) e) (Some result)
+      unfolding until_refused
+      later-given v r going left IsLeft (Ok t) h = (
+        h.0 ∙ sym (by_record (Some v) r ∙ slot-going strict is_last_record of_library from_next v going),
+        λ e fault.
+            let both = h.1 e fault in
+            (both.0, by_cause (Some v) r both.0 e (going, both.1)),
+      )
+      later-given v r going left IsLeft (Err e) h = (
+        by_record (Some v) r ∙ slot-going strict is_last_record of_library from_next v going
+            ∙ ap
+            (λ (xs : List (Option ImportValue)). until_refused
+            (xs ++ imports_from strict format offset_of bytes (p + 20)))
+            h.0,
+        (h.1, by_cause (Some v) r h.1 e (going, rw (h.2) (h.3))),
+      )
+
+-- ---- how many may come
+
+slots_few : (bytes : List ℕ) (place : Option ℕ) → slots_bound bytes place ≤ length bytes + 1
+slots_few bytes None = omega arith
+slots_few bytes (Some p) = omega arith
+
+one_few : (untested : Option ℕ) → one_if untested ≤ 1
+one_few None = omega arith
+one_few (Some rva) = omega arith
+
+-- a record less makes room for a whole file of slots, and a refusal
+fewer : (n p x y : ℕ) → p + 20 ≤ n → x ≤ n + 1 → y ≤ 1
+    → x + y + (n + 2) * (n - (p + 20) + 1) ≤ (n + 2) * (n - p + 1)
+fewer n p x y inside few one =
+    let more : (n + 2) * (n - (p + 20) + 1 + 1) ≤ (n + 2) * (n - p + 1) =
+    mul-le-mul_left (n + 2) (omega (arith, inside)) in
+    omega (arith, few, one, more)
+
+-- a walk that goes on in the library of the record at a position
+pub bound-given : (bytes : List ℕ) (at : ImportPosition) → at.«record» + 20 ≤ length bytes
+    → (r : Result Walk ErrorOf) → IfOk r (λ t. t.bytes.now ≡ bytes)
+    → IfOk r (λ t. t.next ≡ Some (record { «record» = at.«record» + 20; slot = None }))
+    → IfOk r (λ t. IfSome t.place (λ place. IfSome at.slot (λ slot. place ≡ slot)))
+    → IfOk r (λ t. walk_bound t ≤ bound_at bytes (Some at))
+bound-given bytes at inside (Err e) same next place = tt
+bound-given bytes at inside (Ok t) same next place =
+    rw (same, next) (by_slot at.slot t.place place)
+  where
+    by_slot : (slot place : Option ℕ) → IfSome place (λ place. IfSome slot (λ slot. place ≡ slot))
+        → slots_bound bytes place + one_if t.untested + records_bound bytes (at.«record» + 20)
+        ≤ bound_by bytes at.«record» slot
+    by_slot None place is =
+        fewer (length bytes) at.«record» (slots_bound bytes place) (one_if t.untested) inside
+        (slots_few bytes place) (one_few t.untested)
+    by_slot (Some s) None is = omega (arith, one_few t.untested)
+    by_slot (Some s) (Some p) is = omega (arith, is, one_few t.untested)

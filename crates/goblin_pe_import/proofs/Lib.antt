@@ -1,0 +1,17 @@
+pub mod ImportBound
+pub mod ImportDirectoryRoundTrip
+mod ImportFaults
+mod ImportPositions
+mod ImportSteps
+pub mod Imports
+mod ImportsValue
+mod ImportsWalk
+pub mod LeftOutLibraries
+pub mod LibraryNames
+mod Listed
+pub mod ListedImports
+pub mod LookupSlots
+pub mod LookupWalk
+pub mod Modes
+pub mod PermissiveReads
+mod SlotSums

@@ -1,0 +1,230 @@
+-- The loop that looks for the next entry that a lookup table keeps.
+use Rattle.std.proofs.Common.{◌≡◌, ◌≤◌, ◌+◌, ◌-◌, ◌/◌, ℕ, Bool, true, false, List, [], ◌∷◌, ◌++◌, map}
+use Rattle.std.proofs.Common.{Option, Some, None, refl, ap, ◌∙◌}
+use Rattle.std.proofs.Common.{◌*◌, arith}
+use Rattle.std.specs.Prelude.{IfSome, option_map}
+use Rattle.std.proofs.Math.Nat.{mul-div_cancel_left}
+use Rattle.goblin_base.specs.declared.error.ErrorOf.{ErrorOf}
+use Rattle.goblin_base.specs.Answers.{◌>>=◌, all_of}
+use Rattle.goblin_base.specs.Tables.{Format, SlotFormat, concat_below, kept_slots, made_of, slot_at, slot_place, slot_table}
+use Rattle.goblin_base.specs.Tables.{stop}
+use Rattle.goblin_base.proofs.SlotTables.{reads}
+use Rattle.goblin_base.proofs.Steps.{step}
+use Rattle.goblin_pe_import.specs.ImportEntries.{EntryValue, LookupEntry, entry_slots}
+use Rattle.goblin_pe_import.specs.declared.import.lookup_table.SyntheticImportLookupTableEntry.{SyntheticImportLookupTableEntry}
+use Rattle.goblin_pe_import.specs.ImportLookup.{entry_view, kept_view}
+use Rattle.goblin_pe_import.specs.ImportWalks.{IsEntriesCause, KeptValue, entries_from, entry_items, kept_at}
+use Rattle.goblin_pe_import.specs.ImportWalks.{in_two}
+use Rattle.readings.specs.Walks.{IsSlotCause, IsWalkOf, from_slot, end_items, items_at, items_of, table_walk}
+use Rattle.readings.specs.Walks.{until_refused}
+use Rattle.goblin_pe_import.specs.LookupReadings.{kept_entry, lookup_entry_at}
+use Rattle.goblin_pe_import.specs.LookupReadings.{lookup_with_slots}
+use Rattle.goblin_pe_import.proofs.ImportBound.{kept_entry-few}
+use Rattle.goblin_pe_import.proofs.PermissiveReads.{entry-never}
+use Rattle.readings.proofs.WalkValues.{walk-value}
+use Rattle.readings.proofs.Walks.{cause-slot, concat_below-same, slot-end, slot-going, slot-last}
+use Rattle.readings.proofs.Walks.{slot-missing, until_refused-later, until_refused-made, walk-slot}
+
+module _ (strict : Bool) (format : Format EntryValue) (offset_of : ℕ → Option ℕ)
+    (bytes : List ℕ) (o : ℕ) where
+  -- what comes from a place on, and none without a place
+  abbrev comes : Option ℕ → List (Option KeptValue)
+  comes = entries_from strict format offset_of bytes o
+
+  abbrev from : ℕ → List (Option KeptValue)
+  from place = comes (Some place)
+
+  -- nothing comes once the walk has ended
+  abbrev HasEnded : Type 0
+  HasEnded = comes None ≡ []
+
+  abbrev items : ℕ → EntryValue → List (Option KeptValue)
+  items = entry_items strict format offset_of bytes o
+
+  abbrev IsCause : Option ℕ → ErrorOf → Type 0
+  IsCause = IsEntriesCause strict format offset_of bytes
+
+  -- nothing is kept of the slots from the one at `start` up to the one at `place`
+  pub record AtRest (start : Option ℕ) (place : ℕ) : Type 0 where
+    pub past : IfSome start (λ s. s ≤ place)
+    pub same : comes start ≡ from place
+    pub cause : (e : ErrorOf) → IsCause (Some place) e → IsCause start e
+
+  pub none-left : (place : Option ℕ) → place ≡ None → (comes place ≡ []) × HasEnded
+  unfolding entries_from
+  none-left place is = rw is (refl, refl)
+
+  pub rest-start : (start : Option ℕ) (place : ℕ) → start ≡ Some place → AtRest start place
+  rest-start start place is = rw is
+      (record { past = omega arith; same = refl; cause = λ e fault. fault })
+
+  module _ (start : Option ℕ) (place : ℕ) (h : AtRest start place) (wide : 1 ≤ format.width) where
+    abbrev slots : SlotFormat EntryValue
+    slots = entry_slots format
+
+    -- what comes from the slot at `place` on
+    by_slot : (entry : Option EntryValue) → reads slots bytes place ≡ entry
+        → comes start
+        ≡ from_slot strict slots.is_last (items place) (from (place + format.width)) entry
+    unfolding entries_from
+    by_slot entry r = h.same ∙ walk-slot slots items bytes strict wide place entry r
+
+    -- which cause is true from there on
+    by_cause : (entry : Option EntryValue) → reads slots bytes place ≡ entry → (e : ErrorOf)
+        → IsSlotCause strict slots.is_last (λ v. (kept_entry strict offset_of v).value bytes)
+        ((lookup_entry_at format place).IsCause bytes)
+        (λ v. (kept_entry strict offset_of v).IsCause bytes) (IsCause (Some (place + format.width)))
+        entry e
+        → IsCause start e
+    by_cause entry r e fault =
+        h.cause e
+        (cause-slot slots (kept_entry strict offset_of) bytes strict (lookup_entry_at format) wide
+        place entry r e fault)
+
+    pub rest-last : (v : EntryValue) → reads slots bytes place ≡ Some v → slots.is_last v ≡ true
+        → (comes start ≡ []) × HasEnded
+    unfolding entries_from
+    rest-last v r z = (by_slot (Some v) r ∙ slot-last strict slots.is_last (items place) (from (place + format.width)) v z, refl)
+
+    pub rest-end : reads slots bytes place ≡ None → strict ≡ false
+        → (comes start ≡ []) × HasEnded
+    unfolding entries_from
+    rest-end r m = (by_slot None r ∙ slot-end strict slots.is_last (items place) (from (place + format.width)) m, refl)
+
+    pub rest-missing : (e : ErrorOf) → reads slots bytes place ≡ None → strict ≡ true
+        → (lookup_entry_at format place).IsCause bytes e
+        → (comes start ≡ None ∷ []) × HasEnded × IsCause start e
+    unfolding entries_from
+    rest-missing e r m fault = (
+      by_slot None r ∙ slot-missing strict slots.is_last (items place) (from (place + format.width)) m,
+      refl,
+      by_cause None r e (m, fault),
+    )
+
+    module _ (v : EntryValue) (r : reads slots bytes place ≡ Some v)
+        (going : slots.is_last v ≡ false) where
+      first : (made : Option (List LookupEntry))
+          → (kept_entry strict offset_of v).value bytes ≡ made
+          → comes start
+          ≡ until_refused
+          (items_of (kept_at format.width o place) made ++ from (place + format.width))
+      first made is =
+          by_slot (Some v) r ∙ slot-going strict slots.is_last (items place) (from (place + format.width)) v going
+          ∙ ap
+          (λ (made : Option (List LookupEntry)). until_refused
+          (items_of (kept_at format.width o place) made ++ from (place + format.width)))
+          is
+
+      pub rest-refused : (e : ErrorOf)
+          → ((kept_entry strict offset_of v).value bytes ≡ None)
+          × (kept_entry strict offset_of v).IsCause bytes e
+          → (comes start ≡ None ∷ []) × HasEnded × IsCause start e
+      unfolding entries_from until_refused
+      rest-refused e k =
+          (first None k.0, refl, by_cause (Some v) r e (going, rw (k.0) (k.1)))
+
+      pub rest-next : (xs : List LookupEntry)
+          → (kept_entry strict offset_of v).value bytes ≡ Some xs
+          → (comes start
+          ≡ map (λ x. Some (kept_at format.width o place x)) xs ++ from (place + format.width))
+          × ((e : ErrorOf) → IsCause (Some (place + format.width)) e → IsCause start e)
+      unfolding entries_from table_walk
+      rest-next xs k = (
+        first (Some xs) k ∙ until_refused-made (kept_at format.width o place) xs _
+            ∙ ap
+            (λ (later : List (Option KeptValue)).
+            map (λ x. Some (kept_at format.width o place x)) xs ++ later)
+            (until_refused-later [] _),
+        λ e fault. by_cause (Some v) r e (going, rw k fault),
+      )
+
+      module _ (kept : Option SyntheticImportLookupTableEntry)
+          (k : (kept_entry strict offset_of v).value bytes ≡ Some (kept_view kept)) where
+        read : (found : Option SyntheticImportLookupTableEntry) → kept ≡ found
+            → (kept_entry strict offset_of v).value bytes ≡ Some (kept_view found)
+        read found is = k ∙ ap (λ (x : Option SyntheticImportLookupTableEntry). Some (kept_view x)) is
+
+        -- nothing is kept of the slot at `place`
+        pub rest-skip : kept ≡ None → AtRest start (place + format.width)
+        rest-skip none =
+            let both = rest-next [] (read None none) in
+            record { past = further start h.past; same = both.0; cause = both.1 }
+          where
+            further : (start : Option ℕ) → IfSome start (λ s. s ≤ place)
+                → IfSome start (λ s. s ≤ place + format.width)
+            further None past = past
+            further (Some s) past = omega (arith, past)
+
+        -- an entry is kept
+        pub rest-kept : (entry : SyntheticImportLookupTableEntry) → kept ≡ Some entry
+            → (comes start
+            ≡ Some (kept_at format.width o place (entry_view entry)) ∷ from (place + format.width))
+            × ((e : ErrorOf) → IsCause (Some (place + format.width)) e → IsCause start e)
+        rest-kept entry is = rest-next (entry_view entry ∷ []) (read (Some entry) is)
+
+pub in_slot : (width o i : ℕ) → 1 ≤ width → (o + width * i - o) / width ≡ i
+in_slot width o i wide =
+    let distance : o + width * i - o ≡ width * i = omega arith in
+    ap (λ (n : ℕ). n / width) distance ∙ mul-div_cancel_left i (omega (arith, wide))
+
+module _ (strict : Bool) (format : Format EntryValue) (offset_of : ℕ → Option ℕ)
+    (bytes : List ℕ) (o : ℕ) where
+  abbrev piece : EntryValue → Option (List LookupEntry)
+  piece v = (kept_entry strict offset_of v).value bytes
+
+  abbrev made : ℕ → Option (List LookupEntry)
+  made = made_of (entry_slots format) piece bytes o
+
+  abbrev item : ℕ → LookupEntry → KeptValue
+  item i = kept_at format.width o (slot_place (entry_slots format) o i)
+
+  abbrev n : ℕ
+  n = stop (entry_slots format) bytes o
+
+  in_file : (place : ℕ) (slot : Option EntryValue)
+      → items_at (entry_items strict format offset_of bytes o) place slot
+      ≡ items_of (kept_at format.width o place) (slot >>= piece)
+  in_file place None = refl
+  in_file place (Some v) = refl
+
+  -- the walk from the table's first slot on, by the index of each slot
+  pub by_index : entries_from strict format offset_of bytes o (Some o)
+      ≡ until_refused
+      (concat_below (λ i. items_of (item i) (made i)) n
+      ++ end_items strict (slot_at (entry_slots format) bytes o n))
+  unfolding entries_from table_walk
+  by_index =
+      let slots = entry_slots format in
+      ap
+      (λ (items : List (Option KeptValue)). until_refused
+      (items ++ end_items strict (slot_at slots bytes o n)))
+      (concat_below-same
+      (λ i. items_at (entry_items strict format offset_of bytes o) (slot_place slots o i)
+      (slot_at slots bytes o i))
+      (λ i. items_of (item i) (made i)) n
+      (λ i. in_file (slot_place slots o i) (slot_at slots bytes o i)))
+
+  -- collecting it gives the table with its slots
+  pub lookup_walked : 1 ≤ format.width
+      → IsWalkOf in_two (lookup_with_slots strict format offset_of o) bytes
+      (entries_from strict format offset_of bytes o (Some o))
+      (IsEntriesCause strict format offset_of bytes (Some o))
+  unfolding slot_table kept_slots
+  lookup_walked wide = record {
+    value =
+        ap (λ (items : List (Option KeptValue)). option_map in_two (all_of items)) by_index
+        ∙ walk-value item (λ k. k.entry) (λ k. k.slot) made
+        (λ i xs is.
+        let s = step (slot_at (entry_slots format) bytes o i) piece xs is in
+        kept_entry-few strict offset_of bytes s.value xs s.then)
+        (λ i x. refl) (λ i x. in_slot format.width o i wide) strict
+        (slot_at (entry_slots format) bytes o n) n;
+    cause = λ e fault. fault;
+  }
+
+-- only strict mode refuses an entry
+pub refused-strictly : (strict : Bool) (offset_of : ℕ → Option ℕ) (v : EntryValue)
+    (bytes : List ℕ) → (kept_entry strict offset_of v).value bytes ≡ None → strict ≡ true
+refused-strictly true offset_of v bytes none = refl
+refused-strictly false offset_of v bytes none =
+    absurd (entry-never false offset_of v bytes none refl)

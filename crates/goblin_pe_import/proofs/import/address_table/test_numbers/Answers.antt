@@ -1,0 +1,26 @@
+use Rattle.std.proofs.Common.{◌≤◌, [], sym, ap, ◌∙◌, arith, refl}
+use Rattle.std.specs.Prelude.{option_map}
+use Rattle.std.proofs.lemmas.Result.{err_from_is_err_and}
+use Rattle.readings.proofs.Loops.{read-last, read-missing, read-next, read-start}
+use Rattle.goblin_pe_import.specs.LookupReadings.{entry_at}
+use Rattle.goblin_pe_import.proofs.import.address_table.test_numbers.Goals as goal
+
+pub slots-init : goal.slots-init
+slots-init g c =
+    let wide : 1 ≤ g.T.Bitfield.format.width = omega (arith, c.size_of-size.ensures.width, c.size_of-size.ensures.positive) in
+    ([], read-start _ _ _ _ wide)
+
+pub returns-in_err-entry : goal.returns-in_err-entry
+returns-in_err-entry g c =
+    let e = err_from_is_err_and c.from_residual.result c.from_residual.ensures.1 in
+    let both = read-missing _ _ _ _ _ _ c.slots.invariant.1 _ (entry_at g.T.Bitfield.format) _ c.in_err-entry.ensures.0 refl c.in_err-entry.ensures.1 in
+    rw (e.1, e.2) (ap (option_map _) both.0, both.1)
+
+pub returns-then-is_zero : goal.returns-then-is_zero
+returns-then-is_zero g c =
+    ap (option_map _) (read-last _ _ _ _ _ _ c.slots.invariant.1 _ (entry_at g.T.Bitfield.format) _ c.in_ok-entry.ensures (sym c.is_zero.ensures ∙ c.if-is_zero.true))
+
+pub slots-preserved : goal.slots-preserved
+slots-preserved g c =
+    let next = read-next _ _ _ _ _ _ c.slots.invariant.1 _ _ c.in_ok-entry.ensures (sym c.is_zero.ensures ∙ c.if-is_zero.false) refl in
+    rw c.size_of-size.ensures.width (_, next)

@@ -1,0 +1,32 @@
+use Rattle.std.proofs.Common.{ap, ◌+◌, ℕ}
+use Rattle.goblin_pe_import.proofs.ImportSteps.{imports-start, next-fault, next-library, next-none, next-one}
+use Rattle.goblin_pe_import.proofs.ImportSteps.{next-refused}
+use Rattle.goblin_pe_import.proofs.import.imports.Walk.next_import.Goals as goal
+
+pub libraries-init : goal.libraries-init
+libraries-init g c = imports-start _ _
+
+pub returns-in-Some-Ok-clause-steps : goal.returns-in-Some-Ok-clause-steps
+returns-in-Some-Ok-clause-steps g c =
+    rw c.import_of-import.ensures
+    (next-one g.T.Bitfield.format c.args.self.now c.libraries.self c.libraries.invariant c.in-Some-Ok.field-0 c.in-Some-Ok.ensures.steps c.in-Some-Ok.kept c.in-Some-Ok.field-0-is _
+    (ap (λ (n : ℕ). c.in-Some-Ok.kept.place + n) c.size_of.ensures.width) c.next_kept.new.near)
+
+pub returns-in-Some-Err-clause-steps : goal.returns-in-Some-Err-clause-steps
+returns-in-Some-Err-clause-steps g c =
+    next-fault g.T.Bitfield.format c.args.self.now c.libraries.self c.libraries.invariant c.in-Some-Err.field-0 c.in-Some-Err.ensures.steps c.in-Some-Err.error c.in-Some-Err.field-0-is c.in-Some-Err.ensures.strictly c.end.new.self
+    (record { place = c.end.ensures.place; untested = c.end.ensures.untested; next = c.end.ensures.next })
+
+pub libraries-preserved : goal.libraries-preserved
+libraries-preserved g c =
+    next-library g.T.Bitfield.format c.args.self.now c.libraries.self c.libraries.invariant c.in-None.ensures.steps c.in-Some-Ok-next_library.field-0 c.in-Some-Ok-next_library.walk c.in-Some-Ok-next_library.ensures.gives c.in-Some-Ok-next_library.field-0-is c.in-Some-Ok-next_library.ensures.bytes c.in-Some-Ok-next_library.ensures.address_map c.in-Some-Ok-next_library.ensures.bound c.in-Some-Ok-next_library.ensures.placed
+
+pub returns-in-Some-Err-next_library-clause-steps : goal.returns-in-Some-Err-next_library-clause-steps
+returns-in-Some-Err-next_library-clause-steps g c =
+    next-refused g.T.Bitfield.format c.args.self.now c.libraries.self c.libraries.invariant c.in-None.ensures.steps c.in-Some-Err-next_library.field-0 c.in-Some-Err-next_library.error c.in-Some-Err-next_library.ensures.gives c.in-Some-Err-next_library.field-0-is c.end-in-Some-Err-next_library.new.self
+    (record { place = c.end-in-Some-Err-next_library.ensures.place; untested = c.end-in-Some-Err-next_library.ensures.untested; next = c.end-in-Some-Err-next_library.ensures.next })
+
+pub returns-in-None-next_library-clause-steps : goal.returns-in-None-next_library-clause-steps
+returns-in-None-next_library-clause-steps g c =
+    next-none g.T.Bitfield.format c.args.self.now c.libraries.self c.libraries.invariant c.in-None.ensures.steps c.in-None-next_library.ensures.gives c.end-in-None-next_library.new.self
+    (record { place = c.end-in-None-next_library.ensures.place; untested = c.end-in-None-next_library.ensures.untested; next = c.end-in-None-next_library.ensures.next })

@@ -1,0 +1,55 @@
+-- What a lookup table and an address table keep, over a map of addresses to file offsets, and what
+-- contracts see of their entries.
+use Rattle.std.specs.Prelude.{◌≡◌, ◌<◌, ℕ, Bool, true, false, List, Option, map, option_to_list}
+use Rattle.std.specs.declared.borrow.CowStr.{CowStr}
+use Rattle.std.specs.declared.borrow.CowStr.TheVariants.{Borrowed, Owned}
+use Rattle.goblin_base.specs.Answers.{◌>>=◌}
+use Rattle.goblin_base.specs.Tables.{Format, is_kept, kept_slots, slot_at, stop}
+use Rattle.goblin_pe_import.specs.ImportEntries.LookupEntry.{ByName, ByOrdinal}
+pub use Rattle.goblin_pe_import.specs.ImportEntries.{EntryValue, HintName, LookupEntry}
+pub use Rattle.goblin_pe_import.specs.ImportEntries.{entries_32, entries_64, entry_slots}
+pub use Rattle.goblin_pe_import.specs.ImportEntries.{entry_value}
+use Rattle.goblin_pe_import.specs.LookupReadings.{kept_entry}
+use Rattle.goblin_pe_import.specs.declared.import.lookup_table.HintNameTableEntry.{HintNameTableEntry}
+use Rattle.goblin_pe_import.specs.declared.import.lookup_table.SyntheticImportLookupTableEntry.{SyntheticImportLookupTableEntry}
+use Rattle.goblin_pe_import.specs.declared.import.lookup_table.SyntheticImportLookupTableEntry.TheVariants.{OrdinalNumber}
+use Rattle.goblin_pe_import.specs.declared.import.lookup_table.SyntheticImportLookupTableEntry.TheVariants.{HintNameTableRVA}
+
+-- The indexes of the slots whose entries the lookup table at an offset keeps: one for each kept
+-- entry.
+abbrev pub lookup_slots : Bool → Format EntryValue → (ℕ → Option ℕ) → List ℕ → ℕ → List ℕ
+lookup_slots strict format offset_of bytes o =
+    kept_slots (entry_slots format)
+    (λ entry. (kept_entry strict offset_of entry).value bytes) bytes o
+
+-- something is kept of an entry of the lookup table at an offset
+abbrev pub KeepsEntries : Bool → Format EntryValue → (ℕ → Option ℕ) → List ℕ → ℕ → Type 0
+KeepsEntries strict format offset_of bytes o =
+    (i : ℕ) × (i < stop (entry_slots format) bytes o)
+    × (is_kept (slot_at (entry_slots format) bytes o i
+    >>= λ entry. (kept_entry strict offset_of entry).value bytes)
+    ≡ true)
+
+-- the address table at an offset has an entry
+abbrev pub HasAddresses : Format EntryValue → List ℕ → ℕ → Type 0
+HasAddresses format bytes o = 0 < stop (entry_slots format) bytes o
+
+-- ---- as contracts see them: texts as their bytes
+
+-- a hint and a name
+abbrev pub hint_name_view : HintNameTableEntry → HintName
+hint_name_view entry = record { hint = entry.hint; name = entry.name.now }
+
+-- an entry that a lookup table keeps
+abbrev pub entry_view : SyntheticImportLookupTableEntry → LookupEntry
+entry_view (OrdinalNumber ordinal) = ByOrdinal ordinal
+entry_view (HintNameTableRVA pair) = ByName pair.0 (hint_name_view pair.1)
+
+-- what is kept of an entry: one entry, or nothing
+abbrev pub kept_view : Option SyntheticImportLookupTableEntry → List LookupEntry
+kept_view kept = map entry_view (option_to_list kept)
+
+-- whether a text is borrowed, not a copy
+abbrev pub is_borrowed_str : {Z : Type 0} → CowStr Z → Bool
+is_borrowed_str (Borrowed r) = true
+is_borrowed_str (Owned s) = false

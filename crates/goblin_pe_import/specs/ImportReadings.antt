@@ -1,0 +1,70 @@
+-- The import directory: its records, and the library that each leads to, over a map of addresses to
+-- file offsets.
+use Rattle.std.specs.Prelude.{ℕ, ◌==◌, Bool, ◌&&◌, not, cond, List, [], Option, Some, None}
+use Rattle.goblin_base.specs.declared.endian.Endian.TheVariants.{Little}
+use Rattle.goblin_base.specs.declared.error.CauseOf.TheVariants.{ImportRecordEnd}
+use Rattle.goblin_base.specs.Reading.{Reading}
+use Rattle.goblin_base.specs.Tables.{Format}
+use Rattle.readings.specs.Reads.{◌>>=◌, ◌beside◌, because, given, mapped, or_else, or_left_out}
+use Rattle.readings.specs.Reads.{record_at, table}
+use Rattle.goblin_pe_sect.specs.AddressReadings.{at_address, name_at, offset_at}
+use Rattle.goblin_pe_import.specs.ImportEntries.{EntryValue, LookupEntry}
+use Rattle.goblin_pe_import.specs.ImportRecords.{ImportedLibrary, address_table_rva}
+use Rattle.goblin_pe_import.specs.ImportRecords.{import_record, import_slots, lookup_offset}
+use Rattle.goblin_pe_import.specs.LookupReadings.{address_table, lookup_with_slots}
+use Rattle.goblin_pe_import.specs.declared.import.directory_entry.ImportDirectoryEntry.{ImportDirectoryEntry}
+
+-- the record at an offset
+abbrev pub record_here : ℕ → Reading ImportDirectoryEntry
+record_here p = because (ImportRecordEnd p) (record_at 20 (import_record Little) p)
+
+-- the lookup table at an offset with its slots, and nothing where there is no offset
+unfoldable pub lookup_if : Bool → Format EntryValue → (ℕ → Option ℕ) → Option ℕ
+    → Reading (Option (List LookupEntry) × List ℕ)
+lookup_if strict format offset_of None = given (None, [])
+lookup_if strict format offset_of (Some o) =
+    mapped (λ both. (Some both.0, both.1)) (lookup_with_slots strict format offset_of o)
+
+-- What a record leads to: its name, its lookup table and its address table. Permissive mode takes
+-- the empty name if there is none.
+unfoldable pub library_of : Bool → Format EntryValue → (ℕ → Option ℕ) → ImportDirectoryEntry
+    → Reading ImportedLibrary
+library_of strict format offset_of r =
+    mapped (λ parts. record {
+      import_directory_entry = r;
+      name = parts.0.0;
+      import_lookup_table = parts.0.1.0;
+      import_lookup_slots = parts.0.1.1;
+      import_address_table = parts.1;
+    })
+    (or_else strict [] (name_at offset_of r.name_rva)
+    beside lookup_if strict format offset_of (lookup_offset offset_of r)
+    beside at_address offset_of (address_table_rva r) (address_table format))
+
+-- the library of a record; permissive mode leaves out a record that leads to none
+abbrev pub kept_library : Bool → Format EntryValue → (ℕ → Option ℕ) → ImportDirectoryEntry
+    → Reading (List ImportedLibrary)
+kept_library strict format offset_of r = or_left_out strict (library_of strict format offset_of r)
+
+-- The libraries of the directory at an offset: those of the records before the first that is not in
+-- the file or ends the directory. Strict mode needs that record, and a library for each. Permissive
+-- mode leaves out records that lead to none.
+abbrev pub libraries_at : Bool → Format EntryValue → (ℕ → Option ℕ) → ℕ
+    → Reading (List ImportedLibrary)
+libraries_at strict format offset_of o =
+    table import_slots strict record_here (kept_library strict format offset_of) o
+
+-- The libraries of the directory at an offset. Permissive mode treats a directory at the front of
+-- the file as empty.
+unfoldable pub libraries_past_front : Bool → Format EntryValue → (ℕ → Option ℕ) → ℕ
+    → Reading (List ImportedLibrary)
+libraries_past_front strict format offset_of o =
+    cond (not strict && o == 0) (given []) (libraries_at strict format offset_of o)
+
+-- The libraries of the directory at an address. Permissive mode treats an address without an offset
+-- as one that leads to the front of the file.
+unfoldable pub import_data : Bool → Format EntryValue → (ℕ → Option ℕ) → ℕ
+    → Reading (List ImportedLibrary)
+import_data strict format offset_of rva =
+    or_else strict 0 (offset_at offset_of rva)
+    >>= libraries_past_front strict format offset_of

@@ -1,0 +1,61 @@
+-- The records of an import directory, and the libraries that they lead to, as values.
+use Rattle.std.specs.Prelude.{ℕ, ◌==◌, Bool, ◌||◌, if◌then◌else◌, List, [], ◌∷◌, Option}
+use Rattle.std.specs.Option.{option_or}
+use Rattle.goblin_base.specs.declared.endian.Endian.{Endian}
+use Rattle.goblin_base.specs.declared.endian.Endian.TheVariants.{Little}
+use Rattle.goblin_base.specs.Bytes.{number}
+use Rattle.goblin_base.specs.Record.{FieldValue, uint}
+use Rattle.goblin_base.specs.Tables.{SlotFormat}
+use Rattle.goblin_pe_import.specs.ImportEntries.{LookupEntry}
+use Rattle.goblin_pe_import.specs.declared.import.directory_entry.ImportDirectoryEntry.{ImportDirectoryEntry}
+
+-- Source: PE Format, "Import Directory Table".
+
+-- the record in its 20 bytes
+unfoldable pub import_record : Endian → List ℕ → ImportDirectoryEntry
+import_record endian bytes = record {
+  import_lookup_table_rva = number endian 4 bytes 0;
+  time_date_stamp = number endian 4 bytes 4;
+  forwarder_chain = number endian 4 bytes 8;
+  name_rva = number endian 4 bytes 12;
+  import_address_table_rva = number endian 4 bytes 16;
+}
+
+-- the fields of a record, in order
+unfoldable pub import_fields : ImportDirectoryEntry → List FieldValue
+import_fields r =
+    uint 4 r.import_lookup_table_rva ∷ uint 4 r.time_date_stamp ∷ uint 4 r.forwarder_chain
+    ∷ uint 4 r.name_rva ∷ uint 4 r.import_address_table_rva ∷ []
+
+-- a record without a name, or without an address table, ends a directory
+abbrev pub is_last_record : ImportDirectoryEntry → Bool
+is_last_record r = r.name_rva == 0 || r.import_address_table_rva == 0
+
+-- directories of such records
+abbrev pub import_slots : SlotFormat ImportDirectoryEntry
+import_slots =
+    record {
+      entry = record { width = 20; value_of = import_record Little };
+      is_last = is_last_record;
+    }
+
+-- what a record leads to
+pub record ImportedLibrary : Type 0 where
+  pub import_directory_entry : ImportDirectoryEntry
+  pub name : List ℕ
+  pub import_lookup_table : Option (List LookupEntry)
+  pub import_lookup_slots : List ℕ
+  pub import_address_table : List ℕ
+
+-- the offset of a record's lookup table: that of its own address or, if it has none, of the address
+-- table's
+abbrev pub lookup_offset : (ℕ → Option ℕ) → ImportDirectoryEntry → Option ℕ
+lookup_offset offset_of r =
+    option_or (offset_of r.import_lookup_table_rva) (offset_of r.import_address_table_rva)
+
+-- the address of a record's address table: that of its lookup table if it is 0
+abbrev pub address_table_rva : ImportDirectoryEntry → ℕ
+address_table_rva r =
+    if r.import_address_table_rva == 0
+    then r.import_lookup_table_rva
+    else r.import_address_table_rva

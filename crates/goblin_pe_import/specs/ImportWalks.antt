@@ -1,0 +1,371 @@
+-- The walk over all imports: what is still to come.
+use Rattle.std.specs.Prelude.{◌≡◌, ℕ, ◌+◌, ◌-◌, ◌*◌, ◌/◌, ◌≤◌, ◌<◌, Bool, ◌&&◌, not, true, false}
+use Rattle.std.specs.Prelude.{if◌then◌else◌, List, [], ◌∷◌, ◌++◌, map, length, Option, Some, None}
+use Rattle.std.specs.Prelude.{option_map, unwrap_or, is_none, Result, Ok, Err, IfErr, IfOk, IfSome}
+use Rattle.std.specs.Prelude.{IsSomeAnd}
+use Rattle.goblin_base.specs.declared.error.ErrorOf.{ErrorOf}
+use Rattle.goblin_base.specs.Answers.{FirstFault, IsMemory, all_of}
+use Rattle.goblin_base.specs.Reading.{Reading}
+use Rattle.goblin_base.specs.Tables.{Format}
+use Rattle.readings.specs.Reads.{given, or_else, pick}
+use Rattle.readings.specs.Walks.{GivesNext, from_slot, items_of, refusal_of, table_walk}
+use Rattle.readings.specs.Walks.{until_refused}
+use Rattle.goblin_pe_sect.specs.AddressReadings.{at_address, name_at}
+use Rattle.goblin_pe_sect.specs.Addresses.{MapOfAddresses, map_of, offset_of, reads_strictly}
+use Rattle.goblin_pe_import.specs.ImportEntries.{EntryValue, LookupEntry, entry_slots}
+use Rattle.goblin_pe_import.specs.ImportLookup.{entry_view}
+use Rattle.goblin_pe_import.specs.ImportReadings.{libraries_at, record_here}
+use Rattle.goblin_pe_import.specs.ImportRecords.{address_table_rva, import_slots, is_last_record}
+use Rattle.goblin_pe_import.specs.ImportRecords.{lookup_offset}
+use Rattle.goblin_pe_import.specs.Imports.{ImportValue, import_of}
+use Rattle.goblin_pe_import.specs.LookupReadings.{address_table, kept_entry, lookup_table}
+use Rattle.goblin_pe_import.specs.declared.import.directory_entry.ImportDirectoryEntry.{ImportDirectoryEntry}
+use Rattle.goblin_pe_import.specs.declared.import.kept.KeptEntry.{KeptEntry}
+use Rattle.goblin_pe_import.specs.declared.import.imports.ImportPosition.{ImportPosition}
+use Rattle.goblin_pe_import.specs.declared.import.imports.Imports.{Imports}
+use Rattle.goblin_pe_import.specs.declared.import.imports.Walk.{Walk}
+use Rattle.goblin_pe_import.specs.declared.import.imports.WalkedImport.{WalkedImport}
+
+-- ---- the entries of a lookup table
+
+-- an entry that a lookup table keeps, with the index of its slot and the slot's place
+pub record KeptValue : Type 0 where
+  pub slot : ℕ
+  pub place : ℕ
+  pub entry : LookupEntry
+
+abbrev pub kept_value : KeptEntry → KeptValue
+kept_value kept = record {
+  slot = kept.slot;
+  place = kept.place;
+  entry = entry_view kept.entry;
+}
+
+-- an entry in the slot at a place of a table at o, of entries of `width` bytes
+abbrev pub kept_at : ℕ → ℕ → ℕ → LookupEntry → KeptValue
+kept_at width o place entry =
+    record { slot = (place - o) / width; place = place; entry = entry }
+
+-- what is kept of the entry in the slot at a place of a table at o
+abbrev pub entry_items : Bool → Format EntryValue → (ℕ → Option ℕ) → List ℕ → ℕ → ℕ → EntryValue
+    → List (Option KeptValue)
+entry_items strict format offset_of bytes o place v =
+    items_of (kept_at format.width o place) ((kept_entry strict offset_of v).value bytes)
+
+-- the kept entries of the lookup table at o, from the slot at a place on; none without a place
+unfoldable pub entries_from : Bool → Format EntryValue → (ℕ → Option ℕ) → List ℕ → ℕ → Option ℕ
+    → List (Option KeptValue)
+entries_from strict format offset_of bytes o None = []
+entries_from strict format offset_of bytes o (Some place) =
+    table_walk (entry_slots format) strict (entry_items strict format offset_of bytes o) bytes place
+
+-- which cause is true if one of them is refused: that of a table from there on
+abbrev pub IsEntriesCause : Bool → Format EntryValue → (ℕ → Option ℕ) → List ℕ → Option ℕ
+    → ErrorOf → Type 0
+IsEntriesCause strict format offset_of bytes None e = ⊥
+IsEntriesCause strict format offset_of bytes (Some place) e =
+    (lookup_table strict format offset_of place).IsCause bytes e
+
+-- where a walk over slots of `width` bytes goes on after it has yielded this
+abbrev pub place_after : ℕ → Option (Result KeptEntry ErrorOf) → Option ℕ
+place_after width None = None
+place_after width (Some (Ok kept)) = Some (kept.place + width)
+place_after width (Some (Err e)) = None
+
+-- the kept entries, and the indexes of their slots
+abbrev pub in_two : List KeptValue → List LookupEntry × List ℕ
+in_two kept = (map (λ k. k.entry) kept, map (λ k. k.slot) kept)
+
+-- ---- the imports of a library
+
+-- an import that a walk yields
+abbrev pub walked_value : WalkedImport → ImportValue
+walked_value x = import_of x.dll.now x.slot x.offset x.size (entry_view x.entry)
+
+-- the import of an entry that the lookup table at o keeps, of the library `dll`, whose address
+-- table is at `rva` and has entries of `width` bytes
+abbrev pub kept_import : ℕ → List ℕ → ℕ → ℕ → KeptValue → ImportValue
+kept_import width dll rva o kept =
+    import_of dll kept.slot (rva + (kept.place - o)) width kept.entry
+
+-- the imports of the entries from a place on
+abbrev pub imports_in : Bool → Format EntryValue → (ℕ → Option ℕ) → List ℕ → List ℕ → ℕ → ℕ
+    → Option ℕ → List (Option ImportValue)
+imports_in strict format offset_of bytes dll rva o place =
+    map (option_map (kept_import format.width dll rva o))
+    (entries_from strict format offset_of bytes o place)
+
+-- where the entries of a table at this offset begin to come: at its first slot, or at a given one
+abbrev pub begin_at : Option ℕ → Option ℕ → Option ℕ
+begin_at slot table = option_map (λ o. unwrap_or slot o) table
+
+-- the name of a record's library
+abbrev pub library_name : Bool → (ℕ → Option ℕ) → ImportDirectoryEntry → Reading (List ℕ)
+library_name strict offset_of r = or_else strict [] (name_at offset_of r.name_rva)
+
+-- its address table
+abbrev pub addresses_of : Format EntryValue → (ℕ → Option ℕ) → ImportDirectoryEntry
+    → Reading (List ℕ)
+addresses_of format offset_of r =
+    at_address offset_of (address_table_rva r) (address_table format)
+
+-- the imports of a library of this name from a slot on, and a refusal where it has no address table
+abbrev pub named_items : Bool → Format EntryValue → (ℕ → Option ℕ) → List ℕ → Option ℕ
+    → ImportDirectoryEntry → Option (List ℕ) → List (Option ImportValue)
+named_items strict format offset_of bytes slot r None = None ∷ []
+named_items strict format offset_of bytes slot r (Some dll) =
+    let table = lookup_offset offset_of r in
+    imports_in strict format offset_of bytes dll r.import_address_table_rva (unwrap_or table 0)
+    (begin_at slot table)
+    ++ refusal_of ((addresses_of format offset_of r).value bytes)
+
+-- What comes of the library of a record from a slot on: its name is needed, then its imports come,
+-- then its address table is needed. Permissive mode leaves out a library without an address table.
+unfoldable pub library_items : Bool → Format EntryValue → (ℕ → Option ℕ) → List ℕ → Option ℕ
+    → ImportDirectoryEntry → List (Option ImportValue)
+library_items strict format offset_of bytes slot r =
+    if not strict && is_none ((addresses_of format offset_of r).value bytes) then []
+    else named_items strict format offset_of bytes slot r
+    ((library_name strict offset_of r).value bytes)
+
+-- ---- all imports
+
+-- the imports of the libraries whose records are in the directory from a place on
+unfoldable pub imports_from : Bool → Format EntryValue → (ℕ → Option ℕ) → List ℕ → ℕ
+    → List (Option ImportValue)
+imports_from strict format offset_of bytes p =
+    table_walk import_slots strict (λ p r. library_items strict format offset_of bytes None r) bytes p
+
+-- The imports from a position on: all from a record on, or those of its library from a slot on and
+-- then all from the next record on.
+abbrev pub imports_by_slot : Bool → Format EntryValue → (ℕ → Option ℕ) → List ℕ → ℕ → Option ℕ
+    → List (Option ImportValue)
+imports_by_slot strict format offset_of bytes p None = imports_from strict format offset_of bytes p
+imports_by_slot strict format offset_of bytes p (Some place) =
+    from_slot strict is_last_record (library_items strict format offset_of bytes (Some place))
+    (imports_from strict format offset_of bytes (p + 20)) ((record_here p).value bytes)
+
+unfoldable pub imports_at : Bool → Format EntryValue → (ℕ → Option ℕ) → List ℕ
+    → Option ImportPosition → List (Option ImportValue)
+imports_at strict format offset_of bytes None = []
+imports_at strict format offset_of bytes (Some at) =
+    imports_by_slot strict format offset_of bytes at.«record» at.slot
+
+-- which cause is true if one of the libraries whose records are in the directory from a place on is
+-- refused
+abbrev pub IsRecordsCause : Bool → Format EntryValue → (ℕ → Option ℕ) → List ℕ → ℕ → ErrorOf
+    → Type 0
+IsRecordsCause strict format offset_of bytes p e =
+    (libraries_at strict format offset_of p).IsCause bytes e
+
+-- Which cause is true if a library that has a name is refused from a slot on, or else what comes
+-- later: that of its lookup table, of its address table, and then the later one.
+abbrev pub IsNamedCause : Bool → Format EntryValue → (ℕ → Option ℕ) → List ℕ → Option ℕ
+    → ImportDirectoryEntry → (IsLater : ErrorOf → Type 0) → ErrorOf → Type 0
+IsNamedCause strict format offset_of bytes slot r IsLater e =
+    let table = lookup_offset offset_of r in
+    let place = begin_at slot table in
+    let addresses = addresses_of format offset_of r in
+    FirstFault (all_of (entries_from strict format offset_of bytes (unwrap_or table 0) place))
+    (IsEntriesCause strict format offset_of bytes place)
+    (λ _. FirstFault (addresses.value bytes) (addresses.IsCause bytes) (λ _. IsLater)) e
+
+-- the same of the library of the record at p, where there is one
+abbrev pub IsRecordCause : Bool → Format EntryValue → (ℕ → Option ℕ) → List ℕ → Option ℕ → ℕ
+    → Option ImportDirectoryEntry → ErrorOf → Type 0
+IsRecordCause strict format offset_of bytes slot p None e = (record_here p).IsCause bytes e
+IsRecordCause strict format offset_of bytes slot p (Some r) e =
+    let name = library_name strict offset_of r in
+    (is_last_record r ≡ false)
+    × FirstFault (name.value bytes) (name.IsCause bytes)
+    (λ _. IsNamedCause strict format offset_of bytes slot r
+    (IsRecordsCause strict format offset_of bytes (p + 20))) e
+
+abbrev pub IsCauseBy : Bool → Format EntryValue → (ℕ → Option ℕ) → List ℕ → ℕ → Option ℕ
+    → ErrorOf → Type 0
+IsCauseBy strict format offset_of bytes p None e = IsRecordsCause strict format offset_of bytes p e
+IsCauseBy strict format offset_of bytes p (Some place) e =
+    IsRecordCause strict format offset_of bytes (Some place) p ((record_here p).value bytes) e
+
+-- which cause is true if what comes from a position on is refused
+abbrev pub IsCauseAt : Bool → Format EntryValue → (ℕ → Option ℕ) → List ℕ → Option ImportPosition
+    → ErrorOf → Type 0
+IsCauseAt strict format offset_of bytes None e = ⊥
+IsCauseAt strict format offset_of bytes (Some at) e =
+    IsCauseBy strict format offset_of bytes at.«record» at.slot e
+
+-- ---- how many more may come
+
+-- no more entries come than bytes are left, and one refusal
+abbrev pub slots_bound : List ℕ → Option ℕ → ℕ
+slots_bound bytes None = 0
+slots_bound bytes (Some place) = length bytes - place + 1
+
+-- no more comes than a whole file of entries, a refusal of their table and one of the address table,
+-- for each record that may be left from p on
+abbrev pub records_bound : List ℕ → ℕ → ℕ
+records_bound bytes p = (length bytes + 2) * (length bytes - p + 1)
+
+abbrev pub bound_by : List ℕ → ℕ → Option ℕ → ℕ
+bound_by bytes p None = records_bound bytes p
+bound_by bytes p (Some place) =
+    slots_bound bytes (Some place) + 1 + records_bound bytes (p + 20)
+
+-- no more than this comes from a position on
+abbrev pub bound_at : List ℕ → Option ImportPosition → ℕ
+bound_at bytes None = 0
+bound_at bytes (Some at) = bound_by bytes at.«record» at.slot
+
+-- ---- the walk, by what it holds of the library that it is in
+
+-- the address table that strict mode still has to test, if there is one
+abbrev pub untested_table : Bool → Format EntryValue → (ℕ → Option ℕ) → Option ℕ
+    → Reading (List ℕ)
+untested_table strict format offset_of None = given []
+untested_table strict format offset_of (Some rva) =
+    pick strict (at_address offset_of rva (address_table format)) (given [])
+
+-- what comes once the entries of a library have come: its address table is needed if it was not
+-- tested before, and then the imports from a position on
+abbrev pub later_items : Bool → Format EntryValue → (ℕ → Option ℕ) → List ℕ → Option ℕ
+    → Option ImportPosition → List (Option ImportValue)
+later_items strict format offset_of bytes untested next =
+    refusal_of ((untested_table strict format offset_of untested).value bytes)
+    ++ imports_at strict format offset_of bytes next
+
+abbrev pub IsLaterCause : Bool → Format EntryValue → (ℕ → Option ℕ) → List ℕ → Option ℕ
+    → Option ImportPosition → ErrorOf → Type 0
+IsLaterCause strict format offset_of bytes untested next e =
+    let table = untested_table strict format offset_of untested in
+    FirstFault (table.value bytes) (table.IsCause bytes)
+    (λ _. IsCauseAt strict format offset_of bytes next) e
+
+-- what is still to come
+abbrev pub walk_left : Format EntryValue → Walk → List (Option ImportValue)
+walk_left format w =
+    let m = map_of w.address_map.now in
+    let strict = reads_strictly m in
+    until_refused
+    (imports_in strict format (offset_of m) w.bytes.now w.dll.now w.rva w.offset w.place
+    ++ later_items strict format (offset_of m) w.bytes.now w.untested w.next)
+
+abbrev pub IsWalkCause : Format EntryValue → Walk → ErrorOf → Type 0
+IsWalkCause format w e =
+    let m = map_of w.address_map.now in
+    let strict = reads_strictly m in
+    (strict ≡ true)
+    × FirstFault (all_of (entries_from strict format (offset_of m) w.bytes.now w.offset w.place))
+    (IsEntriesCause strict format (offset_of m) w.bytes.now w.place)
+    (λ _. IsLaterCause strict format (offset_of m) w.bytes.now w.untested w.next) e
+
+-- a refusal that may come where an address table is still to be tested
+abbrev pub one_if : Option ℕ → ℕ
+one_if None = 0
+one_if (Some rva) = 1
+
+abbrev pub walk_bound : Walk → ℕ
+walk_bound w =
+    slots_bound w.bytes.now w.place + one_if w.untested + bound_at w.bytes.now w.next
+
+-- how many bytes are left for the records from a position on
+abbrev pub records_left : List ℕ → Option ImportPosition → ℕ
+records_left bytes None = 0
+records_left bytes (Some at) = length bytes - at.«record» + 1
+
+-- the position of a walk that is in a library at a place, or before one
+abbrev pub position_by : Option ℕ → Option ImportPosition → Option ImportPosition
+position_by None next = next
+position_by (Some place) None = None
+position_by (Some place) (Some at) =
+    Some (record { «record» = at.«record» - 20; slot = Some place })
+
+-- the library whose record stands before a position has this name and these tables
+pub record IsLibrary (strict : Bool) (format : Format EntryValue) (offset_of : ℕ → Option ℕ)
+    (bytes dll : List ℕ) (rva offset : ℕ) (untested : Option ℕ) (next : ImportPosition) : Type 0
+  where
+    pub entry : ImportDirectoryEntry
+    pub past : 20 ≤ next.«record»
+    pub first : next.slot ≡ None
+    pub is : (record_here (next.«record» - 20)).value bytes ≡ Some entry
+    pub going : is_last_record entry ≡ false
+    pub kept : (not strict && is_none ((addresses_of format offset_of entry).value bytes)) ≡ false
+    pub named : (library_name strict offset_of entry).value bytes ≡ Some dll
+    pub addresses : entry.import_address_table_rva ≡ rva
+    pub table : lookup_offset offset_of entry ≡ Some offset
+    pub tested : untested ≡ Some (address_table_rva entry)
+
+abbrev pub IsLibraryBy : Format EntryValue → Walk → Option ℕ → Option ImportPosition → Type 0
+IsLibraryBy format w None next = Unit {0}
+IsLibraryBy format w (Some place) None = ⊥
+IsLibraryBy format w (Some place) (Some at) =
+    let m = map_of w.address_map.now in
+    IsLibrary (reads_strictly m) format (offset_of m) w.bytes.now w.dll.now w.rva w.offset
+    w.untested at
+
+-- where a walk is among the entries of a library, it holds what its record says
+abbrev pub IsInLibrary : Format EntryValue → Walk → Type 0
+IsInLibrary format w = IsLibraryBy format w w.place w.next
+
+-- The walk is between two calls of `next`: what it holds follows from its position.
+abbrev pub IsPlaced : Format EntryValue → Walk → Type 0
+IsPlaced format w = IsInLibrary format w × (w.place ≡ None → w.untested ≡ None)
+
+-- Once the entries of a library have come, the walk goes on at t. `later` is what is to come then,
+-- and `IsCause` says which cause is true if there is a refusal among it.
+abbrev pub GivesLibrary : {S A : Type 0} → (S → List (Option A)) → (S → ErrorOf → Type 0)
+    → List (Option A) → (ErrorOf → Type 0) → Option (Result S ErrorOf) → Type 0
+GivesLibrary left IsLeftCause later IsCause None = until_refused later ≡ []
+GivesLibrary left IsLeftCause later IsCause (Some (Ok t)) =
+    (left t ≡ until_refused later) × ((e : ErrorOf) → IsLeftCause t e → IsCause e)
+GivesLibrary left IsLeftCause later IsCause (Some (Err e)) =
+    (until_refused later ≡ None ∷ []) × IsCause e
+
+-- ---- the walk as callers see it
+
+-- what is still to come
+abbrev pub imports_left : {T : Type 0} → Format EntryValue → Imports T → List (Option ImportValue)
+imports_left format it = walk_left format it.walk
+
+-- which cause is true if there is a refusal among it, which only strict mode has
+abbrev pub IsImportsCause : {T : Type 0} → Format EntryValue → Imports T → ErrorOf → Type 0
+IsImportsCause format it e = IsWalkCause format it.walk e
+
+-- what is still to come follows from the position
+abbrev pub HasPosition : {T : Type 0} → Format EntryValue → Imports T → Type 0
+HasPosition format it = IsPlaced format it.walk
+
+-- the imports of these bytes, whose addresses are mapped so
+abbrev pub IsOver : {T : Type 0} → List ℕ → MapOfAddresses → Imports T → Type 0
+IsOver bytes m it = (it.walk.bytes.now ≡ bytes) × (map_of it.walk.address_map.now ≡ m)
+
+-- where a walk is
+abbrev pub position_of : {T : Type 0} → Imports T → Option ImportPosition
+position_of it = position_by it.walk.place it.walk.next
+
+-- a position between two entries of a library, whose record is in the file
+abbrev pub IsInTable : List ℕ → Option ImportPosition → Type 0
+IsInTable bytes position =
+    IsSomeAnd position (λ at. (at.«record» < length bytes) × IsSomeAnd at.slot (λ slot. 0 < slot))
+
+-- a walk that has just given an import is at such a position
+abbrev pub IsAfterImport : {T : Type 0} → Option (Result WalkedImport ErrorOf) → Imports T → Type 0
+IsAfterImport result it =
+    IfSome result (λ r. IfOk r (λ import. IsInTable it.walk.bytes.now (position_of it)))
+
+-- no more than this comes
+abbrev pub imports_bound : {T : Type 0} → Imports T → ℕ
+imports_bound it = walk_bound it.walk
+
+-- an error that ends a walk: it comes only in strict mode, and is never Memory
+abbrev pub IsWalkFault : Walk → ErrorOf → Type 0
+IsWalkFault w e = (reads_strictly (map_of w.address_map.now) ≡ true) × ¬ IsMemory e
+
+-- A call of `next` gives the next import, or such an error; it keeps the position and what is walked
+-- over.
+abbrev pub GivesImport : {T : Type 0} → Format EntryValue → Imports T
+    → Option (Result WalkedImport ErrorOf) → Imports T → Type 0
+GivesImport format s result t =
+    GivesNext walked_value (imports_left format) (IsImportsCause format) s result t
+    × (HasPosition format s → HasPosition format t × IsAfterImport result t)
+    × IfSome result (λ r. IfErr r (IsWalkFault s.walk))
+    × IsOver s.walk.bytes.now (map_of s.walk.address_map.now) t

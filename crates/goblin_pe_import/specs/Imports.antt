@@ -1,0 +1,130 @@
+-- The imports of import data: one for each entry that a lookup table keeps, in the order of the
+-- libraries and of the entries.
+use Rattle.std.specs.Prelude.{◌≡◌, ◌⊎◌, ℕ, ◌+◌, ◌*◌, ◌^◌, ◌++◌, ◌==◌, nat_lt, not, IsSomeAnd, Bool}
+use Rattle.std.specs.Prelude.{true, false, if◌then◌else◌, codes, List, [], length, map, slice_get}
+use Rattle.std.specs.Prelude.{sum_by, Option, Some, None, unwrap_or}
+use Rattle.std.specs.Fmt.{decimal}
+use Rattle.std.specs.List.{find}
+use Rattle.goblin_base.specs.declared.error.ErrorOf.{ErrorOf}
+use Rattle.goblin_base.specs.declared.error.ErrorOf.TheVariants.{Malformed}
+use Rattle.goblin_base.specs.declared.error.CauseOf.TheVariants.{Overflow, SlotCount}
+use Rattle.goblin_base.specs.Tables.{each_below}
+use Rattle.goblin_base.specs.Answers.{◌>>=◌, all_at}
+use Rattle.goblin_pe_import.specs.ImportLookup.{LookupEntry}
+use Rattle.goblin_pe_import.specs.ImportEntries.LookupEntry.{ByOrdinal, ByName}
+use Rattle.goblin_pe_import.specs.ImportDirectory.{ImportedLibrary}
+
+-- Source: PE Format, "The .idata Section".
+
+-- an import, its texts as their bytes; and whether its name is a text in the file, not a copy
+pub record ImportValue : Type 0 where
+  pub name : List ℕ
+  pub is_borrowed : Bool
+  pub dll : List ℕ
+  pub ordinal : ℕ
+  pub offset : ℕ
+  pub rva : ℕ
+  pub size : ℕ
+  pub slot : ℕ
+
+-- the name of an import by ordinal
+abbrev pub ordinal_name : ℕ → List ℕ
+ordinal_name ordinal = codes "ORDINAL " ++ decimal ordinal
+
+-- the import of an entry, from this library, with its slot's index and offset, and with this size;
+-- the name of an import by name is in the file
+unfoldable pub import_of : List ℕ → ℕ → ℕ → ℕ → LookupEntry → ImportValue
+import_of dll slot offset size (ByOrdinal ordinal) =
+    record {
+      name = ordinal_name ordinal;
+      is_borrowed = false;
+      dll = dll;
+      ordinal = ordinal;
+      offset = offset;
+      rva = 0;
+      size = size;
+      slot = slot;
+    }
+import_of dll slot offset size (ByName rva named) =
+    record {
+      name = named.name;
+      is_borrowed = true;
+      dll = dll;
+      ordinal = named.hint;
+      offset = offset;
+      rva = rva;
+      size = size;
+      slot = slot;
+    }
+
+-- the offset of a slot of an address table of entries of `size` bytes, if it does not overflow 64
+-- bits
+abbrev pub import_offset : ℕ → ℕ → ℕ → Option ℕ
+import_offset rva size slot =
+    if nat_lt (rva + size * slot) (2 ^ 64) then Some (rva + size * slot) else None
+
+-- the import of the entry at a position, by its slot
+abbrev pub import_at : ℕ → List ℕ → ℕ → List LookupEntry → List ℕ → ℕ → Option ImportValue
+import_at size dll rva entries slots position = do
+  entry ← slice_get entries position
+  slot ← slice_get slots position
+  offset ← import_offset rva size slot
+  Some (import_of dll slot offset size entry)
+
+-- the imports of the entries that a lookup table keeps, if none has an offset that overflows 64
+-- bits
+unfoldable pub imports_by : ℕ → List ℕ → ℕ → List LookupEntry → List ℕ → Option (List ImportValue)
+imports_by size dll rva entries slots =
+    all_at (import_at size dll rva entries slots) (length entries)
+
+-- the entries that a library's lookup table keeps
+abbrev pub kept_entries : ImportedLibrary → List LookupEntry
+kept_entries library = unwrap_or library.import_lookup_table []
+
+-- how many entries the lookup tables of libraries keep
+abbrev pub kept_count : List ImportedLibrary → ℕ
+kept_count libraries = sum_by (λ library. length (kept_entries library)) libraries
+
+-- a library has as many entries as slots
+abbrev pub has_slots : ImportedLibrary → Bool
+has_slots library = length (kept_entries library) == length library.import_lookup_slots
+
+-- the imports from a library, where each of its entries has a slot
+abbrev pub library_imports : ℕ → ImportedLibrary → Option (List ImportValue)
+library_imports size library =
+    if has_slots library
+    then imports_by size library.name library.import_directory_entry.import_address_table_rva
+    (kept_entries library) library.import_lookup_slots
+    else None
+
+-- What is kept of each of the imports from a library, in order. A library that was read has a slot
+-- for each of its entries, and no offset that overflows 64 bits.
+abbrev pub kept_imports : {X : Type 0} → (ImportValue → X) → ℕ → ImportedLibrary → List X
+kept_imports item_of size library = map item_of (unwrap_or (library_imports size library) [])
+
+-- the imports from all libraries, of entries of `size` bytes
+unfoldable pub imports_of : ℕ → List ImportedLibrary → Option (List ImportValue)
+imports_of size libraries =
+    each_below (λ i. slice_get libraries i >>= library_imports size) (length libraries)
+
+-- the refusal is that an offset overflows 64 bits
+abbrev pub IsOverflow : ErrorOf → Type 0
+IsOverflow (Malformed Overflow) = Unit {0}
+IsOverflow e = ⊥
+
+-- the first library whose entries and slots differ in number
+abbrev pub first_without_slots : List ImportedLibrary → Option ImportedLibrary
+first_without_slots libraries = find (λ library. not (has_slots library)) libraries
+
+-- the refusal says how many entries and how many slots a library has
+abbrev pub IsSlotCount : ImportedLibrary → ErrorOf → Type 0
+IsSlotCount library (Malformed (SlotCount entries slots)) =
+    (entries ≡ length (kept_entries library)) × (slots ≡ length library.import_lookup_slots)
+IsSlotCount library e = ⊥
+
+-- which cause is true of imports that are refused: the counts of the first library whose entries
+-- and slots differ in number, and if there is none, an offset that overflows 64 bits
+abbrev pub IsImportsFault : List ImportedLibrary → ErrorOf → Type 0
+IsImportsFault libraries e =
+    IsSomeAnd (first_without_slots libraries) (λ library. IsSlotCount library e)
+    ⊎ ((first_without_slots libraries ≡ None) × IsOverflow e)

@@ -1,0 +1,11 @@
+pub mod ImportBound
+pub mod ImportDirectory
+pub mod ImportEntries
+pub mod ImportLookup
+pub mod ImportPositions
+pub mod ImportReadings
+pub mod ImportRecords
+pub mod ImportWalks
+pub mod Imports
+pub mod LeftOut
+pub mod LookupReadings

@@ -1,0 +1,61 @@
+-- The lookup table and the address table of a library, over a map of addresses to file offsets.
+use Rattle.std.specs.Prelude.{ℕ, ◌+◌, Bool, true, cond, List, [], ◌∷◌, Option, Some, None}
+use Rattle.goblin_base.specs.declared.endian.Endian.TheVariants.{Little}
+use Rattle.goblin_base.specs.declared.error.CauseOf.TheVariants.{HintEntry, LookupEnd}
+use Rattle.goblin_base.specs.Reading.{Reading}
+use Rattle.goblin_base.specs.Tables.{Format}
+use Rattle.readings.specs.Reads.{◌beside◌, because, given, mapped, number_at, or_else}
+use Rattle.readings.specs.Reads.{or_left_out, record_at, table, table_with_slots, text_at}
+use Rattle.goblin_pe_import.specs.ImportEntries.{EntryValue, HintName, LookupEntry, entry_slots}
+use Rattle.goblin_pe_import.specs.ImportEntries.LookupEntry.{ByName, ByOrdinal}
+
+-- the entry at an offset
+abbrev pub entry_at : Format EntryValue → ℕ → Reading EntryValue
+entry_at format p = record_at format.width format.value_of p
+
+-- The hint at an offset, and the name after it. Permissive mode takes the empty name if no text
+-- follows the hint.
+unfoldable pub hint_name : Bool → ℕ → Reading HintName
+hint_name strict p =
+    mapped (λ both. record { hint = both.0; name = both.1 })
+    (because (HintEntry p) (number_at Little 2 p) beside or_else strict [] (text_at (p + 2)))
+
+-- What is kept of an entry whose address has this offset: the hint and the name there. Nothing is
+-- kept if the address has none.
+unfoldable pub kept_name : Bool → ℕ → Option ℕ → Reading (List LookupEntry)
+kept_name strict rva None = given []
+kept_name strict rva (Some p) = or_left_out strict (mapped (ByName rva) (hint_name strict p))
+
+-- what is kept of an entry: one entry, or nothing
+unfoldable pub kept_entry : Bool → (ℕ → Option ℕ) → EntryValue → Reading (List LookupEntry)
+kept_entry strict offset_of entry =
+    cond entry.is_ordinal (given (ByOrdinal entry.ordinal ∷ []))
+    (kept_name strict entry.rva (offset_of entry.rva))
+
+-- the entry of a lookup table at an offset
+abbrev pub lookup_entry_at : Format EntryValue → ℕ → Reading EntryValue
+lookup_entry_at format p = because (LookupEnd p) (entry_at format p)
+
+-- The lookup table at an offset: what is kept of the entries before the first slot that is not in
+-- the file or has number 0. Strict mode needs that slot. With it come the indexes of the slots
+-- whose entries are kept.
+abbrev pub lookup_with_slots : Bool → Format EntryValue → (ℕ → Option ℕ) → ℕ
+    → Reading (List LookupEntry × List ℕ)
+lookup_with_slots strict format offset_of o =
+    table_with_slots (entry_slots format) strict (lookup_entry_at format)
+    (kept_entry strict offset_of) o
+
+-- only the lookup table at an offset, without the indexes of the slots
+abbrev pub lookup_table : Bool → Format EntryValue → (ℕ → Option ℕ) → ℕ
+    → Reading (List LookupEntry)
+lookup_table strict format offset_of o =
+    table (entry_slots format) strict (lookup_entry_at format) (kept_entry strict offset_of) o
+
+-- an entry's number, which an address table always keeps
+abbrev pub entry_number : EntryValue → Reading (List ℕ)
+entry_number entry = given (entry.number ∷ [])
+
+-- The address table at an offset: the numbers before the first slot that is not in the file or has
+-- number 0. That slot is needed in both modes.
+abbrev pub address_table : Format EntryValue → ℕ → Reading (List ℕ)
+address_table format o = table (entry_slots format) true (entry_at format) entry_number o

@@ -1,0 +1,85 @@
+//! Import address tables: numbers, which are addresses once an image is bound.
+
+ghost use Rattle.std.specs.Prelude.{IfErr};
+ghost use Rattle.goblin_base.specs.Answers.{IsMemory};
+ghost use Rattle.goblin_base.specs.Reading.{Reads, ReadsOrMemory};
+ghost use Rattle.readings.specs.Reads.{mapped};
+ghost use Rattle.goblin_pe_sect.specs.AddressReadings.{at_address};
+ghost use Rattle.goblin_pe_sect.specs.Addresses.{map_of, offset_of};
+ghost use Rattle.goblin_pe_import.specs.ImportDirectory.{address_table_rva};
+ghost use Rattle.goblin_pe_import.specs.ImportLookup.{HasAddresses};
+ghost use Rattle.goblin_pe_import.specs.LookupReadings.{address_table};
+
+use crate::import::bitfield::{Bitfield, read_entry};
+use crate::import::directory_entry::ImportDirectoryEntry;
+use crate::import::library::address_table_rva;
+use goblin_base::{Cause, Error, ResultOf};
+use goblin_pe_sect::address_map::AddressMap;
+use goblin_pe_sect::table::Table;
+use std::alloc::Global;
+
+/// The numbers of an address table, in order, without the 0 that ends it. As a file is linked they
+/// repeat the lookup table; in one that is bound they are the addresses of what is imported.
+///
+/// Source: PE Format, "Import Address Table".
+pub type ImportAddressTable = Table<u64>;
+
+// The numbers of the address table at an offset, up to its zero.
+pub(super) fn address_table<'a, 'e, T: Bitfield<'a>>(
+    alloc: Global,
+    bytes: &'a [u8],
+    offset: usize,
+) -> ResultOf<'e, ImportAddressTable>
+    ensures value { ReadsOrMemory (λ t. t) result (address_table T.format offset) bytes.now }
+    ensures grown { IfErr result (λ e. IsMemory e → HasAddresses T.format bytes.now offset) }
+{
+    let size = T::size_of();
+    let mut addresses = Vec::new(alloc);
+    let mut place = offset;
+    'slots: loop {
+        let entry = read_entry::<T>(bytes, place)?;
+        if entry.is_zero() {
+            return Ok(Table::from(addresses));
+        }
+        addresses.push(entry.number())?;
+        place += size;
+    }
+}
+
+// Tests whether there is an address table at an offset, as `address_table` reads it; its numbers
+// are not kept.
+pub(super) fn test_numbers<'a, 'e, T: Bitfield<'a>>(
+    bytes: &'a [u8],
+    offset: usize,
+) -> ResultOf<'e, ()>
+    ensures { Reads (λ _. tt {0}) result
+        (mapped (λ _. tt {0}) (address_table T.format offset)) bytes.now }
+{
+    let size = T::size_of();
+    let mut place = offset;
+    'slots: loop {
+        let entry = read_entry::<T>(bytes, place)?;
+        if entry.is_zero() {
+            return Ok(());
+        }
+        place += size;
+    }
+}
+
+// Tests whether the library of a record has an address table; its numbers are not kept.
+pub(super) fn test_address_table<'a, 'e, T: Bitfield<'a>>(
+    bytes: &'a [u8],
+    entry: &ImportDirectoryEntry,
+    address_map: &AddressMap,
+) -> ResultOf<'e, ()>
+    ensures { let rva = address_table_rva entry.now in
+        Reads (λ _. tt {0}) result
+        (mapped (λ _. tt {0}) (at_address (offset_of (map_of address_map.now)) rva (address_table T.format)))
+        bytes.now }
+{
+    let rva = address_table_rva(entry);
+    let Some(offset) = address_map.offset_of(rva) else {
+        return Err(Error::Malformed(Cause::Unmapped(rva as usize)));
+    };
+    test_numbers::<T>(bytes, offset)
+}

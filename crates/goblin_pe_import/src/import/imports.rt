@@ -1,0 +1,547 @@
+//! A walk over all imports of an image.
+
+ghost use Rattle.std.specs.Prelude.{◌≡◌, ◌&&◌, ◌+◌, ◌-◌, ◌<◌, ◌≤◌, ◌^◌, ◌∷◌, ◌++◌, [], IfErr, IfOk, IfSome};
+ghost use Rattle.std.specs.Prelude.{MatchResult, None, Some, false, is_none, length, not, true};
+ghost use Rattle.std.specs.Prelude.{if◌then◌else◌, IsErr, IsSome, IsSomeAnd, IsOk};
+ghost use Rattle.std.specs.Iterator.{UpTo, at_most};
+ghost use Rattle.std.specs.Iterator.SizeHint.{IsWithinCount};
+ghost use Rattle.std.specs.List.{flat_map};
+ghost use Rattle.goblin_base.specs.declared.error.ErrorOf.{ErrorOf};
+ghost use Rattle.goblin_base.specs.Answers.{FirstFault, IsMemory};
+ghost use Rattle.goblin_base.specs.Reading.{Reads};
+ghost use Rattle.readings.specs.Reads.{mapped};
+ghost use Rattle.readings.specs.Walks.{GivesNext, IsWalkOf, Walks, until_refused};
+ghost use Rattle.goblin_pe_sect.specs.Addresses.{map_of, offset_of, reads_strictly};
+ghost use Rattle.goblin_pe_import.specs.ImportPositions.{BeginsAt, GoesOnAt, first_import};
+ghost use Rattle.goblin_pe_import.specs.ImportReadings.{import_data, libraries_at, record_here};
+ghost use Rattle.goblin_pe_import.specs.ImportRecords.{is_last_record};
+ghost use Rattle.goblin_pe_import.specs.Imports.{kept_imports};
+ghost use Rattle.goblin_pe_import.specs.ImportWalks.{GivesImport, GivesLibrary, HasPosition, IsCauseAt};
+ghost use Rattle.goblin_pe_import.specs.ImportWalks.{IsImportsCause, IsInLibrary, IsOver, imports_at, position_by, position_of};
+ghost use Rattle.goblin_pe_import.specs.ImportWalks.{slots_bound};
+ghost use Rattle.goblin_pe_import.specs.ImportWalks.{IsLaterCause, IsNamedCause, IsPlaced};
+ghost use Rattle.goblin_pe_import.specs.ImportWalks.{IsRecordsCause, IsWalkCause, addresses_of};
+ghost use Rattle.goblin_pe_import.specs.ImportWalks.{begin_at, bound_at, imports_bound};
+ghost use Rattle.goblin_pe_import.specs.ImportWalks.{imports_from, imports_left, kept_import};
+ghost use Rattle.goblin_pe_import.specs.ImportWalks.{kept_value, later_items, library_items};
+ghost use Rattle.goblin_pe_import.specs.ImportWalks.{library_name, one_if, records_bound, records_left};
+ghost use Rattle.goblin_pe_import.specs.ImportWalks.{untested_table, walk_bound, walk_left};
+ghost use Rattle.goblin_pe_import.specs.ImportWalks.{walked_value};
+
+use crate::import::address_table::{test_address_table, test_numbers};
+use crate::import::bitfield::Bitfield;
+use crate::import::directory_entry::{ImportDirectoryEntry, SIZEOF_IMPORT_DIRECTORY_ENTRY};
+use crate::import::kept::{KeptEntry, next_kept};
+use crate::import::library::{address_table_rva, directory_offset, library_name, lookup_offset};
+use crate::import::lookup_table::SyntheticImportLookupTableEntry;
+use goblin_base::{Cause, Endian, Error, Record, ResultOf};
+use goblin_pe_sect::address_map::AddressMap;
+use goblin_pe_sect::data_directories::DataDirectory;
+use std::fmt;
+use std::iter::FusedIterator;
+use std::marker::PhantomData;
+
+/// An import, as a walk yields it: without memory.
+#[derive(Debug, Clone, Drop)]
+pub struct WalkedImport<'a> {
+    /// The ordinal, or the address of the hint and the name and these themselves.
+    pub entry: SyntheticImportLookupTableEntry<'a>,
+    /// The name of the library; empty if permissive mode could not read it.
+    pub dll: &'a str,
+    /// The index of its entry in the lookup table and in the address table.
+    pub slot: usize,
+    /// The address (not the file offset) of its own entry in the address table.
+    pub offset: usize,
+    /// The size of an entry of the address table, in bytes.
+    pub size: usize,
+}
+
+/// A position in the imports of an image, from which a walk can go on.
+#[derive(Debug, Copy, Clone, PartialEq, Eq)]
+pub struct ImportPosition {
+    /// The file offset of a library's record in the import directory.
+    pub record: usize,
+    /// The file offset of the slot in its lookup table that is read next; `None` before the first.
+    pub slot: Option<usize>,
+}
+
+// A walk, with what it holds of the library that it is in.
+#[derive(Drop)]
+struct Walk<'a, 'm> {
+    bytes: &'a [u8],
+    address_map: &'m AddressMap,
+    // The library's name, and the address of its address table.
+    dll: &'a str,
+    rva: u32,
+    // Where its lookup table begins, and its next slot; `None` between two libraries.
+    offset: usize,
+    place: Option<usize>,
+    // Where the map found the last address.
+    near: usize,
+    // The address of its address table if that is to be tested after its entries.
+    untested: Option<u32>,
+    // Where the walk goes on after the library.
+    next: Option<ImportPosition>,
+}
+
+// Tests the address table that is still to be tested, if there is one. Permissive mode has tested it
+// before.
+fn test_untested<'a, 'e, T: Bitfield<'a>>(
+    bytes: &'a [u8],
+    untested: Option<u32>,
+    address_map: &AddressMap,
+    near: &mut usize,
+) -> ResultOf<'e, ()>
+    ensures value { let m = map_of address_map.now in
+        Reads (λ _. tt {0}) result
+        (mapped (λ _. tt {0}) (untested_table (reads_strictly m) T.format (offset_of m) untested))
+        bytes.now }
+    ensures strictly { IfErr result (λ e. reads_strictly (map_of address_map.now) ≡ true) }
+    ensures there { IfErr result (λ e. 1 ≤ one_if untested) }
+    ensures wide { 1 ≤ T.format.width }
+{
+    let Some(rva) = untested else {
+        return Ok(());
+    };
+    if address_map.is_permissive() {
+        return Ok(());
+    }
+    let Some(offset) = address_map.offset_near(rva, near) else {
+        return Err(Error::Malformed(Cause::Unmapped(rva as usize)));
+    };
+    test_numbers::<T>(bytes, offset)
+}
+
+// Whether permissive mode leaves out the library of a record: it has no address table.
+fn is_left_out<'a, T: Bitfield<'a>>(
+    bytes: &'a [u8],
+    entry: &ImportDirectoryEntry,
+    address_map: &AddressMap,
+) -> bool
+    ensures { let m = map_of address_map.now in
+        let table = addresses_of T.format (offset_of m) entry.now in
+        result ≡ (not (reads_strictly m) && is_none (table.value bytes.now)) }
+{
+    address_map.is_permissive() && test_address_table::<T>(bytes, entry, address_map).is_err()
+}
+
+// Where the entries of a table begin to come: at its first slot, or at a given one.
+fn begin_at(slot: Option<usize>, table: Option<usize>) -> Option<usize>
+    ensures { result ≡ begin_at slot table }
+{
+    let offset = table?;
+    Some(slot.unwrap_or(offset))
+}
+
+// The import of an entry of the library `dll`, whose lookup table is at the offset `offset` and whose
+// address table is at the address `rva`.
+#[inline(always)]
+fn import_of<'a, T: Bitfield<'a>>(
+    kept: KeptEntry<'a>,
+    dll: &'a str,
+    rva: u32,
+    offset: usize,
+) -> WalkedImport<'a>
+    requires { kept.place < 2 ^ 63 }
+    ensures { walked_value result
+        ≡ kept_import T.format.width dll.now rva offset (kept_value kept.entry) }
+{
+    let KeptEntry { slot, place, entry } = kept;
+    let size = T::size_of();
+    WalkedImport {
+        entry,
+        dll,
+        slot,
+        offset: rva as usize + place.saturating_sub(offset),
+        size,
+    }
+}
+
+// No more entries come from the slot at a place on than this.
+fn slots_bound(bytes: &[u8], place: Option<usize>) -> usize
+    ensures value { result ≡ slots_bound bytes.now place }
+    ensures low { result < 2 ^ 63 + 1 }
+{
+    match place {
+        Some(place) => bytes.len().saturating_sub(place) + 1,
+        None => 0,
+    }
+}
+
+// No more imports come from the record at an offset on than this, if it fits.
+fn records_bound(bytes: &[u8], offset: usize) -> Option<usize>
+    ensures { IfSome result (λ n. n ≡ records_bound bytes.now offset) }
+{
+    let records = bytes.len().saturating_sub(offset) + 1;
+    (bytes.len() + 2).checked_mul(records)
+}
+
+// No more imports come from a position on than this, if it fits.
+fn bound_at(bytes: &[u8], position: Option<ImportPosition>) -> Option<usize>
+    ensures { IfSome result (λ n. n ≡ bound_at bytes.now position) }
+{
+    let Some(at) = position else {
+        return Some(0);
+    };
+    if at.slot.is_none() {
+        return records_bound(bytes, at.record);
+    }
+    let next = at.record.saturating_add(SIZEOF_IMPORT_DIRECTORY_ENTRY);
+    let slots = slots_bound(bytes, at.slot) + 1;
+    slots.checked_add(records_bound(bytes, next)?)
+}
+
+impl<'a, 'm> Walk<'a, 'm> {
+    // A walk from a position on.
+    fn from(
+        bytes: &'a [u8],
+        next: Option<ImportPosition>,
+        address_map: &'m AddressMap,
+    ) -> Walk<'a, 'm>
+        ensures bytes { result.bytes.now ≡ bytes.now }
+        ensures address_map { result.address_map.now ≡ address_map.now }
+        ensures place { result.place ≡ None }
+        ensures untested { result.untested ≡ None }
+        ensures next { result.next ≡ next }
+    {
+        Walk {
+            bytes,
+            address_map,
+            dll: "",
+            rva: 0,
+            offset: 0,
+            place: None,
+            near: 0,
+            untested: None,
+            next,
+        }
+    }
+
+    // Ends the walk.
+    fn end(&mut self)
+        ensures bytes { self.new.bytes.now ≡ self.old.bytes.now }
+        ensures address_map { self.new.address_map.now ≡ self.old.address_map.now }
+        ensures place { self.new.place ≡ None }
+        ensures untested { self.new.untested ≡ None }
+        ensures next { self.new.next ≡ None }
+    {
+        self.place = None;
+        self.untested = None;
+        self.next = None;
+    }
+
+    // A walk over the library of a record from a slot on, and then over those whose records are in
+    // the directory from the offset `next` on. Addresses are looked for first at `near`.
+    fn in_library<'e, T: Bitfield<'a>>(
+        bytes: &'a [u8],
+        entry: &ImportDirectoryEntry,
+        slot: Option<usize>,
+        next: usize,
+        address_map: &'m AddressMap,
+        mut near: usize,
+    ) -> ResultOf<'e, Walk<'a, 'm>>
+        ensures gives { let m = map_of address_map.now in
+            let strict = reads_strictly m in
+            let name = library_name strict (offset_of m) entry.now in
+            MatchResult result
+            (λ t.
+            (walk_left T.format t
+            ≡ until_refused
+            (library_items strict T.format (offset_of m) bytes.now slot entry.now
+            ++ imports_from strict T.format (offset_of m) bytes.now next))
+            × ((e : ErrorOf) → IsWalkCause T.format t e
+            → (strict ≡ true)
+            × FirstFault (name.value bytes.now) (name.IsCause bytes.now)
+            (λ _. IsNamedCause strict T.format (offset_of m) bytes.now slot entry.now
+            (IsRecordsCause strict T.format (offset_of m) bytes.now next)) e))
+            (λ e.
+            (library_items strict T.format (offset_of m) bytes.now slot entry.now ≡ None ∷ [])
+            × (strict ≡ true) × (name.value bytes.now ≡ None) × name.IsCause bytes.now e) }
+        ensures placed { IfOk result (λ t.
+            20 ≤ next → (record_here (next - 20)).value bytes.now ≡ Some entry.now
+            → is_last_record entry.now ≡ false → IsInLibrary T.format t) }
+        ensures bytes { IfOk result (λ t. t.bytes.now ≡ bytes.now) }
+        ensures address_map { IfOk result (λ t. t.address_map.now ≡ address_map.now) }
+        ensures next { IfOk result (λ t.
+            t.next ≡ Some (record { «record» = next; slot = None })) }
+        ensures place { IfOk result (λ t. IfSome t.place (λ place. IfSome slot (λ slot.
+            place ≡ slot))) }
+    {
+        let after = ImportPosition {
+            record: next,
+            slot: None,
+        };
+        if is_left_out::<T>(bytes, entry, address_map) {
+            return Ok(Walk::from(bytes, Some(after), address_map));
+        }
+        let dll = library_name(bytes, entry.name_rva, address_map, &mut near)?;
+        let table = lookup_offset(entry, address_map, &mut near);
+        Ok(Walk {
+            bytes,
+            address_map,
+            dll,
+            rva: entry.import_address_table_rva,
+            offset: table.unwrap_or(0),
+            place: begin_at(slot, table),
+            near,
+            untested: Some(address_table_rva(entry)),
+            next: Some(after),
+        })
+    }
+
+    // The walk from the next library on, once the entries of this one have come.
+    #[inline(never)]
+    fn next_library<'e, T: Bitfield<'a>>(
+        bytes: &'a [u8],
+        untested: Option<u32>,
+        next: Option<ImportPosition>,
+        address_map: &'m AddressMap,
+        mut near: usize,
+    ) -> Option<ResultOf<'e, Walk<'a, 'm>>>
+        ensures gives { let m = map_of address_map.now in
+            GivesLibrary (walk_left T.format) (IsWalkCause T.format)
+            (later_items (reads_strictly m) T.format (offset_of m) bytes.now
+            untested next)
+            (λ e. (reads_strictly m ≡ true)
+            × IsLaterCause (reads_strictly m) T.format (offset_of m) bytes.now
+            untested next e) result }
+        ensures placed { IfSome result (λ r. IfOk r (λ t. IsInLibrary T.format t)) }
+        ensures bytes { IfSome result (λ r. IfOk r (λ t. t.bytes.now ≡ bytes.now)) }
+        ensures address_map { IfSome result (λ r. IfOk r (λ t.
+            t.address_map.now ≡ address_map.now)) }
+        ensures nearer { IfSome result (λ r. IfOk r (λ t.
+            records_left bytes.now t.next < records_left bytes.now next)) }
+        ensures bound { IfSome result (λ r. IfOk r (λ t. walk_bound t ≤ bound_at bytes.now next)) }
+        ensures there { IfSome result (λ r. IfErr r (λ e.
+            1 ≤ one_if untested + bound_at bytes.now next)) }
+    {
+        if let Err(error) = test_untested::<T>(bytes, untested, address_map, &mut near) {
+            return Some(Err(error));
+        }
+        let Some(at) = next else {
+            return None;
+        };
+        let Ok(record) = ImportDirectoryEntry::read_at(bytes, at.record, Endian::Little) else {
+            if address_map.is_permissive() {
+                return None;
+            }
+            return Some(Err(Error::Malformed(Cause::ImportRecordEnd(at.record))));
+        };
+        if !record.is_possibly_valid() {
+            return None;
+        }
+        let after = at.record + SIZEOF_IMPORT_DIRECTORY_ENTRY;
+        Some(Walk::in_library::<T>(bytes, &record, at.slot, after, address_map, near))
+    }
+
+    // Where the walk is.
+    fn position(&self) -> Option<ImportPosition>
+        ensures { result ≡ position_by self.now.place self.now.next }
+    {
+        let Some(place) = self.place else {
+            return self.next;
+        };
+        let next = self.next?;
+        Some(ImportPosition {
+            record: next.record.saturating_sub(SIZEOF_IMPORT_DIRECTORY_ENTRY),
+            slot: Some(place),
+        })
+    }
+
+    // No more imports come than this, if it fits.
+    fn bound(&self) -> Option<usize>
+        ensures { IfSome result (λ n. n ≡ walk_bound self.now) }
+    {
+        let untested = usize::from(self.untested.is_some());
+        let slots = slots_bound(self.bytes, self.place) + untested;
+        slots.checked_add(bound_at(self.bytes, self.next)?)
+    }
+
+    // The next import.
+    #[inline(always)]
+    fn next_import<'e, T: Bitfield<'a>>(&mut self) -> Option<ResultOf<'e, WalkedImport<'a>>>
+        ensures steps { GivesNext walked_value (walk_left T.format) (IsWalkCause T.format)
+            self.old result self.new }
+        ensures placed { IsPlaced T.format self.old → IsPlaced T.format self.new }
+        ensures inside { IfSome result (λ r. IfOk r (λ _. IsSomeAnd self.new.place (λ place. 0 < place))) }
+        ensures bytes { self.new.bytes.now ≡ self.old.bytes.now }
+        ensures address_map { self.new.address_map.now ≡ self.old.address_map.now }
+        ensures fewer { IfSome result (λ r. walk_bound self.new < walk_bound self.old) }
+    {
+        'libraries: loop {
+            let mut near = self.near;
+            let (bytes, address_map) = (self.bytes, self.address_map);
+            match next_kept::<T>(bytes, self.offset, self.place, address_map, &mut near) {
+                Some(Ok(kept)) => {
+                    self.place = Some(kept.place + T::size_of());
+                    self.near = near;
+                    let import = import_of::<T>(kept, self.dll, self.rva, self.offset);
+                    return Some(Ok(import));
+                }
+                Some(Err(error)) => {
+                    self.end();
+                    return Some(Err(error));
+                }
+                None => {}
+            }
+            match Walk::next_library::<T>(
+                self.bytes,
+                self.untested,
+                self.next,
+                self.address_map,
+                self.near,
+            ) {
+                Some(Ok(walk)) => *self = walk,
+                Some(Err(error)) => {
+                    self.end();
+                    return Some(Err(error));
+                }
+                None => {
+                    self.end();
+                    return None;
+                }
+            }
+        }
+    }
+}
+
+/// The imports of an image, in the order of the libraries and of their entries, without memory.
+///
+/// In strict mode it ends with one error where the import data is refused, after the imports
+/// before what is to blame. In permissive mode there is none: what can't be read is left out, as
+/// [`ImportData::parse_by`](crate::import::ImportData::parse_by) leaves it out.
+#[derive(Drop)]
+pub struct Imports<'a, 'm, 'e, T> {
+    walk: Walk<'a, 'm>,
+    items: PhantomData<ResultOf<'e, T>>,
+}
+
+impl<'a, 'm, 'e, T: Bitfield<'a>> Imports<'a, 'm, 'e, T> {
+    /// The imports of the directory at the address of `directory`, whose tables have entries of
+    /// type `T`: those that [`ImportData::parse_by`](crate::import::ImportData::parse_by) lists.
+    ///
+    /// # Errors
+    /// In strict mode [`Error::Malformed`] with [`Cause::Unmapped`] if the directory's address has
+    /// no file offset.
+    #[inline(always)]
+    pub fn of(
+        bytes: &'a [u8],
+        directory: DataDirectory,
+        address_map: &'m AddressMap,
+    ) -> ResultOf<'e, Imports<'a, 'm, 'e, T>>
+        ensures walks { let m = map_of address_map.now in
+            let rva = directory.virtual_address in
+            Walks (imports_left T.format) (IsImportsCause T.format) (λ xs. xs) result
+            (mapped (flat_map (kept_imports (λ x. x) T.format.width))
+            (import_data (reads_strictly m) T.format (offset_of m) rva))
+            bytes.now }
+        ensures begins { let m = map_of address_map.now in
+            let rva = directory.virtual_address in
+            BeginsAt m T.format bytes.now (first_import (reads_strictly m) (offset_of m) rva) result }
+        ensures permissive { reads_strictly (map_of address_map.now) ≡ false → IsOk result }
+        ensures over { IfOk result (IsOver bytes.now (map_of address_map.now)) }
+        ensures position { IfOk result (HasPosition T.format) }
+    {
+        let rva = directory.virtual_address;
+        let mut near = 0;
+        let Some(offset) = directory_offset(rva, address_map, &mut near) else {
+            return Err(Error::Malformed(Cause::Unmapped(rva as usize)));
+        };
+        if address_map.is_permissive() && offset == 0 {
+            return Ok(Imports::from_position(bytes, None, address_map));
+        }
+        let mut imports = Imports::at(bytes, offset, address_map);
+        imports.walk.near = near;
+        Ok(imports)
+    }
+
+    /// The imports of the libraries of the directory at the file offset `offset`.
+    pub fn at(bytes: &'a [u8], offset: usize, address_map: &'m AddressMap) -> Imports<'a, 'm, 'e, T>
+        ensures walks { let m = map_of address_map.now in
+            let libraries = libraries_at (reads_strictly m) T.format (offset_of m) offset in
+            IsWalkOf (λ xs. xs)
+            (mapped (flat_map (kept_imports (λ x. x) T.format.width)) libraries) bytes.now
+            (imports_left T.format result) (IsImportsCause T.format result) }
+        ensures begins { GoesOnAt (map_of address_map.now) T.format bytes.now
+            (Some (record { «record» = offset; slot = None })) result }
+        ensures over { IsOver bytes.now (map_of address_map.now) result }
+        ensures position { HasPosition T.format result }
+    {
+        let begin = ImportPosition {
+            record: offset,
+            slot: None,
+        };
+        Imports::from_position(bytes, Some(begin), address_map)
+    }
+
+    /// The imports from a position on, as [`Imports::position`] gave it: what was still to come
+    /// there. There are none without a position.
+    pub fn from_position(
+        bytes: &'a [u8],
+        position: Option<ImportPosition>,
+        address_map: &'m AddressMap,
+    ) -> Imports<'a, 'm, 'e, T>
+        ensures left { let m = map_of address_map.now in
+            imports_left T.format result
+            ≡ imports_at (reads_strictly m) T.format (offset_of m) bytes.now position }
+        ensures cause { let m = map_of address_map.now in
+            (e : ErrorOf) → IsImportsCause T.format result e
+            → (reads_strictly m ≡ true)
+            × IsCauseAt (reads_strictly m) T.format (offset_of m) bytes.now position e }
+        ensures over { IsOver bytes.now (map_of address_map.now) result }
+        ensures position { HasPosition T.format result }
+        ensures wide { 1 ≤ T.format.width }
+    {
+        Imports {
+            walk: Walk::from(bytes, position, address_map),
+            items: PhantomData,
+        }
+    }
+
+    /// Where the walk is: what is still to come is what comes from this position on. `None` once
+    /// the walk has ended.
+    pub fn position(&self) -> Option<ImportPosition>
+        ensures left { let w = self.now.walk in
+            let m = map_of w.address_map.now in
+            HasPosition T.format self.now → imports_left T.format self.now
+            ≡ imports_at (reads_strictly m) T.format (offset_of m) w.bytes.now result }
+        ensures cause { let w = self.now.walk in
+            let m = map_of w.address_map.now in
+            (e : ErrorOf) → HasPosition T.format self.now → reads_strictly m ≡ true
+            → IsCauseAt (reads_strictly m) T.format (offset_of m) w.bytes.now result e
+            → IsImportsCause T.format self.now e }
+        ensures is { result ≡ position_of self.now }
+    {
+        self.walk.position()
+    }
+}
+
+impl<'a, 'm, 'e, T: Bitfield<'a>> Iterator for Imports<'a, 'm, 'e, T> {
+    type Item = ResultOf<'e, WalkedImport<'a>>;
+
+    ghost next_gives = { GivesImport T.format };
+
+    ghost remaining = { λ it. at_most (imports_bound it) };
+
+    #[inline(always)]
+    fn next(&mut self) -> Option<ResultOf<'e, WalkedImport<'a>>> {
+        self.walk.next_import::<T>()
+    }
+
+    fn size_hint(&self) -> (usize, Option<usize>)
+        ensures lower { IsWithinCount result.0 (at_most (imports_bound self.now)) }
+        ensures upper { IfSome result.1 (UpTo (at_most (imports_bound self.now))) }
+    {
+        (0, self.walk.bound())
+    }
+}
+
+impl<'a, 'm, 'e, T: Bitfield<'a>> FusedIterator for Imports<'a, 'm, 'e, T> {}
+
+impl<'a, 'm, 'e, T: Bitfield<'a>> fmt::Debug for Imports<'a, 'm, 'e, T> {
+    fn fmt<W: fmt::Write>(&self, f: &mut fmt::Formatter<W>) -> fmt::Result {
+        f.debug_struct("Imports")
+            .field("position", &self.walk.position())
+            .finish_non_exhaustive()
+    }
+}

@@ -1,0 +1,283 @@
+//! The libraries that an image imports from.
+
+ghost use Rattle.std.specs.Prelude.{◌≡◌, ◌⊎◌, ◌<◌, ◌^◌, [], IfErr, IsSomeAnd, map};
+ghost use Rattle.std.specs.Prelude.{option_map, true};
+ghost use Rattle.goblin_base.specs.Answers.{IsMemory};
+ghost use Rattle.goblin_base.specs.Reading.{Reads, ReadsOrMemory};
+ghost use Rattle.readings.specs.Reads.{in_its_place, or_else};
+ghost use Rattle.goblin_pe_sect.specs.Options.{default_options};
+ghost use Rattle.goblin_pe_sect.specs.Addresses.{TakesMap, map_by, map_of, offset_of};
+ghost use Rattle.goblin_pe_sect.specs.Addresses.{reads_strictly};
+ghost use Rattle.goblin_pe_import.specs.ImportDirectory.{KeepsImports, address_table_rva};
+ghost use Rattle.goblin_pe_import.specs.ImportDirectory.{lookup_offset};
+ghost use Rattle.goblin_pe_import.specs.ImportLookup.{KeepsEntries, entry_view};
+ghost use Rattle.goblin_pe_import.specs.ImportReadings as reading;
+ghost use Rattle.goblin_pe_sect.specs.AddressReadings.{name_at};
+ghost use Rattle.goblin_pe_import.specs.ImportReadings.{lookup_if};
+
+use crate::import::address_table::{ImportAddressTable, address_table};
+use crate::import::bitfield::Bitfield;
+use crate::import::directory_entry::ImportDirectoryEntry;
+use crate::import::lookup_table::{ImportLookupTable, SyntheticImportLookupTableEntry, no_text};
+use goblin_base::{Cause, Error, Result, ResultOf};
+use goblin_pe_sect::address_map::AddressMap;
+use goblin_pe_sect::options::ParseOptions;
+use goblin_pe_sect::section_table::SectionTable;
+use std::alloc::Global;
+use std::marker::Model;
+
+/// What a record of an import directory leads to.
+///
+/// Source: PE Format, "Import Directory Table", "Import Lookup Table" and "Import Address Table".
+#[derive(Debug, Drop)]
+pub struct SyntheticImportDirectoryEntry<'a> {
+    /// The record, as it stands in the file.
+    pub import_directory_entry: ImportDirectoryEntry,
+    /// The name of the library, as it stands in the file. In permissive mode it is empty if none
+    /// can be read.
+    pub name: &'a str,
+    /// What the lookup table keeps. `None` is for entries that are made by hand: a reader finds a
+    /// table for each record that it keeps.
+    pub import_lookup_table: Option<ImportLookupTable<'a>>,
+    /// The slot of each entry of the lookup table, in order, counted from 0; none where there is no
+    /// table. The slot of an entry that is left out is missing.
+    pub import_lookup_slots: Vec<usize>,
+    /// The numbers of the address table up to the first 0, as they stand in the file: copies of the
+    /// lookup table's entries, or addresses if the imports are bound.
+    pub import_address_table: ImportAddressTable,
+}
+
+impl<'a> Model for SyntheticImportDirectoryEntry<'a> {
+    ghost use Rattle.std.specs.Prelude.{map, option_map};
+    ghost use Rattle.goblin_pe_import.specs.ImportDirectory.{ImportedLibrary};
+    ghost use Rattle.goblin_pe_import.specs.ImportLookup.{entry_view};
+
+    ghost Value = { ImportedLibrary };
+
+    ghost view = { λ entry. record {
+      import_directory_entry = entry.import_directory_entry;
+      name = entry.name.now;
+      import_lookup_table = option_map (map entry_view) entry.import_lookup_table;
+      import_lookup_slots = entry.import_lookup_slots.items;
+      import_address_table = entry.import_address_table;
+    } };
+}
+
+// The lookup table at an offset with the slots of its entries, and nothing where there is no
+// offset.
+#[tactic(auto, unfolding(crate::specs::ImportReadings::lookup_if))]
+fn lookup_table_if<'a, 'e, T: Bitfield<'a>>(
+    alloc: Global,
+    bytes: &'a [u8],
+    offset: Option<usize>,
+    address_map: &AddressMap,
+) -> ResultOf<'e, (Option<ImportLookupTable<'a>>, Vec<usize>)>
+    ensures value { let m = map_of address_map.now in
+        ReadsOrMemory (λ both. (option_map (map entry_view) both.0, both.1.items)) result
+        (lookup_if (reads_strictly m) T.format (offset_of m) offset) bytes.now }
+    ensures grown { let m = map_of address_map.now in
+        IfErr result
+        (λ e.
+        IsMemory e
+        → IsSomeAnd offset
+        (KeepsEntries (reads_strictly m) T.format (offset_of m) bytes.now)) }
+{
+    let Some(offset) = offset else {
+        return Ok((None, Vec::new(alloc)));
+    };
+    let (table, slots) = SyntheticImportLookupTableEntry::parse_by::<T>(
+        alloc,
+        bytes,
+        offset,
+        address_map,
+    )?;
+    Ok((Some(table), slots))
+}
+
+// The name of a library; in permissive mode the empty one where none can be read. Its address is
+// looked for first where the last one was, at `near`.
+#[inline(always)]
+#[tactic(auto, unfolding(goblin_pe_sect::specs::AddressReadings::name_or_none), using(crate::proofs::LibraryNames::taken, crate::proofs::LibraryNames::missing))]
+pub(super) fn library_name<'a>(
+    bytes: &'a [u8],
+    rva: u32,
+    address_map: &AddressMap,
+    near: &mut usize,
+) -> Result<&'a str>
+    ensures { let m = map_of address_map.now in
+        Reads (λ s. s.now) result
+        (or_else (reads_strictly m) [] (name_at (offset_of m) rva)) bytes.now }
+{
+    let name = address_map.name_near(bytes, rva, near)?;
+    Ok(name.unwrap_or(no_text(bytes)))
+}
+
+// The offset of the directory at an address: permissive mode treats an address without an offset as
+// one that leads to the front of the file. It is looked for first at `near`.
+#[inline(always)]
+pub(super) fn directory_offset(
+    rva: u32,
+    address_map: &AddressMap,
+    near: &mut usize,
+) -> Option<usize>
+    ensures { let m = map_of address_map.now in
+        result ≡ in_its_place (reads_strictly m) 0 (offset_of m rva) }
+{
+    match address_map.offset_near(rva, near) {
+        None if address_map.is_permissive() => Some(0),
+        offset => offset,
+    }
+}
+
+// The offset of a record's lookup table: at its own address, or at that of the address table. They
+// are looked for first where the last one was, at `near`.
+#[inline(always)]
+pub(crate) fn lookup_offset(
+    entry: &ImportDirectoryEntry,
+    address_map: &AddressMap,
+    near: &mut usize,
+) -> Option<usize>
+    ensures { result ≡ lookup_offset (offset_of (map_of address_map.now)) entry.now }
+{
+    let lookup_rva = entry.import_lookup_table_rva;
+    let address_rva = entry.import_address_table_rva;
+    match address_map.offset_near(lookup_rva, near) {
+        Some(offset) => Some(offset),
+        None => address_map.offset_near(address_rva, near),
+    }
+}
+
+// The address of a record's address table.
+pub(crate) fn address_table_rva(entry: &ImportDirectoryEntry) -> u32
+    ensures { result ≡ address_table_rva entry.now }
+{
+    match entry.import_address_table_rva {
+        0 => entry.import_lookup_table_rva,
+        rva => rva,
+    }
+}
+
+impl<'a> SyntheticImportDirectoryEntry<'a> {
+    /// What a record leads to, as [`SyntheticImportDirectoryEntry::parse_with_opts`] with the
+    /// default options.
+    ///
+    /// # Errors
+    /// As [`SyntheticImportDirectoryEntry::parse_with_opts`] in strict mode.
+    pub fn parse<'e, T: Bitfield<'a>>(
+        alloc: Global,
+        bytes: &'a [u8],
+        import_directory_entry: ImportDirectoryEntry,
+        sections: &[SectionTable],
+        file_alignment: u32,
+    ) -> ResultOf<'e, SyntheticImportDirectoryEntry<'a>>
+        ensures value { let m = map_by default_options sections.now file_alignment in
+            ReadsOrMemory (λ x. x) result
+            (reading.library_of true T.format (offset_of m) import_directory_entry) bytes.now }
+        ensures grown { let m = map_by default_options sections.now file_alignment in
+            IfErr result
+            (λ e.
+            IsMemory e
+            → KeepsImports true T.format (offset_of m) bytes.now import_directory_entry
+            ⊎ TakesMap default_options sections.now file_alignment) }
+    {
+        let opts = ParseOptions::default();
+        SyntheticImportDirectoryEntry::parse_with_opts::<T>(
+            alloc,
+            bytes,
+            import_directory_entry,
+            sections,
+            file_alignment,
+            &opts,
+        )
+    }
+
+    /// What a record leads to: the library's name, its lookup table and its address table, of
+    /// entries of type `T`.
+    ///
+    /// The lookup table is read at its address or, if that has no file offset, at the address of
+    /// the address table; if that has none either, there is no lookup table. The address table is
+    /// read at its address or, if that is 0, at the address of the lookup table; it keeps the
+    /// numbers before the first 0. The slots are those of
+    /// [`SyntheticImportLookupTableEntry::parse_with_slots`].
+    ///
+    /// # Errors
+    /// In strict mode as [`safe_try_name`](goblin_pe_sect::utils::safe_try_name) where no name can
+    /// be read; in permissive mode the name is then empty. As
+    /// [`SyntheticImportLookupTableEntry::parse_with_opts`] where the lookup table is refused. In
+    /// both modes [`Error::Malformed`] with [`Cause::Unmapped`] if the address of the address table
+    /// has no file offset, and [`Error::Read`] if that table reaches the end of the file.
+    /// [`Error::Memory`] if memory is refused; it is asked for only if addresses are mapped by
+    /// sections or either table keeps an entry.
+    pub fn parse_with_opts<'e, T: Bitfield<'a>>(
+        alloc: Global,
+        bytes: &'a [u8],
+        import_directory_entry: ImportDirectoryEntry,
+        sections: &[SectionTable],
+        file_alignment: u32,
+        opts: &ParseOptions,
+    ) -> ResultOf<'e, SyntheticImportDirectoryEntry<'a>>
+        ensures value { let m = map_by opts.now sections.now file_alignment in
+            ReadsOrMemory (λ x. x) result
+            (reading.library_of (reads_strictly m) T.format (offset_of m) import_directory_entry)
+            bytes.now }
+        ensures grown { let m = map_by opts.now sections.now file_alignment in
+            IfErr result
+            (λ e.
+            IsMemory e
+            → KeepsImports (reads_strictly m) T.format (offset_of m) bytes.now
+            import_directory_entry
+            ⊎ TakesMap opts.now sections.now file_alignment) }
+    {
+        let address_map = AddressMap::prepare(alloc, sections, file_alignment, opts)?;
+        SyntheticImportDirectoryEntry::parse_by::<T>(
+            alloc,
+            bytes,
+            import_directory_entry,
+            &address_map,
+        )
+    }
+
+    // What a record leads to.
+    #[tactic(auto, unfolding(crate::specs::ImportReadings::library_of))]
+    pub(super) fn parse_by<'e, T: Bitfield<'a>>(
+        alloc: Global,
+        bytes: &'a [u8],
+        import_directory_entry: ImportDirectoryEntry,
+        address_map: &AddressMap,
+    ) -> ResultOf<'e, SyntheticImportDirectoryEntry<'a>>
+        ensures value { let m = map_of address_map.now in
+            ReadsOrMemory (λ x. x) result
+            (reading.library_of (reads_strictly m) T.format (offset_of m) import_directory_entry)
+            bytes.now }
+        ensures low { import_directory_entry.import_address_table_rva < 2 ^ 32 }
+        ensures grown { let m = map_of address_map.now in
+            IfErr result
+            (λ e.
+            IsMemory e
+            → KeepsImports (reads_strictly m) T.format (offset_of m) bytes.now
+            import_directory_entry) }
+    {
+        let record = &import_directory_entry;
+        let mut near = 0;
+        let name = library_name(bytes, record.name_rva, address_map, &mut near)?;
+        let lookup_offset = lookup_offset(record, address_map, &mut near);
+        let (import_lookup_table, import_lookup_slots) = lookup_table_if::<T>(
+            alloc,
+            bytes,
+            lookup_offset,
+            address_map,
+        )?;
+        let address_rva = address_table_rva(record);
+        let Some(offset) = address_map.offset_near(address_rva, &mut near) else {
+            return Err(Error::Malformed(Cause::Unmapped(address_rva as usize)));
+        };
+        let import_address_table = address_table::<T>(alloc, bytes, offset)?;
+        Ok(SyntheticImportDirectoryEntry {
+            import_directory_entry,
+            name,
+            import_lookup_table,
+            import_lookup_slots,
+            import_address_table,
+        })
+    }
+}

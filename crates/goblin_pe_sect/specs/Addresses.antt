@@ -1,0 +1,44 @@
+-- What maps the addresses of a file to its offsets.
+use Rattle.std.specs.Prelude.{ℕ, ◌≡◌, ◌<◌, Bool, List, Option, length}
+use Rattle.goblin_base.specs.declared.permissive.ParseMode.TheVariants.{Strict}
+use Rattle.goblin_pe_sect.specs.declared.options.ParseOptions.{ParseOptions}
+use Rattle.goblin_pe_sect.specs.Mapping.{file_offset}
+use Rattle.goblin_pe_sect.specs.Options.{is_strict}
+use Rattle.goblin_pe_sect.specs.SectionTable.{Section}
+use Rattle.goblin_pe_sect.specs.WindowIndex.{HasPieces, located}
+use Rattle.goblin_pe_sect.specs.declared.address_map.AddressMap.{AddressMap}
+
+-- how a file's addresses are mapped to its offsets, and how the bytes there are read
+pub record MapOfAddresses : Type 0 where
+  pub opts : ParseOptions
+  pub offset : ℕ → Option ℕ
+
+-- the map of addresses by these options, sections and file alignment
+abbrev pub map_by : ParseOptions → List Section → ℕ → MapOfAddresses
+map_by opts sections file_alignment =
+    record { opts = opts; offset = file_offset opts sections file_alignment }
+
+-- such a map takes memory: there are sections, and their windows cut the addresses into pieces
+abbrev pub TakesMap : ParseOptions → List Section → ℕ → Type 0
+TakesMap opts sections file_alignment =
+    HasPieces opts file_alignment × (0 < length sections)
+
+-- the map that a reader was given
+abbrev pub map_of : AddressMap → MapOfAddresses
+map_of map = record { opts = map.opts; offset = located map.index }
+
+-- such a map keeps nothing but its options and its index: maps that have the same are the same
+abbrev pub KeepsIndexAlone : Type 0
+KeepsIndexAlone = (m n : AddressMap) → m.opts ≡ n.opts → m.index ≡ n.index → m ≡ n
+
+-- the file offset of an address
+abbrev pub offset_of : MapOfAddresses → ℕ → Option ℕ
+offset_of m = m.offset
+
+-- the mode is strict: what can't be read is refused, and not passed over
+abbrev pub reads_strictly : MapOfAddresses → Bool
+reads_strictly m = is_strict m.opts.parse_mode
+
+-- the same map, by which damaged parts are refused
+abbrev pub strict_map : MapOfAddresses → MapOfAddresses
+strict_map m = record { opts = record m.opts { parse_mode = Strict }; offset = m.offset }

@@ -1,0 +1,142 @@
+//! Where addresses lie in the file, by an index that is prepared once.
+
+ghost use Rattle.std.specs.Prelude.{◌≡◌, ◌↔◌, ◌<◌, ℕ, IfErr, IfOk, IsTrue, length, option_map};
+ghost use Rattle.goblin_base.specs.Answers.{GivesOrMemory, IsMemory};
+ghost use Rattle.goblin_base.specs.Reading.{Reads};
+ghost use Rattle.goblin_pe_sect.specs.AddressReadings.{name_or_none};
+ghost use Rattle.goblin_pe_sect.specs.Mapping.{file_offset};
+ghost use Rattle.goblin_base.specs.declared.permissive.ParseMode.TheVariants.{Permissive};
+ghost use Rattle.goblin_pe_sect.specs.Addresses.{KeepsIndexAlone, TakesMap, map_by, map_of};
+ghost use Rattle.goblin_pe_sect.specs.Addresses.{offset_of, reads_strictly, strict_map};
+ghost use Rattle.goblin_pe_sect.specs.WindowIndex.{located};
+
+use crate::options::{ParseMode, ParseOptions};
+use crate::section_table::SectionTable;
+use crate::utils::safe_name_at;
+use crate::windows::WindowIndex;
+use goblin_base::Result;
+use std::alloc::Global;
+
+/// How addresses are mapped to file offsets, and how the bytes there are read: the options, and what
+/// is prepared of the sections for the mapping. The sections may be dropped.
+#[derive(Drop)]
+pub struct AddressMap {
+    opts: ParseOptions,
+    index: WindowIndex,
+}
+
+// The index of the sections' windows; where there are no sections, one without pieces, which takes
+// no memory.
+#[tactic(auto, using(crate::proofs::AddressMaps::located_nowhere))]
+fn index_of(
+    alloc: Global,
+    sections: &[SectionTable],
+    file_alignment: u32,
+    opts: &ParseOptions,
+) -> Result<WindowIndex>
+    ensures mapped { let offset_of = file_offset opts.now sections.now file_alignment in
+        IfOk result (λ w. (rva : ℕ) → located w rva ≡ offset_of rva) }
+    ensures refused { IfErr result IsMemory }
+    ensures grown { IfErr result (λ e. TakesMap opts.now sections.now file_alignment) }
+{
+    if sections.is_empty() {
+        return Ok(WindowIndex::without_pieces(alloc, opts.resolve_rva));
+    }
+    WindowIndex::prepare(alloc, sections, file_alignment, opts)
+}
+
+impl AddressMap {
+    /// Prepares the index of the sections' windows. No memory is taken where there are no sections,
+    /// `opts` says that addresses are offsets or `file_alignment` is not a power of two.
+    ///
+    /// # Errors
+    /// Only [`Error::Memory`](goblin_base::Error::Memory).
+    #[inline(always)]
+    #[tactic(auto, using(crate::proofs::AddressMaps::same_map))]
+    pub fn prepare(
+        alloc: Global,
+        sections: &[SectionTable],
+        file_alignment: u32,
+        opts: &ParseOptions,
+    ) -> Result<AddressMap>
+        ensures made { GivesOrMemory map_of result
+            (map_by opts.now sections.now file_alignment) }
+        ensures grown { IfErr result (λ e. TakesMap opts.now sections.now file_alignment) }
+        ensures whole { KeepsIndexAlone }
+    {
+        let index = index_of(alloc, sections, file_alignment, opts)?;
+        Ok(AddressMap { opts: *opts, index })
+    }
+
+    /// The same map, by which damaged parts are refused and not passed over.
+    pub fn strictly(self) -> AddressMap
+        ensures { map_of result ≡ strict_map (map_of self) }
+    {
+        AddressMap {
+            opts: self.opts.with_parse_mode(ParseMode::Strict),
+            index: self.index,
+        }
+    }
+
+    /// The options for mapping addresses and for reading there.
+    pub fn opts(&self) -> &ParseOptions
+        ensures { result.now ≡ (map_of self.now).opts }
+    {
+        &self.opts
+    }
+
+    /// Whether damaged parts are passed over.
+    pub fn is_permissive(&self) -> bool
+        ensures { IsTrue result ↔ ((map_of self.now).opts.parse_mode ≡ Permissive) }
+    {
+        self.opts.parse_mode.is_permissive()
+    }
+
+    /// The file offset of an address.
+    #[inline]
+    pub fn offset_of(&self, rva: u32) -> Option<usize>
+        ensures { result ≡ offset_of (map_of self.now) rva }
+    {
+        self.index.find(rva as usize)
+    }
+
+    /// The file offset of an address, as [`AddressMap::offset_of`]: it is looked for first in the
+    /// piece `near`, any number, which then is where the next is looked for first.
+    #[inline(always)]
+    pub fn offset_near(&self, rva: u32, near: &mut usize) -> Option<usize>
+        ensures { result ≡ offset_of (map_of self.now) rva }
+    {
+        self.index.find_near(rva as usize, near)
+    }
+
+    /// The text at an address: in permissive mode `None` if there is none.
+    ///
+    /// # Errors
+    /// As [`safe_try_name`](crate::utils::safe_try_name).
+    pub fn name_at<'a>(&self, bytes: &'a [u8], rva: u32) -> Result<Option<&'a str>>
+        ensures { Reads (option_map (λ s. s.now)) result
+            (name_or_none (reads_strictly (map_of self.now)) (offset_of (map_of self.now)) rva) bytes.now }
+    {
+        let mut near = 0;
+        self.name_near(bytes, rva, &mut near)
+    }
+
+    /// The same, where the address is looked for first in the piece `near`, as by
+    /// [`AddressMap::offset_near`].
+    ///
+    /// # Errors
+    /// As [`AddressMap::name_at`].
+    #[tactic(auto, unfolding(crate::specs::AddressReadings::name_or_none, crate::specs::AddressReadings::name_at))]
+    pub fn name_near<'a>(
+        &self,
+        bytes: &'a [u8],
+        rva: u32,
+        near: &mut usize,
+    ) -> Result<Option<&'a str>>
+        ensures { Reads (option_map (λ s. s.now)) result
+            (name_or_none (reads_strictly (map_of self.now)) (offset_of (map_of self.now)) rva) bytes.now }
+    {
+        let offset = self.offset_near(rva, near);
+        safe_name_at(bytes, rva as usize, offset, &self.opts)
+    }
+}

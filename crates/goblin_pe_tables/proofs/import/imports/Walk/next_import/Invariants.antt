@@ -1,9 +1,0 @@
-use Rattle.goblin_pe_tables.specs.ImportWalks.{records_left}
-use Rattle.goblin_pe_tables.proofs.ImportSteps.{AtImports}
-use Rattle.goblin_pe_tables.proofs.import.imports.Walk.next_import.Given as goal
-
-abbrev pub invariant-libraries : goal.invariant-libraries
-invariant-libraries g l = AtImports g.T.Bitfield.format l.initial.self l.self
-
-abbrev pub decreases-libraries : goal.decreases-libraries
-decreases-libraries g l = records_left l.self.bytes.now l.self.next

@@ -1,7 +1,0 @@
-use Rattle.std.proofs.Common.{◌≡◌, ◌-◌, ◌^◌, take}
-use Rattle.std.specs.Prelude.{min}
-use Rattle.goblin_pe_tables.specs.Imports.{kept_count}
-use Rattle.goblin_pe_tables.proofs.import.listed.count_of.Given as goal
-
-abbrev pub invariant-libraries : goal.invariant-libraries
-invariant-libraries l = l.count ≡ min (kept_count (take l.library-index l.libraries)) (2 ^ 64 - 1)

@@ -1,7 +1,0 @@
-use Rattle.std.proofs.Common.{◌≡◌, Some}
-use Rattle.goblin_base.specs.Tables.{each_below}
-use Rattle.goblin_pe_tables.proofs.Imports.{imported_at}
-use Rattle.goblin_pe_tables.proofs.import.listed.imports_of.Given as goal
-
-abbrev pub invariant-libraries : goal.invariant-libraries
-invariant-libraries l = each_below (imported_at l.fn.size l.fn.libraries) l.library-index ≡ Some l.imports.items

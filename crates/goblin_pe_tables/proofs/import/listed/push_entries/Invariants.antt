@@ -1,7 +1,0 @@
-use Rattle.std.proofs.Common.{map}
-use Rattle.goblin_pe_tables.specs.ImportLookup.{entry_view}
-use Rattle.goblin_pe_tables.proofs.Imports.{AtEntry}
-use Rattle.goblin_pe_tables.proofs.import.listed.push_entries.Given as goal
-
-abbrev pub invariant-entries : goal.invariant-entries
-invariant-entries l = AtEntry l.fn.size l.fn.dll l.fn.rva (map entry_view l.fn.entries) l.fn.slots l.position l.initial.imports.items l.imports.items
