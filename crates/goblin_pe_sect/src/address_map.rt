@@ -109,23 +109,11 @@ impl AddressMap {
         self.index.find_near(rva as usize, near)
     }
 
-    /// The text at an address: in permissive mode `None` if there is none.
+    /// The text at an address: in permissive mode `None` if there is none. The address is looked for
+    /// first in the piece `near`, as by [`AddressMap::offset_near`].
     ///
     /// # Errors
     /// As [`safe_try_name`](crate::utils::safe_try_name).
-    pub fn name_at<'a>(&self, bytes: &'a [u8], rva: u32) -> Result<Option<&'a str>>
-        ensures { Reads (option_map (λ s. s.now)) result
-            (name_or_none (reads_strictly (map_of self.now)) (offset_of (map_of self.now)) rva) bytes.now }
-    {
-        let mut near = 0;
-        self.name_near(bytes, rva, &mut near)
-    }
-
-    /// The same, where the address is looked for first in the piece `near`, as by
-    /// [`AddressMap::offset_near`].
-    ///
-    /// # Errors
-    /// As [`AddressMap::name_at`].
     #[tactic(auto, unfolding(crate::specs::AddressReadings::name_or_none, crate::specs::AddressReadings::name_at))]
     pub fn name_near<'a>(
         &self,
