@@ -226,17 +226,29 @@ impl WindowIndex {
         self.find_counted(rva).0
     }
 
+    /// The answer of [`WindowIndex::find_near`], and how many probes were made: at most two where the
+    /// address lies in piece `near`, and else at most two more than a binary search makes.
+    #[inline(always)]
+    pub fn find_near_counted(&self, rva: usize, near: &mut usize) -> (Option<usize>, usize)
+        ensures value { result.0 ≡ located self.now rva }
+        ensures piece { near.new ≡ reached self.now.begins rva - 1 }
+        ensures most { (d : ℕ) → length self.now.begins < 2 ^ d → result.1 ≤ d + 2 }
+        ensures there { reached self.now.begins rva ≡ near.old + 1 → result.1 ≤ 2 }
+    {
+        let (count, probes) = count_near(&self.bounds, *near, rva);
+        *near = count.saturating_sub(1);
+        (self.offset_by_count(count, rva), probes)
+    }
+
     /// The file offset of the address `rva`, as [`WindowIndex::find`] returns it. Piece `near`,
     /// which may be any number, is looked at first, and no other where the address lies in it;
     /// `near` is then the piece of the address, or 0 where there is none. So addresses that lie near
-    /// one another are found with two probes each, and any other with two more than `find` makes.
+    /// one another are found with two probes each.
     #[inline(always)]
     pub fn find_near(&self, rva: usize, near: &mut usize) -> Option<usize>
         ensures value { result ≡ located self.now rva }
         ensures piece { near.new ≡ reached self.now.begins rva - 1 }
     {
-        let (count, _) = count_near(&self.bounds, *near, rva);
-        *near = count.saturating_sub(1);
-        self.offset_by_count(count, rva)
+        self.find_near_counted(rva, near).0
     }
 }
