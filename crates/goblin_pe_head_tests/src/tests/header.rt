@@ -78,36 +78,22 @@ fn the_parts_of_a_header_are_read_in_both_modes(rt: HostRuntime) -> Result<(), F
     Ok(())
 }
 
-/// Whether a file's header is refused in a mode for a magic of no width.
-fn has_bad_magic(file: &[u8], mode: ParseMode) -> bool {
-    matches!(
-        Header::parse_with_opts(file, &in_mode(mode)),
-        Err(Error::BadMagic(0x107))
-    )
+/// Whether a file's header is refused in a mode for this.
+fn is_refused(file: &[u8], mode: ParseMode, want: &Error) -> bool {
+    matches!(Header::parse_with_opts(file, &in_mode(mode)), Err(error) if error == *want)
 }
 
 #[test]
-fn a_magic_of_no_width_refuses_the_header_in_both_modes(rt: HostRuntime) -> Result<(), Fail> {
-    let file = sample_with(rt.alloc(), 0x58, b"\x07\x01")?;
-    for mode in MODES {
-        assert!(rt; has_bad_magic(&file, mode), "{mode:?}");
-    }
-    Ok(())
-}
-
-/// Whether a file's header is refused in a mode for too many directories.
-fn has_too_many_directories(file: &[u8], mode: ParseMode) -> bool {
-    matches!(
-        Header::parse_with_opts(file, &in_mode(mode)),
-        Err(Error::Malformed(Cause::DirectoryCount(17)))
-    )
-}
-
-#[test]
-fn too_many_directories_refuse_the_header_in_both_modes(rt: HostRuntime) -> Result<(), Fail> {
-    let file = sample_with(rt.alloc(), 0xB4, b"\x11")?;
-    for mode in MODES {
-        assert!(rt; has_too_many_directories(&file, mode), "{mode:?}");
+fn a_header_is_refused_in_both_modes(rt: HostRuntime) -> Result<(), Fail> {
+    let rows: [(usize, &[u8], Error); 2] = [
+        (0x58, b"\x07\x01", Error::BadMagic(0x107)),
+        (0xB4, b"\x11", Error::Malformed(Cause::DirectoryCount(17))),
+    ];
+    for (offset, bytes, want) in &rows {
+        let file = sample_with(rt.alloc(), *offset, bytes)?;
+        for mode in MODES {
+            assert!(rt; is_refused(&file, mode, want), "{want} {mode:?}");
+        }
     }
     Ok(())
 }
@@ -126,18 +112,12 @@ fn sections_of(
 }
 
 #[test]
-fn more_sections_than_the_file_holds_are_told_by_their_number(rt: HostRuntime) -> Result<(), Fail> {
+fn sections_past_the_end_are_refused(rt: HostRuntime) -> Result<(), Fail> {
     let file = sample(rt.alloc())?;
-    let refused = sections_of(rt.alloc(), &file, 20);
-    assert!(rt; matches!(&refused, Err(Error::BufferTooShort(20, "sections"))));
-    Ok(())
-}
-
-#[test]
-fn a_section_that_meets_the_end_of_the_file_is_a_failed_read(rt: HostRuntime) -> Result<(), Fail> {
-    let file = sample(rt.alloc())?;
-    let refused = sections_of(rt.alloc(), &file, 19);
-    assert!(rt; matches!(&refused, Err(Error::Read(_))));
+    let many = sections_of(rt.alloc(), &file, 20);
+    assert!(rt; matches!(&many, Err(Error::BufferTooShort(20, "sections"))));
+    let last = sections_of(rt.alloc(), &file, 19);
+    assert!(rt; matches!(&last, Err(Error::Read(_))));
     Ok(())
 }
 

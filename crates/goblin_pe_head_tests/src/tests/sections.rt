@@ -17,49 +17,33 @@ fn named(name: &[u8; 8]) -> SectionTable {
     }
 }
 
-/// Names of sections, and the offsets that they say in both modes.
-const OFFSETS: &[(&[u8; 8], Option<usize>)] = &[
-    (b".rdata\0\0", None),
-    (b"/+12\0\0\0\0", Some(12)),
-    (b"/12\0\xFF\xFF\xFF\xFF", Some(12)),
-    (b"//\0\0\0\0\0\0", Some(0)),
-    (b"////////", Some(68_719_476_735)),
+/// Names of sections, and the offsets that they say in both modes, or why they say none.
+const NAMES: &[(&[u8; 8], Result<Option<usize>, Cause>)] = &[
+    (b".rdata\0\0", Ok(None)),
+    (b"/+12\0\0\0\0", Ok(Some(12))),
+    (b"/12\0\xFF\xFF\xFF\xFF", Ok(Some(12))),
+    (b"//\0\0\0\0\0\0", Ok(Some(0))),
+    (b"////////", Ok(Some(68_719_476_735))),
+    (b"/\0\0\0\0\0\0\0", Err(Cause::NameDecimal)),
+    (b"/+\0\0\0\0\0\0", Err(Cause::NameDecimal)),
+    (b"/\xC3\xA9\0\0\0\0\0", Err(Cause::NameDecimal)),
+    (b"//-\0\0\0\0\0", Err(Cause::NameBase64)),
 ];
 
-/// Whether a name says an offset in a mode.
-fn is_said(name: &[u8; 8], mode: ParseMode, want: Option<usize>) -> bool {
-    let said = named(name).name_offset_with_opts(&in_mode(mode));
-    matches!(said, Ok(offset) if offset == want)
+/// Whether a name says this in a mode.
+fn is_said(name: &[u8; 8], mode: ParseMode, want: &Result<Option<usize>, Cause>) -> bool {
+    match named(name).name_offset_with_opts(&in_mode(mode)) {
+        Ok(offset) => *want == Ok(offset),
+        Err(Error::Malformed(cause)) => *want == Err(cause),
+        Err(_) => false,
+    }
 }
 
 #[test]
 fn a_name_says_its_offset_in_both_modes(rt: HostRuntime) {
-    for (name, want) in OFFSETS {
+    for (name, want) in NAMES {
         for mode in MODES {
-            assert!(rt; is_said(name, mode, *want), "{name:?} {mode:?}");
-        }
-    }
-}
-
-/// Names that say none.
-const WITHOUT_NUMBERS: &[(&[u8; 8], Cause)] = &[
-    (b"/\0\0\0\0\0\0\0", Cause::NameDecimal),
-    (b"/+\0\0\0\0\0\0", Cause::NameDecimal),
-    (b"/\xC3\xA9\0\0\0\0\0", Cause::NameDecimal),
-    (b"//-\0\0\0\0\0", Cause::NameBase64),
-];
-
-/// Whether a name is refused in a mode.
-fn is_refused(name: &[u8; 8], mode: ParseMode, want: Cause) -> bool {
-    let said = named(name).name_offset_with_opts(&in_mode(mode));
-    matches!(said, Err(Error::Malformed(cause)) if cause == want)
-}
-
-#[test]
-fn a_name_without_a_number_is_refused_in_both_modes(rt: HostRuntime) {
-    for (name, want) in WITHOUT_NUMBERS {
-        for mode in MODES {
-            assert!(rt; is_refused(name, mode, *want), "{name:?} {mode:?}");
+            assert!(rt; is_said(name, mode, want), "{name:?} {mode:?}");
         }
     }
 }
