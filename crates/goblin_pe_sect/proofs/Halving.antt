@@ -4,9 +4,9 @@ use Rattle.std.specs.List.{prefix_len}
 use Rattle.std.specs.List.Sorted.{IsStrictlyIncreasing}
 use Rattle.std.proofs.lemmas.List.Kept.{AllPairs-from_increasing}
 use Rattle.std.proofs.lemmas.List.Sums.{prefix_len-le-length, prefix_len_is, prefix_len_passes, prefix_len_stops}
-use Rattle.std.proofs.lemmas.Bool.{cases_lt}
+use Rattle.std.proofs.lemmas.Bool.{cases_lt, ne_eqb}
 use Rattle.std.proofs.lemmas.Nat.{pow-add, pow_pos}
-use Rattle.goblin_pe_sect.specs.WindowIndex.{reached, halvings_within, halvings}
+use Rattle.goblin_pe_sect.specs.WindowIndex.{reached, halvings_within, halvings, first_probes}
 
 -- ---- the number of comparisons
 
@@ -99,8 +99,26 @@ reached-below begins rva half passes =
 
 -- no more numbers begin at or before an address than there are
 pub reached-within : (begins : List ℕ) (rva : ℕ) → reached begins rva ≤ length begins
-unfolding reached
 reached-within begins rva = prefix_len-le-length (λ b. nat_le b rva) begins
+
+-- ---- where a look-up begins at a piece
+
+module _ (n i k : ℕ) where
+  pub first-none : n ≤ i → first_probes n i k ≡ 0
+  first-none past = let out : nat_lt i n ≡ false = search (rules, tests) in rw out refl
+
+  pub first-after : i < n → k ≤ i → first_probes n i k ≡ 1
+  first-after within after =
+      let inside : nat_lt i n ≡ true = search (rules, tests) in
+      let out : nat_lt i k ≡ false = search (rules, tests) in
+      rw (inside, out) refl
+
+  pub first-two : i < n → i < k → (i + 1 ≡ n → ⊥) → first_probes n i k ≡ 2
+  first-two within before more =
+      let inside : nat_lt i n ≡ true = search (rules, tests) in
+      let begun : nat_lt i k ≡ true = search (rules, tests) in
+      let not : (i + 1 == n) ≡ false = ne_eqb (i + 1) n more in
+      rw (inside, begun, not) refl
 
 -- half of a number has a digit less
 pub half_below : (e s : ℕ) → 0 < s → s < 2 ^ e → (1 ≤ e) × (s / 2 < 2 ^ (e - 1))

@@ -1,6 +1,6 @@
 //! Where addresses lie in the file, by an index that is prepared once.
 
-ghost use Rattle.std.specs.Prelude.{◌≡◌, ◌↔◌, ◌<◌, ℕ, IfErr, IfOk, IsTrue, length, option_map};
+ghost use Rattle.std.specs.Prelude.{◌≡◌, ◌-◌, ◌↔◌, ◌<◌, ℕ, IfErr, IfOk, IsTrue, length, option_map};
 ghost use Rattle.goblin_base.specs.Answers.{GivesOrMemory, IsMemory};
 ghost use Rattle.goblin_base.specs.Reading.{Reads};
 ghost use Rattle.goblin_pe_sect.specs.AddressReadings.{name_or_none};
@@ -8,7 +8,7 @@ ghost use Rattle.goblin_pe_sect.specs.Mapping.{file_offset};
 ghost use Rattle.goblin_base.specs.declared.permissive.ParseMode.TheVariants.{Permissive};
 ghost use Rattle.goblin_pe_sect.specs.Addresses.{KeepsIndexAlone, TakesMap, map_by, map_of};
 ghost use Rattle.goblin_pe_sect.specs.Addresses.{offset_of, reads_strictly, strict_map};
-ghost use Rattle.goblin_pe_sect.specs.WindowIndex.{located};
+ghost use Rattle.goblin_pe_sect.specs.WindowIndex.{located, reached};
 
 use crate::options::{ParseMode, ParseOptions};
 use crate::section_table::SectionTable;
@@ -104,7 +104,8 @@ impl AddressMap {
     /// piece `near`, any number, which then is where the next is looked for first.
     #[inline(always)]
     pub fn offset_near(&self, rva: u32, near: &mut usize) -> Option<usize>
-        ensures { result ≡ offset_of (map_of self.now) rva }
+        ensures value { result ≡ offset_of (map_of self.now) rva }
+        ensures piece { near.new ≡ reached self.now.index.begins rva - 1 }
     {
         self.index.find_near(rva as usize, near)
     }
@@ -121,8 +122,9 @@ impl AddressMap {
         rva: u32,
         near: &mut usize,
     ) -> Result<Option<&'a str>>
-        ensures { Reads (option_map (λ s. s.now)) result
+        ensures value { Reads (option_map (λ s. s.now)) result
             (name_or_none (reads_strictly (map_of self.now)) (offset_of (map_of self.now)) rva) bytes.now }
+        ensures piece { near.new ≡ reached self.now.index.begins rva - 1 }
     {
         let offset = self.offset_near(rva, near);
         safe_name_at(bytes, rva as usize, offset, &self.opts)

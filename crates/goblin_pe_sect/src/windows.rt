@@ -14,6 +14,7 @@ ghost use Rattle.goblin_base.specs.Answers.{IsMemory};
 ghost use Rattle.goblin_pe_sect.specs.Mapping.{file_offset};
 ghost use Rattle.goblin_pe_sect.specs.WindowIndex.{IsCut, first_owner, last_owner, located};
 ghost use Rattle.goblin_pe_sect.specs.WindowIndex.{owner_offset, reached, halvings, HasPieces};
+ghost use Rattle.goblin_pe_sect.specs.WindowIndex.{first_probes, near_probes};
 ghost use Rattle.goblin_pe_sect.specs.WindowIndexFields.{KeepsPiecesAlone};
 
 mod bounds;
@@ -60,8 +61,9 @@ fn count_reached(bounds: &Bounds, rva: usize) -> (usize, usize)
 #[tactic(auto, using(crate::proofs::Halving::reached_last, crate::proofs::Halving::reached_before))]
 fn count_in_piece(bounds: &Bounds, i: usize, rva: usize) -> (Option<usize>, usize)
     requires { IsStrictlyIncreasing bounds.now }
-    ensures value { IfSome result.0 (λ count. count ≡ reached bounds.now rva) }
+    ensures value { IfSome result.0 (λ count. (count ≡ reached bounds.now rva) × (count ≡ i + 1)) }
     ensures found { reached bounds.now rva ≡ i + 1 → result.0 ≡ Some (i + 1) }
+    ensures counted { result.1 ≡ first_probes (length bounds.now) i (reached bounds.now rva) }
     ensures few { result.1 ≤ 2 }
 {
     let count = bounds.len();
@@ -82,7 +84,7 @@ fn count_in_piece(bounds: &Bounds, i: usize, rva: usize) -> (Option<usize>, usiz
     (Some(next), probes)
 }
 
-// How many pieces begin at or before the address, and how many bounds were looked at, those of piece
+// How many pieces begin at or before the address, and how many bounds were looked at: those of piece
 // `near` first, and no others where the address lies in it.
 #[inline(always)]
 fn count_near(bounds: &Bounds, near: usize, rva: usize) -> (usize, usize)
@@ -90,6 +92,7 @@ fn count_near(bounds: &Bounds, near: usize, rva: usize) -> (usize, usize)
     ensures value { result.0 ≡ reached bounds.now rva }
     ensures most { (d : ℕ) → length bounds.now < 2 ^ d → result.1 ≤ d + 2 }
     ensures there { reached bounds.now rva ≡ near + 1 → result.1 ≤ 2 }
+    ensures counted { result.1 ≡ near_probes (length bounds.now) near (reached bounds.now rva) }
 {
     let (found, first) = count_in_piece(bounds, near, rva);
     let Some(count) = found else {
@@ -234,16 +237,18 @@ impl WindowIndex {
         ensures piece { near.new ≡ reached self.now.begins rva - 1 }
         ensures most { (d : ℕ) → length self.now.begins < 2 ^ d → result.1 ≤ d + 2 }
         ensures there { reached self.now.begins rva ≡ near.old + 1 → result.1 ≤ 2 }
+        ensures counted { result.1
+            ≡ near_probes (length self.now.begins) near.old (reached self.now.begins rva) }
     {
         let (count, probes) = count_near(&self.bounds, *near, rva);
         *near = count.saturating_sub(1);
         (self.offset_by_count(count, rva), probes)
     }
 
-    /// The file offset of the address `rva`, as [`WindowIndex::find`] returns it. Piece `near`,
-    /// which may be any number, is looked at first, and no other where the address lies in it;
-    /// `near` is then the piece of the address, or 0 where there is none. So addresses that lie near
-    /// one another are found with two probes each.
+    /// The file offset of the address `rva`, as [`WindowIndex::find`] returns it. The bounds of piece
+    /// `near`, which may be any number, are looked at first, and no others where the address lies in
+    /// it; `near` is then the piece of the address, or 0 where there is none. So addresses that lie
+    /// near one another are found with two probes each.
     #[inline(always)]
     pub fn find_near(&self, rva: usize, near: &mut usize) -> Option<usize>
         ensures value { result ≡ located self.now rva }

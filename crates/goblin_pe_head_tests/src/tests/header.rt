@@ -84,7 +84,7 @@ fn is_refused(file: &[u8], mode: ParseMode, want: &Error) -> bool {
 }
 
 #[test]
-fn a_header_is_refused_in_both_modes(rt: HostRuntime) -> Result<(), Fail> {
+fn a_wrong_magic_and_too_many_directories_are_refused(rt: HostRuntime) -> Result<(), Fail> {
     let rows: [(usize, &[u8], Error); 2] = [
         (0x58, b"\x07\x01", Error::BadMagic(0x107)),
         (0xB4, b"\x11", Error::Malformed(Cause::DirectoryCount(17))),

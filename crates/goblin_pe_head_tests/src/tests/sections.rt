@@ -40,7 +40,7 @@ fn is_said(name: &[u8; 8], mode: ParseMode, want: &Result<Option<usize>, Cause>)
 }
 
 #[test]
-fn a_name_says_its_offset_in_both_modes(rt: HostRuntime) {
+fn a_name_says_its_offset_or_why_not_in_both_modes(rt: HostRuntime) {
     for (name, want) in NAMES {
         for mode in MODES {
             assert!(rt; is_said(name, mode, want), "{name:?} {mode:?}");
