@@ -1,15 +1,16 @@
 """Runs the tests of what is built: python3 -m tests [MODULE..], the modules side by side. Each row of a table counts. What
 is skipped is told before the last line, which says how many passed and failed."""
+import concurrent.futures
 import contextlib
+import io
 import multiprocessing
 import os
 import pathlib
-import subprocess
 import sys
 import time
 import unittest
 
-from tests.programs import build_pe_list, library
+from tests.programs import build_pe_list, build_pe_replay, library, shared_folder
 
 
 class Counts(unittest.TestResult):
@@ -32,30 +33,33 @@ class Counts(unittest.TestResult):
 
 
 def build_for_all():
-    """Builds what several modules use, before they part. A module that needs what could not be built tells why."""
-    with contextlib.suppress(AssertionError, subprocess.CalledProcessError):
-        library()
-        build_pe_list()
+    """Builds what several modules use, once, before they part. A module that lacks it says so."""
+    for build in (library, build_pe_list, build_pe_replay):
+        with contextlib.suppress(AssertionError, OSError):
+            build()
 
 
 def tested(name):
-    """Runs a module's tests: what is said of them, how many passed and failed, and what was skipped."""
+    """Runs a module's tests: what they say, how many passed and failed, and what was skipped."""
     began, result = time.time(), Counts()
-    unittest.defaultTestLoader.loadTestsFromName(name).run(result)
+    with contextlib.redirect_stdout(io.StringIO()) as told:
+        unittest.defaultTestLoader.loadTestsFromName(name).run(result)
     broken = result.failures + result.errors
-    said = "".join(f"FAILED: {case}\n{trace}\n" for case, trace in broken)
+    said = told.getvalue() + "".join(f"FAILED: {case}\n{trace}\n" for case, trace in broken)
     said += f"{name}: {result.passed} passed, {len(broken)} failed, {time.time() - began:.0f} seconds"
     return said, result.passed, len(broken), [f"skipped: {case}: {reason}" for case, reason in result.skipped]
 
 
 def main(names):
     names = names or sorted(f"tests.{it.stem}" for it in pathlib.Path(__file__).parent.glob("test_*.py"))
+    shared_folder()  # (made here, since it goes with the process that makes it)
     if len(names) > 1:
         build_for_all()
     passed = failed = 0
     skipped = []
-    with multiprocessing.get_context("fork").Pool(len(os.sched_getaffinity(0)), maxtasksperchild=1) as pool:
-        for said, went_well, went_wrong, left in pool.imap(tested, names, chunksize=1):
+    fork = multiprocessing.get_context("fork")
+    with concurrent.futures.ProcessPoolExecutor(len(os.sched_getaffinity(0)), fork) as pool:
+        for said, went_well, went_wrong, left in pool.map(tested, names):
             print(said, flush=True)
             passed, failed, skipped = passed + went_well, failed + went_wrong, skipped + left
     print("\n".join([*skipped, f"{passed} passed, {failed} failed"]))

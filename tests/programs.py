@@ -79,10 +79,33 @@ def need(*tools):
 
 
 @functools.cache
-def build_pe_list():
-    """Has ./pe_list list an image. Where the program is not built, or a source is newer, it is proved and built first."""
+def built_pe_list():
+    """Has ./pe_list list an image: its status. Where the program is not built, or a source is newer, it is proved and built
+    first."""
     with open(BY_NAME, "rb") as file:
-        subprocess.run([TOP / "pe_list"], stdin=file, stdout=subprocess.DEVNULL, check=True, env={**os.environ, "PE_LIST_PROVED": "only"})
+        env = {**os.environ, "PE_LIST_PROVED": "only"}
+        return subprocess.run([TOP / "pe_list"], stdin=file, stdout=subprocess.DEVNULL, check=False, env=env).returncode
+
+
+def build_pe_list():
+    if built_pe_list():
+        raise AssertionError(f"./pe_list: status {built_pe_list()}")
+
+
+@functools.cache
+def built_pe_replay():
+    """Proves and builds pe_replay where it is not built: what came of it, and what was said."""
+    if PE_REPLAY.exists():
+        return 0, b""
+    folder = PE_REPLAY.parent.parent
+    status, _, said = run(["rt", "run", "--", *(folder / "args").read_text().split()], folder / "stdin", cwd=folder)
+    return status, said
+
+
+def build_pe_replay():
+    status, said = built_pe_replay()
+    if status:
+        raise AssertionError(f"pe_replay: {said.decode()}")
 
 
 @functools.cache

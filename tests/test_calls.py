@@ -3,7 +3,7 @@ over imports and exports, damage, and each call that takes memory with each of i
 import struct
 
 from tests import images
-from tests.programs import CRATES, IMAGES, PE_REPLAY, Case, beside, run, with_memory
+from tests.programs import IMAGES, PE_REPLAY, Case, beside, build_pe_replay, with_memory
 
 # The forms of a call: without options, or by those of a mode.
 MODES = ("strict", "permissive")
@@ -65,11 +65,7 @@ TAKE_NONE = [
 
 
 def setUpModule():
-    if not PE_REPLAY.exists():
-        folder = CRATES / "pe_replay"
-        status, _, said = run(["rt", "run", "--", *(folder / "args").read_text().split()], folder / "stdin", cwd=folder)
-        if status:
-            raise AssertionError(f"pe_replay is not built: {said.decode()}")
+    build_pe_replay()
 
 
 class Growths(Case):

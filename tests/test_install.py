@@ -1,6 +1,5 @@
 """The library for callers as its users install it: by pkg-config, as a crate in Rust, and as a package in Python."""
 import functools
-import os
 import pathlib
 import platform
 import re
@@ -8,7 +7,7 @@ import shutil
 import sys
 import unittest
 
-from tests.programs import BY_NAME, CALLERS, CC, CRATES, FLAGS, TOP, Case, beside, environment, library, need, run, succeed
+from tests.programs import BY_NAME, CALLERS, CC, FLAGS, Case, beside, environment, library, need, run, succeed
 
 CARGO = ["cargo", "-q", "--offline", "--locked"]
 LISTED = (0, beside(BY_NAME, "listing"), b"")
@@ -21,39 +20,6 @@ def setUpModule():
 def install(prefix, **more):
     need(CC, "pkg-config")
     succeed([CALLERS / "install", prefix], env=environment(GOBLIN_PE_LIB=str(library()), **more))
-
-
-class Built(Case):
-    """The library as callers/build makes it, over the proved libraries below it."""
-
-    def copied(self, below):
-        """What it is built of, in another folder. The libraries below stay where they are."""
-        top = self.folder / "another"
-        sources = [f"crates/{crate}/{part}" for crate in (*below, "goblin_pe_c") for part in ("src", "specs", "proofs")]
-        kept = "crates/goblin_pe_c/out/incremental"  # (proofs, and nothing that is compiled)
-        for it in ("tools", "callers/c", *sources, kept):
-            if (TOP / it).exists():
-                shutil.copytree(TOP / it, top / it)  # (with its dates)
-        for it in ("crates.txt", "callers/build"):
-            shutil.copy2(TOP / it, top / it)
-        for it in below:
-            (top / "crates" / it / "out").mkdir()
-            (top / "crates" / it / "out/rlib").symlink_to(CRATES / it / "out/rlib")
-        return top
-
-    def test_another_folder_makes_the_same_library(self):
-        """To the byte. No library below is proved again."""
-        if "GOBLIN_PE_LIB" in os.environ:
-            self.skipTest("GOBLIN_PE_LIB names a library that need not be built of these sources")
-        below = succeed([TOP / "tools/over_libraries", "below", "goblin_pe_c"]).split()
-        if not all((CRATES / it / "out/rlib").is_dir() for it in below):
-            self.skipTest("the libraries below goblin_pe_c are not kept in crates/*/out")
-        need(CC)  # (for the shared library)
-        self.written("rt", b'#!/bin/sh\n[ "$1" = doc ] && exec "%s" doc\nexit 1\n' % shutil.which("rt").encode()).chmod(0o755)
-        succeed([self.copied(below) / "callers/build", self.folder / "lib"], env=environment(PATH=f"{self.folder}:{os.environ['PATH']}"))
-        made, again = ({it.name: it.read_bytes() for it in folder.iterdir()} for folder in (library(), self.folder / "lib"))
-        self.assertEqual(sorted(again), sorted(made))
-        self.assertEqual([name for name in made if again[name] != made[name]], [])
 
 
 class Library(Case):

@@ -168,13 +168,14 @@ class Memory(Case):
 
 class Time(Case):
     def test_addresses_are_looked_up_by_an_index(self):
-        """Twice the sections, and twice the addresses, take no more than three times as long. A walk over the sections
-        for each address takes four times."""
-        least = []
-        for mebibytes in (1, 2):
-            image = self.written("hostile.dll", images.hostile_image(mebibytes << 20))
-            least.append(min(milliseconds([PE_LIST], image) for _ in range(9)))
-        self.assertLessEqual(least[1], 3 * least[0])
+        """Twice the sections, and twice the addresses, take no more than three times as long. A machine that is busy is
+        asked up to three times. A walk over the sections for each address takes four times."""
+        one, two = (self.written(f"{size}.dll", images.hostile_image(size << 20)) for size in (1, 2))
+        for _ in range(3):
+            least = [min(milliseconds([PE_LIST], image) for _ in range(9)) for image in (one, two)]
+            if least[1] <= 3 * least[0]:
+                return
+        self.fail(f"{least} ms")
 
 
 class Faults(Case):
