@@ -4,9 +4,7 @@
 
 mod command;
 mod fault;
-mod lines;
 mod program;
-mod text;
 mod transfer;
 mod watched;
 

@@ -7,32 +7,16 @@ ghost use Rattle.goblin_pe.specs.Answers.{IsMemory};
 ghost use Rattle.goblin_pe.specs.HeaderReadings.{pe_header};
 ghost use Rattle.goblin_pe.specs.Options.{is_strict};
 ghost use Rattle.goblin_pe.specs.Reading.{ReadsOrMemory};
-ghost use Rattle.pe_list.specs.Listing.{listing_of};
+ghost use Rattle.pe_listing.specs.Listing.{listing_of};
 ghost use Rattle.pe_list.specs.Run.{AppendsPart, IfRefused};
 
 use crate::fault::RunFault;
-use crate::lines::push_whole;
 use crate::transfer::{read_all, write_text};
 use crate::watched::Watched;
-use goblin_pe::options::{ParseMode, ParseOptions};
-use goblin_pe::{Error, Whole};
+use goblin_pe::options::ParseMode;
+use pe_listing::listing::list;
 use std::alloc::Global;
 use std::io::{Read, Write};
-
-// The listing of a file: a line for the header, for each section, and for each table of the file
-// with its entries. It is refused as `Whole::read` refuses the file in this mode; memory is wanted
-// only of a file whose header is there.
-fn list(alloc: Global, bytes: &[u8], mode: ParseMode) -> Result<String, Error>
-    ensures value { ReadsOrMemory (λ text. string_bytes text) result (listing_of mode) bytes.now }
-    ensures grown { IfErr result
-        (λ e. IsMemory e → IsSome ((pe_header (is_strict mode)).value bytes.now)) }
-{
-    let opts = ParseOptions::default().with_parse_mode(mode);
-    let whole = Whole::read(alloc, bytes, &opts)?;
-    let mut text = String::new(alloc);
-    push_whole(&mut text, &whole)?;
-    Ok(text)
-}
 
 // The listing of all that the reader has left, which is judged only when all of it was read.
 #[tactic(auto, using(crate::proofs::Headers::some_bytes))]

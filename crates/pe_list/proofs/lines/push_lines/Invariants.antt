@@ -1,6 +1,0 @@
-use Rattle.std.proofs.Common.{◌≡◌, ◌++◌, string_bytes, take}
-use Rattle.std.specs.List.{flat_map}
-use Rattle.pe_list.proofs.lines.push_lines.Given as goal
-
-abbrev pub invariant-lines : goal.invariant-lines
-invariant-lines g l = string_bytes l.text ≡ string_bytes l.initial.text ++ flat_map g.T.Listed.line (take l.item-index l.items)

@@ -1,0 +1,5 @@
+pub mod Blocks
+pub mod Digits
+pub mod Headers
+pub mod PlainNames
+pub mod Pushed
