@@ -23,19 +23,19 @@ pub struct PeDirectory {
 
 // Fills the record of an entry.
 #[inline(always)]
-fn fill_directory(record: &mut PeDirectory, entry: &Option<(usize, DataDirectory)>)
-    ensures { record.new ≡ directory_record entry.now }
+fn fill_directory(place: &mut PeDirectory, entry: &Option<(usize, DataDirectory)>)
+    ensures { place.new ≡ directory_record entry.now }
 {
     match entry {
         None => {
-            *record = PeDirectory {
+            *place = PeDirectory {
                 end: 0,
                 directory: DataDirectory::default(),
                 is_present: false,
             };
         }
         Some((end, directory)) => {
-            *record = PeDirectory {
+            *place = PeDirectory {
                 end: *end,
                 directory: *directory,
                 is_present: true,
