@@ -228,7 +228,9 @@ fn fill_entry(entry: &mut Option<(usize, DataDirectory)>, end: usize, directory:
     requires { entry.old ≡ None }
     ensures { entry.new ≡ entry_ending end directory }
 {
-    if directory.virtual_address != 0 || directory.size != 0 {
+    // Both fields are tested as one number.
+    let both = u64::from(directory.virtual_address) + (u64::from(directory.size) << 32);
+    if both != 0 {
         *entry = Some((end, directory));
     }
 }
