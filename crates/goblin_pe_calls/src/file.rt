@@ -16,16 +16,19 @@ use goblin_pe_records::file::{PeFile, PeTable, State};
 use goblin_pe_records::headers::fill_optional;
 use goblin_pe_records::rich::PeRichHeader;
 
-// How a table of records stands.
+// Says how a table of records stands.
 #[tactic(auto, unfolding(goblin_pe::specs::Whole::part_map))]
-fn table_of<T>(table: &Part<Vec<T>>) -> PeTable
-    ensures { result ≡ table_of (part_map (λ v. v.items) table.now) }
+#[inline(always)]
+fn fill_table<T>(place: &mut PeTable, table: &Part<Vec<T>>)
+    ensures { place.new ≡ table_of (part_map (λ v. v.items) table.now) }
 {
-    match table {
-        Part::Absent => PeTable::new(0, State::Absent),
-        Part::Read(records) => PeTable::new(records.len(), State::Read),
-        Part::Refused => PeTable::new(0, State::Refused),
-    }
+    let (count, state) = match table {
+        Part::Absent => (0, State::Absent),
+        Part::Read(records) => (records.len(), State::Read),
+        Part::Refused => (0, State::Refused),
+    };
+    place.count = count;
+    place.state = state as u32;
 }
 
 /// Says in `file` what a file is as a whole, with what is said of its base relocations and its Rich
@@ -50,8 +53,8 @@ pub(crate) fn fill_file<'a>(
     fill_optional(&mut file.optional_header, &header.optional_header);
     file.directories = directories_of(&header.optional_header).len();
     file.sections = layout.sections().len();
-    file.imports = table_of(&records.imports);
-    file.exports = table_of(&records.exports.exports);
+    fill_table(&mut file.imports, &records.imports);
+    fill_table(&mut file.exports, &records.exports.exports);
     file.relocations = relocations;
     file.rich_header = rich_header;
     file.dos_header = header.dos_header;

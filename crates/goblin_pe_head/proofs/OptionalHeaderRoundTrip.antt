@@ -21,7 +21,7 @@ use Rattle.goblin_pe_head.specs.declared.optional_header.standard_fields.Standar
 use Rattle.goblin_pe_head.specs.declared.optional_header.windows_fields.WindowsFields32.{WindowsFields32}
 use Rattle.goblin_pe_head.specs.declared.optional_header.FixedFields.{FixedFields}
 use Rattle.goblin_pe_head.specs.declared.optional_header.OptionalHeader.{OptionalHeader}
-use Rattle.goblin_pe_head.specs.HeaderReadings.{fields_32, fields_64, fixed_fields, optional_header}
+use Rattle.goblin_pe_head.specs.HeaderReadings.{fields_32, fields_64, fixed_fields, optional_header, with_entries}
 use Rattle.goblin_pe_head.specs.OptionalHeader.{optional_bytes, standard_32_fields, standard_32_record, standard_64_fields, standard_64_record, standard_from_32, standard_from_64, standard_to_32, standard_to_64, windows_32_fields, windows_32_record, windows_64_fields, windows_64_record, windows_from_32, windows_to_32}
 use Rattle.goblin_pe_head.specs.OptionalHeaderLaws.{optional_header-within}
 use Rattle.goblin_pe_head.specs.HeaderLaws.{OptionalWritesBack, filling, optional_size}
@@ -87,13 +87,10 @@ pieces bytes n m k first second third zeros a b c =
 abbrev IsForm : List ℕ → OptionalHeader → ℕ → Type 0
 IsForm bytes h n = (n ≡ optional_size h) × (optional_bytes Little h ≡ Some (take n bytes ++ filling h))
 
-abbrev header_of : FixedFields → List (Option (ℕ × DataDirectory)) → OptionalHeader
-header_of f entries = record { standard_fields = f.standard_fields; windows_fields = f.windows_fields; data_directories = record { data_directories = entries } }
-
 abbrev Goal : List ℕ → FixedFields → Type 0
 Goal bytes f =
     (entries : List (Option (ℕ × DataDirectory))) → (directories_at f.windows_fields.number_of_rva_and_sizes f.size).value bytes ≡ Some entries
-    → IsForm bytes (header_of f entries) (f.size + 8 * f.windows_fields.number_of_rva_and_sizes)
+    → IsForm bytes (with_entries f entries) (f.size + 8 * f.windows_fields.number_of_rva_and_sizes)
 
 by_magic_32 : (h : OptionalHeader) → h.standard_fields.magic ≡ 0x10B → 96 + 8 * h.windows_fields.number_of_rva_and_sizes ≡ optional_size h
 by_magic_32 h e = rw e refl
@@ -122,7 +119,7 @@ read_32 bytes f h magic e =
     ap (λ (x : StandardFields32). (standard_from_32 x).magic) s_is ∙ magic_32 (slice_range bytes 0 (0 + 28)) ∙ same_magic bytes 28 0x10B (omega arith) magic in
     let there : Goal bytes made = λ entries found.
     (let count = made.windows_fields.number_of_rva_and_sizes in
-    let header = header_of made entries in (
+    let header = with_entries made entries in (
       by_magic_32 header is_magic,
       form_32 header s w is_magic standard windows
           ∙ ap (λ (xs : List ℕ). Some xs) (pieces bytes 28 68 (8 * count) (encoding Little (standard_32_fields s)) (encoding Little (windows_32_fields w)) (encoding Little (entries_fields entries)) (filling header)
@@ -146,7 +143,7 @@ read_64 bytes f h magic e =
     ap (λ (x : StandardFields64). (standard_from_64 x).magic) s_is ∙ magic_64 (slice_range bytes 0 (0 + 24)) ∙ same_magic bytes 24 0x20B (omega arith) magic in
     let there : Goal bytes made = λ entries found.
     (let count = made.windows_fields.number_of_rva_and_sizes in
-    let header = header_of made entries in (
+    let header = with_entries made entries in (
       by_magic_64 header is_magic,
       form_64 header s is_magic standard
           ∙ ap (λ (xs : List ℕ). Some xs) (pieces bytes 24 88 (8 * count) (encoding Little (standard_64_fields s)) (encoding Little (windows_64_fields w)) (encoding Little (entries_fields entries)) (filling header)
@@ -182,7 +179,7 @@ optional_back bytes h n fits e =
     let second = step ((fixed_fields first.value).value bytes) _ (h, n) first.then in
     let f = second.value in
     let third = mapped ((directories_at f.windows_fields.number_of_rva_and_sizes f.size).value bytes) _ (h, n) second.then in
-    let same : (header_of f third.value, f.size + 8 * f.windows_fields.number_of_rva_and_sizes) ≡ (h, n) = third.made in
+    let same : (with_entries f third.value, f.size + 8 * f.windows_fields.number_of_rva_and_sizes) ≡ (h, n) = third.made in
     let form = fixed-form first.value bytes f fits first.is second.is third.value third.is in
     let here : IsForm bytes h n = subst (λ (x : OptionalHeader × ℕ). IsForm bytes x.0 x.1) same form in
     (here.0, within bytes h n e, here.1)

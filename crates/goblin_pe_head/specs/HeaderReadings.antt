@@ -1,5 +1,6 @@
 -- The header of a PE file: its parts, each at its offset.
-use Rattle.std.specs.Prelude.{◌≡◌, ℕ, ◌+◌, ◌*◌, ◌==◌, if◌then◌else◌, Bool, List, Option, None, Some}
+use Rattle.std.specs.Prelude.{◌≡◌, ℕ, ◌+◌, ◌*◌, ◌<◌, ◌≤◌, ◌==◌, if◌then◌else◌, Bool, List}
+use Rattle.std.specs.Prelude.{Option, None, Some, length}
 use Rattle.goblin_base.specs.declared.endian.Endian.TheVariants.{Little}
 use Rattle.goblin_base.specs.declared.error.CauseOf.{CauseOf}
 use Rattle.goblin_base.specs.declared.error.CauseOf.TheVariants.{DosMagic, NoDosSignature}
@@ -12,6 +13,7 @@ use Rattle.goblin_base.proofs.Readings.{malformed-not_memory}
 use Rattle.readings.specs.Reads.{◌>>=◌, ◌beside◌, because, because_by, bytes_between, checked}
 use Rattle.readings.specs.Reads.{given, in_rest, mapped, needs_by, number_at, or_else, pick}
 use Rattle.readings.specs.Reads.{record_at}
+use Rattle.goblin_pe_sect.specs.declared.data_directories.DataDirectory.{DataDirectory}
 use Rattle.goblin_pe_sect.specs.DirectoryReadings.{directories_at}
 use Rattle.goblin_pe_head.specs.declared.header.coff.CoffHeader.{CoffHeader}
 use Rattle.goblin_pe_head.specs.declared.header.dos.DosHeader.{DosHeader}
@@ -115,22 +117,37 @@ fixed_fields magic =
     (pick (magic == 0x20B) fields_64
     (needs_by None (IsBadMagic magic) (by_cases-not_memory (IsBadMagic magic) (λ m h. h))))
 
+-- how many data directories follow these fields
+abbrev pub count_after : FixedFields → ℕ
+count_after fields = fields.windows_fields.number_of_rva_and_sizes
+
+-- how many bytes the optional header of these fields takes
+abbrev pub size_of : FixedFields → ℕ
+size_of fields = fields.size + 8 * count_after fields
+
+-- the data directories after these fields, as many as the last field says
+abbrev pub entries_after : FixedFields → Reading (List (Option (ℕ × DataDirectory)))
+entries_after fields = directories_at (count_after fields) fields.size
+
+-- there is room for no more than sixteen data directories after these fields
+abbrev pub AreThere : List ℕ → FixedFields → Type 0
+AreThere bytes fields =
+    (count_after fields ≤ 16) × (0 < count_after fields → size_of fields ≤ length bytes)
+
+-- the optional header of these fields and data directories
+abbrev pub with_entries : FixedFields → List (Option (ℕ × DataDirectory)) → OptionalHeader
+with_entries fields entries = record {
+  standard_fields = fields.standard_fields;
+  windows_fields = fields.windows_fields;
+  data_directories = record { data_directories = entries };
+}
+
 -- the optional header at the front of bytes, always little-endian, and how many bytes it takes: its
--- magic, its fields, and the data directories after them, as many as the last field says
+-- magic, its fields, and the data directories after them
 unfoldable pub optional_header : Reading (OptionalHeader × ℕ)
 optional_header =
     number_at Little 2 0 >>= λ magic. fixed_fields magic >>= λ fields.
-    let count = fields.windows_fields.number_of_rva_and_sizes in
-    mapped
-    (λ entries. (
-      record {
-        standard_fields = fields.standard_fields;
-        windows_fields = fields.windows_fields;
-        data_directories = record { data_directories = entries };
-      },
-      fields.size + 8 * count,
-    ))
-    (directories_at count fields.size)
+    mapped (λ entries. (with_entries fields entries, size_of fields)) (entries_after fields)
 
 -- the optional header at p, which exists if its size is not 0; the size says nothing else
 unfoldable pub optional_at : ℕ → ℕ → Reading (Option OptionalHeader)

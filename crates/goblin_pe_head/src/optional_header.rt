@@ -3,7 +3,8 @@
 //! Its standard fields and Windows fields have two widths, for images of 32 and of 64 bits; its
 //! magic says which. The data directories follow.
 
-ghost use Rattle.std.specs.Prelude.{◌≡◌, ◌≤◌, length, IfOk, IsSomeAnd, None, option_and_then};
+ghost use Rattle.std.specs.Prelude.{◌≡◌, ◌≤◌, length, IfErr, IfOk, IsSomeAnd, None, OnErr, Some};
+ghost use Rattle.std.specs.Prelude.{option_and_then, option_map};
 ghost use Rattle.goblin_base.specs.Reading.{Reads};
 ghost use Rattle.goblin_base.specs.Answers.{Answers, Writes, IsSliceFault, FirstFault};
 ghost use Rattle.goblin_base.specs.Bytes.{overwritten};
@@ -20,6 +21,7 @@ use goblin_base::{
     pread_slice, pread_u16, pwrite_slice,
 };
 use goblin_pe_sect::DataDirectories;
+use goblin_pe_sect::data_directories::SIZEOF_DATA_DIRECTORY;
 
 mod standard_fields;
 mod windows_fields;
@@ -151,6 +153,51 @@ pub(crate) fn fixed_fields(magic: u16, bytes: &[u8]) -> Result<FixedFields>
     }
 }
 
+// The fields of the optional header at the front of bytes, if its directories are there too.
+#[inline(always)]
+#[tactic(auto, unfolding(crate::specs::HeaderReadings::optional_header))]
+pub(crate) fn tested_fields(bytes: &[u8]) -> Result<FixedFields>
+    ensures value { IfOk result (λ f. reading.optional_header.value bytes.now
+        ≡ option_map (λ entries. (reading.with_entries f entries, reading.size_of f))
+        ((reading.entries_after f).value bytes.now)) }
+    ensures there { IfOk result (reading.AreThere bytes.now) }
+    ensures none { OnErr result (reading.optional_header.value bytes.now ≡ None) }
+    ensures cause { IfErr result (reading.optional_header.IsCause bytes.now) }
+{
+    let magic = pread_u16(bytes, 0, Endian::Little)?;
+    let fields = fixed_fields(magic, bytes)?;
+    let count = fields.windows_fields.number_of_rva_and_sizes as usize;
+    DataDirectories::test(bytes, count, fields.size)?;
+    Ok(fields)
+}
+
+impl OptionalHeader {
+    // A header of these fields, whose directories are still to be read.
+    pub(crate) fn of_fields(fields: FixedFields) -> OptionalHeader
+        ensures standard { result.standard_fields ≡ fields.standard_fields }
+        ensures windows { result.windows_fields ≡ fields.windows_fields }
+    {
+        OptionalHeader {
+            standard_fields: fields.standard_fields,
+            windows_fields: fields.windows_fields,
+            data_directories: DataDirectories::default(),
+        }
+    }
+
+    // Reads the directories after these fields, which are those of this header.
+    #[inline(always)]
+    pub(crate) fn read_directories(&mut self, bytes: &[u8], fields: &FixedFields)
+        requires there { reading.AreThere bytes.now fields.now }
+        requires standard { self.old.standard_fields ≡ fields.now.standard_fields }
+        requires windows { self.old.windows_fields ≡ fields.now.windows_fields }
+        ensures { option_map (reading.with_entries fields.now)
+            ((reading.entries_after fields.now).value bytes.now) ≡ Some self.new }
+    {
+        let count = fields.windows_fields.number_of_rva_and_sizes as usize;
+        self.data_directories.read(bytes, count, fields.size);
+    }
+}
+
 impl TryFromCtx<'_> for OptionalHeader {
     ghost Plain = { OptionalHeader };
 
@@ -172,17 +219,11 @@ impl TryFromCtx<'_> for OptionalHeader {
     #[inline(always)]
     #[tactic(auto, unfolding(crate::specs::HeaderReadings::optional_header))]
     fn try_from_ctx(bytes: &[u8], _endian: Endian) -> Result<(OptionalHeader, usize)> {
-        let magic = pread_u16(bytes, 0, Endian::Little)?;
-        let fields = fixed_fields(magic, bytes)?;
+        let fields = tested_fields(bytes)?;
+        let mut header = OptionalHeader::of_fields(fields);
+        header.read_directories(bytes, &fields);
         let count = fields.windows_fields.number_of_rva_and_sizes as usize;
-        let mut end = fields.size;
-        let data_directories = DataDirectories::parse(bytes, count, &mut end)?;
-        let header = OptionalHeader {
-            standard_fields: fields.standard_fields,
-            windows_fields: fields.windows_fields,
-            data_directories,
-        };
-        Ok((header, end))
+        Ok((header, fields.size + SIZEOF_DATA_DIRECTORY * count))
     }
 }
 

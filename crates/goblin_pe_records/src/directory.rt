@@ -21,21 +21,26 @@ pub struct PeDirectory {
     pub is_present: bool,
 }
 
-// The record of an entry.
-fn directory_record(directory: &Option<(usize, DataDirectory)>) -> PeDirectory
-    ensures { result ≡ directory_record directory.now }
+// Fills the record of an entry.
+#[inline(always)]
+fn fill_directory(place: &mut PeDirectory, entry: &Option<(usize, DataDirectory)>)
+    ensures { place.new ≡ directory_record entry.now }
 {
-    match directory {
-        None => PeDirectory {
-            end: 0,
-            directory: DataDirectory::default(),
-            is_present: false,
-        },
-        Some((end, directory)) => PeDirectory {
-            end: *end,
-            directory: *directory,
-            is_present: true,
-        },
+    match entry {
+        None => {
+            *place = PeDirectory {
+                end: 0,
+                directory: DataDirectory::default(),
+                is_present: false,
+            };
+        }
+        Some((end, directory)) => {
+            *place = PeDirectory {
+                end: *end,
+                directory: *directory,
+                is_present: true,
+            };
+        }
     }
 }
 
@@ -55,6 +60,6 @@ pub fn fill_directories(records: &mut [PeDirectory], directories: &[Option<(usiz
 {
     let count = directories.len().min(records.len());
     'records: for i in 0..count {
-        records[i] = directory_record(&directories[i]);
+        fill_directory(&mut records[i], &directories[i]);
     }
 }

@@ -5,7 +5,7 @@ ghost use Rattle.goblin_pe_sect.specs.Options.{is_strict};
 ghost use Rattle.goblin_base.specs.Answers.{GivesOrMemory};
 ghost use Rattle.goblin_pe_records.specs.Blocked.{HasNoSpareRoom};
 ghost use Rattle.goblin_pe_records.specs.Filled.{Filled, alone};
-ghost use Rattle.goblin_pe_records.specs.Sections.{named_in, real_name_in, section_said};
+ghost use Rattle.goblin_pe_records.specs.Sections.{named_in, real_name_in, section_said, unnamed};
 
 use goblin_base::Result;
 use goblin_base::read::pread_str;
@@ -47,7 +47,6 @@ pub struct PeSection<'a> {
 }
 
 // The name of a section from the string table at `table`, by the number in its eight bytes.
-#[inline(never)]
 #[tactic(auto, unfolding(crate::specs::Sections::real_name_in))]
 fn name_in_table<'a>(
     bytes: &'a [u8],
@@ -62,42 +61,12 @@ fn name_in_table<'a>(
     pread_str(bytes, table.checked_add(offset)?).ok()
 }
 
-// The name of a section from the string table at `table`. Most names begin with no slash, and are the
-// eight bytes themselves.
-#[inline]
-#[tactic(auto, unfolding(crate::specs::Sections::real_name_in, goblin_pe_sect::specs::SectionName::name_value))]
-fn real_name<'a>(
-    bytes: &'a [u8],
-    section: &SectionTable,
-    table: usize,
-    opts: &ParseOptions,
-) -> Option<&'a str>
-    ensures { option_map (λ s. s.now) result
-        ≡ real_name_in (is_strict opts.now.parse_mode) bytes.now table section.now.name }
-{
-    if section.name[0] == b'/' {
-        name_in_table(bytes, section, table, opts)
-    } else {
-        None
-    }
-}
-
-// The record of a section with this name from the string table.
-fn section_record<'a>(
-    bytes: &'a [u8],
-    section: &SectionTable,
-    real_name: Option<&'a str>,
-) -> PeSection<'a>
-    ensures { (strict : Bool) (table : ℕ)
-        → option_map (λ s. s.now) real_name.entry
-        ≡ real_name_in strict bytes.now table section.now.name
-        → section_said result ≡ alone (named_in strict bytes.now table section.now) }
+// The record of a section, without a name from the string table.
+fn section_record<'a>(bytes: &'a [u8], section: &SectionTable) -> PeSection<'a>
+    ensures { section_said result ≡ alone (unnamed section.now) }
 {
     PeSection {
-        real_name: match real_name {
-            Some(name) => name.as_bytes(),
-            None => &bytes[..0],
-        },
+        real_name: &bytes[..0],
         name: section.name,
         virtual_size: section.virtual_size,
         virtual_address: section.virtual_address,
@@ -108,7 +77,45 @@ fn section_record<'a>(
         number_of_relocations: section.number_of_relocations,
         number_of_linenumbers: section.number_of_linenumbers,
         characteristics: section.characteristics,
-        has_real_name: real_name.is_some(),
+        has_real_name: false,
+    }
+}
+
+// Gives the record of a section its name from the string table at `table`, where there is one.
+#[inline(never)]
+fn name_by_table<'a>(
+    place: &mut PeSection<'a>,
+    bytes: &'a [u8],
+    section: &SectionTable,
+    table: usize,
+    opts: &ParseOptions,
+)
+    requires { section_said place.old ≡ alone (unnamed section.now) }
+    ensures { section_said place.new
+        ≡ alone (named_in (is_strict opts.now.parse_mode) bytes.now table section.now) }
+{
+    if let Some(name) = name_in_table(bytes, section, table, opts) {
+        place.real_name = name.as_bytes();
+        place.has_real_name = true;
+    }
+}
+
+// The same. Most names begin with no slash, and are the eight bytes themselves.
+#[inline(always)]
+#[tactic(auto, unfolding(crate::specs::Sections::real_name_in, goblin_pe_sect::specs::SectionName::name_value))]
+fn name_record<'a>(
+    place: &mut PeSection<'a>,
+    bytes: &'a [u8],
+    section: &SectionTable,
+    table: usize,
+    opts: &ParseOptions,
+)
+    requires { section_said place.old ≡ alone (unnamed section.now) }
+    ensures { section_said place.new
+        ≡ alone (named_in (is_strict opts.now.parse_mode) bytes.now table section.now) }
+{
+    if section.name[0] == b'/' {
+        name_by_table(place, bytes, section, table, opts);
     }
 }
 
@@ -127,7 +134,8 @@ pub fn fill_sections<'a>(
     let count = sections.len().min(records.len());
     'records: for i in 0..count {
         let section = &sections[i];
-        records[i] = section_record(bytes, section, real_name(bytes, section, table, opts));
+        records[i] = section_record(bytes, section);
+        name_record(&mut records[i], bytes, section, table, opts);
     }
 }
 
@@ -149,8 +157,8 @@ pub fn section_records<'a>(
     let mut records = Vec::with_capacity(alloc, count)?;
     'records: for i in 0..count {
         let section = &sections[i];
-        let name = real_name(bytes, section, table, opts);
-        records.push_reserved(section_record(bytes, section, name));
+        records.push_reserved(section_record(bytes, section));
+        name_record(&mut records[i], bytes, section, table, opts);
     }
     Ok(records)
 }

@@ -1,6 +1,6 @@
 -- The data directories by the room in the file: what they are, and which cause is true of them.
 use Rattle.std.proofs.Common.{◌≡◌, ◌≢◌, ◌/◌, ◌%◌, ◌+◌, ◌-◌, ◌*◌, ◌<◌, ◌≤◌, ◌&&◌, ◌||◌, ℕ, zero, suc, Bool, true}
-use Rattle.std.proofs.Common.{false, cond, nat_eq, nat_le, nat_lt, List, length, map}
+use Rattle.std.proofs.Common.{false, cond, get_or, nat_eq, nat_le, nat_lt, List, length, map}
 use Rattle.std.proofs.Common.{Option, Some, None, refl, set, sym, ap, ◌∙◌, inl, inr, arith}
 use Rattle.std.specs.Prelude.{option_and_then, option_map, slice_range}
 use Rattle.std.specs.List.{range_with_len, slice_get}
@@ -24,7 +24,7 @@ use Rattle.goblin_pe_sect.specs.DataDirectories.{directory_record, entry_ending}
 use Rattle.goblin_pe_sect.specs.DirectoryReadings.{directories_at, sixteen}
 use Rattle.goblin_pe_sect.proofs.Entries.{directory_entry_at, directory_entry_at-below}
 use Rattle.goblin_pe_sect.proofs.Entries.{directory_entry_at-past, entries_in_room, entries_more}
-use Rattle.goblin_pe_sect.proofs.Entries.{one_missing}
+use Rattle.goblin_pe_sect.proofs.Entries.{entry_unread, one_missing}
 
 -- ---- the value
 
@@ -219,6 +219,12 @@ record_there bytes at d room is =
     let begins : nat_lt at (length bytes) ≡ true = lt-ltb _ _ (omega (arith, room)) in
     let ends : nat_le (at + 8) (length bytes) ≡ true = le-leb _ _ room in
     rw (begins, ends, is) refl
+
+-- an entry that was not read is none
+pub none_so_far : (i : ℕ) (bytes : List ℕ) (p : ℕ) (entries : List (Option (ℕ × DataDirectory)))
+    → i < 16 → (directories_at i p).value bytes ≡ Some entries → get_or entries i None ≡ None
+none_so_far i bytes p entries lt so_far =
+    entry_unread i bytes p entries lt (sym (value-directories_at i bytes p) ∙ so_far)
 
 -- one more entry
 pub one_more : (i : ℕ) (bytes : List ℕ) (p at end : ℕ) (entries : List (Option (ℕ × DataDirectory)))

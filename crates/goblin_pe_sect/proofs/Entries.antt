@@ -99,6 +99,10 @@ directory_entry_at-below count bytes p i lt = rw (lt-ltb i count lt) refl
 pub directory_entry_at-past : (count : ℕ) (bytes : List ℕ) (p i : ℕ) → count ≤ i → directory_entry_at count bytes p i ≡ None
 directory_entry_at-past count bytes p i le = rw (le-ltb i count le) refl
 
+-- an entry that was not read is none
+pub entry_unread : (i : ℕ) (bytes : List ℕ) (p : ℕ) (entries : List (Option (ℕ × DataDirectory))) → i < 16 → entries_in_room i bytes p ≡ Some entries → get_or entries i None ≡ None
+entry_unread i bytes p entries lt so_far = (entries_read i bytes p entries so_far).each i lt ∙ directory_entry_at-past i bytes p i (omega arith)
+
 -- one more entry
 pub entries_more : (i : ℕ) (bytes : List ℕ) (p at end : ℕ) (entries : List (Option (ℕ × DataDirectory))) (d : DataDirectory) (x : Option (ℕ × DataDirectory)) → i < 16
     → at ≡ p + 8 * i → end ≡ at + 8 → entries_in_room i bytes p ≡ Some entries → record_at 8 (directory_record Little) bytes at ≡ Some d → x ≡ entry_ending end d

@@ -221,14 +221,17 @@ fn test_room(bytes: &[u8], count: usize, offset: usize) -> Result<()>
     Err(Error::Read(ReadFault::TooBig))
 }
 
-// A directory whose record ends at an offset, `None` if it is all zeros.
-fn entry(end: usize, directory: DataDirectory) -> Option<(usize, DataDirectory)>
-    ensures { result ≡ entry_ending end directory }
+// Fills an entry that is `None` with a directory whose record ends at an offset, if it is not all
+// zeros.
+#[inline(always)]
+fn fill_entry(entry: &mut Option<(usize, DataDirectory)>, end: usize, directory: DataDirectory)
+    requires { entry.old ≡ None }
+    ensures { entry.new ≡ entry_ending end directory }
 {
-    if directory == DataDirectory::default() {
-        None
-    } else {
-        Some((end, directory))
+    // Both fields are tested as one number.
+    let both = u64::from(directory.virtual_address) + (u64::from(directory.size) << 32);
+    if both != 0 {
+        *entry = Some((end, directory));
     }
 }
 
@@ -250,26 +253,53 @@ impl DataDirectories {
     /// [`Error::Malformed`] with [`Cause::DirectoryCount`] if there are more than sixteen;
     /// [`Error::Read`] if they run past the end. `offset` is then unchanged.
     #[inline(always)]
-    #[tactic(auto, using(crate::proofs::DirectoryReadings::many_none, crate::proofs::DirectoryReadings::many_cause))]
     pub fn parse(bytes: &[u8], count: usize, offset: &mut usize) -> Result<DataDirectories>
         ensures value { Reads (λ d. d.data_directories) result
             (directories_at count offset.old) bytes.now }
         ensures ok { OnOk result (offset.new ≡ offset.old + 8 * count) }
         ensures err { OnErr result (offset.new ≡ offset.old) }
     {
+        DataDirectories::test(bytes, count, *offset)?;
+        let mut directories = DataDirectories::default();
+        directories.read(bytes, count, *offset);
+        *offset += SIZEOF_DATA_DIRECTORY * count;
+        Ok(directories)
+    }
+
+    /// Tests whether `count` entries, which follow one another from `offset` on, can be read.
+    ///
+    /// # Errors
+    /// As [`DataDirectories::parse`].
+    #[inline(always)]
+    #[tactic(auto, using(crate::proofs::DirectoryReadings::many_none, crate::proofs::DirectoryReadings::many_cause))]
+    pub fn test(bytes: &[u8], count: usize, offset: usize) -> Result<()>
+        ensures few { OnOk result (count ≤ 16) }
+        ensures room { OnOk result (0 < count → offset + 8 * count ≤ length bytes.now) }
+        ensures none { OnErr result ((directories_at count offset).value bytes.now ≡ None) }
+        ensures cause { IfErr result ((directories_at count offset).IsCause bytes.now) }
+    {
         if count > NUM_DATA_DIRECTORIES {
             return Err(Error::Malformed(Cause::DirectoryCount(count)));
         }
-        test_room(bytes, count, *offset)?;
-        let mut data_directories = [None; NUM_DATA_DIRECTORIES];
-        let mut end = *offset;
+        test_room(bytes, count, offset)
+    }
+
+    /// Reads `count` entries, which follow one another from `offset` on, in place of these, so that
+    /// the entries, which are large, are not moved. They must be no more than sixteen, and there.
+    #[inline(always)]
+    pub fn read(&mut self, bytes: &[u8], count: usize, offset: usize)
+        requires few { count ≤ 16 }
+        requires room { 0 < count → offset + 8 * count ≤ length bytes.now }
+        ensures { (directories_at count offset).value bytes.now ≡ Some self.new.data_directories }
+    {
+        self.data_directories = [None; NUM_DATA_DIRECTORIES];
+        let mut end = offset;
         'entries: for i in 0..count {
             let record = &bytes[end..end + SIZEOF_DATA_DIRECTORY];
             end += SIZEOF_DATA_DIRECTORY;
-            data_directories[i] = entry(end, DataDirectory::in_record(record, Endian::Little));
+            let directory = DataDirectory::in_record(record, Endian::Little);
+            fill_entry(&mut self.data_directories[i], end, directory);
         }
-        *offset = end;
-        Ok(DataDirectories { data_directories })
     }
 
     /// The bytes of all sixteen entries, those that are `None` as zeros. In little-endian order,

@@ -106,6 +106,7 @@ impl CoffHeader {
     ///
     /// # Errors
     /// [`Error::Read`] if the 20 bytes run past the end of the file; `offset` is then unchanged.
+    #[inline(always)]
     pub fn parse(bytes: &[u8], offset: &mut usize) -> Result<CoffHeader>
         ensures value { Reads (λ h. h) result (record_at 20 (coff_header Endian.Little) offset.old)
             bytes.now }

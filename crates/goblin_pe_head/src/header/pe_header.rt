@@ -1,7 +1,7 @@
 //! The whole header of a PE file.
 
-ghost use Rattle.std.specs.Prelude.{◌≡◌, ◌+◌, ◌≤◌, IfOk, IfSome, IsSomeAnd, OnErr, OnOk, Some, length};
-ghost use Rattle.std.specs.Prelude.{option_and_then, option_map, true};
+ghost use Rattle.std.specs.Prelude.{◌≡◌, ◌+◌, ◌≤◌, IfErr, IfOk, IfSome, IsSomeAnd, None, OnErr};
+ghost use Rattle.std.specs.Prelude.{OnOk, Some, drop, length, option_and_then, option_map, true};
 ghost use Rattle.goblin_base.specs.declared.endian.Endian.{Endian};
 ghost use Rattle.goblin_base.specs.Reading.{Reads};
 ghost use Rattle.goblin_base.specs.Answers.{Answers, Writes, IsSliceFault, FirstFault};
@@ -19,10 +19,10 @@ use crate::header::{
     CoffHeader, DosHeader, DosStub, RichHeader, SIZEOF_COFF_HEADER, SIZEOF_DOS_HEADER,
     SIZEOF_PE_MAGIC,
 };
-use crate::optional_header::{OptionalHeader, WrittenHeader};
+use crate::optional_header::{FixedFields, OptionalHeader, WrittenHeader, tested_fields};
 use goblin_base::{
-    Cause, Endian, Error, Field, Permissive, Result, TryFromCtx, encode, encode_fields,
-    pread_slice, pread_u32, put_bytes,
+    Cause, Endian, Error, Field, Permissive, Result, encode, encode_fields, pread_slice, pread_u32,
+    put_bytes,
 };
 use goblin_pe_sect::ParseOptions;
 
@@ -79,18 +79,40 @@ fn stub_in<'a>(bytes: &'a [u8], pe_pointer: u32, opts: &ParseOptions) -> Result<
     DosStub::parse(bytes, pe_pointer).or_permissive_and_default(is_permissive, "DOS stub")
 }
 
-// The optional header at an offset, which is there if its size is not 0.
+// Puts the optional header of these fields into its place, and reads its directories there.
+#[inline(always)]
+fn put_optional(place: &mut Option<OptionalHeader>, bytes: &[u8], fields: &FixedFields)
+    requires { reading.AreThere bytes.now fields.now }
+    ensures { option_map (λ entries. Some (reading.with_entries fields.now entries))
+        ((reading.entries_after fields.now).value bytes.now) ≡ Some place.new }
+{
+    *place = Some(OptionalHeader::of_fields(*fields));
+    if let Some(header) = place {
+        header.read_directories(bytes, fields);
+    }
+}
+
+// Reads the optional header at an offset into its place. It is there if its size is not 0.
 #[inline(always)]
 #[tactic(auto, unfolding(crate::specs::HeaderReadings::optional_at))]
-fn optional_at(bytes: &[u8], offset: usize, size: u16) -> Result<Option<OptionalHeader>>
+fn read_optional(
+    place: &mut Option<OptionalHeader>,
+    bytes: &[u8],
+    offset: usize,
+    size: u16,
+) -> Result<()>
     requires { offset ≤ length bytes.now }
-    ensures { Reads (λ header. header) result (reading.optional_at size offset) bytes.now }
+    ensures value { Reads (λ _. place.new) result (reading.optional_at size offset) bytes.now }
+    ensures kept { OnErr result (place.new ≡ place.old) }
 {
     if size == 0 {
-        return Ok(None);
+        *place = None;
+        return Ok(());
     }
-    let (header, _) = OptionalHeader::try_from_ctx(&bytes[offset..], Endian::Little)?;
-    Ok(Some(header))
+    let rest = &bytes[offset..];
+    let fields = tested_fields(rest)?;
+    put_optional(place, rest, &fields);
+    Ok(())
 }
 
 impl<'a> Header<'a> {
@@ -188,15 +210,14 @@ impl<'a> Header<'a> {
         };
         let mut end = offset + SIZEOF_PE_MAGIC;
         let coff_header = CoffHeader::parse(bytes, &mut end)?;
-        let optional_header = optional_at(bytes, end, coff_header.size_of_optional_header)?;
-        *self = Header {
-            dos_header,
-            dos_stub,
-            rich_header,
-            signature,
-            coff_header,
-            optional_header,
-        };
+        // No other part is refused, so that the rest is put after it.
+        let size = coff_header.size_of_optional_header;
+        read_optional(&mut self.optional_header, bytes, end, size)?;
+        self.dos_header = dos_header;
+        self.dos_stub = dos_stub;
+        self.rich_header = rich_header;
+        self.signature = signature;
+        self.coff_header = coff_header;
         Ok(())
     }
 

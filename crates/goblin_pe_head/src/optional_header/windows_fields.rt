@@ -256,6 +256,7 @@ impl Record for WindowsFields64 {
         SIZEOF_WINDOWS_FIELDS_64
     }
 
+    #[inline(always)]
     #[tactic(auto, unfolding(crate::specs::OptionalHeader::windows_64_record))]
     fn in_record(bytes: &[u8], endian: Endian) -> WindowsFields64 {
         WindowsFields64 {

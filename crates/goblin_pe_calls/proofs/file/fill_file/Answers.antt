@@ -6,6 +6,6 @@ use Rattle.goblin_pe_calls.proofs.file.fill_file.Goals as goal
 
 pub returns : goal.returns
 returns c =
-    let imports = c.table_of-file.ensures ∙ table-viewed import_view c.args.records.now.imports in
-    let exports = c.table_of-file-2.ensures ∙ table-viewed export_view c.args.records.now.exports.exports in
+    let imports = c.fill_table.ensures ∙ table-viewed import_view c.args.records.now.imports in
+    let exports = c.fill_table-2.ensures ∙ table-viewed export_view c.args.records.now.exports.exports in
     rw (imports, exports) (search rules)

@@ -1,5 +1,4 @@
-use Rattle.std.proofs.Common.{[], ap, ◌∷◌, ◌∙◌, arith, length}
-use Rattle.std.proofs.lemmas.List.{length-append}
+use Rattle.std.proofs.Common.{ap, ◌∷◌, ◌∙◌, arith}
 use Rattle.std.specs.Prelude.{Result}
 use Rattle.goblin_base.specs.declared.error.ErrorOf.{ErrorOf}
 use Rattle.goblin_pe_sect.specs.declared.relocation.base.RelocationBlock.{RelocationBlock}

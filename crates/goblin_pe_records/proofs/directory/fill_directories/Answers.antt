@@ -6,7 +6,7 @@ pub records-init : goal.records-init
 records-init c = filling-start _ _ _ _
 
 pub records-preserved : goal.records-preserved
-records-preserved c = filling-next _ _ _ _ _ _ _ _ c.records.invariant (omega (arith, c.records-test.true, c.min-count.ensures)) (omega (arith, c.records-test.true, c.min-count.ensures, c.records.auto.records)) (any-default c.args.directories.now c.records.i _ _ (omega (arith, c.records-test.true, c.min-count.ensures))) c.directory_record.ensures
+records-preserved c = filling-next _ _ _ _ _ _ _ _ c.records.invariant (omega (arith, c.records-test.true, c.min-count.ensures)) (omega (arith, c.records-test.true, c.min-count.ensures, c.records.auto.records)) (any-default c.args.directories.now c.records.i _ _ (omega (arith, c.records-test.true, c.min-count.ensures))) c.fill_directory.ensures
 
 pub returns : goal.returns
 returns c = filling-end _ _ _ _ _ _ c.records.invariant c.records.auto.records (omega (arith, c.records.auto.i-end, c.min-count.ensures)) (omega (arith, c.records.auto.i-end, c.min-count.ensures)) (least-end _ _ _ _ c.min-count.ensures c.records-test.false)

@@ -1,12 +1,9 @@
 use Rattle.std.proofs.Common.{arith}
-use Rattle.goblin_pe_records.proofs.Filling.{filling-start, filling-next, filling-end, least-end}
+use Rattle.goblin_pe_records.proofs.Filling.{filling-start, filling-end, least-end}
 use Rattle.goblin_pe_records.proofs.section.fill_sections.Goals as goal
 
 pub records-init : goal.records-init
 records-init c = filling-start _ _ _ _
-
-pub records-preserved : goal.records-preserved
-records-preserved c = filling-next _ _ _ _ _ _ _ _ c.records.invariant (omega (arith, c.records-test.true, c.min-count.ensures)) (omega (arith, c.records-test.true, c.min-count.ensures, c.records.auto.records)) c.index-sections-i.is (c.section_record.ensures _ _ c.real_name.ensures)
 
 pub returns : goal.returns
 returns c = filling-end _ _ _ _ _ _ c.records.invariant c.records.auto.records (omega (arith, c.records.auto.i-end, c.min-count.ensures)) (omega (arith, c.records.auto.i-end, c.min-count.ensures)) (least-end _ _ _ _ c.min-count.ensures c.records-test.false)

@@ -1,5 +1,7 @@
-use Rattle.std.proofs.Common.{◌∙◌, arith}
+use Rattle.std.proofs.Common.{◌≡◌, ◌∙◌, ◌++◌, ◌∷◌, [], List, length, ap, arith, set, sym, ℕ}
+use Rattle.std.proofs.Math.Seq.{set-append_seam}
 use Rattle.goblin_pe_sect.specs.Options.{is_strict}
+use Rattle.goblin_pe_records.specs.declared.section.PeSection.{PeSection}
 use Rattle.goblin_pe_records.specs.Filled.{alone}
 use Rattle.goblin_pe_records.specs.Sections.{named_in, section_said}
 use Rattle.goblin_pe_records.proofs.Making.{making-start, making-next, making-end}
@@ -11,7 +13,14 @@ records-init c =
 
 pub records-preserved : goal.records-preserved
 records-preserved c =
-    (making-next _ _ _ _ _ _ _ _ c.records.invariant.0 (omega (arith, c.records-test.true)) c.index-sections-i.is (c.section_record.ensures _ _ c.real_name-name.ensures) c.push_reserved.ensures.items, omega (arith, c.push_reserved.ensures.len, c.records.invariant.1), c.push_reserved.ensures.capacity ∙ c.records.invariant.2)
+    let before = c.records.records in
+    let named = c.name_record.new.place in
+    let count : c.records.i ≡ length before.items = sym c.records.invariant.1 ∙ before.ok.0 in
+    let put : set c.push_reserved.new.self.items c.records.i named ≡ before.items ++ named ∷ [] =
+    ap (λ (xs : List PeSection). set xs c.records.i named) c.push_reserved.ensures.items
+    ∙ ap (λ (n : ℕ). set (before.items ++ c.section_record.result ∷ []) n named) count
+    ∙ set-append_seam before.items c.section_record.result [] named in
+    (making-next _ _ _ _ _ _ _ _ c.records.invariant.0 (omega (arith, c.records-test.true)) c.index-sections-i.is c.name_record.ensures put, omega (arith, c.push_reserved.ensures.len, c.records.invariant.1), c.push_reserved.ensures.capacity ∙ c.records.invariant.2)
 
 pub returns-clause-made : goal.returns-clause-made
 returns-clause-made c = making-end _ _ _ _ _ c.records.invariant.0 (omega (arith, c.records-test.false))
