@@ -1,5 +1,5 @@
 -- Sixteen bytes as the lanes of a vector, and the first of them that is a NUL or not ASCII.
-use Rattle.std.proofs.Common.{◌≡◌, ◌⊎◌, ℕ, ◌+◌, ◌-◌, ◌%◌, ◌^◌, ◌<◌, ◌≤◌, leb, cond, Bool, true, false, not, List, map, length, get_or, replicate, Fits, w8, ap, sym, ◌∙◌, arith, inl, inr}
+use Rattle.std.proofs.Common.{◌≡◌, ◌⊎◌, ℕ, ◌+◌, ◌-◌, ◌%◌, ◌^◌, ◌<◌, ◌≤◌, leb, cond, Bool, true, false, not, List, map, length, get_or, replicate, Fits, w8, ap, subst, sym, ◌∙◌, arith, inl, inr}
 use Rattle.std.specs.List.{prefix_len}
 use Rattle.std.proofs.lemmas.Bool.{cases_lt, leb-false, leb-true}
 use Rattle.std.proofs.lemmas.List.{length-map}
@@ -39,25 +39,30 @@ end_byte x fits h =
       | inr none ↦ inl (omega (arith, none))
     ]
 
-module _ (xs : List ℕ) (i : ℕ) (room : i + 16 ≤ length xs) (typed : (k : ℕ) → Fits w8 (get_or xs k 0)) where
+module _ (xs : List ℕ) (room : 16 ≤ length xs) (typed : (k : ℕ) → Fits w8 (get_or xs k 0)) where
   abbrev lanes : List ℕ
-  lanes = chunk i 16 xs
+  lanes = chunk 0 16 xs
+
+  enough : 0 + 16 ≤ length xs
+  enough = omega (arith, room)
 
   are : marks_of lanes ≡ mask_l (map is_end lanes)
-  are = marks_are lanes (length-chunk i 16 xs room)
+  are = marks_are lanes (length-chunk 0 16 xs enough)
 
   -- no mark: all sixteen are plain
-  pub all_plain : marks_of lanes ≡ 0 → (k : ℕ) → i ≤ k → k < i + 16 → (0 < get_or xs k 0) × (get_or xs k 0 < 128)
-  all_plain none k from to = plain_byte (get_or xs k 0) (typed k).fits (none_from_empty_mask is_end xs i 16 0 room (sym are ∙ none) k from to)
+  pub all_plain : marks_of lanes ≡ 0 → (k : ℕ) → k < 16 → (0 < get_or xs k 0) × (get_or xs k 0 < 128)
+  all_plain none k to = plain_byte (get_or xs k 0) (typed k).fits (none_from_empty_mask is_end xs 0 16 0 enough (sym are ∙ none) k (omega arith) (omega (arith, to)))
 
   counted : 0 < marks_of lanes → count_trailing_zeros 64 (marks_of lanes) ≡ prefix_len (λ x. not (is_end x)) lanes
-  counted some = ap (count_trailing_zeros 64) are ∙ trailing_mask_l is_end 64 lanes (omega (arith, length-chunk i 16 xs room)) (omega (arith, some, are))
+  counted some = ap (count_trailing_zeros 64) are ∙ trailing_mask_l is_end 64 lanes (omega (arith, length-chunk 0 16 xs enough)) (omega (arith, some, are))
 
   pub run_within : 0 < marks_of lanes → count_trailing_zeros 64 (marks_of lanes) ≤ 16
-  run_within some = run_in_chunk_le is_end xs i 16 (count_trailing_zeros 64 (marks_of lanes)) 0 room (counted some)
+  run_within some = run_in_chunk_le is_end xs 0 16 (count_trailing_zeros 64 (marks_of lanes)) 0 enough (counted some)
 
-  pub run_plain : 0 < marks_of lanes → (k : ℕ) → i ≤ k → k < i + count_trailing_zeros 64 (marks_of lanes) → (0 < get_or xs k 0) × (get_or xs k 0 < 128)
-  run_plain some k from to = plain_byte (get_or xs k 0) (typed k).fits (run_in_chunk_fails is_end xs i 16 (count_trailing_zeros 64 (marks_of lanes)) 0 room (counted some) k from to)
+  pub run_plain : 0 < marks_of lanes → (k : ℕ) → k < count_trailing_zeros 64 (marks_of lanes) → (0 < get_or xs k 0) × (get_or xs k 0 < 128)
+  run_plain some k to = plain_byte (get_or xs k 0) (typed k).fits (run_in_chunk_fails is_end xs 0 16 (count_trailing_zeros 64 (marks_of lanes)) 0 enough (counted some) k (omega arith) (omega (arith, to)))
 
-  pub run_stops : 0 < marks_of lanes → (r : ℕ) → r ≡ count_trailing_zeros 64 (marks_of lanes) → r < 16 → (get_or xs (i + r) 0 ≡ 0) ⊎ (128 ≤ get_or xs (i + r) 0)
-  run_stops some r is short = end_byte (get_or xs (i + r) 0) (typed (i + r)).fits (run_in_chunk_stops is_end xs i 16 r 0 room (is ∙ counted some) short)
+  pub run_stops : 0 < marks_of lanes → (r : ℕ) → r ≡ count_trailing_zeros 64 (marks_of lanes) → r < 16 → (get_or xs r 0 ≡ 0) ⊎ (128 ≤ get_or xs r 0)
+  run_stops some r is short =
+      let front : 0 + r ≡ r = omega arith in
+      end_byte (get_or xs r 0) (typed r).fits (subst (λ (j : ℕ). is_end (get_or xs j 0) ≡ true) front (run_in_chunk_stops is_end xs 0 16 r 0 enough (is ∙ counted some) short))
