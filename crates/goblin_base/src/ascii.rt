@@ -1,27 +1,29 @@
 //! Runs of ASCII, found sixteen bytes at a time.
 
-ghost use Rattle.std.specs.Prelude.{◌≡◌, ◌⊎◌, ◌<◌, ◌≤◌, ℕ, IfSome, IsTrue, length};
+ghost use Rattle.std.specs.Prelude.{◌≡◌, ◌⊎◌, ◌<◌, ◌≤◌, ℕ, IfSome, IsTrue, None, length};
 ghost use Rattle.std.specs.Prelude.{slice_index};
 
 use std::simd::prelude::*;
 
-// How many of the first 16 bytes precede the first that is a NUL or not ASCII: all, if none is.
+// How many of the first 16 bytes precede the first that is a NUL or not ASCII, if one is.
 #[inline(always)]
-fn run_in_lanes(bytes: &[u8]) -> usize
+fn stop_in_lanes(bytes: &[u8]) -> Option<usize>
     requires { 16 ≤ length bytes.now }
-    ensures within { result ≤ 16 }
-    ensures plain { (k : ℕ) → k < result
+    ensures none { result ≡ None → (k : ℕ) → k < 16
         → (0 < slice_index bytes.now k) × (slice_index bytes.now k < 128) }
-    ensures stops { result < 16
-        → (slice_index bytes.now result ≡ 0) ⊎ (128 ≤ slice_index bytes.now result) }
+    ensures within { IfSome result (λ run. run < 16) }
+    ensures plain { IfSome result (λ run. (k : ℕ) → k < run
+        → (0 < slice_index bytes.now k) × (slice_index bytes.now k < 128)) }
+    ensures stops { IfSome result (λ run. (slice_index bytes.now run ≡ 0)
+        ⊎ (128 ≤ slice_index bytes.now run)) }
 {
     let marks = (u8x16::from_slice(bytes) - u8x16::splat(1))
         .simd_ge(u8x16::splat(127))
         .to_bitmask();
     if marks == 0 {
-        16
+        None
     } else {
-        marks.trailing_zeros() as usize
+        Some(marks.trailing_zeros() as usize)
     }
 }
 
@@ -43,8 +45,7 @@ pub(crate) fn plain_run(bytes: &[u8]) -> Option<usize>
 {
     let mut rest = bytes;
     'lanes: while 16 <= rest.len() {
-        let run = run_in_lanes(rest);
-        if run < 16 {
+        if let Some(run) = stop_in_lanes(rest) {
             if rest[run] != 0 {
                 return None;
             }

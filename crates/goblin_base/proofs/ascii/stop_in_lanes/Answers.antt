@@ -1,9 +1,9 @@
 use Rattle.std.proofs.Common.{refl, arith}
 use Rattle.goblin_base.proofs.AsciiLanes.{all_plain, run_within, run_plain, run_stops}
-use Rattle.goblin_base.proofs.ascii.run_in_lanes.Goals as goal
+use Rattle.goblin_base.proofs.ascii.stop_in_lanes.Goals as goal
 
-pub returns-then-marks-eq0-clause-plain : goal.returns-then-marks-eq0-clause-plain
-returns-then-marks-eq0-clause-plain c = all_plain c.args.bytes.now c.requires c.type_inv.bytes c.if-marks-eq0.true
+pub returns-then-marks-eq0-clause-none : goal.returns-then-marks-eq0-clause-none
+returns-then-marks-eq0-clause-none c _ = all_plain c.args.bytes.now c.requires c.type_inv.bytes c.if-marks-eq0.true
 
 pub returns-else-marks-eq0-clause-within : goal.returns-else-marks-eq0-clause-within
 returns-else-marks-eq0-clause-within c = run_within c.args.bytes.now c.requires c.type_inv.bytes (omega arith)
