@@ -1,9 +1,11 @@
 -- Sixteen bytes as the lanes of a vector, and the first of them that is a NUL or not ASCII.
-use Rattle.std.proofs.Common.{◌≡◌, ◌⊎◌, ℕ, ◌+◌, ◌-◌, ◌%◌, ◌^◌, ◌<◌, ◌≤◌, leb, cond, Bool, true, false, not, List, map, length, get_or, replicate, Fits, w8, ap, sym, ◌∙◌, arith, inl, inr}
+use Rattle.std.proofs.Common.{◌≡◌, ◌⊎◌, ℕ, ◌+◌, ◌-◌, ◌%◌, ◌^◌, ◌<◌, ◌≤◌, leb, cond, Bool, true, false, not, List, map, length, get_or, replicate, Fits, w8, w64, ap, subst, sym, ◌∙◌, arith, inl, inr}
 use Rattle.std.specs.List.{prefix_len}
 use Rattle.std.proofs.lemmas.Bool.{cases_lt, leb-false, leb-true}
-use Rattle.std.proofs.lemmas.List.{length-map}
-use Rattle.std.proofs.lemmas.Simd.{tops_compared, zip2_splat, zip2_splat_left, map-map, mask_l-mod, length-chunk, trailing_mask_l, run_in_chunk_le, run_in_chunk_fails, run_in_chunk_stops, none_from_empty_mask}
+use Rattle.std.proofs.lemmas.List.{length-map, get_or_past}
+use Rattle.std.proofs.lemmas.Nat.Bits.{bit_at-trailing_zeros}
+use Rattle.std.specs.Int.{bit_at}
+use Rattle.std.proofs.lemmas.Simd.{tops_compared, zip2_splat, zip2_splat_left, map-map, mask_l-mod, length-chunk, trailing_mask_l, mask_l-lt, bit_mask_l, run_in_chunk_fails, run_in_chunk_stops, none_from_empty_mask}
 use lib.Count.{count_trailing_zeros}
 use lib.Lanes.{chunk, zip2, mask_l, top}
 
@@ -39,25 +41,45 @@ end_byte x fits h =
       | inr none ↦ inl (omega (arith, none))
     ]
 
-module _ (xs : List ℕ) (i : ℕ) (room : i + 16 ≤ length xs) (typed : (k : ℕ) → Fits w8 (get_or xs k 0)) where
+module _ (xs : List ℕ) (room : 16 ≤ length xs) (typed : (k : ℕ) → Fits w8 (get_or xs k 0)) where
   abbrev lanes : List ℕ
-  lanes = chunk i 16 xs
+  lanes = chunk 0 16 xs
+
+  enough : 0 + 16 ≤ length xs
+  enough = omega (arith, room)
 
   are : marks_of lanes ≡ mask_l (map is_end lanes)
-  are = marks_are lanes (length-chunk i 16 xs room)
+  are = marks_are lanes (length-chunk 0 16 xs enough)
 
   -- no mark: all sixteen are plain
-  pub all_plain : marks_of lanes ≡ 0 → (k : ℕ) → i ≤ k → k < i + 16 → (0 < get_or xs k 0) × (get_or xs k 0 < 128)
-  all_plain none k from to = plain_byte (get_or xs k 0) (typed k).fits (none_from_empty_mask is_end xs i 16 0 room (sym are ∙ none) k from to)
+  pub all_plain : marks_of lanes ≡ 0 → (k : ℕ) → k < 16 → (0 < get_or xs k 0) × (get_or xs k 0 < 128)
+  all_plain none k to = plain_byte (get_or xs k 0) (typed k).fits (none_from_empty_mask is_end xs 0 16 0 enough (sym are ∙ none) k (omega arith) (omega (arith, to)))
 
   counted : 0 < marks_of lanes → count_trailing_zeros 64 (marks_of lanes) ≡ prefix_len (λ x. not (is_end x)) lanes
-  counted some = ap (count_trailing_zeros 64) are ∙ trailing_mask_l is_end 64 lanes (omega (arith, length-chunk i 16 xs room)) (omega (arith, some, are))
+  counted some = ap (count_trailing_zeros 64) are ∙ trailing_mask_l is_end 64 lanes (omega (arith, length-chunk 0 16 xs enough)) (omega (arith, some, are))
 
-  pub run_within : 0 < marks_of lanes → count_trailing_zeros 64 (marks_of lanes) ≤ 16
-  run_within some = run_in_chunk_le is_end xs i 16 (count_trailing_zeros 64 (marks_of lanes)) 0 room (counted some)
+  -- the mask has no bit past the sixteenth
+  pub run_within : 0 < marks_of lanes → count_trailing_zeros 64 (marks_of lanes) < 16
+  run_within some =
+      let ms = map is_end lanes in
+      let m = mask_l ms in
+      let run = count_trailing_zeros 64 m in
+      let long : length ms ≡ 16 = length-map lanes is_end ∙ length-chunk 0 16 xs enough in
+      let fits : m < 2 ^ 64 = omega (arith, subst (λ (n : ℕ). m < 2 ^ n) long (mask_l-lt ms)) in
+      let set : bit_at m run ≡ 1 = (bit_at-trailing_zeros w64 m (omega (arith, some, are)) fits).1 in
+      let within : run < 16 = elim (cases_lt run 16) [
+        | inl it ↦ it
+        | inr past ↦
+            let clear : bit_at m run ≡ 0 = bit_mask_l ms run ∙ ap (λ (b : Bool). cond b 1 0) (get_or_past ms run false (omega (arith, long, past))) in
+            absurd (omega (arith, set, clear))
+      ] in
+      subst (λ (n : ℕ). count_trailing_zeros 64 n < 16) (sym are) within
 
-  pub run_plain : 0 < marks_of lanes → (k : ℕ) → i ≤ k → k < i + count_trailing_zeros 64 (marks_of lanes) → (0 < get_or xs k 0) × (get_or xs k 0 < 128)
-  run_plain some k from to = plain_byte (get_or xs k 0) (typed k).fits (run_in_chunk_fails is_end xs i 16 (count_trailing_zeros 64 (marks_of lanes)) 0 room (counted some) k from to)
+  pub run_plain : 0 < marks_of lanes → (k : ℕ) → k < count_trailing_zeros 64 (marks_of lanes) → (0 < get_or xs k 0) × (get_or xs k 0 < 128)
+  run_plain some k to = plain_byte (get_or xs k 0) (typed k).fits (run_in_chunk_fails is_end xs 0 16 (count_trailing_zeros 64 (marks_of lanes)) 0 enough (counted some) k (omega arith) (omega (arith, to)))
 
-  pub run_stops : 0 < marks_of lanes → (r : ℕ) → r ≡ count_trailing_zeros 64 (marks_of lanes) → r < 16 → (get_or xs (i + r) 0 ≡ 0) ⊎ (128 ≤ get_or xs (i + r) 0)
-  run_stops some r is short = end_byte (get_or xs (i + r) 0) (typed (i + r)).fits (run_in_chunk_stops is_end xs i 16 r 0 room (is ∙ counted some) short)
+  pub run_stops : 0 < marks_of lanes → (r : ℕ) → r ≡ count_trailing_zeros 64 (marks_of lanes) → (get_or xs r 0 ≡ 0) ⊎ (128 ≤ get_or xs r 0)
+  run_stops some r is =
+      let front : 0 + r ≡ r = omega arith in
+      let short : r < 16 = omega (arith, is, run_within some) in
+      end_byte (get_or xs r 0) (typed r).fits (subst (λ (j : ℕ). is_end (get_or xs j 0) ≡ true) front (run_in_chunk_stops is_end xs 0 16 r 0 enough (is ∙ counted some) short))

@@ -1,23 +1,23 @@
 //! Runs of ASCII, found sixteen bytes at a time.
 
-ghost use Rattle.std.specs.Prelude.{◌≡◌, ◌⊎◌, ◌+◌, ◌<◌, ◌≤◌, ℕ, IfSome, IsTrue, None, length};
+ghost use Rattle.std.specs.Prelude.{◌≡◌, ◌⊎◌, ◌<◌, ◌≤◌, ℕ, IfSome, IsTrue, None, length};
 ghost use Rattle.std.specs.Prelude.{slice_index};
 
 use std::simd::prelude::*;
 
-// How many of the 16 bytes from `at` on precede the first that is a NUL or not ASCII, if one is.
+// How many of the first 16 bytes precede the first that is a NUL or not ASCII, if one is.
 #[inline(always)]
-fn stop_in_lanes(bytes: &[u8], at: usize) -> Option<usize>
-    requires { at + 16 ≤ length bytes.now }
-    ensures none { result ≡ None → (k : ℕ) → at ≤ k → k < at + 16
+fn stop_in_lanes(bytes: &[u8]) -> Option<usize>
+    requires { 16 ≤ length bytes.now }
+    ensures none { result ≡ None → (k : ℕ) → k < 16
         → (0 < slice_index bytes.now k) × (slice_index bytes.now k < 128) }
-    ensures within { IfSome result (λ run. run ≤ 16) }
-    ensures plain { IfSome result (λ run. (k : ℕ) → at ≤ k → k < at + run
+    ensures within { IfSome result (λ run. run < 16) }
+    ensures plain { IfSome result (λ run. (k : ℕ) → k < run
         → (0 < slice_index bytes.now k) × (slice_index bytes.now k < 128)) }
-    ensures stops { IfSome result (λ run. run < 16
-        → (slice_index bytes.now (at + run) ≡ 0) ⊎ (128 ≤ slice_index bytes.now (at + run))) }
+    ensures stops { IfSome result (λ run. (slice_index bytes.now run ≡ 0)
+        ⊎ (128 ≤ slice_index bytes.now run)) }
 {
-    let marks = (u8x16::from_slice(&bytes[at..]) - u8x16::splat(1))
+    let marks = (u8x16::from_slice(bytes) - u8x16::splat(1))
         .simd_ge(u8x16::splat(127))
         .to_bitmask();
     if marks == 0 {
@@ -35,28 +35,30 @@ fn is_plain(byte: u8) -> bool
     0 < byte && byte < 128
 }
 
-// How many bytes precede the first that is a NUL or not ASCII.
+// How many bytes precede the first NUL, or the end where there is none, if they are all ASCII.
 #[inline(always)]
-pub(crate) fn plain_run(bytes: &[u8]) -> usize
-    ensures within { result ≤ length bytes.now }
-    ensures plain { (k : ℕ) → k < result
-        → (0 < slice_index bytes.now k) × (slice_index bytes.now k < 128) }
-    ensures stops { result < length bytes.now
-        → (slice_index bytes.now result ≡ 0) ⊎ (128 ≤ slice_index bytes.now result) }
+pub(crate) fn plain_run(bytes: &[u8]) -> Option<usize>
+    ensures within { IfSome result (λ run. run ≤ length bytes.now) }
+    ensures plain { IfSome result (λ run. (k : ℕ) → k < run
+        → (0 < slice_index bytes.now k) × (slice_index bytes.now k < 128)) }
+    ensures stops { IfSome result (λ run. run < length bytes.now → slice_index bytes.now run ≡ 0) }
 {
-    let mut at = 0;
-    'lanes: while 16 <= bytes.len() - at {
-        let Some(run) = stop_in_lanes(bytes, at) else {
-            at += 16;
-            continue 'lanes;
-        };
-        at += run;
-        if run < 16 {
-            return at;
+    let mut rest = bytes;
+    'lanes: while 16 <= rest.len() {
+        if let Some(run) = stop_in_lanes(rest) {
+            if rest[run] != 0 {
+                return None;
+            }
+            return Some(bytes.len() - rest.len() + run);
         }
+        rest = &rest[16..];
     }
+    let mut at = bytes.len() - rest.len();
     'bytes: while at < bytes.len() && is_plain(bytes[at]) {
         at += 1;
     }
-    at
+    if at < bytes.len() && bytes[at] != 0 {
+        return None;
+    }
+    Some(at)
 }
