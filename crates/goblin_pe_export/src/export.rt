@@ -39,6 +39,7 @@ pub use tables::{
 };
 
 // The text at an offset, where there are both.
+#[inline(always)]
 fn text_at(bytes: &[u8], offset: Option<usize>) -> Option<&str>
     ensures { option_map (λ s. s.now) result ≡ option_and_then (text_at bytes.now) offset }
 {
