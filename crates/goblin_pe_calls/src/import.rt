@@ -89,11 +89,13 @@ fn push_import<'a>(
     Ok(())
 }
 
-// The records of the imports that a walk gives.
+// The records of the imports that a walk gives. Those of a library after its first come by a loop of
+// their own, which holds nothing but what it needs.
+#[inline(never)]
 fn records_of<'a, 'm, 'e, T: Bitfield<'a>>(
     alloc: Global,
     bytes: &'a [u8],
-    imports: Imports<'a, 'm, 'e, T>,
+    mut imports: Imports<'a, 'm, 'e, T>,
 ) -> ResultOf<'e, Vec<PeImport<'a>>>
     ensures value { let items = all_of (imports_left T.format imports.entry) in
         AnswersOrMemory import_views result (option_map (map import_said) items)
@@ -104,8 +106,11 @@ fn records_of<'a, 'm, 'e, T: Bitfield<'a>>(
         (λ e. IsMemory e → IsBegun (imports_left T.format imports.entry)) }
 {
     let mut records = Vec::new(alloc);
-    'imports: for import in imports {
+    'libraries: while let Some(import) = imports.next() {
         push_import(&mut records, bytes, &import?)?;
+        'library: while let Some(import) = imports.next_here() {
+            push_import(&mut records, bytes, &import)?;
+        }
     }
     Ok(records)
 }

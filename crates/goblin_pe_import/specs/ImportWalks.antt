@@ -1,5 +1,5 @@
 -- The walk over all imports: what is still to come.
-use Rattle.std.specs.Prelude.{◌≡◌, ℕ, ◌+◌, ◌-◌, ◌*◌, ◌/◌, ◌≤◌, ◌<◌, Bool, ◌&&◌, not, true, false}
+use Rattle.std.specs.Prelude.{◌≡◌, ◌⊎◌, ℕ, ◌+◌, ◌-◌, ◌*◌, ◌/◌, ◌≤◌, ◌<◌, Bool, ◌&&◌, not, true, false}
 use Rattle.std.specs.Prelude.{if◌then◌else◌, List, [], ◌∷◌, ◌++◌, map, length, Option, Some, None}
 use Rattle.std.specs.Prelude.{option_map, unwrap_or, is_none, Result, Ok, Err, IfErr, IfOk, IfSome}
 use Rattle.std.specs.Prelude.{IsSomeAnd}
@@ -369,3 +369,17 @@ GivesImport format s result t =
     × (HasPosition format s → HasPosition format t × IsAfterImport result t)
     × IfSome result (λ r. IfErr r (IsWalkFault s.walk))
     × IsOver s.walk.bytes.now (map_of s.walk.address_map.now) t
+
+-- the library that a walk is in has no more imports, or the next of them is refused
+abbrev pub IsHereOver : Format EntryValue → Walk → Type 0
+IsHereOver format w =
+    let m = map_of w.address_map.now in
+    let here = entries_from (reads_strictly m) format (offset_of m) w.bytes.now w.offset w.place in
+    (here ≡ []) ⊎ (here ≡ None ∷ [])
+
+-- A call gives the next import as `next` does, if the library that the walk is in has it; else the
+-- walk stays.
+abbrev pub GivesHere : {T : Type 0} → Format EntryValue → Imports T → Option WalkedImport → Imports T
+    → Type 0
+GivesHere format s None t = (t ≡ s) × IsHereOver format s.walk
+GivesHere format s (Some x) t = GivesImport format s (Some (Ok x)) t × ¬ IsHereOver format s.walk
