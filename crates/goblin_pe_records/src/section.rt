@@ -100,7 +100,8 @@ fn name_by_table<'a>(
     }
 }
 
-// The same. Most names begin with no slash, and are the eight bytes themselves.
+// As `name_by_table`, without a call where the name begins with no slash: most names are their eight
+// bytes.
 #[inline(always)]
 #[tactic(auto, unfolding(crate::specs::Sections::real_name_in, goblin_pe_sect::specs::SectionName::name_value))]
 fn name_record<'a>(
