@@ -75,11 +75,7 @@ const FIRST_ROOM: usize = 4;
 
 // Adds the record of an import, for which there is room.
 #[inline(always)]
-fn push_within<'a>(
-    records: &mut Vec<PeImport<'a>>,
-    bytes: &'a [u8],
-    import: &WalkedImport<'a>,
-)
+fn push_within<'a>(records: &mut Vec<PeImport<'a>>, bytes: &'a [u8], import: &WalkedImport<'a>)
     requires { vec_len records.old < vec_capacity records.old }
     ensures value { map import_view records.new.items
         ≡ map import_view records.old.items ++ import_said (walked_value import.now) ∷ [] }

@@ -7,7 +7,8 @@ ghost use Rattle.goblin_pe_export.specs.ExportWalks.{KeepsOver, exports_at, expo
 ghost use Rattle.goblin_pe.specs.Layouts.{IsFileImportsCause, file_imports_left, layout_map};
 ghost use Rattle.goblin_pe.specs.Layouts.{layout_places};
 ghost use Rattle.goblin_pe.specs.LayoutPositions.{StartsAt, import_start};
-ghost use Rattle.goblin_pe_calls.specs.Batches.{FillsHere, FillsLibrary};
+ghost use Rattle.goblin_pe_calls.specs.Batches.{FillsHere, FillsLibrary, IsLibraryOver};
+ghost use Rattle.goblin_pe_import.specs.ImportWalks.{IsHereOver};
 ghost use Rattle.goblin_pe_calls.specs.Batches.{ExportBatch, GivesBatch, GivesExports, GivesImports};
 ghost use Rattle.goblin_pe_calls.specs.Batches.{GoesOn, ImportBatch, IsBatch, IsEnd, IsExportsFault};
 ghost use Rattle.goblin_pe_calls.specs.Batches.{IsImportsFault, IsRefusedNext, imports_from};
@@ -93,6 +94,7 @@ fn fill_here<'a, 'm, 'e, T: Bitfield<'a>>(
 ) -> usize
     ensures filled { FillsHere T.format imports.old imports.new records.old records.new first result }
     ensures further { first ≤ result }
+    ensures all { result < length records.new → IsHereOver T.format imports.new.walk }
 {
     let mut count = first;
     'library: while count < records.len() {
@@ -114,6 +116,7 @@ fn fill_library<'a, 'm, 'e>(
 ) -> usize
     ensures filled { FillsLibrary imports.old imports.new records.old records.new first result }
     ensures further { first ≤ result }
+    ensures all { result < length records.new → IsLibraryOver imports.new }
 {
     match imports {
         FileImports::Narrow(imports) => fill_here(bytes, imports, records, first),
