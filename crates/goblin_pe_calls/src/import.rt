@@ -74,11 +74,11 @@ const FIRST_ROOM: usize = 4;
 
 // Adds the record of an import.
 #[inline(always)]
-fn push_import<'a>(
+fn push_import<'a, 'e>(
     records: &mut Vec<PeImport<'a>>,
     bytes: &'a [u8],
     import: &WalkedImport<'a>,
-) -> Result<()>
+) -> ResultOf<'e, ()>
     ensures value { let made = import_said (walked_value import.now) ∷ [] in
         GivesOrMemory (λ _. map import_view records.new.items) result
         (map import_view records.old.items ++ made) }
