@@ -145,8 +145,8 @@ IsImportsFault m places bytes old e =
     FirstFault (start.value bytes) (start.IsCause bytes)
     (λ s e. (0 < length old.records) × IsFaultIn m places.magic bytes s e) e
 
--- A walk has given some imports of its library: whatever the records held up to `first`, they hold
--- these after it, up to `last`.
+-- A walk has given some imports and goes on after them: whatever the records held up to `first`, they
+-- hold these after it, up to `last`.
 pub record FillsHere {T : Type 0} (format : Format EntryValue) (s t : Imports T)
     (old new : List PeImport) (first last : ℕ) : Type 0 where
   pub values : List ImportValue

@@ -88,11 +88,11 @@ fn push_within<'a>(records: &mut Vec<PeImport<'a>>, bytes: &'a [u8], import: &Wa
 
 // Adds the record of an import.
 #[inline(always)]
-fn push_import<'a>(
+fn push_import<'a, 'e>(
     records: &mut Vec<PeImport<'a>>,
     bytes: &'a [u8],
     import: &WalkedImport<'a>,
-) -> Result<()>
+) -> ResultOf<'e, ()>
     ensures value { let made = import_said (walked_value import.now) ∷ [] in
         GivesOrMemory (λ _. map import_view records.new.items) result
         (map import_view records.old.items ++ made) }
@@ -104,7 +104,7 @@ fn push_import<'a>(
 }
 
 // The records of the imports that a walk gives. Those of a library after its first, as far as there is
-// room, come by a loop of their own, which holds nothing but what it needs.
+// room, come by a loop of their own, in which nothing can be refused.
 #[inline(never)]
 fn records_of<'a, 'm, 'e, T: Bitfield<'a>>(
     alloc: Global,

@@ -84,7 +84,7 @@ fn imports_at<'a, 'm, 'e>(
 }
 
 // Fills records from `first` on with the imports that the library of the walk still has, as far as
-// there is room, and answers up to where.
+// there is room, and returns the index after the last one filled.
 #[inline(always)]
 fn fill_here<'a, 'm, 'e, T: Bitfield<'a>>(
     bytes: &'a [u8],
