@@ -1,7 +1,7 @@
 //! The whole header of a PE file.
 
-ghost use Rattle.std.specs.Prelude.{◌≡◌, ◌+◌, ◌≤◌, IfErr, IfOk, IfSome, IsSomeAnd, None, OnErr};
-ghost use Rattle.std.specs.Prelude.{OnOk, Some, drop, length, option_and_then, option_map, true};
+ghost use Rattle.std.specs.Prelude.{◌≡◌, ◌+◌, ◌≤◌, IfOk, IfSome, IsSomeAnd, None, OnErr};
+ghost use Rattle.std.specs.Prelude.{OnOk, Some, length, option_and_then, option_map, true};
 ghost use Rattle.goblin_base.specs.declared.endian.Endian.{Endian};
 ghost use Rattle.goblin_base.specs.Reading.{Reads};
 ghost use Rattle.goblin_base.specs.Answers.{Answers, Writes, IsSliceFault, FirstFault};
