@@ -1,13 +1,13 @@
 //! The counts of export tables, and forwarders.
 
 use fixture::sample::{ALIGNMENT, EXPORTS, put, sample_section, sample_with};
-use goblin_base::{Cause, Error, ResultOf};
+use goblin_base::{Cause, Error};
 use goblin_pe_export::export::{Export, ExportData, Reexport};
 use std::alloc::{AllocError, Global};
 use std::test::Fail;
 
 /// What the sample's export directory leads to in a file with its section.
-fn data_of<'a, 'e>(alloc: Global, file: &'a [u8]) -> ResultOf<'e, ExportData<'a>> {
+fn data_of(alloc: Global, file: &[u8]) -> goblin_base::Result<ExportData<'_>> {
     ExportData::parse(alloc, file, EXPORTS, &[sample_section()], ALIGNMENT)
 }
 
