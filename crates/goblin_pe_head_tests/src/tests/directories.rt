@@ -105,20 +105,11 @@ fn is_next(offset: &mut usize, endian: Endian, want: DataDirectory) -> bool {
 
 #[test]
 fn directories_are_read_one_after_the_other_in_either_order(rt: HostRuntime) {
+    let first = directory(0x0102_0304, 0x0506_0708);
     let second = directory(0x0C0B_0A09, 0x100F_0E0D);
     let mut offset = 1;
-    assert!(rt;
-        is_next(
-            &mut offset,
-            Endian::Big,
-            directory(0x0102_0304, 0x0506_0708)
-        )
-    );
+    assert!(rt; is_next(&mut offset, Endian::Big, first));
     assert!(rt; is_next(&mut offset, Endian::Little, second) && offset == 17);
-    assert!(rt;
-        is_ok(
-            pread_with::<DataDirectory>(BYTES, 9, Endian::Little),
-            &second
-        )
-    );
+    let placed = pread_with::<DataDirectory>(BYTES, 9, Endian::Little);
+    assert!(rt; is_ok(placed, &second));
 }

@@ -105,12 +105,8 @@ fn sections_of(alloc: Global, number_of_sections: u16) -> goblin_base::Result<Ve
 
 #[test]
 fn sections_past_the_end_are_refused(rt: HostRuntime) {
-    assert!(rt;
-        is_err(
-            sections_of(rt.alloc(), 20),
-            &Error::BufferTooShort(20, "sections")
-        )
-    );
+    let want = Error::BufferTooShort(20, "sections");
+    assert!(rt; is_err(sections_of(rt.alloc(), 20), &want));
     assert!(rt; matches!(&sections_of(rt.alloc(), 19), Err(Error::Read(_))));
 }
 
@@ -145,12 +141,8 @@ fn header_without_stub() -> Header<'static> {
 #[test]
 fn a_signature_within_the_dos_header_has_no_stub_in_front(rt: HostRuntime) {
     let file = short_file(&[(0, b"MZ"), (4, b"PE"), (0x3C, b"\x04")]);
-    assert!(rt;
-        is_err(
-            Header::parse(&file),
-            &Error::Malformed(Cause::StubBeforeStart(4))
-        )
-    );
+    let want = Error::Malformed(Cause::StubBeforeStart(4));
+    assert!(rt; is_err(Header::parse(&file), &want));
     assert!(rt; is_header(&file, ParseMode::Permissive, &header_without_stub()));
 }
 

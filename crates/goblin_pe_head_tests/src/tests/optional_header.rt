@@ -1,7 +1,7 @@
 //! The optional header of either width.
 
 use fixture::sample::{directory, put};
-use goblin_base::{Cause, Container, Endian, Error, ResultOf, TryFromCtx};
+use goblin_base::{Cause, Container, Endian, Error, TryFromCtx};
 use goblin_pe_head::OptionalHeader;
 use goblin_pe_head::optional_header::{
     StandardFields, StandardFields32, StandardFields64, WindowsFields, WindowsFields32,
@@ -137,26 +137,37 @@ const WINDOWS_64: WindowsFields = WindowsFields {
     number_of_rva_and_sizes: 0x5556_5758,
 };
 
-/// A record of bytes, its highest bytes first.
-fn rising<'a, 'e, T: TryFromCtx<'a>>(bytes: &'a [u8]) -> ResultOf<'e, T> {
-    let (fields, _) = T::try_from_ctx(bytes, Endian::Big)?;
-    Ok(fields)
+/// Whether the fields of those bytes are these, the highest byte of each first.
+fn are_standard(want: &StandardFields) -> bool {
+    matches!(StandardFields32::try_from_ctx(RISING, Endian::Big), Ok((fields, _))
+        if StandardFields::from(fields) == *want)
+}
+
+fn are_wide_standard(want: &StandardFields) -> bool {
+    matches!(StandardFields64::try_from_ctx(RISING, Endian::Big), Ok((fields, _))
+        if StandardFields::from(fields) == *want)
 }
 
 #[test]
 fn standard_fields_stand_in_their_order(rt: HostRuntime) {
-    let narrow = rising::<StandardFields32>(RISING);
-    assert!(rt; matches!(narrow, Ok(fields) if StandardFields::from(fields) == STANDARD_32));
-    let wide = rising::<StandardFields64>(RISING);
-    assert!(rt; matches!(wide, Ok(fields) if StandardFields::from(fields) == STANDARD_64));
+    assert!(rt; are_standard(&STANDARD_32));
+    assert!(rt; are_wide_standard(&STANDARD_64));
+}
+
+fn are_windows(want: &WindowsFields) -> bool {
+    matches!(WindowsFields32::try_from_ctx(RISING, Endian::Big), Ok((fields, _))
+        if WindowsFields::from(fields) == *want)
+}
+
+fn are_wide_windows(want: &WindowsFields) -> bool {
+    matches!(WindowsFields64::try_from_ctx(RISING, Endian::Big), Ok((fields, _))
+        if fields == *want)
 }
 
 #[test]
 fn windows_fields_stand_in_their_order(rt: HostRuntime) {
-    let narrow = rising::<WindowsFields32>(RISING);
-    assert!(rt; matches!(narrow, Ok(fields) if WindowsFields::from(fields) == WINDOWS_32));
-    let wide = rising::<WindowsFields64>(RISING);
-    assert!(rt; matches!(wide, Ok(fields) if fields == WINDOWS_64));
+    assert!(rt; are_windows(&WINDOWS_32));
+    assert!(rt; are_wide_windows(&WINDOWS_64));
 }
 
 #[test]

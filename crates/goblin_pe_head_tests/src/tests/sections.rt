@@ -51,12 +51,8 @@ fn a_name_says_its_offset_or_why_not_in_both_modes(rt: HostRuntime) {
 #[test]
 fn a_name_that_is_no_text_says_none_in_permissive_mode_alone(rt: HostRuntime) {
     let name = b"/\xFF\0\0\0\0\0\0";
-    assert!(rt;
-        is_err(
-            named(name).name_offset(),
-            &Error::Malformed(Cause::NameText)
-        )
-    );
+    let want = Error::Malformed(Cause::NameText);
+    assert!(rt; is_err(named(name).name_offset(), &want));
     assert!(rt; is_said(name, ParseMode::Permissive, &Ok(None)));
 }
 
@@ -148,7 +144,8 @@ fn raw_data_overlaps_where_neither_ends_before_the_other(rt: HostRuntime) {
 /// Whether the data of a section in a file of sixteen bytes are borrowed or owned, and are these.
 fn are_data(
     alloc: Global,
-    (section, file): (SectionTable, &[u8; 16]),
+    file: &[u8; 16],
+    section: &SectionTable,
     are_borrowed: bool,
     want: &[u8],
 ) -> bool {
@@ -159,17 +156,29 @@ fn are_data(
     }
 }
 
-#[test]
-fn data_is_borrowed_where_no_zeros_follow(rt: HostRuntime) {
-    let file = &[0; 16];
-    assert!(rt; are_data(rt.alloc(), (section(0, 4, 4, 4), file), true, &[0; 4]));
-    assert!(rt; are_data(rt.alloc(), (section(0, 0, 0, 16), file), true, &[]));
+/// Whether those of a section by its size in memory, and its data's size and offset, are borrowed
+/// from zeros, and are these.
+fn are_zeros(alloc: Global, (memory, size, pointer): (u32, u32, u32), want: &[u8]) -> bool {
+    are_data(
+        alloc,
+        &[0; 16],
+        &section(0, memory, size, pointer),
+        true,
+        want,
+    )
 }
 
-/// The data of a section of six bytes, with four in the file of which the last is this byte.
+#[test]
+fn data_is_borrowed_where_no_zeros_follow(rt: HostRuntime) {
+    assert!(rt; are_zeros(rt.alloc(), (4, 4, 4), &[0; 4]));
+    assert!(rt; are_zeros(rt.alloc(), (0, 0, 16), &[]));
+}
+
+/// Whether those of a section of six bytes, with four in the file of which the last is this byte,
+/// are owned, and are these.
 fn are_owned(alloc: Global, byte: u8, want: &[u8]) -> bool {
     let file = [0, 0, 0, 0, 0, 0, 0, byte, 0, 0, 0, 0, 0, 0, 0, 0];
-    are_data(alloc, (section(0, 6, 4, 4), &file), false, want)
+    are_data(alloc, &file, &section(0, 6, 4, 4), false, want)
 }
 
 #[test]

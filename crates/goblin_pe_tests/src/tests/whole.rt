@@ -29,12 +29,12 @@ fn a_file_is_read_in_both_modes(rt: HostRuntime) {
     assert!(rt; are_samples(mode_whole(rt.alloc(), &file, &ParseOptions::default())));
 }
 
+/// Whether a file's imports and exports are those of the sample.
 fn has_both(whole: &Whole) -> bool {
     has_imports(whole) && has_exports(whole)
 }
 
-/// Whether a file's imports and exports are those of the sample in a mode, where raw pointers are
-/// rounded.
+/// Whether they are in a mode, where raw pointers are rounded.
 fn is_rounded(alloc: Global, file: &[u8], mode: ParseMode) -> bool {
     let opts = in_mode(mode).with_raw_pointer_rule(RawPointerRule::RoundedTo512);
     passes(Whole::read(alloc, file, &opts), has_both)
