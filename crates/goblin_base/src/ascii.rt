@@ -35,7 +35,8 @@ fn is_plain(byte: u8) -> bool
     0 < byte && byte < 128
 }
 
-// How many bytes precede the first NUL, or the end where there is none, if they are all ASCII.
+// How many bytes precede the first NUL, or the end where there is none, if they are all ASCII. `None`
+// leaves it to a slower way.
 #[inline(always)]
 pub(crate) fn plain_run(bytes: &[u8]) -> Option<usize>
     ensures within { IfSome result (λ run. run ≤ length bytes.now) }

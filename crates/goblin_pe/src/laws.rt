@@ -22,6 +22,7 @@ mod header;
 mod modes;
 mod order;
 mod parts;
+mod texts;
 mod whole;
 
 pub use footprint::footprint_whole;

@@ -4,7 +4,7 @@ use Rattle.std.specs.Prelude.{Option, None, Some, min}
 use Rattle.std.proofs.Math.Nat.{min-eq_left, min-eq_right}
 use Rattle.std.proofs.Math.Seq.{drop-append_seam, take-append_seam}
 use Rattle.std.proofs.lemmas.List.{append_assoc, length-append, length-map, length-set, map-append, take_all}
-use Rattle.goblin_pe_calls.specs.Batches.{IsBatch, IsRefusedNext, values_before}
+use Rattle.goblin_pe_calls.specs.Batches.{AtBatch, IsBatch, IsRefusedNext, values_before}
 use Rattle.goblin_pe_records.specs.Filled.{Filled}
 use Rattle.goblin_pe_records.proofs.Items.{room}
 
@@ -35,22 +35,15 @@ none-refused {A} (x ∷ xs) items all is some h =
 -- ---- the records
 
 module _ {R A B : Type 0} (view : R → B) (said : A → B) (old : List R) where
-  -- the records hold these values
-  pub record AtBatch (values : List A) (records : List R) (count : ℕ) : Type 0 where
-    pub counted : length values ≡ count
-    pub filled : Filled view (map said values) old records
-    pub same : length records ≡ length old
-    pub fits : count ≤ length old
-
-  pub batch-start : AtBatch [] old 0
+  pub batch-start : AtBatch view said old [] old 0
   batch-start =
       let no : List B = [] in
       let none : take (length old) no ≡ no = take_all (length old) no (omega arith) in
       record { counted = refl; filled = (sym none, refl); same = refl; fits = omega arith }
 
   pub batch-more : (values : List A) (records : List R) (count : ℕ) (a : A) (r : R)
-      → AtBatch values records count → count < length records → view r ≡ said a
-      → AtBatch (values ++ a ∷ []) (set records count r) (count + 1)
+      → AtBatch view said old values records count → count < length records → view r ≡ said a
+      → AtBatch view said old (values ++ a ∷ []) (set records count r) (count + 1)
   batch-more values records count a r h within says =
       let here : count < length old = omega (arith, within, h.same) in
       let counted : length (map said values) ≡ count = length-map values said ∙ h.counted in
@@ -64,14 +57,14 @@ module _ {R A B : Type 0} (view : R → B) (said : A → B) (old : List R) where
       }
 
   -- the records are unchanged as long as there is no value
-  pub batch-none : (values : List A) (records : List R) → AtBatch values records 0
+  pub batch-none : (values : List A) (records : List R) → AtBatch view said old values records 0
       → records ≡ old
   batch-none [] records h = h.filled.1
   batch-none (a ∷ values) records h = let counted = h.counted in absurd (omega (arith, counted))
 
   -- there is no more room, or nothing more to come
   pub batch-end : (values more next : List A) (records : List R) (count : ℕ)
-      → AtBatch values records count → next ≡ values ++ more
+      → AtBatch view said old values records count → next ≡ values ++ more
       → (length old ≤ count) ⊎ (more ≡ []) → IsBatch view said next old records count
   batch-end values more next records count h is end =
       let all : length next ≡ count + length more =

@@ -13,9 +13,9 @@ use Rattle.goblin_pe.specs.declared.whole.Part.{Part}
 use Rattle.goblin_pe.specs.declared.whole.Part.TheVariants.{Absent, Refused}
 use Rattle.goblin_pe.specs.declared.whole.Part.TheVariants as part
 use Rattle.goblin_pe_calls.specs.declared.export.PeExport.{PeExport}
-use Rattle.goblin_pe_calls.specs.Batches.{GivesExports, IsBatch, exports_in}
+use Rattle.goblin_pe_calls.specs.Batches.{AtBatch, GivesExports, IsBatch, exports_in}
 use Rattle.goblin_pe_calls.specs.Exports.{export_said, export_view}
-use Rattle.goblin_pe_calls.proofs.Batches.{AtBatch, batch-end, batch-more, batch-start, left-after, one-after}
+use Rattle.goblin_pe_calls.proofs.Batches.{batch-end, batch-more, batch-start, left-after, one-after}
 
 module _ (start : Exports) (old : List PeExport) where
   -- the records hold what has come so far, and the walk goes on

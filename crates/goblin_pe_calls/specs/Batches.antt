@@ -1,13 +1,21 @@
 -- Batches: as many records of what comes from a position on as there is room for.
-use Rattle.std.specs.Prelude.{◌≡◌, ℕ, ◌==◌, ◌&&◌, ◌<◌, ⊤, true, if◌then◌else◌, List, [], ◌∷◌, map, drop, take}
+use Rattle.std.specs.Prelude.{◌≡◌, ℕ, ◌==◌, ◌&&◌, ◌<◌, ◌≤◌, ⊤, true, if◌then◌else◌, List, [], ◌∷◌, ◌++◌, map, drop, take}
 use Rattle.std.specs.Prelude.{length, min, Option, Some, None, option_map, Result, Ok, Err, IsSome, IsSomeAnd}
 use Rattle.std.specs.Prelude.{unwrap_or}
 use Rattle.goblin_base.specs.declared.error.ErrorOf.{ErrorOf}
 use Rattle.goblin_base.specs.Answers.{FirstFault, IsMemory}
+use Rattle.goblin_base.specs.Tables.{Format}
 use Rattle.goblin_pe_sect.specs.declared.options.ParseOptions.{ParseOptions}
 use Rattle.goblin_pe_sect.specs.Options.{is_strict}
 use Rattle.goblin_pe_sect.specs.SectionTable.{Section}
+use Rattle.goblin_pe_sect.specs.Addresses.{map_of}
+use Rattle.goblin_pe_import.specs.ImportEntries.{EntryValue}
+use Rattle.goblin_pe_import.specs.ImportLookup.{entries_32, entries_64}
+use Rattle.goblin_pe_import.specs.ImportWalks.{HasPosition, IsHereOver, IsImportsCause, IsInTable}
+use Rattle.goblin_pe_import.specs.ImportWalks.{IsOver}
+use Rattle.goblin_pe_import.specs.ImportWalks.{imports_left, position_of}
 use Rattle.goblin_pe_import.specs.declared.import.imports.ImportPosition.{ImportPosition}
+use Rattle.goblin_pe_import.specs.declared.import.imports.Imports.{Imports}
 use Rattle.goblin_pe.specs.Addresses.{MapOfAddresses, map_by, offset_of}
 use Rattle.goblin_pe.specs.ExportRecords.{ExportRow, ExportTables}
 use Rattle.goblin_pe.specs.ExportWalks.{NumberedExport, numbered_from}
@@ -22,6 +30,7 @@ use Rattle.goblin_pe.specs.declared.whole.Part.{Part}
 use Rattle.goblin_pe.specs.declared.whole.Part.TheVariants.{Absent, Refused}
 use Rattle.goblin_pe.specs.declared.whole.Part.TheVariants as part
 use Rattle.goblin_pe.specs.declared.whole.imports.FileImports.{FileImports}
+use Rattle.goblin_pe.specs.declared.whole.imports.FileImports.TheVariants.{Narrow, Wide}
 use Rattle.goblin_pe_calls.specs.declared.export.PeExport.{PeExport}
 use Rattle.goblin_pe_calls.specs.declared.import.PeImport.{PeImport}
 use Rattle.goblin_pe_calls.specs.declared.next.PeImportPosition.{PeImportPosition}
@@ -53,6 +62,14 @@ pub record IsBatch {R A B : Type 0} (view : R → B) (said : A → B) (next : Li
     (old new : List R) (count : ℕ) : Type 0 where
   pub counted : count ≡ min (length old) (length next)
   pub filled : Filled view (map said (take count next)) old new
+
+-- The records hold these values so far.
+pub record AtBatch {R A B : Type 0} (view : R → B) (said : A → B) (old : List R) (values : List A)
+    (records : List R) (count : ℕ) : Type 0 where
+  pub counted : length values ≡ count
+  pub filled : Filled view (map said values) old records
+  pub same : length records ≡ length old
+  pub fits : count ≤ length old
 
 -- the map of addresses of a file with this header and these sections
 abbrev pub map_in : ParseOptions → PeHeader × List Section → MapOfAddresses
@@ -127,6 +144,32 @@ IsImportsFault m places bytes old e =
     let start = import_start m.opts (offset_of m) places (position_said old.position) in
     FirstFault (start.value bytes) (start.IsCause bytes)
     (λ s e. (0 < length old.records) × IsFaultIn m places.magic bytes s e) e
+
+-- A walk has given some imports and goes on after them: whatever the records held up to `first`, they
+-- hold these after it, up to `last`.
+pub record FillsHere {T : Type 0} (format : Format EntryValue) (s t : Imports T)
+    (old new : List PeImport) (first last : ℕ) : Type 0 where
+  pub values : List ImportValue
+  pub batch : (base : List PeImport) (before : List ImportValue)
+      → AtBatch import_view import_said base before old first
+      → AtBatch import_view import_said base (before ++ values) new last
+  pub yielded : imports_left format s ≡ map (λ x. Some x) values ++ imports_left format t
+  pub cause : (e : ErrorOf) → IsImportsCause format t e → IsImportsCause format s e
+  pub kept : HasPosition format s → HasPosition format t
+  pub over : IsOver s.walk.bytes.now (map_of s.walk.address_map.now) t
+  pub inside : HasPosition format s → IsInTable s.walk.bytes.now (position_of s)
+      → IsInTable s.walk.bytes.now (position_of t)
+
+-- the same of the imports of a file
+abbrev pub FillsLibrary : FileImports → FileImports → List PeImport → List PeImport → ℕ → ℕ → Type 0
+FillsLibrary (Narrow s) (Narrow t) old new first last = FillsHere entries_32 s t old new first last
+FillsLibrary (Wide s) (Wide t) old new first last = FillsHere entries_64 s t old new first last
+FillsLibrary s t old new first last = ⊥
+
+-- the library that a walk is in has no more imports, or the next of them is refused
+abbrev pub IsLibraryOver : FileImports → Type 0
+IsLibraryOver (Narrow imports) = IsHereOver entries_32 imports.walk
+IsLibraryOver (Wide imports) = IsHereOver entries_64 imports.walk
 
 -- a file has imports, and they are asked for
 abbrev pub HasImports : ParseOptions → TablePlaces → Type 0

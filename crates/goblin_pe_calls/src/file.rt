@@ -27,8 +27,7 @@ fn fill_table<T>(place: &mut PeTable, table: &Part<Vec<T>>)
         Part::Read(records) => (records.len(), State::Read),
         Part::Refused => (0, State::Refused),
     };
-    place.count = count;
-    place.state = state as u32;
+    *place = PeTable::new(count, state);
 }
 
 /// Says in `file` what a file is as a whole, with what is said of its base relocations and its Rich

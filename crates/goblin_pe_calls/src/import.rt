@@ -1,6 +1,7 @@
 //! The records of imports.
 
-ghost use Rattle.std.specs.Prelude.{◌≡◌, ◌<◌, ◌++◌, ◌∷◌, [], IfErr, IfOk, IfSome, OnErr, OnOk, length, map};
+ghost use Rattle.std.specs.Prelude.{◌≡◌, ◌<◌, ◌+◌, ◌++◌, ◌∷◌, [], IfErr, IfOk, IfSome, OnErr, OnOk, length, map};
+ghost use Rattle.std.specs.Prelude.{vec_capacity, vec_len};
 ghost use Rattle.std.specs.Prelude.{option_map};
 ghost use Rattle.goblin_base.specs.Answers.{AnswersOrMemory, GivesOrMemory, IsMemory, all_of};
 ghost use Rattle.goblin_base.specs.Reading.{ReadsOrMemory};
@@ -72,25 +73,38 @@ pub fn import_record<'a>(bytes: &'a [u8], import: &WalkedImport<'a>) -> PeImport
 // For how many records room is made first.
 const FIRST_ROOM: usize = 4;
 
+// Adds the record of an import, for which there is room.
+#[inline(always)]
+fn push_within<'a>(records: &mut Vec<PeImport<'a>>, bytes: &'a [u8], import: &WalkedImport<'a>)
+    requires { vec_len records.old < vec_capacity records.old }
+    ensures value { map import_view records.new.items
+        ≡ map import_view records.old.items ++ import_said (walked_value import.now) ∷ [] }
+    ensures room { HasLittleRoom records.old → HasLittleRoom records.new }
+    ensures counted { vec_len records.new ≡ vec_len records.old + 1 }
+    ensures same { vec_capacity records.new ≡ vec_capacity records.old }
+{
+    records.push_reserved(import_record(bytes, import));
+}
+
 // Adds the record of an import.
 #[inline(always)]
-fn push_import<'a>(
+fn push_import<'a, 'e>(
     records: &mut Vec<PeImport<'a>>,
     bytes: &'a [u8],
     import: &WalkedImport<'a>,
-) -> Result<()>
+) -> ResultOf<'e, ()>
     ensures value { let made = import_said (walked_value import.now) ∷ [] in
         GivesOrMemory (λ _. map import_view records.new.items) result
         (map import_view records.old.items ++ made) }
     ensures room { OnOk result (HasLittleRoom records.old → HasLittleRoom records.new) }
 {
     make_room(records, FIRST_ROOM)?;
-    records.push_reserved(import_record(bytes, import));
+    push_within(records, bytes, import);
     Ok(())
 }
 
-// The records of the imports that a walk gives. Those of a library after its first come by a loop of
-// their own, which holds nothing but what it needs.
+// The records of the imports that a walk gives. Those of a library after its first, as far as there is
+// room, come by a loop of their own, in which nothing can be refused.
 #[inline(never)]
 fn records_of<'a, 'm, 'e, T: Bitfield<'a>>(
     alloc: Global,
@@ -108,8 +122,11 @@ fn records_of<'a, 'm, 'e, T: Bitfield<'a>>(
     let mut records = Vec::new(alloc);
     'libraries: while let Some(import) = imports.next() {
         push_import(&mut records, bytes, &import?)?;
-        'library: while let Some(import) = imports.next_here() {
-            push_import(&mut records, bytes, &import)?;
+        'library: while records.len() < records.capacity() {
+            let Some(import) = imports.next_here() else {
+                break;
+            };
+            push_within(&mut records, bytes, &import);
         }
     }
     Ok(records)

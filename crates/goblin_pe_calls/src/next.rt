@@ -1,12 +1,14 @@
 //! Imports and exports in batches, without memory for them.
 
-ghost use Rattle.std.specs.Prelude.{◌≡◌, ◌<◌, IfErr, MatchResult, Some, drop, length};
+ghost use Rattle.std.specs.Prelude.{◌≡◌, ◌<◌, ◌≤◌, IfErr, MatchResult, Some, drop, length};
 ghost use Rattle.goblin_base.specs.Answers.{IsMemory};
 ghost use Rattle.goblin_pe_sect.specs.Addresses.{offset_of};
 ghost use Rattle.goblin_pe_export.specs.ExportWalks.{KeepsOver, exports_at, exports_left};
 ghost use Rattle.goblin_pe.specs.Layouts.{IsFileImportsCause, file_imports_left, layout_map};
 ghost use Rattle.goblin_pe.specs.Layouts.{layout_places};
 ghost use Rattle.goblin_pe.specs.LayoutPositions.{StartsAt, import_start};
+ghost use Rattle.goblin_pe_calls.specs.Batches.{FillsHere, FillsLibrary, IsLibraryOver};
+ghost use Rattle.goblin_pe_import.specs.ImportWalks.{IsHereOver};
 ghost use Rattle.goblin_pe_calls.specs.Batches.{ExportBatch, GivesBatch, GivesExports, GivesImports};
 ghost use Rattle.goblin_pe_calls.specs.Batches.{GoesOn, ImportBatch, IsBatch, IsEnd, IsExportsFault};
 ghost use Rattle.goblin_pe_calls.specs.Batches.{IsImportsFault, IsRefusedNext, imports_from};
@@ -18,7 +20,7 @@ use crate::export::{PeExport, export_record, next_export};
 use crate::import::{PeImport, import_record};
 use goblin_pe::export::Exports;
 use goblin_pe::header::Header;
-use goblin_pe::import::ImportPosition;
+use goblin_pe::import::{Bitfield, ImportPosition, Imports};
 use goblin_pe::options::ParseOptions;
 use goblin_pe::{FileImports, Layout, Part, Result, ResultOf};
 use std::alloc::Global;
@@ -81,6 +83,47 @@ fn imports_at<'a, 'm, 'e>(
     }
 }
 
+// Fills records from `first` on with the imports that the library of the walk still has, as far as
+// there is room, and returns the index after the last one filled.
+#[inline(always)]
+fn fill_here<'a, 'm, 'e, T: Bitfield<'a>>(
+    bytes: &'a [u8],
+    imports: &mut Imports<'a, 'm, 'e, T>,
+    records: &mut [PeImport<'a>],
+    first: usize,
+) -> usize
+    ensures filled { FillsHere T.format imports.old imports.new records.old records.new first result }
+    ensures further { first ≤ result }
+    ensures all { result < length records.new → IsHereOver T.format imports.new.walk }
+{
+    let mut count = first;
+    'library: while count < records.len() {
+        let Some(import) = imports.next_here() else {
+            return count;
+        };
+        records[count] = import_record(bytes, &import);
+        count += 1;
+    }
+    count
+}
+
+// As `fill_here`, by the width of the file's entries.
+fn fill_library<'a, 'm, 'e>(
+    bytes: &'a [u8],
+    imports: &mut FileImports<'a, 'm, 'e>,
+    records: &mut [PeImport<'a>],
+    first: usize,
+) -> usize
+    ensures filled { FillsLibrary imports.old imports.new records.old records.new first result }
+    ensures further { first ≤ result }
+    ensures all { result < length records.new → IsLibraryOver imports.new }
+{
+    match imports {
+        FileImports::Narrow(imports) => fill_here(bytes, imports, records, first),
+        FileImports::Wide(imports) => fill_here(bytes, imports, records, first),
+    }
+}
+
 // Fills records with the imports that come next, as far as there is room, and answers how many.
 fn fill_imports<'a, 'm, 'e>(
     layout: &Layout<'a, '_>,
@@ -108,9 +151,9 @@ fn fill_imports<'a, 'm, 'e>(
     'imports: while count < records.len() {
         match imports.next() {
             Some(Ok(import)) => {
-                *position = position_record(imports.position());
                 records[count] = import_record(layout.bytes(), &import);
-                count += 1;
+                count = fill_library(layout.bytes(), &mut imports, records, count + 1);
+                *position = position_record(imports.position());
             }
             Some(Err(error)) if count == 0 => return Err(error),
             Some(Err(_)) => return Ok(count),

@@ -129,7 +129,7 @@ size_of fields = fields.size + 8 * count_after fields
 abbrev pub entries_after : FixedFields → Reading (List (Option (ℕ × DataDirectory)))
 entries_after fields = directories_at (count_after fields) fields.size
 
--- there is room for no more than sixteen data directories after these fields
+-- there are no more than sixteen data directories after these fields, and room for them
 abbrev pub AreThere : List ℕ → FixedFields → Type 0
 AreThere bytes fields =
     (count_after fields ≤ 16) × (0 < count_after fields → size_of fields ≤ length bytes)

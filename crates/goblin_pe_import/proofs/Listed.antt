@@ -1,7 +1,7 @@
 -- What is listed of a hint and of an entry.
 use Rattle.std.proofs.Common.{◌≡◌, ℕ, ◌+◌, Bool, true, false, nat_le, nat_lt, Option}
 use Rattle.std.proofs.Common.{Some, None, List, [], ◌++◌, length, refl}
-use Rattle.std.proofs.Common.{arith, inl, inr}
+use Rattle.std.proofs.Common.{arith, append_assoc, inl, inr}
 use Rattle.std.specs.Prelude.{slice_range}
 use Rattle.std.proofs.lemmas.Bool.{cases_Bool, le-leb, leb-false, leb-true, lt-ltb}
 use Rattle.goblin_base.specs.Bytes.{slice_at}
@@ -49,3 +49,9 @@ pub entry-reaches : (strict : Bool) (offset_of : ℕ → Option ℕ) (bytes : Li
     → (kept_entry strict offset_of entry).reaches bytes ≡ hint_reach bytes p
 unfolding kept_entry kept_name hint_name
 entry-reaches strict offset_of bytes entry p named is = rw (named, is) refl
+
+-- what is appended in three steps
+pub appended : {A : Type 0} (old x y z first second : List A) → first ≡ old ++ x
+    → second ≡ first ++ y → second ++ z ≡ old ++ ((x ++ y) ++ z)
+appended old x y z first second e f =
+    rw (f, e, append_assoc old x y, append_assoc old (x ++ y) z) refl

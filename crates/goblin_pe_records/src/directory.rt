@@ -26,21 +26,16 @@ pub struct PeDirectory {
 fn fill_directory(place: &mut PeDirectory, entry: &Option<(usize, DataDirectory)>)
     ensures { place.new ≡ directory_record entry.now }
 {
-    match entry {
-        None => {
-            *place = PeDirectory {
-                end: 0,
-                directory: DataDirectory::default(),
-                is_present: false,
-            };
-        }
-        Some((end, directory)) => {
-            *place = PeDirectory {
-                end: *end,
-                directory: *directory,
-                is_present: true,
-            };
-        }
+    // Most entries are zeros.
+    *place = PeDirectory {
+        end: 0,
+        directory: DataDirectory::default(),
+        is_present: false,
+    };
+    if let Some((end, directory)) = entry {
+        place.end = *end;
+        place.directory = *directory;
+        place.is_present = true;
     }
 }
 

@@ -1,6 +1,6 @@
 //! The records of sections.
 
-ghost use Rattle.std.specs.Prelude.{◌≡◌, ◌<◌, Bool, IfOk, OnErr, length, map, ℕ, option_map};
+ghost use Rattle.std.specs.Prelude.{◌≡◌, ◌<◌, IfOk, OnErr, length, map, option_map};
 ghost use Rattle.goblin_pe_sect.specs.Options.{is_strict};
 ghost use Rattle.goblin_base.specs.Answers.{GivesOrMemory};
 ghost use Rattle.goblin_pe_records.specs.Blocked.{HasNoSpareRoom};
@@ -100,7 +100,8 @@ fn name_by_table<'a>(
     }
 }
 
-// The same. Most names begin with no slash, and are the eight bytes themselves.
+// As `name_by_table`, without a call where the name begins with no slash: most names are their eight
+// bytes.
 #[inline(always)]
 #[tactic(auto, unfolding(crate::specs::Sections::real_name_in, goblin_pe_sect::specs::SectionName::name_value))]
 fn name_record<'a>(

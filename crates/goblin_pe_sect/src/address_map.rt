@@ -1,6 +1,6 @@
 //! Where addresses lie in the file, by an index that is prepared once.
 
-ghost use Rattle.std.specs.Prelude.{◌≡◌, ◌-◌, ◌↔◌, ◌<◌, ℕ, IfErr, IfOk, IsTrue, length, option_map};
+ghost use Rattle.std.specs.Prelude.{◌≡◌, ◌-◌, ◌↔◌, ◌<◌, ℕ, IfErr, IfOk, IsTrue, option_map};
 ghost use Rattle.goblin_base.specs.Answers.{GivesOrMemory, IsMemory};
 ghost use Rattle.goblin_base.specs.Reading.{Reads};
 ghost use Rattle.goblin_pe_sect.specs.AddressReadings.{name_or_none};
@@ -14,7 +14,7 @@ use crate::options::{ParseMode, ParseOptions};
 use crate::section_table::SectionTable;
 use crate::utils::safe_name_at;
 use crate::windows::WindowIndex;
-use goblin_base::Result;
+use goblin_base::ResultOf;
 use std::alloc::Global;
 
 /// How addresses are mapped to file offsets, and how the bytes there are read: the options, and what
@@ -28,12 +28,12 @@ pub struct AddressMap {
 // The index of the sections' windows; where there are no sections, one without pieces, which takes
 // no memory.
 #[tactic(auto, using(crate::proofs::AddressMaps::located_nowhere))]
-fn index_of(
+fn index_of<'e>(
     alloc: Global,
     sections: &[SectionTable],
     file_alignment: u32,
     opts: &ParseOptions,
-) -> Result<WindowIndex>
+) -> ResultOf<'e, WindowIndex>
     ensures mapped { let offset_of = file_offset opts.now sections.now file_alignment in
         IfOk result (λ w. (rva : ℕ) → located w rva ≡ offset_of rva) }
     ensures refused { IfErr result IsMemory }
@@ -53,12 +53,12 @@ impl AddressMap {
     /// Only [`Error::Memory`](goblin_base::Error::Memory).
     #[inline(always)]
     #[tactic(auto, using(crate::proofs::AddressMaps::same_map))]
-    pub fn prepare(
+    pub fn prepare<'e>(
         alloc: Global,
         sections: &[SectionTable],
         file_alignment: u32,
         opts: &ParseOptions,
-    ) -> Result<AddressMap>
+    ) -> ResultOf<'e, AddressMap>
         ensures made { GivesOrMemory map_of result
             (map_by opts.now sections.now file_alignment) }
         ensures grown { IfErr result (λ e. TakesMap opts.now sections.now file_alignment) }
@@ -116,12 +116,12 @@ impl AddressMap {
     /// # Errors
     /// As [`safe_try_name`](crate::utils::safe_try_name).
     #[tactic(auto, unfolding(crate::specs::AddressReadings::name_or_none, crate::specs::AddressReadings::name_at))]
-    pub fn name_near<'a>(
+    pub fn name_near<'a, 'e>(
         &self,
         bytes: &'a [u8],
         rva: u32,
         near: &mut usize,
-    ) -> Result<Option<&'a str>>
+    ) -> ResultOf<'e, Option<&'a str>>
         ensures value { Reads (option_map (λ s. s.now)) result
             (name_or_none (reads_strictly (map_of self.now)) (offset_of (map_of self.now)) rva) bytes.now }
         ensures piece { near.new ≡ reached self.now.index.begins rva - 1 }

@@ -285,7 +285,8 @@ impl DataDirectories {
     }
 
     /// Reads `count` entries, which follow one another from `offset` on, in place of these, so that
-    /// the entries, which are large, are not moved. They must be no more than sixteen, and there.
+    /// the entries, which are large, are not moved. There must be at most sixteen, all inside
+    /// `bytes`: [`DataDirectories::test`] tests that.
     #[inline(always)]
     pub fn read(&mut self, bytes: &[u8], count: usize, offset: usize)
         requires few { count ≤ 16 }

@@ -1,7 +1,7 @@
 //! The numbers in section names, in decimal and in base 64 digits.
 
 ghost use Rattle.std.specs.Prelude.{◌≡◌, ◌^◌, ◌+◌, ◌-◌, ◌<◌, ◌≤◌, ◌++◌, ◌∷◌, IfNone, IfSome, None};
-ghost use Rattle.std.specs.Prelude.{Some, drop, length, map, nat_lt, position, take, ◌==◌};
+ghost use Rattle.std.specs.Prelude.{Some, drop, length, map, position, take, ◌==◌};
 ghost use Rattle.goblin_pe_sect.specs.Digits.{alphabet, digit};
 ghost use Rattle.goblin_pe_sect.specs.SectionName.{decimal_number, decimal_width};
 ghost use Rattle.goblin_pe_sect.specs.Digits.{digit_byte, last_digits, numeral};

@@ -18,7 +18,9 @@ ghost use Rattle.goblin_pe_sect.specs.Options.{is_strict, default_options};
 use crate::data_directories::DataDirectory;
 use crate::options::{ParseOptions, RawPointerRule};
 use crate::section_table::SectionTable;
-use goblin_base::{Cause, Endian, Error, Result, ResultOf, TryFromCtx, pread_str, pread_with};
+use goblin_base::{
+    Cause, CauseOf, Endian, Error, ErrorOf, Result, ResultOf, TryFromCtx, pread_str, pread_with,
+};
 
 /// Whether the address `rva` lies in the range from `r1` up to, and without, `r2`. It lies in none
 /// where `r2` is at most `r1`.
@@ -262,26 +264,26 @@ pub fn safe_try_name<'a>(
 /// # Errors
 /// As [`safe_try_name`].
 #[tactic(auto, unfolding(crate::specs::AddressReadings::name_or_none, crate::specs::AddressReadings::name_at))]
-pub fn safe_name_at<'a>(
+pub fn safe_name_at<'a, 'e>(
     bytes: &'a [u8],
     rva: usize,
     offset: Option<usize>,
     opts: &ParseOptions,
-) -> Result<Option<&'a str>>
+) -> ResultOf<'e, Option<&'a str>>
     ensures { Reads (option_map (λ s. s.now)) result
         (name_or_none (is_strict opts.now.parse_mode) (λ _. offset) rva) bytes.now }
 {
     let cause = match offset {
         Some(offset) => match pread_str(bytes, offset) {
             Ok(name) => return Ok(Some(name)),
-            Err(_) => Cause::NameRead(offset),
+            Err(_) => CauseOf::NameRead(offset),
         },
-        None => Cause::Unmapped(rva),
+        None => CauseOf::Unmapped(rva),
     };
     if opts.parse_mode.is_permissive() {
         Ok(None)
     } else {
-        Err(Error::Malformed(cause))
+        Err(ErrorOf::Malformed(cause))
     }
 }
 

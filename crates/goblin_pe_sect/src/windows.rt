@@ -26,7 +26,7 @@ use crate::options::ParseOptions;
 use crate::section_table::SectionTable;
 pub use bounds::Bounds;
 use division::division_of;
-use goblin_base::Result;
+use goblin_base::ResultOf;
 use owners::Owner;
 use std::alloc::Global;
 use std::marker::Model;
@@ -144,12 +144,12 @@ impl WindowIndex {
     ///
     /// # Errors
     /// Only [`Error::Memory`](goblin_base::Error::Memory).
-    pub fn prepare(
+    pub fn prepare<'e>(
         alloc: Global,
         sections: &[SectionTable],
         file_alignment: u32,
         opts: &ParseOptions,
-    ) -> Result<WindowIndex>
+    ) -> ResultOf<'e, WindowIndex>
         ensures mapped { IfOk result
             (λ w.
             (rva : ℕ) → located w rva ≡ file_offset opts.now sections.now file_alignment rva) }

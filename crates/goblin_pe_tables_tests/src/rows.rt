@@ -78,20 +78,21 @@ pub const GO: ImportRow = ("Go", 5, 0x1060, 0x1090, 4, 0);
 /// The second of them, by ordinal.
 pub const SEVEN: ImportRow = ("ORDINAL 7", 7, 0x1064, 0, 4, 1);
 
-/// Whether these are the imports from `a.dll`.
+/// Whether these are the imports from `a.dll`, at most two.
 pub fn are_imports(imports: &[Import], rows: &[ImportRow]) -> bool {
-    imports.len() == rows.len()
-        && imports.iter().zip(rows).all(|(import, row)| {
-            import.dll == "a.dll"
-                && (
-                    &import.name[..],
-                    import.ordinal,
-                    import.offset,
-                    import.rva,
-                    import.size,
-                    import.slot,
-                ) == *row
-        })
+    match (imports, rows) {
+        ([], []) => true,
+        ([only], [row]) => is_import(only, row),
+        ([first, second], [row, last]) => is_import(first, row) && is_import(second, last),
+        _ => false,
+    }
+}
+
+fn is_import(import: &Import, row: &ImportRow) -> bool {
+    import.dll == "a.dll"
+        && import.name.as_str() == row.0
+        && (import.ordinal, import.offset, import.rva) == (row.1, row.2, row.3)
+        && (import.size, import.slot) == (row.4, row.5)
 }
 
 /// Whether this is the entry of `Go` in the sample file's lookup table.
@@ -145,10 +146,17 @@ pub const FORWARDED: ExportRow = (
     }),
 );
 
-/// Whether these are the exports, in this order.
+/// Whether these are the exports, in this order, at most two.
 pub fn are_exports(exports: &[Export], rows: &[ExportRow]) -> bool {
-    exports.len() == rows.len()
-        && exports.iter().zip(rows).all(|(export, row)| {
-            (export.name, export.offset, export.rva, export.reexport) == *row && export.size == 0
-        })
+    match (exports, rows) {
+        ([], []) => true,
+        ([only], [row]) => is_export(only, row),
+        ([first, second], [row, last]) => is_export(first, row) && is_export(second, last),
+        _ => false,
+    }
+}
+
+/// Whether this is the export of a row.
+pub fn is_export(export: &Export, row: &ExportRow) -> bool {
+    (export.name, export.offset, export.rva, export.reexport) == *row && export.size == 0
 }

@@ -1,12 +1,9 @@
 //! A run of the program: the whole input is read, listed, and the listing is written.
 
 ghost use Rattle.std.specs.Prelude.{◌≡◌, ◌≢◌, ◌<◌, length, string_bytes, Err, IfErr, IfOk, IfSome};
-ghost use Rattle.std.specs.Prelude.{IsSome, IsSomeAnd, IsTrue, None, OnErr, OnOk, Some};
+ghost use Rattle.std.specs.Prelude.{IsSomeAnd, IsTrue, None, OnErr, OnOk, Some};
 ghost use Rattle.std.specs.Io.KnownBytes.{Appends, Keeps};
 ghost use Rattle.goblin_pe.specs.Answers.{IsMemory};
-ghost use Rattle.goblin_pe.specs.HeaderReadings.{pe_header};
-ghost use Rattle.goblin_pe.specs.Options.{is_strict};
-ghost use Rattle.goblin_pe.specs.Reading.{ReadsOrMemory};
 ghost use Rattle.pe_listing.specs.Listing.{listing_of};
 ghost use Rattle.pe_list.specs.Run.{AppendsPart, IfRefused};
 

@@ -1,20 +1,4 @@
-//! The lines that list a file, in this order:
-//!
-//! | Line | When |
-//! |---|---|
-//! | `header machine=H sections=D magic=H entry=H` | always; without an optional header up to `sections=D` |
-//! | `section va=H vsize=H raw=H ptr=H name=N` | each section; the name from the string table, else the eight bytes up to a NUL |
-//! | `imports absent` or `imports D` | always; permissive mode makes an empty list (`imports 0`) of a directory that can't be read |
-//! | `import offset=H ordinal=D rva=H size=D slot=D dll=N name=N` | each import |
-//! | `exports absent`, `exports refused` or `exports D` | always; `refused` in permissive mode alone, since strict mode refuses the file |
-//! | `export rva=H offset=H forward=N name=N` | each export; what there is none of is left out, and a forwarder is `library.name` or `library.#D` |
-//! | `relocations absent`, `relocations refused` or `relocations D` | always; `refused` as of exports; the number of the blocks that come without error |
-//! | `block rva=H size=H words=D` | each block |
-//! | `block refused` | where a rest follows the blocks |
-//!
-//! H is `0x` and hexadecimal digits, D decimal digits, N a name, escaped as
-//! [`push_name`](crate::text::push_name) says. The fields are those of [`Header`],
-//! [`SectionTable`], [`Import`], [`Export`] and [`RelocationBlock`]. A line ends with a line feed.
+//! The lines that list a file, as the [crate's root](crate) says.
 
 ghost use Rattle.std.specs.Prelude.{◌≡◌, ◌++◌, ℕ, List, OnOk, codes, length, option_map};
 ghost use Rattle.std.specs.Prelude.{string_bytes};

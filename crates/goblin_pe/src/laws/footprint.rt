@@ -12,6 +12,7 @@ ghost use Rattle.goblin_pe.specs.Whole.{entry_format, export_part, import_parts,
 ghost use Rattle.goblin_pe.specs.Whole.{relocation_part, table_parts, whole_after};
 ghost use Rattle.goblin_pe.specs.Whole.{whole_file, whole_with};
 
+use crate::laws::texts::error_for;
 use goblin_base::footprint::add_slice;
 use goblin_base::{ResultOf, is_passed_over};
 use goblin_pe_export::laws::add_exports;
@@ -176,7 +177,7 @@ fn add_after<'a, 'e>(
     match coff_header.sections_with_opts(alloc, bytes, &mut offset, opts) {
         Ok(sections) => add_tables_by(alloc, ranges, bytes, header, &sections, opts),
         Err(error) if is_passed_over(&error, true) => Ok(()),
-        Err(error) => Err(error),
+        Err(error) => Err(error_for(error)),
     }
 }
 

@@ -6,6 +6,7 @@ ghost use Rattle.goblin_pe.specs.TableRuns.{AreAlike, AreGrown, AreTables};
 
 use crate::data_directories::DataDirectory;
 use crate::import::{Bitfield, ImportData, ImportLookupTable, SyntheticImportLookupTableEntry};
+use crate::laws::texts::answer_for;
 use crate::options::ParseOptions;
 use crate::relocation::RelocationData;
 use crate::section_table::SectionTable;
@@ -96,14 +97,14 @@ pub(super) fn read_tables<'a, 'e, T: Bitfield<'a>, D: TryFromCtx<'a>>(
             file_alignment,
             opts,
         ),
-        relocations: RelocationData::parse_with_opts(
+        relocations: answer_for(RelocationData::parse_with_opts(
             bytes,
             request.relocations,
             sections,
             file_alignment,
             opts,
-        ),
-        name: safe_try_name(bytes, request.name, sections, file_alignment, opts),
+        )),
+        name: answer_for(safe_try_name(bytes, request.name, sections, file_alignment, opts)),
         value: get_data_with_opts(bytes, sections, request.value, file_alignment, opts),
     }
 }

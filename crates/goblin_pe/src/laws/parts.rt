@@ -11,6 +11,7 @@ ghost use Rattle.goblin_pe.specs.TwinParts.{te_view};
 
 use crate::data_directories::DataDirectory;
 use crate::header::{CoffHeader, Header, TeHeader};
+use crate::laws::texts::answer_for;
 use crate::options::ParseOptions;
 use crate::relocation::RelocationData;
 use crate::section_table::SectionTable;
@@ -80,18 +81,18 @@ fn read_parts<'a, 'e, D: TryFromCtx<'a>>(
 {
     let mut end = offset;
     PartsOf {
-        header: Header::parse_without_dos(bytes),
-        sections: coff_header.sections_with_opts(alloc, bytes, &mut end, opts),
-        symbols: coff_header.symbols(bytes),
-        strings: coff_header.strings(alloc, bytes),
-        te: read_te(alloc, bytes, offset),
-        relocations: RelocationData::parse_with_opts(
+        header: answer_for(Header::parse_without_dos(bytes)),
+        sections: answer_for(coff_header.sections_with_opts(alloc, bytes, &mut end, opts)),
+        symbols: answer_for(coff_header.symbols(bytes)),
+        strings: answer_for(coff_header.strings(alloc, bytes)),
+        te: answer_for(read_te(alloc, bytes, offset)),
+        relocations: answer_for(RelocationData::parse_with_opts(
             bytes,
             relocations,
             sections,
             file_alignment,
             opts,
-        ),
+        )),
         value: get_data_with_opts(bytes, sections, value, file_alignment, opts),
     }
 }

@@ -1,7 +1,7 @@
 //! The whole header of a PE file.
 
-ghost use Rattle.std.specs.Prelude.{◌≡◌, ◌+◌, ◌≤◌, IfErr, IfOk, IfSome, IsSomeAnd, None, OnErr};
-ghost use Rattle.std.specs.Prelude.{OnOk, Some, drop, length, option_and_then, option_map, true};
+ghost use Rattle.std.specs.Prelude.{◌≡◌, ◌+◌, ◌≤◌, IfOk, IfSome, IsSomeAnd, None, OnErr};
+ghost use Rattle.std.specs.Prelude.{OnOk, Some, length, option_and_then, option_map, true};
 ghost use Rattle.goblin_base.specs.declared.endian.Endian.{Endian};
 ghost use Rattle.goblin_base.specs.Reading.{Reads};
 ghost use Rattle.goblin_base.specs.Answers.{Answers, Writes, IsSliceFault, FirstFault};
@@ -210,7 +210,7 @@ impl<'a> Header<'a> {
         };
         let mut end = offset + SIZEOF_PE_MAGIC;
         let coff_header = CoffHeader::parse(bytes, &mut end)?;
-        // No other part is refused, so that the rest is put after it.
+        // Nothing after this can be refused, so the other fields are set only then.
         let size = coff_header.size_of_optional_header;
         read_optional(&mut self.optional_header, bytes, end, size)?;
         self.dos_header = dos_header;

@@ -1,5 +1,6 @@
 //! Numbers, slices and texts at an offset, string tables, and what the modes make of a refusal.
 
+use fixture::sample::{is_err, is_ok};
 use goblin_base::{
     Endian, Error, ParseMode, Permissive, ReadFault, Result, Strtab, gread_slice, gread_str,
     gread_str_until, gread_u16, gread_u32, gread_u64, pread_str, pread_str_until, pread_u16,
@@ -20,16 +21,16 @@ const NUMBERS: [(Endian, u16, u32, u64); 2] = [
 ];
 
 fn are_read(endian: Endian, of_two: u16, of_four: u32, of_eight: u64) -> bool {
-    matches!(pread_u16(&BYTES, 0, endian), Ok(number) if number == of_two)
-        && matches!(pread_u32(&BYTES, 0, endian), Ok(number) if number == of_four)
-        && matches!(pread_u64(&BYTES, 0, endian), Ok(number) if number == of_eight)
+    is_ok(pread_u16(&BYTES, 0, endian), &of_two)
+        && is_ok(pread_u32(&BYTES, 0, endian), &of_four)
+        && is_ok(pread_u64(&BYTES, 0, endian), &of_eight)
 }
 
 fn are_read_in_turn(endian: Endian, of_two: u16, of_four: u32, of_eight: u64) -> bool {
     let mut offset = 0;
-    matches!(gread_u16(&IN_TURN, &mut offset, endian), Ok(number) if number == of_two)
-        && matches!(gread_u32(&IN_TURN, &mut offset, endian), Ok(number) if number == of_four)
-        && matches!(gread_u64(&IN_TURN, &mut offset, endian), Ok(number) if number == of_eight)
+    is_ok(gread_u16(&IN_TURN, &mut offset, endian), &of_two)
+        && is_ok(gread_u32(&IN_TURN, &mut offset, endian), &of_four)
+        && is_ok(gread_u64(&IN_TURN, &mut offset, endian), &of_eight)
         && offset == IN_TURN.len()
 }
 
@@ -44,41 +45,37 @@ fn are_written(endian: Endian, of_two: u16, of_four: u32, of_eight: u64) -> bool
 #[test]
 fn numbers_of_each_width_are_read_and_written_in_both_orders(rt: HostRuntime) {
     for (endian, of_two, of_four, of_eight) in NUMBERS {
-        assert!(rt; are_read(endian, of_two, of_four, of_eight), "{endian:?}");
-        assert!(rt;
-            are_read_in_turn(endian, of_two, of_four, of_eight),
-            "{endian:?}"
-        );
-        assert!(rt;
-            are_written(endian, of_two, of_four, of_eight),
-            "{endian:?}"
-        );
+        let is_right = are_read(endian, of_two, of_four, of_eight)
+            && are_read_in_turn(endian, of_two, of_four, of_eight)
+            && are_written(endian, of_two, of_four, of_eight);
+        assert!(rt; is_right, "{endian:?}");
     }
 }
 
 /// Whether so many bytes at an offset are refused for this fault, read and written, and nothing
 /// moves or changes.
-fn are_refused(begin: usize, len: usize, want: ReadFault) -> bool {
+fn are_refused(begin: usize, len: usize, want: &Error) -> bool {
     let (mut offset, mut room) = (begin, BYTES);
-    let read = gread_slice(&BYTES, &mut offset, len);
-    let written = pwrite_slice(&mut room, begin, IN_TURN.get(..len).unwrap_or(&IN_TURN));
-    matches!(read, Err(Error::Read(fault)) if fault == want)
-        && matches!(written, Err(Error::Read(fault)) if fault == want)
+    let bytes = IN_TURN.get(..len).unwrap_or(&IN_TURN);
+    is_err(gread_slice(&BYTES, &mut offset, len), want)
+        && is_err(pwrite_slice(&mut room, begin, bytes), want)
         && offset == begin
         && room == BYTES
 }
 
+/// Where bytes begin and how many they are, and why they are refused.
+const PAST_THE_END: &[(usize, usize, Error)] = &[
+    (8, 0, Error::Read(ReadFault::BadOffset)),
+    (8, 2, Error::Read(ReadFault::BadOffset)),
+    (7, 2, Error::Read(ReadFault::TooBig)),
+    (usize::MAX, 2, Error::Read(ReadFault::BadOffset)),
+    (1, usize::MAX, Error::Read(ReadFault::TooBig)),
+];
+
 #[test]
 fn what_passes_the_end_is_refused_and_so_is_nothing_at_the_end(rt: HostRuntime) {
-    let rows = [
-        (8, 0, ReadFault::BadOffset),
-        (8, 2, ReadFault::BadOffset),
-        (7, 2, ReadFault::TooBig),
-        (usize::MAX, 2, ReadFault::BadOffset),
-        (1, usize::MAX, ReadFault::TooBig),
-    ];
-    for (begin, len, want) in rows {
-        assert!(rt; are_refused(begin, len, want), "{len} bytes at {begin}");
+    for (begin, len, want) in PAST_THE_END {
+        assert!(rt; are_refused(*begin, *len, want), "{len} bytes at {begin}");
     }
 }
 
@@ -88,71 +85,72 @@ const TEXTS: &[u8; 4] = b"ab\0c";
 /// Whether the text at an offset is this, and the offset moves to `end`.
 fn is_text(begin: usize, want: &str, end: usize) -> bool {
     let mut offset = begin;
-    matches!(pread_str(TEXTS, begin), Ok(text) if text == want)
-        && matches!(gread_str(TEXTS, &mut offset), Ok(text) if text == want)
+    is_ok(pread_str(TEXTS, begin), &want)
+        && is_ok(gread_str(TEXTS, &mut offset), &want)
         && offset == end
+}
+
+#[test]
+fn a_text_ends_at_a_nul_or_with_the_bytes(rt: HostRuntime) {
+    assert!(rt; is_text(0, "ab", 3));
+    assert!(rt; is_text(2, "", 3));
+    assert!(rt; is_text(3, "c", 4));
 }
 
 /// Whether the text within so many bytes at the front is this, and the offset moves to `end`.
 fn is_bounded_text(len: usize, want: &str, end: usize) -> bool {
     let mut offset = 0;
-    matches!(pread_str_until(TEXTS, 0, len), Ok(text) if text == want)
-        && matches!(gread_str_until(TEXTS, &mut offset, len), Ok(text) if text == want)
+    is_ok(pread_str_until(TEXTS, 0, len), &want)
+        && is_ok(gread_str_until(TEXTS, &mut offset, len), &want)
         && offset == end
 }
 
 #[test]
-fn a_text_ends_at_a_nul_at_its_bound_or_with_the_bytes(rt: HostRuntime) {
-    for (begin, want, end) in [(0, "ab", 3), (2, "", 3), (3, "c", 4)] {
-        assert!(rt; is_text(begin, want, end), "at {begin}");
-    }
-    for (len, want, end) in [(0, "", 0), (2, "ab", 2), (3, "ab", 3), (4, "ab", 3)] {
-        assert!(rt; is_bounded_text(len, want, end), "within {len}");
-    }
+fn a_text_ends_at_its_bound(rt: HostRuntime) {
+    assert!(rt; is_bounded_text(0, "", 0));
+    assert!(rt; is_bounded_text(2, "ab", 2));
+    assert!(rt; is_bounded_text(3, "ab", 3));
+    assert!(rt; is_bounded_text(4, "ab", 3));
 }
 
-/// Whether a string table of all the bytes has this text at an offset.
-fn is_string(alloc: Global, bytes: &[u8], offset: usize, want: Option<&str>) -> bool {
+/// Whether a string table has these texts at the offsets from the first on.
+fn has_strings(table: &Strtab, strings: &[Option<&str>]) -> bool {
+    for (offset, want) in strings.iter().enumerate() {
+        if table.get_at(offset) != *want {
+            return false;
+        }
+    }
+    true
+}
+
+/// Whether one of all the bytes does.
+fn are_strings(alloc: Global, bytes: &[u8], strings: &[Option<&str>]) -> bool {
     let table = Strtab::parse(alloc, bytes, 0, bytes.len(), 0);
-    matches!(&table, Ok(table) if table.get_at(offset) == want)
+    matches!(&table, Ok(table) if has_strings(table, strings))
 }
 
-/// The strings at the offsets of a table from the first on.
-const STRINGS: &[(&[u8], &[Option<&str>])] = &[
-    (
-        b"ab\0c",
-        &[Some("ab"), Some("b"), Some(""), Some("c"), Some(""), None],
-    ),
-    (b"a\0", &[Some("a"), Some(""), None]),
-];
+/// The strings at the offsets of each table.
+const OF_TWO: &[Option<&str>] = &[Some("ab"), Some("b"), Some(""), Some("c"), Some(""), None];
+
+const OF_ONE: &[Option<&str>] = &[Some("a"), Some(""), None];
 
 #[test]
 fn a_string_is_what_is_left_of_its_piece(rt: HostRuntime) {
-    for (bytes, strings) in STRINGS {
-        for (offset, want) in strings.iter().enumerate() {
-            assert!(rt;
-                is_string(rt.alloc(), bytes, offset, *want),
-                "{offset} of {bytes:?}"
-            );
-        }
-    }
+    assert!(rt; are_strings(rt.alloc(), b"ab\0c", OF_TWO));
+    assert!(rt; are_strings(rt.alloc(), b"a\0", OF_ONE));
 }
 
 fn refused() -> Result<u8> {
     Err(Error::Read(ReadFault::BadOffset))
 }
 
-/// What a mode makes of a refusal, with a default, with a value, and with what a closure gives.
-fn outcomes(permissive: bool) -> [Result<u8>; 3] {
-    [
-        refused().or_permissive_and_default(permissive, "a byte"),
-        refused().or_permissive_and_value(permissive, "a byte", 7),
-        refused().or_permissive_and_then(permissive, "a byte", || 9),
-    ]
-}
-
 #[test]
 fn permissive_mode_passes_over_a_refusal(rt: HostRuntime) {
-    let [default, value, computed] = outcomes(ParseMode::Permissive.is_permissive());
-    assert!(rt; matches!((default, value, computed), (Ok(0), Ok(7), Ok(9))));
+    let permissive = ParseMode::Permissive.is_permissive();
+    let default = refused().or_permissive_and_default(permissive, "a byte");
+    assert!(rt; is_ok(default, &0));
+    let value = refused().or_permissive_and_value(permissive, "a byte", 7);
+    assert!(rt; is_ok(value, &7));
+    let computed = refused().or_permissive_and_then(permissive, "a byte", || 9);
+    assert!(rt; is_ok(computed, &9));
 }

@@ -1,9 +1,8 @@
 //! The data directories of an optional header.
 
-use fixture::sample::directory;
-use goblin_base::{Cause, Endian, Error, gread_with, pread_with, pwrite_u32};
+use fixture::sample::{directory, is_ok, put};
+use goblin_base::{Cause, Endian, Error, gread_with, pread_with};
 use goblin_pe_sect::{DataDirectories, DataDirectory, DataDirectoryType};
-use std::test::Fail;
 
 /// The directories of a small program: their indexes, addresses and sizes.
 const ENTRIES: [(usize, u32, u32); 7] = [
@@ -17,13 +16,13 @@ const ENTRIES: [(usize, u32, u32); 7] = [
 ];
 
 /// Their records.
-fn records() -> goblin_base::Result<[u8; 128]> {
+fn records() -> [u8; 128] {
     let mut bytes = [0; 128];
     for (index, virtual_address, size) in ENTRIES {
-        pwrite_u32(&mut bytes, 8 * index, virtual_address, Endian::Little)?;
-        pwrite_u32(&mut bytes, 8 * index + 4, size, Endian::Little)?;
+        put(&mut bytes, 8 * index, &virtual_address.to_le_bytes());
+        put(&mut bytes, 8 * index + 4, &size.to_le_bytes());
     }
-    Ok(bytes)
+    bytes
 }
 
 /// What should be read from them: each directory, with the offset after its record.
@@ -36,19 +35,17 @@ fn want() -> DataDirectories {
 }
 
 #[test]
-fn directories_are_read_with_the_offsets_after_them(rt: HostRuntime) -> Result<(), Fail> {
+fn directories_are_read_with_the_offsets_after_them(rt: HostRuntime) {
     let mut offset = 0;
-    let read = DataDirectories::parse(&records()?, 16, &mut offset)?;
-    assert!(rt; read == want() && offset == 128);
-    Ok(())
+    let read = DataDirectories::parse(&records(), 16, &mut offset);
+    assert!(rt; is_ok(read, &want()) && offset == 128);
 }
 
 #[test]
-fn directories_are_written_as_they_stood(rt: HostRuntime) -> Result<(), Fail> {
+fn directories_are_written_as_they_stood(rt: HostRuntime) {
     let mut room = [0xFF; 128];
     let written = want().try_into_ctx(&mut room, Endian::Little);
-    assert!(rt; matches!(written, Ok(128)) && room == records()?);
-    Ok(())
+    assert!(rt; matches!(written, Ok(128)) && room == records());
 }
 
 /// Whether this is the directory of an entry, with its kind.
@@ -62,24 +59,33 @@ fn is_entry(
     }
 }
 
-#[test]
-fn directories_that_are_there_come_with_their_kinds(rt: HostRuntime) {
-    let table = want();
+/// Whether a table has the directories of the program with their kinds, and no others.
+fn has_entries(table: &DataDirectories) -> bool {
     let mut found = table.dirs();
     for entry in ENTRIES {
-        assert!(rt; is_entry(found.next(), entry), "{entry:?}");
+        if !is_entry(found.next(), entry) {
+            return false;
+        }
     }
-    assert!(rt; found.next().is_none());
+    found.next().is_none()
 }
 
 #[test]
-fn the_reserved_directory_has_no_kind(rt: HostRuntime) -> Result<(), Fail> {
+fn directories_that_are_there_come_with_their_kinds(rt: HostRuntime) {
+    assert!(rt; has_entries(&want()));
+}
+
+/// Whether a table has this in the place that is reserved, and no directories with a kind.
+fn has_reserved(table: &DataDirectories, want: DataDirectory) -> bool {
+    table.data_directories[15] == Some((128, want)) && table.dirs().next().is_none()
+}
+
+#[test]
+fn the_reserved_directory_has_no_kind(rt: HostRuntime) {
     let mut bytes = [0; 128];
     bytes[127] = 1;
-    let read = DataDirectories::parse(&bytes, 16, &mut 0)?;
-    let want = directory(0, 0x0100_0000);
-    assert!(rt; read.data_directories[15] == Some((128, want)) && read.dirs().next().is_none());
-    Ok(())
+    let read = DataDirectories::parse(&bytes, 16, &mut 0);
+    assert!(rt; matches!(&read, Ok(table) if has_reserved(table, directory(0, 0x0100_0000))));
 }
 
 #[test]
@@ -89,18 +95,21 @@ fn more_directories_than_the_table_has_are_refused(rt: HostRuntime) {
     assert!(rt; matches!(read, Err(Error::Malformed(Cause::DirectoryCount(17)))) && offset == 1);
 }
 
+/// Bytes that go up, after one that is not read.
+const BYTES: &[u8; 17] = b"?\x01\x02\x03\x04\x05\x06\x07\x08\x09\x0A\x0B\x0C\x0D\x0E\x0F\x10";
+
+/// Whether the directory at an offset of them is this.
+fn is_next(offset: &mut usize, endian: Endian, want: DataDirectory) -> bool {
+    is_ok(gread_with::<DataDirectory>(BYTES, offset, endian), &want)
+}
+
 #[test]
 fn directories_are_read_one_after_the_other_in_either_order(rt: HostRuntime) {
-    let bytes = b"?\x01\x02\x03\x04\x05\x06\x07\x08\x09\x0A\x0B\x0C\x0D\x0E\x0F\x10";
+    let first = directory(0x0102_0304, 0x0506_0708);
+    let second = directory(0x0C0B_0A09, 0x100F_0E0D);
     let mut offset = 1;
-    let first = gread_with::<DataDirectory>(bytes, &mut offset, Endian::Big);
-    let second = gread_with::<DataDirectory>(bytes, &mut offset, Endian::Little);
-    let want = (
-        directory(0x0102_0304, 0x0506_0708),
-        directory(0x0C0B_0A09, 0x100F_0E0D),
-    );
-    assert!(rt; matches!((first, second), (Ok(first), Ok(second)) if (first, second) == want));
-    assert!(rt; offset == 17);
-    let placed = pread_with::<DataDirectory>(bytes, 9, Endian::Little);
-    assert!(rt; matches!(placed, Ok(placed) if placed == want.1));
+    assert!(rt; is_next(&mut offset, Endian::Big, first));
+    assert!(rt; is_next(&mut offset, Endian::Little, second) && offset == 17);
+    let placed = pread_with::<DataDirectory>(BYTES, 9, Endian::Little);
+    assert!(rt; is_ok(placed, &second));
 }

@@ -1,7 +1,7 @@
 //! The headers of a file, and its section table.
 
 use fixture::sample::{
-    EXPORTS, IMPORTS, MODES, TABLE, directory, in_mode, put_all, sample, sample_with,
+    EXPORTS, IMPORTS, TABLE, directory, in_mode, is_err, is_ok, put_all, sample, sample_with,
 };
 use goblin_base::{Cause, Error, ParseMode};
 use goblin_pe_head::header::{COFF_MACHINE_X86, COFF_MACHINE_X86_64, DOS_MAGIC, PE_MAGIC};
@@ -9,7 +9,6 @@ use goblin_pe_head::optional_header::{MAGIC_32, MAGIC_64, StandardFields, Window
 use goblin_pe_head::{CoffHeader, DosHeader, DosStub, Header, OptionalHeader};
 use goblin_pe_sect::{DataDirectories, SectionTable};
 use std::alloc::Global;
-use std::test::Fail;
 
 /// The sample file's COFF header.
 pub fn sample_coff() -> CoffHeader {
@@ -66,76 +65,68 @@ fn sample_header() -> Header<'static> {
 
 /// Whether a file's header is read in a mode, and is this.
 fn is_header(file: &[u8], mode: ParseMode, want: &Header<'_>) -> bool {
-    matches!(Header::parse_with_opts(file, &in_mode(mode)), Ok(header) if header == *want)
+    is_ok(Header::parse_with_opts(file, &in_mode(mode)), want)
 }
 
 #[test]
-fn the_parts_of_a_header_are_read_in_both_modes(rt: HostRuntime) -> Result<(), Fail> {
-    let file = sample(rt.alloc())?;
-    for mode in MODES {
-        assert!(rt; is_header(&file, mode, &sample_header()), "{mode:?}");
-    }
-    Ok(())
+fn the_parts_of_a_header_are_read_in_both_modes(rt: HostRuntime) {
+    let (file, want) = (sample(), sample_header());
+    assert!(rt; is_header(&file, ParseMode::Strict, &want));
+    assert!(rt; is_header(&file, ParseMode::Permissive, &want));
 }
 
-/// Whether a file's header is refused in a mode for this.
-fn is_refused(file: &[u8], mode: ParseMode, want: &Error) -> bool {
-    matches!(Header::parse_with_opts(file, &in_mode(mode)), Err(error) if error == *want)
+/// Whether a file's header is refused in both modes for this.
+fn is_refused(file: &[u8], want: &Error) -> bool {
+    is_err(
+        Header::parse_with_opts(file, &in_mode(ParseMode::Strict)),
+        want,
+    ) && is_err(
+        Header::parse_with_opts(file, &in_mode(ParseMode::Permissive)),
+        want,
+    )
 }
 
 #[test]
-fn a_wrong_magic_and_too_many_directories_are_refused(rt: HostRuntime) -> Result<(), Fail> {
-    let rows: [(usize, &[u8], Error); 2] = [
-        (0x58, b"\x07\x01", Error::BadMagic(0x107)),
-        (0xB4, b"\x11", Error::Malformed(Cause::DirectoryCount(17))),
-    ];
-    for (offset, bytes, want) in &rows {
-        let file = sample_with(rt.alloc(), *offset, bytes)?;
-        for mode in MODES {
-            assert!(rt; is_refused(&file, mode, want), "{want} {mode:?}");
-        }
-    }
-    Ok(())
+fn a_wrong_magic_and_too_many_directories_are_refused(rt: HostRuntime) {
+    let wrong = sample_with(0x58, b"\x07\x01");
+    assert!(rt; is_refused(&wrong, &Error::BadMagic(0x107)));
+    let many = sample_with(0xB4, b"\x11");
+    assert!(rt; is_refused(&many, &Error::Malformed(Cause::DirectoryCount(17))));
 }
 
 /// What is read of the sample's section table, if it should have so many sections.
-fn sections_of(
-    alloc: Global,
-    file: &[u8],
-    number_of_sections: u16,
-) -> goblin_base::Result<Vec<SectionTable>> {
+fn sections_of(alloc: Global, number_of_sections: u16) -> goblin_base::Result<Vec<SectionTable>> {
     let coff = CoffHeader {
         number_of_sections,
         ..sample_coff()
     };
-    coff.sections(alloc, file, &mut TABLE)
+    coff.sections(alloc, &sample(), &mut TABLE)
 }
 
 #[test]
-fn sections_past_the_end_are_refused(rt: HostRuntime) -> Result<(), Fail> {
-    let file = sample(rt.alloc())?;
-    let many = sections_of(rt.alloc(), &file, 20);
-    assert!(rt; matches!(&many, Err(Error::BufferTooShort(20, "sections"))));
-    let last = sections_of(rt.alloc(), &file, 19);
-    assert!(rt; matches!(&last, Err(Error::Read(_))));
-    Ok(())
+fn sections_past_the_end_are_refused(rt: HostRuntime) {
+    let want = Error::BufferTooShort(20, "sections");
+    assert!(rt; is_err(sections_of(rt.alloc(), 20), &want));
+    assert!(rt; matches!(&sections_of(rt.alloc(), 19), Err(Error::Read(_))));
+}
+
+/// A file of 64 bytes with these at their offsets.
+fn short_file(parts: &[(usize, &[u8])]) -> [u8; 64] {
+    let mut file = [0; 64];
+    put_all(&mut file, parts);
+    file
 }
 
 #[test]
 fn a_signature_past_the_file_is_told(rt: HostRuntime) {
-    let mut file = [0; 64];
-    put_all(&mut file, &[(0, b"MZ"), (0x3C, b"\x3C\xFF")]);
-    let read = DosHeader::parse(&file);
-    assert!(rt; matches!(&read, Err(Error::Malformed(Cause::NoPeSignature(0xFF3C)))));
+    let file = short_file(&[(0, b"MZ"), (0x3C, b"\x3C\xFF")]);
+    let want = Error::Malformed(Cause::NoPeSignature(0xFF3C));
+    assert!(rt; is_err(DosHeader::parse(&file), &want));
 }
 
-#[test]
-fn a_signature_within_the_dos_header_has_no_stub_in_front(rt: HostRuntime) {
-    let mut file = [0; 64];
-    put_all(&mut file, &[(0, b"MZ"), (4, b"PE"), (0x3C, b"\x04")]);
-    let refused = Header::parse(&file);
-    assert!(rt; matches!(refused, Err(Error::Malformed(Cause::StubBeforeStart(4)))));
-    let want = Header {
+/// The header of a file whose PE signature stands at 4.
+fn header_without_stub() -> Header<'static> {
+    Header {
         dos_header: DosHeader {
             signature: DOS_MAGIC,
             pages_in_file: 0x4550,
@@ -144,8 +135,15 @@ fn a_signature_within_the_dos_header_has_no_stub_in_front(rt: HostRuntime) {
         },
         signature: PE_MAGIC,
         ..Header::default()
-    };
-    assert!(rt; is_header(&file, ParseMode::Permissive, &want));
+    }
+}
+
+#[test]
+fn a_signature_within_the_dos_header_has_no_stub_in_front(rt: HostRuntime) {
+    let file = short_file(&[(0, b"MZ"), (4, b"PE"), (0x3C, b"\x04")]);
+    let want = Error::Malformed(Cause::StubBeforeStart(4));
+    assert!(rt; is_err(Header::parse(&file), &want));
+    assert!(rt; is_header(&file, ParseMode::Permissive, &header_without_stub()));
 }
 
 #[test]

@@ -1,14 +1,13 @@
 //! The optional header of either width.
 
 use fixture::sample::{directory, put};
-use goblin_base::{Cause, Container, Endian, Error, ResultOf, TryFromCtx, pwrite_u32};
+use goblin_base::{Cause, Container, Endian, Error, TryFromCtx};
 use goblin_pe_head::OptionalHeader;
 use goblin_pe_head::optional_header::{
     StandardFields, StandardFields32, StandardFields64, WindowsFields, WindowsFields32,
     WindowsFields64,
 };
 use goblin_pe_sect::DataDirectories;
-use std::test::Fail;
 
 /// Some directories of a header for 64 bits: their indexes, addresses and sizes, and where their
 /// records end.
@@ -23,15 +22,15 @@ const ENTRIES: [(usize, u32, u32, usize); 7] = [
 ];
 
 /// That header, and a byte after it.
-fn header_of_directories() -> goblin_base::Result<[u8; 241]> {
+fn header_of_directories() -> [u8; 241] {
     let mut bytes = [0; 241];
     put(&mut bytes, 0, b"\x0B\x02");
     put(&mut bytes, 108, b"\x10");
     for (_, virtual_address, size, end) in ENTRIES {
-        pwrite_u32(&mut bytes, end - 8, virtual_address, Endian::Little)?;
-        pwrite_u32(&mut bytes, end - 4, size, Endian::Little)?;
+        put(&mut bytes, end - 8, &virtual_address.to_le_bytes());
+        put(&mut bytes, end - 4, &size.to_le_bytes());
     }
-    Ok(bytes)
+    bytes
 }
 
 /// The directories that should be read from it.
@@ -43,131 +42,132 @@ fn directories() -> DataDirectories {
     table
 }
 
+/// Whether that header is read by an order of numbers, up to the byte after it.
+fn is_read(endian: Endian) -> bool {
+    matches!(OptionalHeader::try_from_ctx(&header_of_directories(), endian), Ok((header, 240))
+        if header.data_directories == directories()
+            && matches!(header.container(), Ok(Container::Big)))
+}
+
 #[test]
-fn directories_for_64_bits_end_where_the_header_counts(rt: HostRuntime) -> Result<(), Fail> {
+fn directories_for_64_bits_end_where_the_header_counts(rt: HostRuntime) {
     // The order of numbers is not asked for.
-    for endian in [Endian::Little, Endian::Big] {
-        let read = OptionalHeader::try_from_ctx(&header_of_directories()?, endian);
-        assert!(rt;
-            matches!(read, Ok((header, 240)) if header.data_directories == directories()
-                && matches!(header.container(), Ok(Container::Big))),
-            "{endian:?}"
-        );
-    }
-    Ok(())
-}
-
-/// The widths of the fields of both records, for 32 and for 64 bits.
-const STANDARD_32: [usize; 9] = [2, 1, 1, 4, 4, 4, 4, 4, 4];
-
-const STANDARD_64: [usize; 8] = [2, 1, 1, 4, 4, 4, 4, 4];
-
-const WINDOWS_32: [usize; 21] = [
-    4, 4, 4, 2, 2, 2, 2, 2, 2, 4, 4, 4, 4, 2, 2, 4, 4, 4, 4, 4, 4,
-];
-
-const WINDOWS_64: [usize; 21] = [
-    8, 4, 4, 2, 2, 2, 2, 2, 2, 4, 4, 4, 4, 2, 2, 8, 8, 8, 8, 4, 4,
-];
-
-/// The values of the fields of both records, in their order.
-fn standard_values(fields: &StandardFields) -> [u64; 9] {
-    [
-        u64::from(fields.magic),
-        u64::from(fields.major_linker_version),
-        u64::from(fields.minor_linker_version),
-        fields.size_of_code,
-        fields.size_of_initialized_data,
-        fields.size_of_uninitialized_data,
-        u64::from(fields.address_of_entry_point),
-        fields.base_of_code,
-        u64::from(fields.base_of_data),
-    ]
-}
-
-fn windows_values(fields: &WindowsFields) -> [u64; 21] {
-    [
-        fields.image_base,
-        u64::from(fields.section_alignment),
-        u64::from(fields.file_alignment),
-        u64::from(fields.major_operating_system_version),
-        u64::from(fields.minor_operating_system_version),
-        u64::from(fields.major_image_version),
-        u64::from(fields.minor_image_version),
-        u64::from(fields.major_subsystem_version),
-        u64::from(fields.minor_subsystem_version),
-        u64::from(fields.win32_version_value),
-        u64::from(fields.size_of_image),
-        u64::from(fields.size_of_headers),
-        u64::from(fields.check_sum),
-        u64::from(fields.subsystem),
-        u64::from(fields.dll_characteristics),
-        fields.size_of_stack_reserve,
-        fields.size_of_stack_commit,
-        fields.size_of_heap_reserve,
-        fields.size_of_heap_commit,
-        u64::from(fields.loader_flags),
-        u64::from(fields.number_of_rva_and_sizes),
-    ]
-}
-
-/// Whether these are the numbers of bytes that go up, of these widths, one after the other.
-fn go_up(values: &[u64], widths: &[usize]) -> bool {
-    let mut byte = 0u8;
-    for (value, width) in values.iter().zip(widths) {
-        let mut number = 0u64;
-        for _ in 0..*width {
-            byte = byte.wrapping_add(1);
-            number = number << 8 | u64::from(byte);
-        }
-        if number != *value {
-            return false;
-        }
-    }
-    true
-}
-
-/// A record of bytes that go up, its highest bytes first.
-fn rising<'a, 'e, T: TryFromCtx<'a>>(bytes: &'a [u8]) -> ResultOf<'e, T> {
-    let (fields, _) = T::try_from_ctx(bytes, Endian::Big)?;
-    Ok(fields)
+    assert!(rt; is_read(Endian::Little));
+    assert!(rt; is_read(Endian::Big));
 }
 
 /// The bytes from 1 on.
-fn rising_bytes() -> [u8; 88] {
-    let mut bytes = [0; 88];
-    for (byte, value) in bytes.iter_mut().zip(1u8..) {
-        *byte = value;
-    }
-    bytes
+const RISING: &[u8; 88] =
+    b"\x01\x02\x03\x04\x05\x06\x07\x08\x09\x0A\x0B\x0C\x0D\x0E\x0F\x10\x11\x12\x13\x14\x15\x16\
+    \x17\x18\x19\x1A\x1B\x1C\x1D\x1E\x1F\x20\x21\x22\x23\x24\x25\x26\x27\x28\x29\x2A\x2B\x2C\
+    \x2D\x2E\x2F\x30\x31\x32\x33\x34\x35\x36\x37\x38\x39\x3A\x3B\x3C\x3D\x3E\x3F\x40\x41\x42\
+    \x43\x44\x45\x46\x47\x48\x49\x4A\x4B\x4C\x4D\x4E\x4F\x50\x51\x52\x53\x54\x55\x56\x57\x58";
+
+/// The standard fields of those bytes, for 32 and for 64 bits.
+const STANDARD_32: StandardFields = StandardFields {
+    magic: 0x0102,
+    major_linker_version: 0x03,
+    minor_linker_version: 0x04,
+    size_of_code: 0x0506_0708,
+    size_of_initialized_data: 0x090A_0B0C,
+    size_of_uninitialized_data: 0x0D0E_0F10,
+    address_of_entry_point: 0x1112_1314,
+    base_of_code: 0x1516_1718,
+    base_of_data: 0x191A_1B1C,
+};
+
+const STANDARD_64: StandardFields = StandardFields {
+    magic: 0x0102,
+    major_linker_version: 0x03,
+    minor_linker_version: 0x04,
+    size_of_code: 0x0506_0708,
+    size_of_initialized_data: 0x090A_0B0C,
+    size_of_uninitialized_data: 0x0D0E_0F10,
+    address_of_entry_point: 0x1112_1314,
+    base_of_code: 0x1516_1718,
+    base_of_data: 0,
+};
+
+/// Their Windows fields.
+const WINDOWS_32: WindowsFields = WindowsFields {
+    image_base: 0x0102_0304,
+    section_alignment: 0x0506_0708,
+    file_alignment: 0x090A_0B0C,
+    major_operating_system_version: 0x0D0E,
+    minor_operating_system_version: 0x0F10,
+    major_image_version: 0x1112,
+    minor_image_version: 0x1314,
+    major_subsystem_version: 0x1516,
+    minor_subsystem_version: 0x1718,
+    win32_version_value: 0x191A_1B1C,
+    size_of_image: 0x1D1E_1F20,
+    size_of_headers: 0x2122_2324,
+    check_sum: 0x2526_2728,
+    subsystem: 0x292A,
+    dll_characteristics: 0x2B2C,
+    size_of_stack_reserve: 0x2D2E_2F30,
+    size_of_stack_commit: 0x3132_3334,
+    size_of_heap_reserve: 0x3536_3738,
+    size_of_heap_commit: 0x393A_3B3C,
+    loader_flags: 0x3D3E_3F40,
+    number_of_rva_and_sizes: 0x4142_4344,
+};
+
+const WINDOWS_64: WindowsFields = WindowsFields {
+    image_base: 0x0102_0304_0506_0708,
+    section_alignment: 0x090A_0B0C,
+    file_alignment: 0x0D0E_0F10,
+    major_operating_system_version: 0x1112,
+    minor_operating_system_version: 0x1314,
+    major_image_version: 0x1516,
+    minor_image_version: 0x1718,
+    major_subsystem_version: 0x191A,
+    minor_subsystem_version: 0x1B1C,
+    win32_version_value: 0x1D1E_1F20,
+    size_of_image: 0x2122_2324,
+    size_of_headers: 0x2526_2728,
+    check_sum: 0x292A_2B2C,
+    subsystem: 0x2D2E,
+    dll_characteristics: 0x2F30,
+    size_of_stack_reserve: 0x3132_3334_3536_3738,
+    size_of_stack_commit: 0x393A_3B3C_3D3E_3F40,
+    size_of_heap_reserve: 0x4142_4344_4546_4748,
+    size_of_heap_commit: 0x494A_4B4C_4D4E_4F50,
+    loader_flags: 0x5152_5354,
+    number_of_rva_and_sizes: 0x5556_5758,
+};
+
+/// Whether the fields of those bytes are these, the highest byte of each first.
+fn are_standard(want: &StandardFields) -> bool {
+    matches!(StandardFields32::try_from_ctx(RISING, Endian::Big), Ok((fields, _))
+        if StandardFields::from(fields) == *want)
+}
+
+fn are_wide_standard(want: &StandardFields) -> bool {
+    matches!(StandardFields64::try_from_ctx(RISING, Endian::Big), Ok((fields, _))
+        if StandardFields::from(fields) == *want)
 }
 
 #[test]
-fn standard_fields_for_32_bits_stand_in_their_order(rt: HostRuntime) -> Result<(), Fail> {
-    let fields = StandardFields::from(rising::<StandardFields32>(&rising_bytes())?);
-    assert!(rt; go_up(&standard_values(&fields), &STANDARD_32));
-    Ok(())
+fn standard_fields_stand_in_their_order(rt: HostRuntime) {
+    assert!(rt; are_standard(&STANDARD_32));
+    assert!(rt; are_wide_standard(&STANDARD_64));
+}
+
+fn are_windows(want: &WindowsFields) -> bool {
+    matches!(WindowsFields32::try_from_ctx(RISING, Endian::Big), Ok((fields, _))
+        if WindowsFields::from(fields) == *want)
+}
+
+fn are_wide_windows(want: &WindowsFields) -> bool {
+    matches!(WindowsFields64::try_from_ctx(RISING, Endian::Big), Ok((fields, _))
+        if fields == *want)
 }
 
 #[test]
-fn standard_fields_for_64_bits_stand_in_their_order(rt: HostRuntime) -> Result<(), Fail> {
-    let fields = StandardFields::from(rising::<StandardFields64>(&rising_bytes())?);
-    assert!(rt; go_up(&standard_values(&fields), &STANDARD_64) && fields.base_of_data == 0);
-    Ok(())
-}
-
-#[test]
-fn windows_fields_for_32_bits_stand_in_their_order(rt: HostRuntime) -> Result<(), Fail> {
-    let fields = WindowsFields64::from(rising::<WindowsFields32>(&rising_bytes())?);
-    assert!(rt; go_up(&windows_values(&fields), &WINDOWS_32));
-    Ok(())
-}
-
-#[test]
-fn windows_fields_for_64_bits_stand_in_their_order(rt: HostRuntime) -> Result<(), Fail> {
-    let fields = rising::<WindowsFields64>(&rising_bytes())?;
-    assert!(rt; go_up(&windows_values(&fields), &WINDOWS_64));
-    Ok(())
+fn windows_fields_stand_in_their_order(rt: HostRuntime) {
+    assert!(rt; are_windows(&WINDOWS_32));
+    assert!(rt; are_wide_windows(&WINDOWS_64));
 }
 
 #[test]
@@ -185,6 +185,10 @@ fn windows_fields_that_do_not_fit_are_refused(rt: HostRuntime) {
         image_base: 1 << 32,
         ..WindowsFields64::default()
     };
-    let narrowed = WindowsFields32::try_from(wide);
-    assert!(rt; matches!(narrowed, Err(Error::Malformed(Cause::FieldTooWide))));
+    assert!(rt;
+        matches!(
+            WindowsFields32::try_from(wide),
+            Err(Error::Malformed(Cause::FieldTooWide))
+        )
+    );
 }

@@ -1,13 +1,12 @@
 //! Relocations of objects, and the blocks and words of base relocations.
 
-use fixture::sample::directory;
+use fixture::sample::{directory, is_next, section};
 use goblin_base::{Error, ReadFault};
 use goblin_pe_sect::relocation::{
-    Relocation, RelocationBlock, RelocationData, RelocationWord, RelocationWordIterator,
-    Relocations,
+    Relocation, RelocationBlock, RelocationBlockIterator, RelocationData, RelocationWord,
+    RelocationWordIterator, Relocations,
 };
 use goblin_pe_sect::{ParseOptions, SectionTable};
-use std::test::Fail;
 
 /// The relocations of a section of a small object that a compiler made.
 const OBJECT: &[u8; 60] = b"\x03\0\0\0\x12\0\0\0\x04\0\x0F\0\0\0\x13\0\0\0\x04\0\
@@ -41,15 +40,6 @@ const ADDRESSES: [&[(u8, u32)]; 2] = [
     &[(3, 0x3000), (3, 0x3004), (3, 0x3008), (0, 0x3000)],
 ];
 
-/// The relocations of a section that has those of the object.
-fn relocations_of_section() -> goblin_base::Result<Relocations<'static>> {
-    let section = SectionTable {
-        number_of_relocations: 6,
-        ..SectionTable::default()
-    };
-    section.relocations(OBJECT)
-}
-
 /// Whether this is the relocation at an address, of the symbol with this index.
 fn is_relocation(
     found: Option<Relocation>,
@@ -63,110 +53,145 @@ fn is_relocation(
     found == Some(want)
 }
 
-#[test]
-fn the_relocations_of_a_section_are_those_that_another_tool_shows(
-    rt: HostRuntime,
-) -> Result<(), Fail> {
-    let mut read = relocations_of_section()?;
+/// Whether these are the relocations of the object, and no others.
+fn are_relocations(mut read: Relocations) -> bool {
     for row in RELOCATIONS {
-        assert!(rt; is_relocation(read.next(), row), "{row:?}");
-    }
-    assert!(rt; read.next().is_none());
-    Ok(())
-}
-
-#[test]
-fn no_relocations_are_read_before_the_end_and_refused_at_it(rt: HostRuntime) -> Result<(), Fail> {
-    assert!(rt; Relocations::parse(b"a", 0, 0)?.next().is_none());
-    let refused = Relocations::parse(b"", 0, 0);
-    assert!(rt; matches!(refused, Err(Error::Read(ReadFault::BadOffset))));
-    Ok(())
-}
-
-/// The base relocations of a directory that is all of the bytes.
-fn relocations(bytes: &[u8]) -> goblin_base::Result<RelocationData<'_>> {
-    let size = u32::try_from(bytes.len()).unwrap_or(u32::MAX);
-    RelocationData::parse_with_opts(bytes, directory(0, size), &[], 0x200, &ParseOptions::te())
-}
-
-/// Whether these words, at this address, have these types and addresses, and there are no others.
-fn are_words(words: RelocationWordIterator<'_>, rva: u32, want: &[(u8, u32)]) -> bool {
-    let mut want = want.iter();
-    for word in words {
-        let row = want.next();
-        let is_right = match word {
-            Ok(word) => row
-                == Some(&(
-                    word.reloc_type(),
-                    rva.wrapping_add(u32::from(word.offset())),
-                )),
-            Err(_) => false,
-        };
-        if !is_right {
+        if !is_relocation(read.next(), row) {
             return false;
         }
     }
-    want.next().is_none()
+    read.next().is_none()
+}
+
+/// Whether a section that has them is read so.
+fn has_relocations(section: SectionTable) -> bool {
+    match section.relocations(OBJECT) {
+        Ok(read) => are_relocations(read),
+        Err(_) => false,
+    }
+}
+
+#[test]
+fn the_relocations_of_a_section_are_those_that_another_tool_shows(rt: HostRuntime) {
+    assert!(rt;
+        has_relocations(SectionTable {
+            number_of_relocations: 6,
+            ..SectionTable::default()
+        })
+    );
+}
+
+/// Whether no relocations are read at the front of these bytes.
+fn has_none(bytes: &[u8]) -> bool {
+    match Relocations::parse(bytes, 0, 0) {
+        Ok(mut read) => read.next().is_none(),
+        Err(_) => false,
+    }
+}
+
+#[test]
+fn no_relocations_are_read_before_the_end_and_refused_at_it(rt: HostRuntime) {
+    assert!(rt; has_none(b"a"));
+    let refused = Relocations::parse(b"", 0, 0);
+    assert!(rt; matches!(&refused, Err(Error::Read(ReadFault::BadOffset))));
+}
+
+/// Whether these words, at this address, have these types and addresses, and there are no others.
+fn are_words(mut words: RelocationWordIterator, rva: u32, want: &[(u8, u32)]) -> bool {
+    for row in want {
+        if !is_word(words.next(), rva, *row) {
+            return false;
+        }
+    }
+    words.next().is_none()
+}
+
+fn is_word(read: Option<goblin_base::Result<RelocationWord>>, rva: u32, want: (u8, u32)) -> bool {
+    matches!(read, Some(Ok(word))
+        if (word.reloc_type(), rva.wrapping_add(u32::from(word.offset()))) == want)
 }
 
 /// Whether a block was read, and its words have these types and addresses.
-fn has_words(read: Option<goblin_base::Result<RelocationBlock<'_>>>, want: &[(u8, u32)]) -> bool {
+fn has_words(read: Option<goblin_base::Result<RelocationBlock>>, want: &[(u8, u32)]) -> bool {
     matches!(read, Some(Ok(block)) if are_words(block.words(), block.rva, want))
 }
 
-#[test]
-fn the_words_of_a_library_are_those_that_another_tool_shows(rt: HostRuntime) -> Result<(), Fail> {
-    let section = SectionTable {
-        virtual_address: 0x4000,
-        virtual_size: 36,
-        size_of_raw_data: 512,
-        ..SectionTable::default()
-    };
-    let mut blocks = RelocationData::parse(
-        LIBRARY,
-        directory(0x4000, 36),
-        &[section],
-        0x200,
-    )?.blocks();
+/// Whether these are the blocks of the library, and no others.
+fn are_of_library(mut blocks: RelocationBlockIterator) -> bool {
     for want in ADDRESSES {
-        assert!(rt; has_words(blocks.next(), want), "{want:?}");
+        if !has_words(blocks.next(), want) {
+            return false;
+        }
     }
-    assert!(rt; blocks.next().is_none());
-    Ok(())
+    blocks.next().is_none()
+}
+
+/// Whether they are read by a section that holds them.
+fn is_library_read(section: SectionTable) -> bool {
+    match RelocationData::parse(LIBRARY, directory(0x4000, 36), &[section], 0x200) {
+        Ok(relocations) => are_of_library(relocations.blocks()),
+        Err(_) => false,
+    }
 }
 
 #[test]
-fn a_block_without_words_needs_a_byte_after_it(rt: HostRuntime) -> Result<(), Fail> {
-    let mut blocks = relocations(b"\0\x10\0\0\x08\0\0\0")?.blocks();
-    let is_refused = matches!(blocks.next(), Some(Err(_)));
-    assert!(rt; is_refused && blocks.next().is_none());
-    Ok(())
+fn the_words_of_a_library_are_those_that_another_tool_shows(rt: HostRuntime) {
+    assert!(rt; is_library_read(section(0x4000, 36, 512, 0)));
 }
 
-/// Whether a block was read, and has this address, this size, and these words.
-fn is_block(
-    read: Option<goblin_base::Result<RelocationBlock<'_>>>,
-    rva: u32,
-    size: u32,
-    bytes: &[u8],
-) -> bool {
-    let want = RelocationBlock { rva, size, bytes };
-    matches!(read, Some(Ok(block)) if block == want)
+/// The blocks of a directory that is all of the bytes.
+fn blocks_of(bytes: &[u8]) -> Option<RelocationBlockIterator<'_>> {
+    let place = directory(0, u32::try_from(bytes.len()).unwrap_or(u32::MAX));
+    match RelocationData::parse_with_opts(bytes, place, &[], 0x200, &ParseOptions::te()) {
+        Ok(relocations) => Some(relocations.blocks()),
+        Err(_) => None,
+    }
+}
+
+/// Whether what is left of blocks is one refusal.
+fn are_refused(mut blocks: RelocationBlockIterator) -> bool {
+    matches!(blocks.next(), Some(Err(_))) && blocks.next().is_none()
 }
 
 #[test]
-fn a_block_without_words_stands_before_another(rt: HostRuntime) -> Result<(), Fail> {
-    let file = b"\0\x10\0\0\x08\0\0\0\0\x20\0\0\x0C\0\0\0\x03\x30\0\0";
-    let mut blocks = relocations(file)?.blocks();
-    assert!(rt; is_block(blocks.next(), 0x1000, 8, b""));
-    assert!(rt; is_block(blocks.next(), 0x2000, 12, b"\x03\x30\0\0"));
-    assert!(rt; blocks.next().is_none());
-    Ok(())
+fn a_block_without_words_needs_a_byte_after_it(rt: HostRuntime) {
+    let blocks = blocks_of(b"\0\x10\0\0\x08\0\0\0");
+    assert!(rt; matches!(blocks, Some(blocks) if are_refused(blocks)));
+}
+
+/// Whether these are the blocks that are left, and no others.
+fn are_blocks(mut blocks: RelocationBlockIterator, want: &[RelocationBlock]) -> bool {
+    for row in want {
+        if !is_next(blocks.next(), row) {
+            return false;
+        }
+    }
+    blocks.next().is_none()
+}
+
+/// A block without words, and one with two after it.
+const BOTH: &[RelocationBlock] = &[
+    RelocationBlock {
+        rva: 0x1000,
+        size: 8,
+        bytes: b"",
+    },
+    RelocationBlock {
+        rva: 0x2000,
+        size: 12,
+        bytes: b"\x03\x30\0\0",
+    },
+];
+
+#[test]
+fn a_block_without_words_stands_before_another(rt: HostRuntime) {
+    let blocks = blocks_of(b"\0\x10\0\0\x08\0\0\0\0\x20\0\0\x0C\0\0\0\x03\x30\0\0");
+    assert!(rt; matches!(blocks, Some(blocks) if are_blocks(blocks, BOTH)));
 }
 
 /// The words of the one block of a directory, which is gone when they are read.
 fn words_of(bytes: &[u8]) -> Option<RelocationWordIterator<'_>> {
-    let mut blocks = relocations(bytes).ok()?.blocks();
+    let mut blocks = blocks_of(bytes)?;
     match (blocks.next(), blocks.next()) {
         (Some(Ok(block)), None) => Some(block.words()),
         _ => None,
@@ -176,13 +201,12 @@ fn words_of(bytes: &[u8]) -> Option<RelocationWordIterator<'_>> {
 #[test]
 fn words_outlive_their_block(rt: HostRuntime) {
     let words = words_of(b"\0\x20\0\0\x0C\0\0\0\x03\x30\0\0");
-    assert!(rt; words.is_some_and(|words| are_words(words, 0, &[(3, 3), (0, 0)])));
+    assert!(rt; matches!(words, Some(words) if are_words(words, 0, &[(3, 3), (0, 0)])));
 }
 
 /// Whether these are two words: one of the value 1, and one that is cut off.
 fn are_one_and_a_half(mut words: RelocationWordIterator<'_>) -> bool {
-    let one = RelocationWord { value: 1 };
-    matches!(words.next(), Some(Ok(word)) if word == one)
+    is_next(words.next(), &RelocationWord { value: 1 })
         && matches!(words.next(), Some(Err(Error::Read(ReadFault::TooBig))))
         && words.next().is_none()
 }
@@ -190,7 +214,7 @@ fn are_one_and_a_half(mut words: RelocationWordIterator<'_>) -> bool {
 #[test]
 fn an_odd_last_byte_is_one_error(rt: HostRuntime) {
     let words = words_of(b"\0\0\0\0\x0B\0\0\0\x01\0\x02");
-    assert!(rt; words.is_some_and(are_one_and_a_half));
+    assert!(rt; matches!(words, Some(words) if are_one_and_a_half(words)));
 }
 
 #[test]

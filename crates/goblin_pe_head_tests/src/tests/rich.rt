@@ -1,9 +1,8 @@
 //! The Rich header and its entries.
 
-use fixture::sample::{put, put_all};
-use goblin_base::{Cause, Endian, Error, ReadFault, pwrite_u32};
+use fixture::sample::{is_err, is_next, put, put_all};
+use goblin_base::{Cause, Error, ReadFault};
 use goblin_pe_head::{DosStub, RichHeader, RichMetadata, RichMetadataIterator};
-use std::test::Fail;
 
 /// The key of the larger header.
 const KEY: u32 = 0xE235_2D37;
@@ -31,7 +30,7 @@ const ENTRY: RichMetadata = RichMetadata {
 
 /// Whether that entry is the only one.
 fn is_only_entry(mut entries: RichMetadataIterator<'_>) -> bool {
-    matches!(entries.next(), Some(Ok(read)) if read == ENTRY) && entries.next().is_none()
+    is_next(entries.next(), &ENTRY) && entries.next().is_none()
 }
 
 #[test]
@@ -44,8 +43,10 @@ fn a_rich_header_of_one_entry_is_read(rt: HostRuntime) {
         start_offset: 0x40,
         end_offset: 0x58,
     };
-    let read = RichHeader::parse(&file);
-    assert!(rt; matches!(read, Ok(Some(rich)) if rich == want && is_only_entry(rich.metadatas())));
+    assert!(rt;
+        matches!(RichHeader::parse(&file), Ok(Some(rich))
+            if rich == want && is_only_entry(rich.metadatas()))
+    );
 }
 
 /// The larger header, which should be read from its file.
@@ -69,59 +70,57 @@ fn is_entry(
         product,
         use_count,
     };
-    matches!(read, Some(Ok(entry)) if entry == want)
+    is_next(read, &want)
 }
 
-/// Where the first entry stands that is not that of its row, or where the entries should have
-/// ended.
-fn first_unlike(mut entries: RichMetadataIterator<'_>) -> Option<usize> {
+/// Whether these are the entries of the rows, and no others.
+fn are_entries(mut entries: RichMetadataIterator<'_>) -> bool {
     for row in ENTRIES {
         if !is_entry(entries.next(), row) {
-            return Some(row.0);
+            return false;
         }
     }
-    entries.next().map(|_| 0xE0)
+    entries.next().is_none()
 }
 
 #[test]
-fn a_rich_header_of_ten_entries_is_read(rt: HostRuntime) -> Result<(), Fail> {
-    let file = large()?;
-    let unlike = match RichHeader::parse(&file) {
-        Ok(Some(rich)) if rich == large_header(&file) => first_unlike(rich.metadatas()),
-        _ => Some(0),
-    };
-    assert!(rt; unlike.is_none(), "{unlike:?}");
-    Ok(())
+fn a_rich_header_of_ten_entries_is_read(rt: HostRuntime) {
+    let file = large();
+    assert!(rt;
+        matches!(RichHeader::parse(&file), Ok(Some(rich))
+            if rich == large_header(&file) && are_entries(rich.metadatas()))
+    );
 }
 
 /// Whether a file's Rich header is refused since its first marker is missing.
 fn has_no_dans(file: &[u8]) -> bool {
-    matches!(
-        RichHeader::parse(file),
-        Err(Error::Malformed(Cause::NoDans))
-    )
+    is_err(RichHeader::parse(file), &Error::Malformed(Cause::NoDans))
 }
 
 #[test]
-fn a_rich_header_without_its_first_marker_is_refused(rt: HostRuntime) -> Result<(), Fail> {
+fn a_rich_header_without_its_first_marker_is_refused(rt: HostRuntime) {
     let mut file = small();
     put(&mut file, 0x40, b"\x44");
     assert!(rt; has_no_dans(&file));
-    let mut file = large()?;
+    let mut file = large();
     put(&mut file, 0x80, b"\x12");
     assert!(rt; has_no_dans(&file));
-    Ok(())
 }
+
+/// What makes the first marker of the smaller header stand after the second.
+const TURNED: &[(usize, &[u8])] = &[
+    (0x40, b"\x44"),
+    (0x3C, b"\x64"),
+    (0x60, b"\x45\x61\x6E\x53PE\0\0"),
+];
 
 #[test]
 fn a_first_marker_after_the_second_is_refused(rt: HostRuntime) {
     let mut file = [0; 0x68];
-    put(&mut file, 0, &small());
-    put(&mut file, 0x40, b"\x44");
-    put(&mut file, 0x3C, b"\x64");
-    put(&mut file, 0x60, b"\x45\x61\x6E\x53PE\0\0");
-    let read = RichHeader::parse(&file);
-    assert!(rt; matches!(read, Err(Error::Malformed(Cause::RichBounds(0x24, 0x18)))));
+    put_all(&mut file, SMALL);
+    put_all(&mut file, TURNED);
+    let want = Error::Malformed(Cause::RichBounds(0x24, 0x18));
+    assert!(rt; is_err(RichHeader::parse(&file), &want));
 }
 
 #[test]
@@ -133,7 +132,7 @@ fn a_stub_without_second_marker_has_no_rich_header(rt: HostRuntime) {
 
 /// Whether these are that entry and a rest, which is refused once.
 fn are_entry_and_rest(mut entries: RichMetadataIterator<'_>) -> bool {
-    matches!(entries.next(), Some(Ok(read)) if read == ENTRY)
+    is_next(entries.next(), &ENTRY)
         && matches!(entries.next(), Some(Err(Error::Read(ReadFault::TooBig))))
         && entries.next().is_none()
         && entries.next().is_none()
@@ -150,42 +149,46 @@ fn a_rest_that_is_no_whole_entry_is_refused_once(rt: HostRuntime) {
 }
 
 /// A file with a Rich header of one entry, and nothing after its signature.
+const SMALL: &[(usize, &[u8])] = &[
+    (0, b"MZ"),
+    (0x3C, b"\x60"),
+    (0x40, b"\x45\x61\x6E\x53\x01\0\0\0\x01\0\0\0\x01\0\0\0"),
+    (0x50, b"\x03\0\x03\0\x05\0\0\0Rich\x01\0\0\0"),
+    (0x60, b"PE"),
+];
+
 fn small() -> [u8; 0x64] {
     let mut file = [0; 0x64];
-    put(&mut file, 0, b"MZ");
-    put(&mut file, 0x3C, b"\x60");
-    put(
-        &mut file,
-        0x40,
-        b"\x45\x61\x6E\x53\x01\0\0\0\x01\0\0\0\x01\0\0\0",
-    );
-    put(&mut file, 0x50, b"\x03\0\x03\0\x05\0\0\0Rich\x01\0\0\0");
-    put(&mut file, 0x60, b"PE");
+    put_all(&mut file, SMALL);
     file
 }
 
 /// Writes the ten entries into their file.
-fn put_entries(file: &mut [u8]) -> goblin_base::Result<()> {
+fn put_entries(file: &mut [u8]) {
     for (offset, build, product, use_count) in ENTRIES {
         let tool = u32::from(product) << 16 | u32::from(build);
-        pwrite_u32(file, offset, tool ^ KEY, Endian::Little)?;
-        pwrite_u32(file, offset + 4, use_count ^ KEY, Endian::Little)?;
+        let entry = u64::from(use_count ^ KEY) << 32 | u64::from(tool ^ KEY);
+        put(file, offset, &entry.to_le_bytes());
     }
-    Ok(())
 }
 
 /// A file with a Rich header of ten entries after the default stub.
-fn large() -> goblin_base::Result<[u8; 0xFC]> {
+fn large() -> [u8; 0xFC] {
     let mut file = [0; 0xFC];
-    put(&mut file, 0, b"MZ");
-    put(&mut file, 0x3C, b"\xF8");
-    put(&mut file, 0x40, DosStub::default().bytes);
-    put(&mut file, 0x80, b"\x73\x4C\x5B\xB1");
+    put_all(
+        &mut file,
+        &[
+            (0, b"MZ"),
+            (0x3C, b"\xF8"),
+            (0x40, DosStub::default().bytes),
+            (0x80, b"\x73\x4C\x5B\xB1"),
+            (0xE0, b"Rich"),
+            (0xF8, b"PE"),
+        ],
+    );
     for offset in [0x84, 0x88, 0x8C, 0xE4] {
-        pwrite_u32(&mut file, offset, KEY, Endian::Little)?;
+        put(&mut file, offset, &KEY.to_le_bytes());
     }
-    put_entries(&mut file)?;
-    put(&mut file, 0xE0, b"Rich");
-    put(&mut file, 0xF8, b"PE");
-    Ok(file)
+    put_entries(&mut file);
+    file
 }

@@ -3,9 +3,8 @@
 use fixture::sample::put;
 use goblin_base::{Cause, Error, Strtab};
 use goblin_pe_head::CoffHeader;
-use goblin_pe_symbol::symbol::{AuxSectionDefinition, Symbol, SymbolTable};
+use goblin_pe_symbol::symbol::{AuxSectionDefinition, Symbol, SymbolIterator, SymbolTable};
 use std::alloc::Global;
-use std::test::Fail;
 
 /// Records of the symbol table of a small object that a compiler made.
 const RECORDS: [&[u8; 18]; 9] = [
@@ -63,45 +62,44 @@ fn is_symbol(
         && (symbol.storage_class, symbol.number_of_aux_symbols) == (class, records)
 }
 
-/// The two tables of that file.
-fn tables_of_object(alloc: Global, file: &[u8]) -> Option<(SymbolTable<'_>, Strtab<'_>)> {
+/// Whether these are the symbols that that tool shows, and no others.
+fn are_symbols(symbols: &SymbolTable, strings: &Strtab) -> bool {
+    let mut read = symbols.iter();
+    for row in SYMBOLS {
+        if !is_symbol(read.next(), strings, row) {
+            return false;
+        }
+    }
+    read.next().is_none()
+}
+
+/// Whether a file has them.
+fn has_symbols(alloc: Global, file: &[u8]) -> bool {
     let header = CoffHeader {
         pointer_to_symbol_table: 1,
         number_of_symbol_table: 9,
         ..CoffHeader::default()
     };
-    match (header.symbols(file), header.strings(alloc, file)) {
-        (Ok(Some(symbols)), Ok(Some(strings))) => Some((symbols, strings)),
-        _ => None,
+    match (header.symbols(file), &header.strings(alloc, file)) {
+        (Ok(Some(symbols)), Ok(Some(strings))) => are_symbols(&symbols, strings),
+        _ => false,
     }
-}
-
-/// The index of the first symbol that is not as that tool shows it, or comes after those that it
-/// shows.
-fn first_unlike(symbols: &SymbolTable<'_>, strings: &Strtab<'_>) -> Option<usize> {
-    let mut read = symbols.iter();
-    for row in SYMBOLS {
-        if !is_symbol(read.next(), strings, row) {
-            return Some(row.0);
-        }
-    }
-    read.next().map(|(index, _, _)| index)
 }
 
 #[test]
 fn the_symbols_of_an_object_are_those_that_another_tool_shows(rt: HostRuntime) {
-    let file = object();
-    let unlike = match &tables_of_object(rt.alloc(), &file) {
-        Some((symbols, strings)) => Some(first_unlike(symbols, strings)),
-        None => None,
-    };
-    assert!(rt; unlike == Some(None), "{unlike:?}");
+    assert!(rt; has_symbols(rt.alloc(), &object()));
+}
+
+/// Whether a table has these records after the sections' and the file's symbols.
+fn has_records(table: &SymbolTable, definition: AuxSectionDefinition, file: &str) -> bool {
+    table.aux_section_definition(1) == Some(definition)
+        && table.aux_file(8, 1) == Some(file)
+        && table.aux_file(9, 0).is_none()
 }
 
 #[test]
-fn records_after_symbols_are_read(rt: HostRuntime) -> Result<(), Fail> {
-    let file = object();
-    let table = SymbolTable::parse(&file, 1, 9)?;
+fn records_after_symbols_are_read(rt: HostRuntime) {
     let want = AuxSectionDefinition {
         length: 90,
         number_of_relocations: 6,
@@ -109,19 +107,26 @@ fn records_after_symbols_are_read(rt: HostRuntime) -> Result<(), Fail> {
         number: 1,
         ..AuxSectionDefinition::default()
     };
-    assert!(rt; table.aux_section_definition(1) == Some(want));
-    assert!(rt; table.aux_file(8, 1) == Some("free.c") && table.aux_file(9, 0).is_none());
-    Ok(())
+    let file = object();
+    let table = SymbolTable::parse(&file, 1, 9);
+    assert!(rt; matches!(&table, Ok(table) if has_records(table, want, "free.c")));
 }
 
 /// The indexes of the first three symbols of a table at the front of a file.
 fn first_indexes(file: &[u8], number: usize) -> Option<[Option<usize>; 3]> {
     let mut symbols = SymbolTable::parse(file, 0, number).ok()?.iter();
-    let mut indexes = [None; 3];
-    for index in &mut indexes {
-        *index = symbols.next().map(|(at, _, _)| at);
+    Some([
+        next_index(&mut symbols),
+        next_index(&mut symbols),
+        next_index(&mut symbols),
+    ])
+}
+
+fn next_index(symbols: &mut SymbolIterator) -> Option<usize> {
+    match symbols.next() {
+        Some((index, _, _)) => Some(index),
+        None => None,
     }
-    Some(indexes)
 }
 
 #[test]
@@ -134,11 +139,11 @@ fn records_after_a_symbol_are_no_symbols(rt: HostRuntime) {
 }
 
 #[test]
-fn a_table_of_more_than_all_bytes_is_refused(rt: HostRuntime) -> Result<(), Fail> {
+fn a_table_of_more_than_all_bytes_is_refused(rt: HostRuntime) {
     let file = object();
     assert!(rt; SymbolTable::parse(&file, 1, 1 << 63).is_err());
-    assert!(rt; SymbolTable::parse(&file, 1, 9)?.get(1 << 63).is_none());
-    Ok(())
+    let table = SymbolTable::parse(&file, 1, 9);
+    assert!(rt; matches!(&table, Ok(table) if table.get(1 << 63).is_none()));
 }
 
 /// A symbol with this name.
@@ -164,30 +169,29 @@ fn a_stored_number_says_an_offset_from_4_on(rt: HostRuntime) {
 }
 
 /// Whether a symbol's stored number is below 4, and is refused as a name.
-fn has_no_name(symbol: &Symbol, strings: &Strtab<'_>) -> bool {
-    matches!(
-        symbol.name(strings),
-        Err(Error::Malformed(Cause::SymbolName(3)))
-    )
+fn has_no_name(alloc: Global, symbol: &Symbol) -> bool {
+    let strings = Strtab::parse(alloc, b"abc\0", 0, 4, 0);
+    matches!(&strings, Ok(strings)
+        if matches!(symbol.name(strings), Err(Error::Malformed(Cause::SymbolName(3)))))
 }
 
 #[test]
-fn a_stored_number_below_4_is_no_name(rt: HostRuntime) -> Result<(), Fail> {
-    let strings = Strtab::parse(rt.alloc(), b"abc\0", 0, 4, 0)?;
-    assert!(rt; has_no_name(&named(b"\0\0\0\0\x03\0\0\0"), &strings));
-    Ok(())
+fn a_stored_number_below_4_is_no_name(rt: HostRuntime) {
+    assert!(rt; has_no_name(rt.alloc(), &named(b"\0\0\0\0\x03\0\0\0")));
 }
 
 /// The name that stands in the first record of a file, whose table is gone when it is read.
-fn first_name(file: &[u8]) -> goblin_base::Result<Option<&str>> {
-    let mut symbols = SymbolTable::parse(file, 0, 1)?.iter();
-    Ok(symbols.next().and_then(|(_, name, _)| name))
+fn first_name(file: &[u8]) -> Option<&str> {
+    let mut symbols = SymbolTable::parse(file, 0, 1).ok()?.iter();
+    match symbols.next() {
+        Some((_, name, _)) => name,
+        None => None,
+    }
 }
 
 #[test]
-fn a_name_outlives_its_table(rt: HostRuntime) -> Result<(), Fail> {
-    assert!(rt; first_name(RECORDS[5])? == Some("odd"));
-    Ok(())
+fn a_name_outlives_its_table(rt: HostRuntime) {
+    assert!(rt; first_name(RECORDS[5]) == Some("odd"));
 }
 
 /// A header whose symbol table has no records and stands at an offset.

@@ -1,10 +1,11 @@
 //! The header of a Terse Executable and its sections.
 
-use fixture::sample::{directory, put, section};
+use fixture::sample::{directory, is_err, put_all, section};
 use goblin_base::{Cause, Endian, Error};
 use goblin_pe_head::TeHeader;
 use goblin_pe_head::header::TE_MAGIC;
-use std::test::Fail;
+use goblin_pe_sect::SectionTable;
+use std::alloc::Global;
 
 /// A header of a file of which `stripped_size` bytes were stripped, with an entry point and one
 /// section.
@@ -18,41 +19,41 @@ fn header(stripped_size: u16) -> TeHeader {
     }
 }
 
-/// A file of that header, and the record of a section after it.
-fn file(stripped_size: u16) -> goblin_base::Result<[u8; 80]> {
-    let mut record = [0; 40];
-    section(0x1000, 0, 0, 0x200).into_ctx(&mut record, Endian::Little);
+/// A file of that header, and after it the record of a section at 0x1000, whose data begin at 0x200.
+fn file(stripped_size: u16) -> [u8; 80] {
     let mut file = [0; 80];
-    header(stripped_size).try_into_ctx(&mut file, Endian::Little)?;
-    put(&mut file, 40, &record);
-    Ok(file)
+    let _ = header(stripped_size).try_into_ctx(&mut file, Endian::Little);
+    put_all(&mut file, &[(0x35, b"\x10"), (0x3D, b"\x02")]);
+    file
 }
 
-/// Whether a header's entry point and relocations are adjusted.
-fn is_adjusted(header: &TeHeader) -> bool {
-    header.entry_point == 0xF10 && header.reloc_dir == directory(0xFFFF_FF00, 0)
+/// Whether the header of a file is read with its entry point and relocations adjusted.
+fn is_adjusted(file: &[u8]) -> bool {
+    let mut offset = 0;
+    let is_adjusted = matches!(TeHeader::parse(file, &mut offset), Ok(header)
+        if (header.entry_point, header.reloc_dir) == (0xF10, directory(0xFFFF_FF00, 0)));
+    is_adjusted && offset == 40
+}
+
+/// Whether these are its sections.
+fn are_sections(alloc: Global, file: &[u8], want: &[SectionTable]) -> bool {
+    let sections = header(0x128).sections(alloc, file, &mut 40);
+    matches!(&sections, Ok(sections) if sections.as_slice() == want)
 }
 
 #[test]
-fn addresses_are_adjusted_by_what_was_stripped(rt: HostRuntime) -> Result<(), Fail> {
-    let file = file(0x128)?;
-    let mut offset = 0;
-    let read = TeHeader::parse(&file, &mut offset);
-    assert!(rt; matches!(&read, Ok(header) if is_adjusted(header)) && offset == 40);
-    let sections = header(0x128).sections(rt.alloc(), &file, &mut offset);
-    let want = [section(0xF00, 0, 0, 0x100)];
-    assert!(rt; matches!(&sections, Ok(sections) if sections.as_slice() == want.as_slice()));
-    Ok(())
+fn addresses_are_adjusted_by_what_was_stripped(rt: HostRuntime) {
+    let file = file(0x128);
+    assert!(rt; is_adjusted(&file));
+    assert!(rt; are_sections(rt.alloc(), &file, &[section(0xF00, 0, 0, 0x100)]));
 }
 
 #[test]
-fn a_header_of_which_too_little_was_stripped_is_refused(rt: HostRuntime) -> Result<(), Fail> {
-    let file = file(0x17)?;
+fn a_header_of_which_too_little_was_stripped_is_refused(rt: HostRuntime) {
     let mut offset = 0;
-    let refused = TeHeader::parse(&file, &mut offset);
-    let is_refused = matches!(&refused, Err(Error::Malformed(Cause::StrippedSize(0x17))));
+    let read = TeHeader::parse(&file(0x17), &mut offset);
+    let is_refused = is_err(read, &Error::Malformed(Cause::StrippedSize(0x17)));
     assert!(rt; is_refused && offset == 0);
-    Ok(())
 }
 
 #[test]
@@ -62,7 +63,7 @@ fn sections_of_a_header_of_which_too_little_was_stripped_are_refused(rt: HostRun
         ..TeHeader::default()
     };
     let mut offset = 1;
-    let refused = short.sections(rt.alloc(), &[], &mut offset);
-    let is_refused = matches!(&refused, Err(Error::Malformed(Cause::StrippedSize(0x27))));
+    let read = short.sections(rt.alloc(), &[], &mut offset);
+    let is_refused = is_err(read, &Error::Malformed(Cause::StrippedSize(0x27)));
     assert!(rt; is_refused && offset == 1);
 }

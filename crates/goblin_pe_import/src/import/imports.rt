@@ -1,13 +1,13 @@
 //! A walk over all imports of an image.
 
 ghost use Rattle.std.specs.Prelude.{◌≡◌, ◌&&◌, ◌+◌, ◌-◌, ◌<◌, ◌≤◌, ◌^◌, ◌∷◌, ◌++◌, [], IfErr, IfOk, IfSome};
-ghost use Rattle.std.specs.Prelude.{MatchResult, None, Some, false, is_none, length, not, true};
-ghost use Rattle.std.specs.Prelude.{if◌then◌else◌, IsErr, IsSome, IsSomeAnd, IsOk, Ok};
+ghost use Rattle.std.specs.Prelude.{MatchResult, None, Some, false, is_none, not, true};
+ghost use Rattle.std.specs.Prelude.{if◌then◌else◌, IsSomeAnd, IsOk, Ok};
 ghost use Rattle.std.specs.Iterator.{UpTo, at_most};
 ghost use Rattle.std.specs.Iterator.SizeHint.{IsWithinCount};
 ghost use Rattle.std.specs.List.{flat_map};
 ghost use Rattle.goblin_base.specs.declared.error.ErrorOf.{ErrorOf};
-ghost use Rattle.goblin_base.specs.Answers.{FirstFault, IsMemory};
+ghost use Rattle.goblin_base.specs.Answers.{FirstFault};
 ghost use Rattle.goblin_base.specs.Reading.{Reads};
 ghost use Rattle.readings.specs.Reads.{mapped};
 ghost use Rattle.readings.specs.Walks.{GivesNext, IsWalkOf, Walks, until_refused};

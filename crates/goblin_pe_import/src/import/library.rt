@@ -19,7 +19,7 @@ use crate::import::address_table::{ImportAddressTable, address_table};
 use crate::import::bitfield::Bitfield;
 use crate::import::directory_entry::ImportDirectoryEntry;
 use crate::import::lookup_table::{ImportLookupTable, SyntheticImportLookupTableEntry, no_text};
-use goblin_base::{Cause, Error, Result, ResultOf};
+use goblin_base::{Cause, Error, ResultOf};
 use goblin_pe_sect::address_map::AddressMap;
 use goblin_pe_sect::options::ParseOptions;
 use goblin_pe_sect::section_table::SectionTable;
@@ -98,12 +98,12 @@ fn lookup_table_if<'a, 'e, T: Bitfield<'a>>(
 // looked for first where the last one was, at `near`.
 #[inline(always)]
 #[tactic(auto, unfolding(goblin_pe_sect::specs::AddressReadings::name_or_none), using(crate::proofs::LibraryNames::taken, crate::proofs::LibraryNames::missing))]
-pub(super) fn library_name<'a>(
+pub(super) fn library_name<'a, 'e>(
     bytes: &'a [u8],
     rva: u32,
     address_map: &AddressMap,
     near: &mut usize,
-) -> Result<&'a str>
+) -> ResultOf<'e, &'a str>
     ensures { let m = map_of address_map.now in
         Reads (λ s. s.now) result
         (or_else (reads_strictly m) [] (name_at (offset_of m) rva)) bytes.now }

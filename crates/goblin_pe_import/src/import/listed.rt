@@ -16,7 +16,7 @@ use crate::import::ImportData;
 use crate::import::bitfield::Bitfield;
 use crate::import::library::SyntheticImportDirectoryEntry;
 use crate::import::lookup_table::SyntheticImportLookupTableEntry;
-use goblin_base::{Cause, Error, Result, ResultOf};
+use goblin_base::{Cause, Error, ResultOf};
 use goblin_pe_sect::section_table::SectionTable;
 use std::alloc::Global;
 use std::borrow::CowStr;
@@ -72,7 +72,7 @@ impl<'a> Model for Import<'a> {
 }
 
 // The name of an import by ordinal.
-fn ordinal_name(alloc: Global, ordinal: u16) -> Result<String>
+fn ordinal_name<'e>(alloc: Global, ordinal: u16) -> ResultOf<'e, String>
     ensures { GivesOrMemory string_bytes result (ordinal_name ordinal) }
 {
     let mut name = String::with_capacity(alloc, ORDINAL_NAME_MAX)?;
@@ -169,7 +169,7 @@ fn count_of(libraries: &[SyntheticImportDirectoryEntry]) -> usize
 
 // Appends the import of an entry.
 #[tactic(auto, unfolding(crate::specs::Imports::import_of))]
-fn push_entry<'a>(
+fn push_entry<'a, 'e>(
     alloc: Global,
     imports: &mut Vec<Import<'a>>,
     entry: &SyntheticImportLookupTableEntry<'a>,
@@ -177,7 +177,7 @@ fn push_entry<'a>(
     slot: usize,
     offset: usize,
     size: usize,
-) -> Result<()>
+) -> ResultOf<'e, ()>
     ensures added { OnOk result
         (imports.new.items
         ≡ imports.old.items ++ import_of dll.now slot offset size (entry_view entry.now) ∷ []) }
@@ -216,7 +216,7 @@ fn push_entry<'a>(
 
 // Appends the imports of a table's entries, each in its slot of `size` bytes of the address table
 // at `rva`.
-fn push_entries<'a>(
+fn push_entries<'a, 'e>(
     alloc: Global,
     imports: &mut Vec<Import<'a>>,
     entries: &[SyntheticImportLookupTableEntry<'a>],
@@ -224,7 +224,7 @@ fn push_entries<'a>(
     dll: &'a str,
     rva: u32,
     size: usize,
-) -> Result<()>
+) -> ResultOf<'e, ()>
     requires { length slots.now ≡ length entries.now }
     ensures value { let made = imports_by size dll.now rva (map entry_view entries.now) slots.now in
         AnswersOrMemory (λ _. imports.new.items) result
@@ -242,12 +242,12 @@ fn push_entries<'a>(
 }
 
 // Appends the imports from a library, whose address table has entries of `size` bytes.
-fn push_imports<'a>(
+fn push_imports<'a, 'e>(
     alloc: Global,
     imports: &mut Vec<Import<'a>>,
     library: &SyntheticImportDirectoryEntry<'a>,
     size: usize,
-) -> Result<()>
+) -> ResultOf<'e, ()>
     requires { has_slots library.now ≡ true }
     ensures value { AnswersOrMemory (λ _. imports.new.items) result
         (option_map (λ made. imports.old.items ++ made) (library_imports size library.now))
@@ -267,11 +267,11 @@ fn push_imports<'a>(
 
 // The imports from all libraries, whose address tables have entries of `size` bytes.
 #[tactic(auto, unfolding(crate::specs::Imports::imports_of))]
-fn imports_of<'a>(
+fn imports_of<'a, 'e>(
     alloc: Global,
     libraries: &[SyntheticImportDirectoryEntry<'a>],
     size: usize,
-) -> Result<Vec<Import<'a>>>
+) -> ResultOf<'e, Vec<Import<'a>>>
     ensures value { AnswersOrMemory (λ v. v.items) result (imports_of size libraries.now)
         (IsImportsFault libraries.now) }
     ensures counted { IfErr result (λ e. IsMemory e → first_without_slots libraries.now ≡ None) }

@@ -66,11 +66,11 @@ impl<'a> HintNameTableEntry<'a> {
     /// empty.
     #[inline(always)]
     #[tactic(auto, unfolding(crate::specs::LookupReadings::hint_name))]
-    pub fn parse_with_opts(
+    pub fn parse_with_opts<'e>(
         bytes: &'a [u8],
         offset: usize,
         opts: &ParseOptions,
-    ) -> Result<HintNameTableEntry<'a>>
+    ) -> ResultOf<'e, HintNameTableEntry<'a>>
         ensures { Reads hint_name_view result
             (reading.hint_name (is_strict opts.now.parse_mode) offset) bytes.now }
     {
@@ -297,12 +297,12 @@ impl<'a> SyntheticImportLookupTableEntry<'a> {
 }
 
 // Appends an entry that is kept, and the index of its slot.
-fn push_kept<'a>(
+fn push_kept<'a, 'e>(
     entries: &mut Vec<SyntheticImportLookupTableEntry<'a>>,
     slots: &mut Vec<usize>,
     kept: Option<SyntheticImportLookupTableEntry<'a>>,
     slot: usize,
-) -> Result<()>
+) -> ResultOf<'e, ()>
     ensures entries { OnOk result
         (entries.new.items ≡ entries.old.items ++ option_to_list kept.entry) }
     ensures slots { OnOk result

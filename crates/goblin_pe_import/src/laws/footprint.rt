@@ -4,10 +4,11 @@ ghost use Rattle.std.specs.Prelude.{◌≡◌, ◌+◌, ◌<◌, ◌≤◌, ◌�
 ghost use Rattle.std.specs.Prelude.{OnOk, length};
 ghost use Rattle.std.specs.List.{All};
 ghost use Rattle.goblin_base.specs.Answers.{IsMemory};
-ghost use Rattle.goblin_base.specs.Footprints.{Covers, slice_footprint, stretch_footprint};
+ghost use Rattle.goblin_base.specs.Footprints.{Covers, led_to, slice_footprint, stretch_footprint};
 ghost use Rattle.goblin_pe_sect.specs.Addresses.{TakesMap, map_by, map_of, offset_of};
 ghost use Rattle.goblin_pe_sect.specs.Addresses.{reads_strictly};
 ghost use Rattle.goblin_pe_import.specs.ImportReadings.{import_data, libraries_at, library_of};
+ghost use Rattle.goblin_pe_import.specs.ImportReadings.{lookup_if};
 ghost use Rattle.goblin_pe_import.specs.LookupReadings.{address_table, kept_entry, lookup_table};
 
 use crate::import::{
@@ -122,8 +123,71 @@ fn add_address_table<'a, 'e, T: Bitfield<'a>>(
     }
 }
 
+// Adds the text at a place, where there is one.
+#[tactic(auto, unfolding(goblin_base::specs::Footprints::led_to))]
+fn add_text<'e>(
+    ranges: &mut Vec<(usize, usize)>,
+    bytes: &[u8],
+    place: Option<usize>,
+) -> ResultOf<'e, ()>
+    ensures added { let reached = led_to place (stretch_footprint bytes.now) in
+        OnOk result (ranges.new.items ≡ ranges.old.items ++ reached) }
+    ensures refused { IfErr result IsMemory }
+    ensures grown { OnErr result (0 < length (led_to place (stretch_footprint bytes.now))) }
+{
+    match place {
+        Some(offset) => add_stretch(ranges, bytes, offset),
+        None => Ok(()),
+    }
+}
+
+// Adds the footprint of the lookup table at a place, where there is one.
+#[tactic(auto, unfolding(crate::specs::ImportReadings::lookup_if))]
+fn add_lookup<'a, 'e, T: Bitfield<'a>>(
+    ranges: &mut Vec<(usize, usize)>,
+    bytes: &'a [u8],
+    place: Option<usize>,
+    address_map: &AddressMap,
+) -> ResultOf<'e, ()>
+    ensures added { let m = map_of address_map.now in
+        let reached =
+        (lookup_if (reads_strictly m) T.format (offset_of m) place).reaches bytes.now in
+        OnOk result (ranges.new.items ≡ ranges.old.items ++ reached) }
+    ensures refused { IfErr result IsMemory }
+    ensures grown { let m = map_of address_map.now in
+        let reached =
+        (lookup_if (reads_strictly m) T.format (offset_of m) place).reaches bytes.now in
+        OnErr result (0 < length reached) }
+{
+    match place {
+        Some(offset) => add_lookup_table::<T>(ranges, bytes, offset, address_map),
+        None => Ok(()),
+    }
+}
+
+// Adds the footprint of the address table at a place, where there is one.
+#[tactic(auto, unfolding(goblin_base::specs::Footprints::led_to))]
+fn add_addresses<'a, 'e, T: Bitfield<'a>>(
+    ranges: &mut Vec<(usize, usize)>,
+    bytes: &'a [u8],
+    place: Option<usize>,
+) -> ResultOf<'e, ()>
+    ensures added { let reached =
+        led_to place (λ o. (address_table T.format o).reaches bytes.now) in
+        OnOk result (ranges.new.items ≡ ranges.old.items ++ reached) }
+    ensures refused { IfErr result IsMemory }
+    ensures grown { let reached =
+        led_to place (λ o. (address_table T.format o).reaches bytes.now) in
+        OnErr result (0 < length reached) }
+{
+    match place {
+        Some(offset) => add_address_table::<T>(ranges, bytes, offset),
+        None => Ok(()),
+    }
+}
+
 // Adds what a record of an import directory leads to.
-#[tactic(auto, unfolding(crate::specs::ImportReadings::library_of, crate::specs::ImportReadings::lookup_if, goblin_pe_sect::specs::AddressReadings::name_at, goblin_base::specs::Footprints::led_to))]
+#[tactic(auto, unfolding(crate::specs::ImportReadings::library_of, goblin_pe_sect::specs::AddressReadings::name_at))]
 fn add_library<'a, 'e, T: Bitfield<'a>>(
     ranges: &mut Vec<(usize, usize)>,
     bytes: &'a [u8],
@@ -140,17 +204,12 @@ fn add_library<'a, 'e, T: Bitfield<'a>>(
         (library_of (reads_strictly m) T.format (offset_of m) entry.now).reaches bytes.now in
         OnErr result (0 < length reached) }
 {
-    if let Some(offset) = address_map.offset_of(entry.name_rva) {
-        add_stretch(ranges, bytes, offset)?;
-    }
+    add_text(ranges, bytes, address_map.offset_of(entry.name_rva))?;
     let mut near = 0;
-    if let Some(offset) = lookup_offset(entry, address_map, &mut near) {
-        add_lookup_table::<T>(ranges, bytes, offset, address_map)?;
-    }
-    if let Some(offset) = address_map.offset_of(address_table_rva(entry)) {
-        add_address_table::<T>(ranges, bytes, offset)?;
-    }
-    Ok(())
+    let lookup = lookup_offset(entry, address_map, &mut near);
+    add_lookup::<T>(ranges, bytes, lookup, address_map)?;
+    let addresses = address_map.offset_of(address_table_rva(entry));
+    add_addresses::<T>(ranges, bytes, addresses)
 }
 
 // Adds the footprint of the import directory at an offset.

@@ -3,11 +3,11 @@
 //! The pieces are halved again and again: each range of pieces gets the few windows that may own
 //! some of them, and passes them on to its halves, so the steps grow like n log n.
 
-ghost use Rattle.std.specs.Prelude.{◌≡◌, ◌+◌, ◌^◌, ◌<◌, ◌≤◌, ◌++◌, IsTrue, IfOk, OnOk, map, find, filter};
+ghost use Rattle.std.specs.Prelude.{◌≡◌, ◌+◌, ◌^◌, ◌<◌, ◌≤◌, ◌++◌, IfOk, OnOk, map, find, filter};
 ghost use Rattle.std.specs.Prelude.{position};
 ghost use Rattle.std.specs.List.Sorted.{IsStrictlyIncreasing};
 ghost use Rattle.goblin_pe_sect.specs.WindowIndex.{first_owner};
-ghost use Rattle.goblin_pe_sect.specs.WindowStretches.{window_holds, window_covers, window_meets};
+ghost use Rattle.goblin_pe_sect.specs.WindowStretches.{window_covers, window_meets};
 ghost use Rattle.goblin_pe_sect.specs.WindowStretches.{owner_among, section_window_at};
 ghost use Rattle.goblin_pe_sect.specs.WindowStretches.{section_windows, FindTheSame, IsRising};
 

@@ -1,33 +1,29 @@
 //! Exports walked over one by one, also from each position on.
 
-use crate::rows::{ExportRow, FORWARDED, PLAIN};
+use crate::rows::{ExportRow, FORWARDED, PLAIN, is_export};
 use fixture::sample::{ALIGNMENT, EXPORTS, sample_section, sample_with};
 use goblin_pe_export::export::{Exports, Reexport, WalkedExport};
 use goblin_pe_sect::ParseOptions;
 use goblin_pe_sect::address_map::AddressMap;
 use std::alloc::Global;
-use std::test::Fail;
 
 /// The hint and the ordinal of an export, and what it is.
 type Row<'r> = (usize, usize, ExportRow<'r>);
 
 /// Whether this is the export of a row.
-fn is_row(walked: &WalkedExport, row: Row) -> bool {
-    let export = &walked.export;
-    (walked.hint, walked.ordinal) == (row.0, row.1)
-        && (export.name, export.offset, export.rva, export.reexport) == row.2
-        && export.size == 0
+fn is_row(walked: &WalkedExport, row: &Row) -> bool {
+    (walked.hint, walked.ordinal) == (row.0, row.1) && is_export(&walked.export, &row.2)
 }
 
 /// Whether the next export is that of a row.
-fn gives(walk: &mut Exports, row: Row) -> bool {
-    matches!(walk.next(), Some(export) if is_row(&export, row))
+fn gives(walk: &mut Exports, row: &Row) -> bool {
+    matches!(&walk.next(), Some(export) if is_row(export, row))
 }
 
 /// Whether the exports of these rows are still to come, and no others.
 fn gives_all(mut walk: Exports, rows: &[Row]) -> bool {
     for row in rows {
-        if !gives(&mut walk, *row) {
+        if !gives(&mut walk, row) {
             return false;
         }
     }
@@ -35,46 +31,33 @@ fn gives_all(mut walk: Exports, rows: &[Row]) -> bool {
 }
 
 /// Whether a walk that begins at a position gives these rows and then ends.
-fn gives_from(
-    bytes: &[u8],
-    map: &AddressMap,
-    position: usize,
-    rows: &[Row],
-) -> goblin_base::Result<bool> {
-    let walk = Exports::of(bytes, EXPORTS, map)?;
-    Ok(gives_all(walk.from_position(position), rows))
+fn gives_from(bytes: &[u8], map: &AddressMap, position: usize, rows: &[Row]) -> bool {
+    match Exports::of(bytes, EXPORTS, map) {
+        Ok(walk) => gives_all(walk.from_position(position), rows),
+        Err(_) => false,
+    }
 }
 
 /// Whether the walk over a file's exports gives these rows and then ends, and so does one that
 /// begins at each of its positions.
-fn walks(bytes: &[u8], map: &AddressMap, rows: &[Row]) -> goblin_base::Result<bool> {
-    let mut walk = Exports::of(bytes, EXPORTS, map)?;
+fn walks(bytes: &[u8], map: &AddressMap, rows: &[Row]) -> bool {
+    let Ok(mut walk) = Exports::of(bytes, EXPORTS, map) else {
+        return false;
+    };
     'rows: for begin in 0..rows.len() {
-        if !gives_from(bytes, map, walk.position(), &rows[begin..])? {
-            return Ok(false);
-        }
-        if !gives(&mut walk, rows[begin]) {
-            return Ok(false);
+        let goes_on = gives_from(bytes, map, walk.position(), &rows[begin..]);
+        if !goes_on || !gives(&mut walk, &rows[begin]) {
+            return false;
         }
     }
-    Ok(gives_from(bytes, map, walk.position(), &[])? && gives_all(walk, &[]))
-}
-
-/// How the addresses of a file with the sample's section are mapped.
-fn sample_map(alloc: Global) -> goblin_base::Result<AddressMap> {
-    let opts = ParseOptions::default();
-    AddressMap::prepare(alloc, &[sample_section()], ALIGNMENT, &opts)
+    gives_from(bytes, map, walk.position(), &[]) && gives_all(walk, &[])
 }
 
 /// Whether the exports of the sample file with these bytes at an offset are those of the rows.
-fn are_walked(
-    alloc: Global,
-    offset: usize,
-    bytes: &[u8],
-    rows: &[Row],
-) -> goblin_base::Result<bool> {
-    let file = sample_with(alloc, offset, bytes)?;
-    walks(&file, &sample_map(alloc)?, rows)
+fn are_walked(alloc: Global, offset: usize, bytes: &[u8], rows: &[Row]) -> bool {
+    let opts = ParseOptions::default();
+    let map = AddressMap::prepare(alloc, &[sample_section()], ALIGNMENT, &opts);
+    matches!(&map, Ok(map) if walks(&sample_with(offset, bytes), map, rows))
 }
 
 /// The first export without its name, and the second's address under the first's name.
@@ -101,10 +84,11 @@ const CASES: &[(usize, &[u8], &[Row])] = &[
 ];
 
 #[test]
-fn exports_are_walked_over_from_each_position(rt: HostRuntime) -> Result<(), Fail> {
+fn exports_are_walked_over_from_each_position(rt: HostRuntime) {
     for (offset, bytes, rows) in CASES {
-        let walked = are_walked(rt.alloc(), *offset, bytes, rows)?;
-        assert!(rt; walked, "at {offset:#x}");
+        assert!(rt;
+            are_walked(rt.alloc(), *offset, bytes, rows),
+            "at {offset:#x}"
+        );
     }
-    Ok(())
 }

@@ -1,58 +1,51 @@
 //! The counts of export tables, and forwarders.
 
-use fixture::sample::{ALIGNMENT, EXPORTS, put, sample_section, sample_with};
-use goblin_base::{Cause, Error, ResultOf};
+use fixture::sample::{ALIGNMENT, EXPORTS, is_err, put, sample_section, sample_with};
+use goblin_base::{Cause, Error};
 use goblin_pe_export::export::{Export, ExportData, Reexport};
-use std::alloc::{AllocError, Global};
-use std::test::Fail;
+use std::alloc::Global;
 
 /// What the sample's export directory leads to in a file with its section.
-fn data_of<'a, 'e>(alloc: Global, file: &'a [u8]) -> ResultOf<'e, ExportData<'a>> {
+fn data_of(alloc: Global, file: &[u8]) -> goblin_base::Result<ExportData<'_>> {
     ExportData::parse(alloc, file, EXPORTS, &[sample_section()], ALIGNMENT)
 }
 
-/// How many name pointers and ordinals a file has.
-fn table_lengths(alloc: Global, file: &[u8]) -> goblin_base::Result<(usize, usize)> {
-    let tables = data_of(alloc, file)?;
-    Ok((
-        tables.export_name_pointer_table.len(),
-        tables.export_ordinal_table.len(),
-    ))
+/// Whether export tables have so many name pointers and ordinals, and so many exports are listed by
+/// them.
+fn have_lengths(
+    alloc: Global,
+    file: &[u8],
+    tables: &ExportData,
+    want: (usize, usize, usize),
+) -> bool {
+    let exports = Export::parse(alloc, file, tables, &[sample_section()], ALIGNMENT);
+    tables.export_name_pointer_table.len() == want.0
+        && tables.export_ordinal_table.len() == want.1
+        && matches!(&exports, Ok(exports) if exports.len() == want.2)
 }
 
-/// How many exports it has.
-fn export_count(alloc: Global, file: &[u8]) -> goblin_base::Result<usize> {
-    let tables = data_of(alloc, file)?;
-    Ok(Export::parse(alloc, file, &tables, &[sample_section()], ALIGNMENT)?.len())
+/// Whether those of a file do.
+fn has_lengths(alloc: Global, file: &[u8], want: (usize, usize, usize)) -> bool {
+    matches!(&data_of(alloc, file), Ok(tables) if have_lengths(alloc, file, tables, want))
 }
 
 #[test]
-fn tables_are_cut_at_the_end_of_the_file(rt: HostRuntime) -> Result<(), Fail> {
-    let file = sample_with(rt.alloc(), 0x2B8, b"\x00\x03")?;
-    assert!(rt; matches!(table_lengths(rt.alloc(), &file), Ok((12, 20))));
-    assert!(rt; matches!(export_count(rt.alloc(), &file), Ok(9)));
-    Ok(())
+fn tables_are_cut_at_the_end_of_the_file(rt: HostRuntime) {
+    assert!(rt; has_lengths(rt.alloc(), &sample_with(0x2B8, b"\x00\x03"), (12, 20, 9)));
 }
 
-/// The sample file with counts of 769 entries of the address table, and at an offset.
-fn with_counts(alloc: Global, offset: usize) -> Result<Vec<u8>, AllocError> {
-    let mut file = sample_with(alloc, 0x2B4, b"\x01\x03")?;
+/// Whether the sample file is refused with counts of 769 entries of the address table, and at an
+/// offset, since it is too short for 769 of what the text names.
+fn is_too_short(alloc: Global, offset: usize, want: &'static str) -> bool {
+    let mut file = sample_with(0x2B4, b"\x01\x03");
     put(&mut file, offset, b"\x01\x03");
-    Ok(file)
-}
-
-/// Whether a file is refused, since it is too short for 769 of what the text names.
-fn is_too_short(alloc: Global, file: &[u8], want: &str) -> bool {
-    matches!(&data_of(alloc, file), Err(Error::BufferTooShort(769, what)) if *what == want)
+    is_err(data_of(alloc, &file), &Error::BufferTooShort(769, want))
 }
 
 #[test]
-fn counts_above_the_length_of_the_file_are_refused(rt: HostRuntime) -> Result<(), Fail> {
-    for (offset, want) in [(0x2B8, "name pointers"), (0x2B4, "address table entries")] {
-        let file = with_counts(rt.alloc(), offset)?;
-        assert!(rt; is_too_short(rt.alloc(), &file, want), "{want}");
-    }
-    Ok(())
+fn counts_above_the_length_of_the_file_are_refused(rt: HostRuntime) {
+    assert!(rt; is_too_short(rt.alloc(), 0x2B8, "name pointers"));
+    assert!(rt; is_too_short(rt.alloc(), 0x2B4, "address table entries"));
 }
 
 /// Whether a text that ends at its NUL is this forwarder.
@@ -79,12 +72,9 @@ fn forwarders_name_a_library_and_an_export(rt: HostRuntime) {
 
 #[test]
 fn forwarders_name_a_library_and_an_ordinal(rt: HostRuntime) {
-    for (bytes, ordinal) in [(b"a.#12\0", 12), (b"a.#+7\0", 7)] {
-        assert!(rt;
-            is_forwarder(bytes, Reexport::DLLOrdinal { ordinal, lib: "a" }),
-            "{ordinal}"
-        );
-    }
+    let lib = "a";
+    assert!(rt; is_forwarder(b"a.#12\0", Reexport::DLLOrdinal { ordinal: 12, lib }));
+    assert!(rt; is_forwarder(b"a.#+7\0", Reexport::DLLOrdinal { ordinal: 7, lib }));
 }
 
 /// Texts that name none, and why not.

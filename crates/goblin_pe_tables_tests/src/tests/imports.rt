@@ -4,15 +4,14 @@ use crate::rows::{
     GO, ImportRow, RECORD, SEVEN, Short, are_imports, is_sample_library, is_sample_table, is_seven,
 };
 use fixture::sample::{
-    ALIGNMENT, IMPORTS, LOOKUP, MODES, in_mode, sample, sample_section, sample_with,
+    ALIGNMENT, IMPORTS, LOOKUP, cut, in_mode, is_err, put, sample, sample_section, sample_with,
 };
 use goblin_base::{Cause, Error, ParseMode, ResultOf};
 use goblin_pe_import::import::{
     Bitfield, Import, ImportData, ImportDirectoryEntry, ImportLookupTable,
     SyntheticImportDirectoryEntry, SyntheticImportLookupTableEntry,
 };
-use std::alloc::{AllocError, Global};
-use std::test::Fail;
+use std::alloc::Global;
 
 /// What the sample's import directory leads to in a file with its section, by entries of type `T`.
 fn data_of<'a, 'e, T: Bitfield<'a>>(
@@ -45,10 +44,10 @@ fn are_listed<'a, T: Bitfield<'a>>(
     matches!(&imports_of::<T>(alloc, file, mode), Ok(imports) if are_imports(imports, rows))
 }
 
-/// Whether they are refused in strict mode, and not for want of memory.
-fn are_refused(alloc: Global, file: &[u8]) -> bool {
-    let read = imports_of::<u32>(alloc, file, ParseMode::Strict);
-    matches!(&read, Err(error) if !matches!(error, Error::Memory(_)))
+/// Whether they are these in both modes.
+fn are_alike<'a, T: Bitfield<'a>>(alloc: Global, file: &'a [u8], rows: &[ImportRow]) -> bool {
+    are_listed::<T>(alloc, file, ParseMode::Strict, rows)
+        && are_listed::<T>(alloc, file, ParseMode::Permissive, rows)
 }
 
 /// What is listed of the sample file by entries of eight and of two bytes.
@@ -57,19 +56,10 @@ const OF_EIGHT: &[ImportRow] = &[("ORDINAL 4240", 4240, 0x1060, 0, 8, 0)];
 const OF_TWO: &[ImportRow] = &[("Go", 5, 0x1060, 0x1090, 2, 0)];
 
 #[test]
-fn imports_are_listed_by_entries_of_each_width(rt: HostRuntime) -> Result<(), Fail> {
-    let file = sample(rt.alloc())?;
-    for mode in MODES {
-        assert!(rt;
-            are_listed::<u64>(rt.alloc(), &file, mode, OF_EIGHT),
-            "{mode:?}"
-        );
-        assert!(rt;
-            are_listed::<Short>(rt.alloc(), &file, mode, OF_TWO),
-            "{mode:?}"
-        );
-    }
-    Ok(())
+fn imports_are_listed_by_entries_of_each_width(rt: HostRuntime) {
+    let file = sample();
+    assert!(rt; are_alike::<u64>(rt.alloc(), &file, OF_EIGHT));
+    assert!(rt; are_alike::<Short>(rt.alloc(), &file, OF_TWO));
 }
 
 /// Bytes that are changed, and the imports that are left in both modes.
@@ -87,58 +77,55 @@ const CHANGES: &[(usize, &[u8], &[ImportRow])] = &[
 ];
 
 #[test]
-fn imports_that_both_modes_list_are_the_same(rt: HostRuntime) -> Result<(), Fail> {
+fn imports_that_both_modes_list_are_the_same(rt: HostRuntime) {
     for (offset, bytes, want) in CHANGES {
-        let file = sample_with(rt.alloc(), *offset, bytes)?;
-        for mode in MODES {
-            assert!(rt;
-                are_listed::<u32>(rt.alloc(), &file, mode, want),
-                "{offset:#x} {bytes:?} {mode:?}"
-            );
-        }
+        let file = sample_with(*offset, bytes);
+        assert!(rt;
+            are_alike::<u32>(rt.alloc(), &file, want),
+            "{offset:#x} {bytes:?}"
+        );
     }
-    Ok(())
 }
 
-/// What strict mode refuses as the first entry of the lookup table, and the imports that are listed in permissive mode: a
-/// hint without a name, and one that is not whole.
+/// Whether the imports of a file are refused in strict mode, and not for want of memory, and are
+/// these in permissive mode.
+fn are_refused(alloc: Global, file: &[u8], rows: &[ImportRow]) -> bool {
+    let read = imports_of::<u32>(alloc, file, ParseMode::Strict);
+    matches!(&read, Err(error) if !matches!(error, Error::Memory(_)))
+        && are_listed::<u32>(alloc, file, ParseMode::Permissive, rows)
+}
+
+/// What strict mode refuses as the first entry of the lookup table, and the imports that are listed
+/// in permissive mode: a hint without a name, and one that is not whole.
 const REFUSED: &[(&[u8], &[ImportRow])] = &[
     (b"\xFE\x10", &[("", 0, 0x1060, 0x10FE, 4, 0), SEVEN]),
     (b"\xFF\x10", &[SEVEN]),
 ];
 
 #[test]
-fn imports_that_strict_mode_refuses_are_listed_in_permissive_mode(
-    rt: HostRuntime,
-) -> Result<(), Fail> {
+fn imports_that_strict_mode_refuses_are_listed_in_permissive_mode(rt: HostRuntime) {
     for (entry, want) in REFUSED {
-        let file = sample_with(rt.alloc(), LOOKUP, entry)?;
-        let is_right = are_refused(rt.alloc(), &file)
-            && are_listed::<u32>(rt.alloc(), &file, ParseMode::Permissive, want);
-        assert!(rt; is_right, "{entry:?}");
+        let file = sample_with(LOOKUP, entry);
+        assert!(rt; are_refused(rt.alloc(), &file, want), "{entry:?}");
     }
-    Ok(())
+}
+
+/// Whether a record leads to the sample's library.
+fn is_library_of(alloc: Global, record: ImportDirectoryEntry) -> bool {
+    let (file, sections) = (sample(), [sample_section()]);
+    let read = SyntheticImportDirectoryEntry::parse::<u32>(
+        alloc, &file, record, &sections, ALIGNMENT,
+    );
+    matches!(&read, Ok(library) if is_sample_library(library, &record))
 }
 
 #[test]
-fn a_record_without_an_address_table_has_it_at_its_lookup_table(
-    rt: HostRuntime,
-) -> Result<(), Fail> {
-    let file = sample(rt.alloc())?;
-    let sections = [sample_section()];
+fn a_record_without_an_address_table_has_it_at_its_lookup_table(rt: HostRuntime) {
     let record = ImportDirectoryEntry {
         import_address_table_rva: 0,
         ..RECORD
     };
-    let read = SyntheticImportDirectoryEntry::parse::<u32>(
-        rt.alloc(),
-        &file,
-        record,
-        &sections,
-        ALIGNMENT,
-    )?;
-    assert!(rt; is_sample_library(&read, &record));
-    Ok(())
+    assert!(rt; is_library_of(rt.alloc(), record));
 }
 
 /// A record of the sample's library whose address table no section maps, from the end of it on, and
@@ -147,28 +134,15 @@ const TWO_RECORDS: &[u8] = b"\0\x90\0\0\x40\x10\0\0\0\0\0\0\0\0\0\0\x80\x10\0\0\
 
 /// Whether the imports are refused in strict mode, since no section maps that address table.
 fn is_unmapped(alloc: Global, file: &[u8]) -> bool {
-    matches!(
-        &imports_of::<u32>(alloc, file, ParseMode::Strict),
-        Err(Error::Malformed(Cause::Unmapped(0x9000)))
-    )
+    let read = imports_of::<u32>(alloc, file, ParseMode::Strict);
+    is_err(read, &Error::Malformed(Cause::Unmapped(0x9000)))
 }
 
 #[test]
-fn a_record_whose_address_table_is_not_mapped_is_left_out_or_refused(
-    rt: HostRuntime,
-) -> Result<(), Fail> {
-    let file = sample_with(rt.alloc(), 0x210, TWO_RECORDS)?;
+fn a_record_whose_address_table_is_not_mapped_is_left_out_or_refused(rt: HostRuntime) {
+    let file = sample_with(0x210, TWO_RECORDS);
     assert!(rt; is_unmapped(rt.alloc(), &file));
     assert!(rt; are_listed::<u32>(rt.alloc(), &file, ParseMode::Permissive, &[GO, SEVEN]));
-    Ok(())
-}
-
-/// The sample file up to the first name of an import, and letters A in the place of that name.
-fn with_a_long_name(alloc: Global) -> Result<Vec<u8>, AllocError> {
-    let mut file = sample(alloc)?;
-    file.truncate(0x292);
-    file.resize(0x400, b'A')?;
-    Ok(file)
 }
 
 /// Whether these are two imports, of which the first has a name of 366 letters A.
@@ -183,10 +157,11 @@ fn has_a_long_name(alloc: Global, file: &[u8]) -> bool {
 }
 
 #[test]
-fn a_name_may_reach_the_end(rt: HostRuntime) -> Result<(), Fail> {
-    let file = with_a_long_name(rt.alloc())?;
+fn a_name_may_reach_the_end(rt: HostRuntime) {
+    // The sample file up to the first name of an import, and letters in the place of that name.
+    let mut file = [b'A'; 0x400];
+    put(&mut file, 0, cut(&sample(), 0x292));
     assert!(rt; has_a_long_name(rt.alloc(), &file));
-    Ok(())
 }
 
 /// The lookup table of a file in a mode, and the slots of its entries.
@@ -212,65 +187,59 @@ fn has_both_slots(alloc: Global, file: &[u8], mode: ParseMode) -> bool {
 }
 
 #[test]
-fn a_lookup_table_is_read_with_its_slots(rt: HostRuntime) -> Result<(), Fail> {
-    let file = sample(rt.alloc())?;
-    for mode in MODES {
-        assert!(rt; has_both_slots(rt.alloc(), &file, mode), "{mode:?}");
+fn a_lookup_table_is_read_with_its_slots(rt: HostRuntime) {
+    let file = sample();
+    assert!(rt; has_both_slots(rt.alloc(), &file, ParseMode::Strict));
+    assert!(rt; has_both_slots(rt.alloc(), &file, ParseMode::Permissive));
+}
+
+/// Whether a lookup table has so many entries, each by the ordinal 7.
+fn are_sevens(table: &ImportLookupTable, count: usize) -> bool {
+    for entry in table {
+        if !is_seven(entry) {
+            return false;
+        }
     }
-    Ok(())
+    table.len() == count
 }
 
-/// Whether a lookup table is refused in strict mode, since its hint's place is not there.
-fn has_no_hint(alloc: Global, file: &[u8]) -> bool {
-    matches!(
-        &lookup_of(alloc, file, ParseMode::Strict),
-        Err(Error::Malformed(Cause::HintEntry(0x290)))
-    )
-}
-
-/// Whether it has so many entries in permissive mode, each by the ordinal 7.
-fn are_sevens(alloc: Global, file: &[u8], count: usize) -> bool {
-    matches!(
-        &lookup_of(alloc, file, ParseMode::Permissive),
-        Ok((table, _)) if table.len() == count && table.iter().all(is_seven)
-    )
+/// Whether that of a file is refused in strict mode, since its hint's place is not there, and has so
+/// many entries by the ordinal 7 in permissive mode.
+fn is_cut(alloc: Global, file: &[u8], count: usize) -> bool {
+    let strict = lookup_of(alloc, file, ParseMode::Strict);
+    is_err(strict, &Error::Malformed(Cause::HintEntry(0x290)))
+        && matches!(&lookup_of(alloc, file, ParseMode::Permissive), Ok((table, _))
+            if are_sevens(table, count))
 }
 
 #[test]
-fn a_lookup_table_that_meets_the_end_is_cut_in_permissive_mode_alone(
-    rt: HostRuntime,
-) -> Result<(), Fail> {
-    let file = sample(rt.alloc())?;
-    // How long the file is, and how many entries are kept. The names are past its end.
-    for (len, count) in [(0x248, 1), (0x247, 0)] {
-        let front = file.get(..len).unwrap_or(&[]);
-        assert!(rt; has_no_hint(rt.alloc(), front), "{len:#x}");
-        assert!(rt; are_sevens(rt.alloc(), front, count), "{len:#x}");
-    }
-    Ok(())
+fn a_lookup_table_that_meets_the_end_is_cut_in_permissive_mode_alone(rt: HostRuntime) {
+    // The names are past the end.
+    let file = sample();
+    assert!(rt; is_cut(rt.alloc(), cut(&file, 0x248), 1));
+    assert!(rt; is_cut(rt.alloc(), cut(&file, 0x247), 0));
 }
 
 /// The sample's import data, with one slot for its library.
 fn with_one_slot(alloc: Global, file: &[u8]) -> goblin_base::Result<ImportData<'_>> {
     let mut data = data_of::<u32>(alloc, file, ParseMode::Strict)?;
     for library in &mut data.import_data {
-        library.import_lookup_slots = vec![in alloc; 0]?;
+        library.import_lookup_slots.truncate(1);
     }
     Ok(data)
 }
 
 /// Whether these import data have two entries for one slot, and are refused for that.
 fn want_a_slot(alloc: Global, file: &[u8], data: &ImportData) -> bool {
-    matches!(
-        &Import::parse::<u32>(alloc, file, data, &[sample_section()]),
-        Err(Error::Malformed(Cause::SlotCount(2, 1)))
-    )
+    let read = Import::parse::<u32>(alloc, file, data, &[sample_section()]);
+    is_err(read, &Error::Malformed(Cause::SlotCount(2, 1)))
+}
+
+fn wants_a_slot(alloc: Global, file: &[u8]) -> bool {
+    matches!(&with_one_slot(alloc, file), Ok(data) if want_a_slot(alloc, file, data))
 }
 
 #[test]
-fn a_library_that_has_more_entries_than_slots_is_refused(rt: HostRuntime) -> Result<(), Fail> {
-    let file = sample(rt.alloc())?;
-    let data = with_one_slot(rt.alloc(), &file)?;
-    assert!(rt; want_a_slot(rt.alloc(), &file, &data));
-    Ok(())
+fn a_library_that_has_more_entries_than_slots_is_refused(rt: HostRuntime) {
+    assert!(rt; wants_a_slot(rt.alloc(), &sample()));
 }

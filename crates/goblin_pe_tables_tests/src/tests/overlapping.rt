@@ -66,10 +66,13 @@ const WIDE: Held = Held {
 
 /// Whether addresses in both sections lie where this one has them.
 fn are_mapped(sections: &[SectionTable], opts: &ParseOptions, held: &Held) -> bool {
-    [0x1210, 0x1220, 0x1240, 0x1250, 0x1280].iter().all(|rva| {
-        find_offset(*rva, sections, ALIGNMENT, opts)
-            == Some(rva.saturating_sub(0x1200).saturating_add(held.begin))
-    })
+    for rva in [0x1210, 0x1220, 0x1240, 0x1250, 0x1280] {
+        let want = (rva - 0x1200usize).saturating_add(held.begin);
+        if find_offset(rva, sections, ALIGNMENT, opts) != Some(want) {
+            return false;
+        }
+    }
+    true
 }
 
 fn is_entry(entry: &SyntheticImportLookupTableEntry, held: &Held) -> bool {
@@ -166,20 +169,20 @@ fn are_exports_read<'a>(
 
 /// Whether the walk over the imports finds what this section has.
 fn is_import_walked(file: &[u8], address_map: &AddressMap, held: &Held) -> bool {
-    let imports = Imports::<u32>::of(file, directory(0x1000, 40), address_map);
-    matches!(
-        imports.map(|mut imports| imports.next()),
-        Ok(Some(Ok(import))) if import.dll == held.name && is_entry(&import.entry, held)
-    )
+    match Imports::<u32>::of(file, directory(0x1000, 40), address_map) {
+        Ok(mut imports) => matches!(imports.next(), Some(Ok(import))
+            if import.dll == held.name && is_entry(&import.entry, held)),
+        Err(_) => false,
+    }
 }
 
 /// Whether the walk over the exports does.
 fn is_export_walked(file: &[u8], address_map: &AddressMap, held: &Held) -> bool {
-    let exports = Exports::of(file, directory(0x1100, 40), address_map);
-    matches!(
-        exports.map(|mut exports| exports.next()),
-        Ok(Some(walked)) if walked.export.name == Some(held.name) && walked.export.rva == held.export
-    )
+    match Exports::of(file, directory(0x1100, 40), address_map) {
+        Ok(mut exports) => matches!(exports.next(), Some(walked)
+            if walked.export.name == Some(held.name) && walked.export.rva == held.export),
+        Err(_) => false,
+    }
 }
 
 /// Whether both walks do.
@@ -211,17 +214,15 @@ fn are_read(
 }
 
 /// The file in which [`BYTES`] stand.
-fn overlapping_file(alloc: Global) -> Result<Vec<u8>, AllocError> {
-    let mut file = vec![in alloc; 0u8; 0x1000]?;
+fn overlapping_file() -> [u8; 0x1000] {
+    let mut file = [0; 0x1000];
     put_all(&mut file, BYTES);
-    Ok(file)
+    file
 }
 
 /// How many other sections there are, above these, and whether they stand before them, from the
 /// highest down, or after them.
 const OTHERS: [(u8, bool); 3] = [(0, false), (18, false), (18, true)];
-
-const RULES: [RawPointerRule; 2] = [RawPointerRule::AsStored, RawPointerRule::RoundedTo512];
 
 /// A section, whose raw pointer lies past the data where the rule rounds it down to them.
 fn section_by(rule: RawPointerRule, address: u32, size: u16, pointer: u16) -> SectionTable {
@@ -279,35 +280,22 @@ fn are_read_among(
     held: &Held,
 ) -> bool {
     let opts = ParseOptions::default().with_raw_pointer_rule(rule);
-    match (
-        &overlapping_file(alloc),
-        &among(alloc, others, first, second),
-    ) {
-        (Ok(file), Ok(sections)) => are_read(alloc, file, sections, &opts, held),
-        _ => false,
-    }
+    matches!(&among(alloc, others, first, second), Ok(sections)
+        if are_read(alloc, &overlapping_file(), sections, &opts, held))
+}
+
+/// Whether they take the first of two overlapping sections, whichever it is.
+fn take_the_first(alloc: Global, others: (u8, bool), rule: RawPointerRule) -> bool {
+    are_read_among(alloc, others, rule, (narrow(rule), wide(rule)), &NARROW)
+        && are_read_among(alloc, others, rule, (wide(rule), narrow(rule)), &WIDE)
 }
 
 #[test]
 fn each_reader_takes_the_first_of_two_overlapping_sections(rt: HostRuntime) {
     for others in OTHERS {
-        for rule in RULES {
-            let is_narrow = are_read_among(
-                rt.alloc(),
-                others,
-                rule,
-                (narrow(rule), wide(rule)),
-                &NARROW,
-            );
-            let is_wide = are_read_among(
-                rt.alloc(),
-                others,
-                rule,
-                (wide(rule), narrow(rule)),
-                &WIDE,
-            );
-            assert!(rt; is_narrow && is_wide, "{others:?} {rule:?}");
-        }
+        let is_right = take_the_first(rt.alloc(), others, RawPointerRule::AsStored)
+            && take_the_first(rt.alloc(), others, RawPointerRule::RoundedTo512);
+        assert!(rt; is_right, "{others:?}");
     }
 }
 
@@ -316,13 +304,17 @@ fn apart() -> SectionTable {
     section(0x1C00, 0x200, 0x200, 0x200)
 }
 
+/// Whether they find the wide one beside it, whichever is the first.
+fn find_the_wide(alloc: Global, others: (u8, bool), rule: RawPointerRule) -> bool {
+    are_read_among(alloc, others, rule, (wide(rule), apart()), &WIDE)
+        && are_read_among(alloc, others, rule, (apart(), wide(rule)), &WIDE)
+}
+
 #[test]
 fn each_reader_finds_its_section_where_none_overlap(rt: HostRuntime) {
     for others in OTHERS {
-        for rule in RULES {
-            let is_first = are_read_among(rt.alloc(), others, rule, (wide(rule), apart()), &WIDE);
-            let is_second = are_read_among(rt.alloc(), others, rule, (apart(), wide(rule)), &WIDE);
-            assert!(rt; is_first && is_second, "{others:?} {rule:?}");
-        }
+        let is_right = find_the_wide(rt.alloc(), others, RawPointerRule::AsStored)
+            && find_the_wide(rt.alloc(), others, RawPointerRule::RoundedTo512);
+        assert!(rt; is_right, "{others:?}");
     }
 }

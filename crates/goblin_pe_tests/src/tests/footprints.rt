@@ -2,8 +2,8 @@
 
 use super::sample::{are_samples, is_header};
 use fixture::sample::{
-    ALIGNMENT, EXPORTS, IMPORTS, LOOKUP, MODES, in_mode, put, put_all, sample, sample_section,
-    sample_with,
+    ALIGNMENT, EXPORTS, IMPORTS, LOOKUP, SAMPLE_LEN, cut, in_mode, put, put_all, sample,
+    sample_section, sample_with,
 };
 use goblin_base::{ParseMode, ResultOf};
 use goblin_pe::laws::{
@@ -12,8 +12,7 @@ use goblin_pe::laws::{
 };
 use goblin_pe_sect::ParseOptions;
 use goblin_pe_tables_tests::rows::Short;
-use std::alloc::{AllocError, Global};
-use std::test::Fail;
+use std::alloc::Global;
 
 /// Positions, by where they begin and where they end.
 type Span = (usize, usize);
@@ -53,9 +52,12 @@ const OF_WHOLE: &[Span] = &[
 ];
 
 fn is_in(spans: &[Span], place: usize) -> bool {
-    spans
-        .iter()
-        .any(|(begin, end)| *begin <= place && place < *end)
+    for (begin, end) in spans {
+        if *begin <= place && place < *end {
+            return true;
+        }
+    }
+    false
 }
 
 /// More bytes than a file here has.
@@ -63,7 +65,12 @@ const MOST: usize = 0x401;
 
 /// Whether both hold the same positions.
 fn are_the_same(spans: &[Span], want: &[Span]) -> bool {
-    (0..MOST).all(|place| is_in(spans, place) == is_in(want, place))
+    for place in 0..MOST {
+        if is_in(spans, place) != is_in(want, place) {
+            return false;
+        }
+    }
+    true
 }
 
 fn flip(file: &mut [u8], place: usize) {
@@ -82,25 +89,31 @@ fn flip_outside(file: &mut [u8], spans: &[Span]) {
 }
 
 /// Whether what is read is the same where the byte at this place is changed.
-fn is_the_same_but_at<F: Fn(&[u8]) -> bool>(file: &mut [u8], place: usize, is_the_same: &F) -> bool
+fn is_the_same_but_at<F: Fn(Global, &[u8]) -> bool>(
+    alloc: Global,
+    file: &mut [u8],
+    place: usize,
+    is_the_same: &F,
+) -> bool
     requires { F.IsAlwaysCallable is_the_same.now }
 {
     flip(file, place);
-    let is_the_same = is_the_same(file);
+    let is_the_same = is_the_same(alloc, file);
     flip(file, place);
     is_the_same
 }
 
 /// Whether what is read is the same where any one byte outside of these positions is changed.
-fn ignores_each_outside<F: Fn(&[u8]) -> bool>(
-    file: &mut [u8],
+fn ignores_each_outside<F: Fn(Global, &[u8]) -> bool>(
+    alloc: Global,
     spans: &[Span],
     is_the_same: &F,
 ) -> bool
     requires { F.IsAlwaysCallable is_the_same.now }
 {
-    for place in 0..file.len() {
-        if !is_in(spans, place) && !is_the_same_but_at(file, place, is_the_same) {
+    let mut file = sample();
+    for place in 0..SAMPLE_LEN {
+        if !is_in(spans, place) && !is_the_same_but_at(alloc, &mut file, place, is_the_same) {
             return false;
         }
     }
@@ -108,123 +121,132 @@ fn ignores_each_outside<F: Fn(&[u8]) -> bool>(
 }
 
 /// Whether what is read is the same where all bytes outside of these positions are changed.
-fn ignores_all_outside<F: Fn(&[u8]) -> bool>(
-    file: &mut [u8],
+fn ignores_all_outside<F: Fn(Global, &[u8]) -> bool>(
+    alloc: Global,
     spans: &[Span],
     is_the_same: &F,
 ) -> bool
     requires { F.IsAlwaysCallable is_the_same.now }
 {
-    flip_outside(file, spans);
-    let is_the_same = is_the_same(file);
-    flip_outside(file, spans);
-    is_the_same
+    let mut file = sample();
+    flip_outside(&mut file, spans);
+    is_the_same(alloc, &file)
 }
 
 /// Whether what is read is another where some byte of this span is changed.
-fn is_read<F: Fn(&[u8]) -> bool>(file: &mut [u8], span: &Span, is_the_same: &F) -> bool
+fn is_read<F: Fn(Global, &[u8]) -> bool>(alloc: Global, span: &Span, is_the_same: &F) -> bool
     requires { F.IsAlwaysCallable is_the_same.now }
 {
+    let mut file = sample();
     for place in span.0..span.1 {
-        if !is_the_same_but_at(file, place, is_the_same) {
+        if !is_the_same_but_at(alloc, &mut file, place, is_the_same) {
             return true;
         }
     }
     false
 }
 
-/// Whether what is read is the same in each file that differs from this one outside of these
-/// positions, at one place or at all of them, and another where a byte of each span is changed.
-fn depends_on<F: Fn(&[u8]) -> bool>(file: &mut [u8], spans: &[Span], is_the_same: F) -> bool
+/// Whether what is read of the sample file is the same in each file that differs from it outside of
+/// these positions, at one place or at all of them.
+fn ignores_outside<F: Fn(Global, &[u8]) -> bool>(
+    alloc: Global,
+    spans: &[Span],
+    is_the_same: &F,
+) -> bool
+    requires { F.IsAlwaysCallable is_the_same.now }
+{
+    is_the_same(alloc, &sample())
+        && ignores_each_outside(alloc, spans, is_the_same)
+        && ignores_all_outside(alloc, spans, is_the_same)
+}
+
+/// Whether that is so, and it is another where a byte of each span is changed.
+fn depends_on<F: Fn(Global, &[u8]) -> bool>(alloc: Global, spans: &[Span], is_the_same: F) -> bool
     requires { F.IsAlwaysCallable is_the_same }
 {
-    if !ignores_each_outside(file, spans, &is_the_same)
-        || !ignores_all_outside(file, spans, &is_the_same)
-    {
-        return false;
-    }
     for span in spans {
-        if !is_read(file, span, &is_the_same) {
+        if !is_read(alloc, span, &is_the_same) {
             return false;
         }
     }
-    true
+    ignores_outside(alloc, spans, &is_the_same)
 }
 
-/// Whether both files have the sample file's lookup table.
-fn have_lookups<'a>(alloc: Global, a: &'a [u8], b: &'a [u8]) -> bool {
+/// Whether a file and the sample file have its lookup table, whichever is the first.
+fn have_lookups(alloc: Global, file: &[u8]) -> bool {
+    are_lookups(alloc, &sample(), file) && are_lookups(alloc, file, &sample())
+}
+
+fn are_lookups<'a>(alloc: Global, a: &'a [u8], b: &'a [u8]) -> bool {
     let sections = [sample_section()];
     let opts = ParseOptions::default();
     are_samples(twin_lookup::<u32>(alloc, a, b, LOOKUP, &sections, ALIGNMENT, &opts))
 }
 
 #[test]
-fn a_lookup_table_depends_on_its_footprint_alone(rt: HostRuntime) -> Result<(), Fail> {
-    let alloc = rt.alloc();
-    let file = sample(alloc)?;
-    let is_the_same = |b: &[u8]| have_lookups(alloc, &file, b) && have_lookups(alloc, b, &file);
-    assert!(rt; depends_on(&mut sample(alloc)?, OF_LOOKUP, is_the_same));
-    Ok(())
+fn a_lookup_table_depends_on_its_footprint_alone(rt: HostRuntime) {
+    assert!(rt; depends_on(rt.alloc(), OF_LOOKUP, have_lookups));
 }
 
-/// Whether both files have its import data.
-fn have_imports<'a>(alloc: Global, a: &'a [u8], b: &'a [u8]) -> bool {
+/// Whether both have its import data.
+fn have_imports(alloc: Global, file: &[u8]) -> bool {
+    are_imports(alloc, &sample(), file) && are_imports(alloc, file, &sample())
+}
+
+fn are_imports<'a>(alloc: Global, a: &'a [u8], b: &'a [u8]) -> bool {
     let sections = [sample_section()];
     let opts = ParseOptions::default();
     are_samples(twin_imports::<u32>(alloc, a, b, IMPORTS, &sections, ALIGNMENT, &opts))
 }
 
 #[test]
-fn imports_depend_on_their_footprint_alone(rt: HostRuntime) -> Result<(), Fail> {
-    let alloc = rt.alloc();
-    let file = sample(alloc)?;
-    let is_the_same = |b: &[u8]| have_imports(alloc, &file, b) && have_imports(alloc, b, &file);
-    assert!(rt; depends_on(&mut sample(alloc)?, OF_IMPORTS, is_the_same));
-    Ok(())
+fn imports_depend_on_their_footprint_alone(rt: HostRuntime) {
+    assert!(rt; depends_on(rt.alloc(), OF_IMPORTS, have_imports));
 }
 
-/// Whether both files have its export data and exports.
-fn have_exports<'a>(alloc: Global, a: &'a [u8], b: &'a [u8]) -> bool {
+/// Whether both have its export data and exports.
+fn have_exports(alloc: Global, file: &[u8]) -> bool {
+    are_exports(alloc, &sample(), file) && are_exports(alloc, file, &sample())
+}
+
+fn are_exports<'a>(alloc: Global, a: &'a [u8], b: &'a [u8]) -> bool {
     let sections = [sample_section()];
     let opts = ParseOptions::default();
     are_samples(twin_exports(alloc, a, b, EXPORTS, &sections, ALIGNMENT, &opts))
 }
 
 #[test]
-fn exports_depend_on_their_footprint_alone(rt: HostRuntime) -> Result<(), Fail> {
-    let alloc = rt.alloc();
-    let file = sample(alloc)?;
-    let is_the_same = |b: &[u8]| have_exports(alloc, &file, b) && have_exports(alloc, b, &file);
-    assert!(rt; depends_on(&mut sample(alloc)?, OF_EXPORTS, is_the_same));
-    Ok(())
+fn exports_depend_on_their_footprint_alone(rt: HostRuntime) {
+    assert!(rt; depends_on(rt.alloc(), OF_EXPORTS, have_exports));
 }
 
-/// Whether both files have its header.
-fn have_headers(a: &[u8], b: &[u8]) -> bool {
+/// Whether both have its header.
+fn have_headers(_alloc: Global, file: &[u8]) -> bool {
+    are_headers(&sample(), file) && are_headers(file, &sample())
+}
+
+fn are_headers(a: &[u8], b: &[u8]) -> bool {
     let headers = twin_header(a, b, &ParseOptions::default());
     matches!(&headers, (Ok(first), Ok(second)) if first == second && is_header(first))
 }
 
 #[test]
-fn a_header_depends_on_its_footprint_alone(rt: HostRuntime) -> Result<(), Fail> {
-    let file = sample(rt.alloc())?;
-    let is_the_same = |b: &[u8]| have_headers(&file, b) && have_headers(b, &file);
-    assert!(rt; depends_on(&mut sample(rt.alloc())?, OF_HEADER, is_the_same));
-    Ok(())
+fn a_header_depends_on_its_footprint_alone(rt: HostRuntime) {
+    assert!(rt; depends_on(rt.alloc(), OF_HEADER, have_headers));
 }
 
-/// Whether both files have its header, sections and tables.
-fn have_all<'a>(alloc: Global, a: &'a [u8], b: &'a [u8]) -> bool {
+/// Whether both have its header, sections and tables.
+fn have_all(alloc: Global, file: &[u8]) -> bool {
+    are_whole(alloc, &sample(), file) && are_whole(alloc, file, &sample())
+}
+
+fn are_whole<'a>(alloc: Global, a: &'a [u8], b: &'a [u8]) -> bool {
     are_samples(twin_whole(alloc, a, b, &ParseOptions::default()))
 }
 
 #[test]
-fn a_whole_file_depends_on_its_footprint_alone(rt: HostRuntime) -> Result<(), Fail> {
-    let alloc = rt.alloc();
-    let file = sample(alloc)?;
-    let is_the_same = |b: &[u8]| have_all(alloc, &file, b) && have_all(alloc, b, &file);
-    assert!(rt; depends_on(&mut sample(alloc)?, OF_WHOLE, is_the_same));
-    Ok(())
+fn a_whole_file_depends_on_its_footprint_alone(rt: HostRuntime) {
+    assert!(rt; depends_on(rt.alloc(), OF_WHOLE, have_all));
 }
 
 /// Whether a call lists these positions.
@@ -237,80 +259,65 @@ fn is_header_listed(alloc: Global, file: &[u8]) -> bool {
     are_listed(&footprint_header(alloc, file), OF_HEADER)
 }
 
-/// Whether that of its imports is listed.
-fn are_imports_listed(alloc: Global, file: &[u8], mode: ParseMode) -> bool {
+/// Whether that of its imports is listed in a mode, and in both.
+fn are_imports_in(alloc: Global, file: &[u8], mode: ParseMode) -> bool {
     let sections = [sample_section()];
     let opts = in_mode(mode);
     let spans = footprint_imports::<u32>(alloc, file, IMPORTS, &sections, ALIGNMENT, &opts);
     are_listed(&spans, OF_IMPORTS)
 }
 
-/// Whether that of its exports is listed.
-fn are_exports_listed(alloc: Global, file: &[u8], mode: ParseMode) -> bool {
+fn are_imports_listed(alloc: Global, file: &[u8]) -> bool {
+    are_imports_in(alloc, file, ParseMode::Strict)
+        && are_imports_in(alloc, file, ParseMode::Permissive)
+}
+
+/// Whether that of its exports is.
+fn are_exports_in(alloc: Global, file: &[u8], mode: ParseMode) -> bool {
     let sections = [sample_section()];
     let opts = in_mode(mode);
     let spans = footprint_exports(alloc, file, EXPORTS, &sections, ALIGNMENT, &opts);
     are_listed(&spans, OF_EXPORTS)
 }
 
+fn are_exports_listed(alloc: Global, file: &[u8]) -> bool {
+    are_exports_in(alloc, file, ParseMode::Strict)
+        && are_exports_in(alloc, file, ParseMode::Permissive)
+}
+
 /// Whether these positions are listed of a whole file in both modes.
 fn is_reached(alloc: Global, file: &[u8], want: &[Span]) -> bool {
-    let is_listed = |mode: &ParseMode| {
-        are_listed(&footprint_whole(alloc, file, &in_mode(*mode)), want)
-    };
-    MODES.iter().all(is_listed)
+    are_listed(
+        &footprint_whole(alloc, file, &in_mode(ParseMode::Strict)),
+        want,
+    ) && are_listed(
+        &footprint_whole(alloc, file, &in_mode(ParseMode::Permissive)),
+        want,
+    )
 }
 
-/// Whether the same is listed of this file, and of each that differs from it outside of these
-/// positions, at one place or at all of them.
-fn is_listed_alike<F: Fn(&[u8]) -> bool>(file: &mut [u8], spans: &[Span], is_listed: F) -> bool
-    requires { F.IsAlwaysCallable is_listed }
-{
-    is_listed(file)
-        && ignores_each_outside(file, spans, &is_listed)
-        && ignores_all_outside(file, spans, &is_listed)
+fn is_whole_listed(alloc: Global, file: &[u8]) -> bool {
+    is_reached(alloc, file, OF_WHOLE)
 }
 
 #[test]
-fn the_footprint_of_a_header_is_listed(rt: HostRuntime) -> Result<(), Fail> {
-    let alloc = rt.alloc();
-    let is_listed = |file: &[u8]| is_header_listed(alloc, file);
-    assert!(rt; is_listed_alike(&mut sample(alloc)?, OF_HEADER, is_listed));
-    Ok(())
+fn the_footprint_of_a_header_is_listed(rt: HostRuntime) {
+    assert!(rt; ignores_outside(rt.alloc(), OF_HEADER, &is_header_listed));
 }
 
 #[test]
-fn the_footprint_of_imports_is_listed(rt: HostRuntime) -> Result<(), Fail> {
-    let alloc = rt.alloc();
-    for mode in MODES {
-        let is_listed = |file: &[u8]| are_imports_listed(alloc, file, mode);
-        assert!(rt;
-            is_listed_alike(&mut sample(alloc)?, OF_IMPORTS, is_listed),
-            "{mode:?}"
-        );
-    }
-    Ok(())
+fn the_footprint_of_imports_is_listed(rt: HostRuntime) {
+    assert!(rt; ignores_outside(rt.alloc(), OF_IMPORTS, &are_imports_listed));
 }
 
 #[test]
-fn the_footprint_of_exports_is_listed(rt: HostRuntime) -> Result<(), Fail> {
-    let alloc = rt.alloc();
-    for mode in MODES {
-        let is_listed = |file: &[u8]| are_exports_listed(alloc, file, mode);
-        assert!(rt;
-            is_listed_alike(&mut sample(alloc)?, OF_EXPORTS, is_listed),
-            "{mode:?}"
-        );
-    }
-    Ok(())
+fn the_footprint_of_exports_is_listed(rt: HostRuntime) {
+    assert!(rt; ignores_outside(rt.alloc(), OF_EXPORTS, &are_exports_listed));
 }
 
 #[test]
-fn the_footprint_of_a_whole_file_is_listed(rt: HostRuntime) -> Result<(), Fail> {
-    let alloc = rt.alloc();
-    let is_listed = |file: &[u8]| is_reached(alloc, file, OF_WHOLE);
-    assert!(rt; is_listed_alike(&mut sample(alloc)?, OF_WHOLE, is_listed));
-    Ok(())
+fn the_footprint_of_a_whole_file_is_listed(rt: HostRuntime) {
+    assert!(rt; ignores_outside(rt.alloc(), OF_WHOLE, &is_whole_listed));
 }
 
 /// What bytes at an offset make of the sample file, whose parts are then reached as far as the
@@ -358,17 +365,12 @@ const OF_ANOTHER_LOOKUP: &[Span] = &[
     (0x2F0, 0x2F2),
 ];
 
-/// The first bytes of the sample file, so many, and what is reached of them: the records of the import directory, and the
-/// slots of its lookup table that are whole.
-const CUTS: &[(usize, &[Span])] = &[
-    (0x248, &[(0x000, 0x160), (0x200, 0x228), (0x240, 0x248)]),
-    (0x247, &[(0x000, 0x160), (0x200, 0x228), (0x240, 0x244)]),
-];
+/// What is reached of the first bytes of the sample file, up to the end of an entry of its lookup
+/// table and up to the byte before: the records of the import directory, and the slots of the lookup
+/// table that are whole.
+const OF_CUT: &[Span] = &[(0x000, 0x160), (0x200, 0x228), (0x240, 0x248)];
 
-/// The first bytes of a file, so many.
-fn cut(file: &[u8], len: usize) -> &[u8] {
-    file.get(..len).unwrap_or(file)
-}
+const OF_CUT_ENTRY: &[Span] = &[(0x000, 0x160), (0x200, 0x228), (0x240, 0x244)];
 
 /// Of a file whose bytes from 0x292 on are the letter A, 0x400 in all.
 const OF_LETTERS: &[Span] = &[
@@ -399,58 +401,52 @@ const ADDITIONS: &[(&str, usize, &[u8], Span)] = &[
 ];
 
 #[test]
-fn a_refused_file_is_reached_as_far_as_its_parts_lead(rt: HostRuntime) -> Result<(), Fail> {
+fn a_refused_file_is_reached_as_far_as_its_parts_lead(rt: HostRuntime) {
     let alloc = rt.alloc();
     for (name, offset, bytes, want) in CHANGES {
-        let file = sample_with(alloc, *offset, bytes)?;
+        let file = sample_with(*offset, bytes);
         assert!(rt; is_reached(alloc, &file, want), "{name}");
     }
     assert!(rt; is_reached(alloc, b"", &[]));
     assert!(rt; is_reached(alloc, b"MZ", &[(0, 2)]));
-    Ok(())
 }
 
 #[test]
-fn a_lookup_table_in_the_import_directory_is_reached(rt: HostRuntime) -> Result<(), Fail> {
-    let file = sample_with(rt.alloc(), 0x200, b"\0\x10\0\0")?;
+fn a_lookup_table_in_the_import_directory_is_reached(rt: HostRuntime) {
+    let file = sample_with(0x200, b"\0\x10\0\0");
     assert!(rt; is_reached(rt.alloc(), &file, OF_ANOTHER_LOOKUP));
-    Ok(())
 }
 
 #[test]
-fn a_file_that_ends_in_a_lookup_table_is_reached(rt: HostRuntime) -> Result<(), Fail> {
-    let file = sample(rt.alloc())?;
-    for (len, want) in CUTS {
-        assert!(rt; is_reached(rt.alloc(), cut(&file, *len), want), "{len:#x}");
-    }
-    Ok(())
-}
-
-/// The sample file with the letter A from 0x292 on, 0x400 bytes in all.
-fn with_letters(alloc: Global) -> Result<Vec<u8>, AllocError> {
-    let file = sample(alloc)?;
-    let mut letters = vec![in alloc; b'A'; 0x400]?;
-    put(&mut letters, 0, cut(&file, 0x292));
-    Ok(letters)
+fn a_file_that_ends_in_a_lookup_table_is_reached(rt: HostRuntime) {
+    let file = sample();
+    assert!(rt; is_reached(rt.alloc(), cut(&file, 0x248), OF_CUT));
+    assert!(rt; is_reached(rt.alloc(), cut(&file, 0x247), OF_CUT_ENTRY));
 }
 
 #[test]
-fn a_text_without_a_nul_is_reached_to_the_end(rt: HostRuntime) -> Result<(), Fail> {
-    let file = with_letters(rt.alloc())?;
+fn a_text_without_a_nul_is_reached_to_the_end(rt: HostRuntime) {
+    // The sample file with the letter A from 0x292 on, 0x400 bytes in all.
+    let mut file = [b'A'; 0x400];
+    put(&mut file, 0, cut(&sample(), 0x292));
     assert!(rt; is_reached(rt.alloc(), &file, OF_LETTERS));
-    Ok(())
+}
+
+/// Whether the whole file is reached as before, and more.
+fn is_reached_with(alloc: Global, file: &[u8], more: Span) -> bool {
+    let mut want = [more; 10];
+    for (place, span) in want.iter_mut().zip(OF_WHOLE) {
+        *place = *span;
+    }
+    is_reached(alloc, file, &want)
 }
 
 #[test]
-fn names_and_base_relocations_are_reached(rt: HostRuntime) -> Result<(), Fail> {
-    let alloc = rt.alloc();
+fn names_and_base_relocations_are_reached(rt: HostRuntime) {
     for (name, offset, bytes, more) in ADDITIONS {
-        let file = sample_with(alloc, *offset, bytes)?;
-        let mut want = Vec::from_slice(alloc, OF_WHOLE)?;
-        want.push(*more)?;
-        assert!(rt; is_reached(alloc, &file, &want), "{name}");
+        let file = sample_with(*offset, bytes);
+        assert!(rt; is_reached_with(rt.alloc(), &file, *more), "{name}");
     }
-    Ok(())
 }
 
 /// A file with a Rich header, which ends within its COFF header.
@@ -462,11 +458,10 @@ const RICH: &[(usize, &[u8])] = &[
 ];
 
 #[test]
-fn a_rich_header_is_reached(rt: HostRuntime) -> Result<(), Fail> {
+fn a_rich_header_is_reached(rt: HostRuntime) {
     let mut file = [0; 0x70];
     put_all(&mut file, RICH);
     assert!(rt; is_reached(rt.alloc(), &file, &[(0x00, 0x64)]));
-    Ok(())
 }
 
 /// Whether the footprint of imports by entries of two bytes has the lookup table's four bytes, and
@@ -479,9 +474,6 @@ fn has_short_lookup_alone(alloc: Global, file: &[u8]) -> bool {
 }
 
 #[test]
-fn the_footprint_of_imports_goes_by_the_entry_type(rt: HostRuntime) -> Result<(), Fail> {
-    let alloc = rt.alloc();
-    let file = sample(alloc)?;
-    assert!(rt; has_short_lookup_alone(alloc, &file));
-    Ok(())
+fn the_footprint_of_imports_goes_by_the_entry_type(rt: HostRuntime) {
+    assert!(rt; has_short_lookup_alone(rt.alloc(), &sample()));
 }

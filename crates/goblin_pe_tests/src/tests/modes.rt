@@ -13,8 +13,7 @@ use goblin_pe::options::ParseOptions;
 use goblin_pe_sect::DataDirectory;
 use goblin_pe_sect::relocation::RelocationData;
 use goblin_pe_tables_tests::rows::RECORD;
-use std::alloc::{AllocError, Global};
-use std::test::Fail;
+use std::alloc::Global;
 
 /// The bytes of the sample file's library name.
 const NAME: DataDirectory = DataDirectory {
@@ -34,11 +33,10 @@ const REQUEST: Request = Request {
 };
 
 #[test]
-fn both_modes_read_the_same_header(rt: HostRuntime) -> Result<(), Fail> {
-    let file = sample(rt.alloc())?;
+fn both_modes_read_the_same_header(rt: HostRuntime) {
+    let file = sample();
     let headers = mode_header(&file, &ParseOptions::default());
     assert!(rt; matches!(&headers, (Ok(strict), Ok(permissive)) if strict == permissive));
-    Ok(())
 }
 
 /// Whether an answer is the sample file's.
@@ -71,8 +69,8 @@ impl OfSample for TablesOf<'_, '_, ImportDirectoryEntry> {
 }
 
 #[test]
-fn sections_may_stand_in_any_order(rt: HostRuntime) -> Result<(), Fail> {
-    let file = sample(rt.alloc())?;
+fn sections_may_stand_in_any_order(rt: HostRuntime) {
+    let file = sample();
     let first = [sample_section(), section(0x3000, 0x100, 0x100, 0x100)];
     let second = [section(0x3000, 0x100, 0x100, 0x100), sample_section()];
     assert!(rt;
@@ -86,7 +84,6 @@ fn sections_may_stand_in_any_order(rt: HostRuntime) -> Result<(), Fail> {
             &ParseOptions::default(),
         ))
     );
-    Ok(())
 }
 
 /// What the readers make of a file with an import directory at its front.
@@ -125,8 +122,8 @@ fn is_front_listed<'a>(alloc: Global, file: &'a [u8], data: &ImportData<'a>) -> 
 }
 
 /// A file with an import directory at its front.
-fn front_file(alloc: Global) -> Result<Vec<u8>, AllocError> {
-    let mut file = vec![in alloc; 0u8; 0x40]?;
+fn front_file() -> [u8; 0x40] {
+    let mut file = [0; 0x40];
     put_all(
         &mut file,
         &[
@@ -136,12 +133,12 @@ fn front_file(alloc: Global) -> Result<Vec<u8>, AllocError> {
             (0x30, b"x"),
         ],
     );
-    Ok(file)
+    file
 }
 
 #[test]
-fn permissive_mode_has_no_imports_from_the_front_of_the_file(rt: HostRuntime) -> Result<(), Fail> {
-    let file = front_file(rt.alloc())?;
+fn permissive_mode_has_no_imports_from_the_front_of_the_file(rt: HostRuntime) {
+    let file = front_file();
     let sections = [section(0x1000, 0x200, 0x200, 0)];
     let request = Request {
         imports: directory(0x1000, 0),
@@ -157,7 +154,6 @@ fn permissive_mode_has_no_imports_from_the_front_of_the_file(rt: HostRuntime) ->
         &opts,
     );
     assert!(rt; has_first_alone(rt.alloc(), &file, tables));
-    Ok(())
 }
 
 /// Whether these are the sample file's headers: without a DOS header its first four bytes are the
@@ -178,8 +174,8 @@ impl OfSample for PartsOf<'_, '_, ImportDirectoryEntry> {
 }
 
 #[test]
-fn single_tables_of_two_files_are_what_their_readers_give(rt: HostRuntime) -> Result<(), Fail> {
-    let (file, again) = (sample(rt.alloc())?, sample(rt.alloc())?);
+fn single_tables_of_two_files_are_what_their_readers_give(rt: HostRuntime) {
+    let (file, again) = (sample(), sample());
     assert!(rt;
         are_both_samples(twin_parts::<ImportDirectoryEntry>(
             rt.alloc(),
@@ -194,5 +190,4 @@ fn single_tables_of_two_files_are_what_their_readers_give(rt: HostRuntime) -> Re
             &ParseOptions::default(),
         ))
     );
-    Ok(())
 }

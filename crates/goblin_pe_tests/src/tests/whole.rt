@@ -1,32 +1,43 @@
 //! Whole files: which parts are there, absent or refused.
 
 use super::sample::{are_samples, has_exports, has_imports, is_whole};
-use fixture::sample::{MODES, in_mode, sample, sample_with};
-use goblin_base::ParseMode;
+use fixture::sample::{in_mode, sample, sample_with};
+use goblin_base::{ParseMode, ResultOf};
 use goblin_pe::laws::mode_whole;
 use goblin_pe::options::{ParseOptions, RawPointerRule};
 use goblin_pe::{Part, Whole};
 use std::alloc::Global;
-use std::test::Fail;
 
-/// Whether the sample file is read by these options.
-fn is_sample(alloc: Global, file: &[u8], opts: &ParseOptions) -> bool {
-    matches!(&Whole::read(alloc, file, opts), Ok(whole) if is_whole(whole))
+/// Whether a file is read, and passes a test. It takes the answer: of a type that it does not know
+/// that costs its proof little.
+fn passes<'e, A: Drop, F: Fn(&A) -> bool>(answer: ResultOf<'e, A>, test: F) -> bool
+    requires { F.IsAlwaysCallable test }
+{
+    matches!(&answer, Ok(value) if test(value))
+}
+
+/// Whether the sample file is read in a mode.
+fn is_sample(alloc: Global, file: &[u8], mode: ParseMode) -> bool {
+    passes(Whole::read(alloc, file, &in_mode(mode)), is_whole)
 }
 
 #[test]
-fn a_file_is_read_in_both_modes(rt: HostRuntime) -> Result<(), Fail> {
-    let file = sample(rt.alloc())?;
-    for mode in MODES {
-        assert!(rt; is_sample(rt.alloc(), &file, &in_mode(mode)), "{mode:?}");
-    }
+fn a_file_is_read_in_both_modes(rt: HostRuntime) {
+    let file = sample();
+    assert!(rt; is_sample(rt.alloc(), &file, ParseMode::Strict));
+    assert!(rt; is_sample(rt.alloc(), &file, ParseMode::Permissive));
     assert!(rt; are_samples(mode_whole(rt.alloc(), &file, &ParseOptions::default())));
-    Ok(())
 }
 
-/// Whether a file's imports and exports are those of the sample, by these options.
-fn is_listed(alloc: Global, file: &[u8], opts: &ParseOptions) -> bool {
-    matches!(&Whole::read(alloc, file, opts), Ok(whole) if has_imports(whole) && has_exports(whole))
+/// Whether a file's imports and exports are those of the sample.
+fn has_both(whole: &Whole) -> bool {
+    has_imports(whole) && has_exports(whole)
+}
+
+/// Whether they are in a mode, where raw pointers are rounded.
+fn is_rounded(alloc: Global, file: &[u8], mode: ParseMode) -> bool {
+    let opts = in_mode(mode).with_raw_pointer_rule(RawPointerRule::RoundedTo512);
+    passes(Whole::read(alloc, file, &opts), has_both)
 }
 
 /// Whether a file has no imports, and exports that were refused.
@@ -39,19 +50,16 @@ fn has_lost_both(whole: &Whole) -> bool {
 
 /// Whether that is read of a file in permissive mode.
 fn is_shifted(alloc: Global, file: &[u8]) -> bool {
-    let read = Whole::read(alloc, file, &in_mode(ParseMode::Permissive));
-    matches!(&read, Ok(whole) if has_lost_both(whole))
+    passes(
+        Whole::read(alloc, file, &in_mode(ParseMode::Permissive)),
+        has_lost_both,
+    )
 }
 
 #[test]
-fn a_raw_pointer_that_is_no_multiple_of_512_is_rounded_where_that_is_asked_for(
-    rt: HostRuntime,
-) -> Result<(), Fail> {
-    let file = sample_with(rt.alloc(), 0x14C, b"\x10")?;
-    for mode in MODES {
-        let opts = in_mode(mode).with_raw_pointer_rule(RawPointerRule::RoundedTo512);
-        assert!(rt; is_listed(rt.alloc(), &file, &opts), "{mode:?}");
-    }
+fn a_raw_pointer_that_is_no_multiple_of_512_is_rounded_where_that_is_asked_for(rt: HostRuntime) {
+    let file = sample_with(0x14C, b"\x10");
+    assert!(rt; is_rounded(rt.alloc(), &file, ParseMode::Strict));
+    assert!(rt; is_rounded(rt.alloc(), &file, ParseMode::Permissive));
     assert!(rt; is_shifted(rt.alloc(), &file));
-    Ok(())
 }

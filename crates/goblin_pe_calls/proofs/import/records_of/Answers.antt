@@ -23,11 +23,7 @@ library-init g c =
 pub library-preserved : goal.library-preserved
 library-preserved g c =
     let given = c.in-Some-next_here.ensures.0.0 in
-    (made-more (imports_left g.T.Bitfield.format) (IsImportsCause g.T.Bitfield.format) import_said c.args.imports _ _ c.library.invariant.0 walked_value _ (Ok c.in-Some-next_here.import) given _ refl _ (sym c.in_ok-push_import-2.ensures.value), c.in_ok-push_import-2.ensures.room c.library.invariant.1, omega (arith, ap length given.0, c.library.invariant.2))
-
-pub returns-in_err-push_import-2-clause-begun : goal.returns-in_err-push_import-2-clause-begun
-returns-in_err-push_import-2-clause-begun g c =
-    wherever _ _ (walk-begins (imports_left g.T.Bitfield.format) (IsImportsCause g.T.Bitfield.format) import_said c.args.imports c.library.imports _ c.library.invariant.0 walked_value c.next_here.new.self (Ok c.in-Some-next_here.import) c.in-Some-next_here.ensures.0.0 _ refl)
+    (made-more (imports_left g.T.Bitfield.format) (IsImportsCause g.T.Bitfield.format) import_said c.args.imports _ _ c.library.invariant.0 walked_value _ (Ok c.in-Some-next_here.import) given _ refl _ c.push_within.ensures.value, c.push_within.ensures.room c.library.invariant.1, omega (arith, ap length given.0, c.library.invariant.2))
 
 pub returns-clause-value : goal.returns-clause-value
 returns-clause-value g c =

@@ -1,9 +1,10 @@
-use Rattle.std.proofs.Common.{◌<◌, ◌^◌, None, Some, Ok, Result, length, arith, subst}
+use Rattle.std.proofs.Common.{◌<◌, ◌^◌, ◌+◌, None, Some, Ok, Result, length, set, arith, subst}
 use Rattle.goblin_base.specs.declared.error.ErrorOf.{ErrorOf}
 use Rattle.goblin_pe_import.specs.declared.import.imports.WalkedImport.{WalkedImport}
 use Rattle.goblin_pe.specs.Layouts.{GivesFileImport, layout_map, layout_places}
 use Rattle.goblin_pe.proofs.ImportStarts.{file-given, file-kept}
-use Rattle.goblin_pe_calls.proofs.ImportBatches.{goes-after, goes-end, imports-end, imports-full, imports-more, imports-refused}
+use Rattle.goblin_pe_calls.proofs.ImportBatches.{goes-after, goes-end, imports-end, imports-full, imports-refused, library-kept}
+use Rattle.goblin_pe_calls.proofs.ImportBatches.{library-more}
 use Rattle.goblin_pe_calls.proofs.next.fill_imports.Goals as goal
 
 pub imports-preserved : goal.imports-preserved
@@ -14,13 +15,16 @@ imports-preserved c =
     let bytes = l.bytes.now in
     let now = c.imports.imports in
     let next = c.next.new.self in
+    let last = c.fill_library-count.new.imports in
     let x = c.in-Some-Ok.import in
     let is = subst (λ (r : Result WalkedImport ErrorOf). GivesFileImport now (Some r) next) c.in-Some-Ok.field-0-is c.in-Some-Ok.ensures.steps in
     let kept = file-kept m places.magic bytes now (Some (Ok x)) next is c.imports.invariant.goes.walk in
+    let fills = c.fill_library-count.ensures.filled in
+    let there = library-kept m places.magic bytes next last (set c.imports.records c.imports.count c.import_record.result) c.fill_library-count.new.records (c.imports.count + 1) c.fill_library-count.result fills kept.0 kept.1 in
     let fits = c.bytes.type_inv in
     let most : length bytes < 2 ^ 63 = rw (← c.bytes.ensures) (omega (arith, fits)) in
-    let goes = goes-after m places bytes c.position_record.result c.position.result next most kept.0 c.imports.invariant.goes.asked c.position.ensures.is kept.1 (c.position.ensures.left m places.magic bytes kept.0) c.position_record.ensures in
-    imports-more m places bytes c.args.imports c.args.position.now c.args.records.now now c.imports.position c.imports.records c.imports.count c.imports.invariant x next c.position_record.result c.import_record.result is goes c.imports-test.true c.import_record.ensures
+    let goes = goes-after m places bytes c.position_record.result c.position.result last most there.0 c.imports.invariant.goes.asked c.position.ensures.is there.1 (c.position.ensures.left m places.magic bytes there.0) c.position_record.ensures in
+    library-more m places bytes c.args.imports c.args.position.now c.args.records.now now c.imports.position c.imports.records c.imports.count c.imports.invariant x next last c.position_record.result c.import_record.result c.fill_library-count.new.records c.fill_library-count.result is c.imports-test.true c.import_record.ensures fills goes
 
 pub returns-in-Some-Err-2-clause-filled : goal.returns-in-Some-Err-2-clause-filled
 returns-in-Some-Err-2-clause-filled c =
