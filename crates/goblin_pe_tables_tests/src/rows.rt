@@ -83,11 +83,12 @@ pub fn are_imports(imports: &[Import], rows: &[ImportRow]) -> bool {
     match (imports, rows) {
         ([], []) => true,
         ([only], [row]) => is_import(only, row),
-        ([first, second], [row, last]) => is_import(first, row) && is_import(second, last),
+        ([first, second], [row, next]) => is_import(first, row) && is_import(second, next),
         _ => false,
     }
 }
 
+/// Whether this is the import of a row, from `a.dll`.
 fn is_import(import: &Import, row: &ImportRow) -> bool {
     import.dll == "a.dll"
         && import.name.as_str() == row.0
@@ -151,7 +152,7 @@ pub fn are_exports(exports: &[Export], rows: &[ExportRow]) -> bool {
     match (exports, rows) {
         ([], []) => true,
         ([only], [row]) => is_export(only, row),
-        ([first, second], [row, last]) => is_export(first, row) && is_export(second, last),
+        ([first, second], [row, next]) => is_export(first, row) && is_export(second, next),
         _ => false,
     }
 }

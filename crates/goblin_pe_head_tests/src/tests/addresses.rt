@@ -83,7 +83,7 @@ fn addresses_map_by_the_window_of_their_section(rt: HostRuntime) {
 }
 
 #[test]
-fn without_sections_that_are_mapped_an_address_is_an_offset(rt: HostRuntime) {
+fn an_address_of_a_terse_executable_is_its_offset(rt: HostRuntime) {
     let unmapped = ParseOptions::te();
     assert!(rt; is_found(rt.alloc(), WIDE, 0, &unmapped, (0x1100, Some(0x1100))));
 }
@@ -116,13 +116,15 @@ fn is_within(index: &WindowIndex, rva: usize, (pieces, want, most): Found) -> bo
 /// How many pieces an index has, an offset, and the most probes to find it.
 type Found = (usize, Option<usize>, usize);
 
-/// Whether an index of two sections and a walk over them find an offset so.
+/// Whether an index of two sections, of so many pieces, and a walk over them find an offset.
 fn is_in_both(alloc: Global, both: [Numbers; 2], rva: usize, found: Found) -> bool {
     let sections = [section_of(both[0]), section_of(both[1])];
-    are_within(alloc, &sections, rva, found)
+    are_found_within(alloc, &sections, rva, found)
 }
 
-fn are_within(alloc: Global, sections: &[SectionTable], rva: usize, found: Found) -> bool {
+/// Whether an index of these sections, of so many pieces, finds an offset in at most so many probes, and
+/// a walk over them finds the same.
+fn are_found_within(alloc: Global, sections: &[SectionTable], rva: usize, found: Found) -> bool {
     let opts = ParseOptions::default();
     let index = WindowIndex::prepare(alloc, sections, ALIGNMENT, &opts);
     are_found(alloc, sections, ALIGNMENT, &opts, (rva, found.1))
@@ -149,18 +151,18 @@ fn an_address_of_two_windows_belongs_to_the_first(rt: HostRuntime) {
     assert!(rt; is_in_both(rt.alloc(), [WIDE, NARROW], 0x1250, (5, Some(0xA50), 4)));
 }
 
-/// A section at one of two places of data.
-const FIRST: Numbers = (0x1000, 0x200, 0x200, 0x400);
+/// Two sections of one window, with data at different offsets.
+const LOW: Numbers = (0x1000, 0x200, 0x200, 0x400);
 
-const SECOND: Numbers = (0x1000, 0x200, 0x200, 0x800);
+const HIGH: Numbers = (0x1000, 0x200, 0x200, 0x800);
 
 #[test]
 fn a_window_that_stands_twice_belongs_to_the_first(rt: HostRuntime) {
-    assert!(rt; is_in_both(rt.alloc(), [FIRST, SECOND], 0x1010, (3, Some(0x410), 3)));
-    assert!(rt; is_in_both(rt.alloc(), [SECOND, FIRST], 0x1010, (3, Some(0x810), 3)));
+    assert!(rt; is_in_both(rt.alloc(), [LOW, HIGH], 0x1010, (3, Some(0x410), 3)));
+    assert!(rt; is_in_both(rt.alloc(), [HIGH, LOW], 0x1010, (3, Some(0x810), 3)));
 }
 
 #[test]
 fn without_sections_no_address_is_found(rt: HostRuntime) {
-    assert!(rt; are_within(rt.alloc(), &[], 0, (1, None, 2)));
+    assert!(rt; are_found_within(rt.alloc(), &[], 0, (1, None, 2)));
 }

@@ -123,13 +123,13 @@ fn has_strings(table: &Strtab, strings: &[Option<&str>]) -> bool {
     true
 }
 
-/// Whether one of all the bytes does.
+/// Whether the table of all these bytes has these strings.
 fn are_strings(alloc: Global, bytes: &[u8], strings: &[Option<&str>]) -> bool {
     let table = Strtab::parse(alloc, bytes, 0, bytes.len(), 0);
     matches!(&table, Ok(table) if has_strings(table, strings))
 }
 
-/// The strings at the offsets of each table.
+/// The strings of a table of two texts, and of one of a single text, by offset.
 const OF_TWO: &[Option<&str>] = &[Some("ab"), Some("b"), Some(""), Some("c"), Some(""), None];
 
 const OF_ONE: &[Option<&str>] = &[Some("a"), Some(""), None];

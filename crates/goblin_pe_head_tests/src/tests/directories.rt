@@ -99,7 +99,7 @@ fn more_directories_than_the_table_has_are_refused(rt: HostRuntime) {
 const BYTES: &[u8; 17] = b"?\x01\x02\x03\x04\x05\x06\x07\x08\x09\x0A\x0B\x0C\x0D\x0E\x0F\x10";
 
 /// Whether the directory at an offset of them is this.
-fn is_next(offset: &mut usize, endian: Endian, want: DataDirectory) -> bool {
+fn is_read_next(offset: &mut usize, endian: Endian, want: DataDirectory) -> bool {
     is_ok(gread_with::<DataDirectory>(BYTES, offset, endian), &want)
 }
 
@@ -108,8 +108,8 @@ fn directories_are_read_one_after_the_other_in_either_order(rt: HostRuntime) {
     let first = directory(0x0102_0304, 0x0506_0708);
     let second = directory(0x0C0B_0A09, 0x100F_0E0D);
     let mut offset = 1;
-    assert!(rt; is_next(&mut offset, Endian::Big, first));
-    assert!(rt; is_next(&mut offset, Endian::Little, second) && offset == 17);
+    assert!(rt; is_read_next(&mut offset, Endian::Big, first));
+    assert!(rt; is_read_next(&mut offset, Endian::Little, second) && offset == 17);
     let placed = pread_with::<DataDirectory>(BYTES, 9, Endian::Little);
     assert!(rt; is_ok(placed, &second));
 }

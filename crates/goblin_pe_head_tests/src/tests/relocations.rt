@@ -126,7 +126,7 @@ fn are_of_library(mut blocks: RelocationBlockIterator) -> bool {
     blocks.next().is_none()
 }
 
-/// Whether they are read by a section that holds them.
+/// Whether they are read where this section holds them.
 fn is_library_read(section: SectionTable) -> bool {
     match RelocationData::parse(LIBRARY, directory(0x4000, 36), &[section], 0x200) {
         Ok(relocations) => are_of_library(relocations.blocks()),

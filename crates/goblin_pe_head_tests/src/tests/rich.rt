@@ -148,7 +148,7 @@ fn a_rest_that_is_no_whole_entry_is_refused_once(rt: HostRuntime) {
     assert!(rt; are_entry_and_rest(header.metadatas()));
 }
 
-/// A file with a Rich header of one entry, and nothing after its signature.
+/// What stands in a small file, by offset.
 const SMALL: &[(usize, &[u8])] = &[
     (0, b"MZ"),
     (0x3C, b"\x60"),
@@ -157,6 +157,7 @@ const SMALL: &[(usize, &[u8])] = &[
     (0x60, b"PE"),
 ];
 
+/// A file with a Rich header of one entry, and nothing after its signature.
 fn small() -> [u8; 0x64] {
     let mut file = [0; 0x64];
     put_all(&mut file, SMALL);

@@ -79,7 +79,7 @@ fn an_offset_that_no_name_can_say_leaves_the_name(rt: HostRuntime) {
     assert!(rt; said.is_err() && section == sample_section());
 }
 
-/// The bytes that the sample file's section is written as, with this name.
+/// The bytes that the sample file's section is written as, where its name stands in the string table.
 fn written_with(real_name: Option<String>) -> [u8; 40] {
     let section = SectionTable {
         name: *ELSEWHERE,
@@ -118,7 +118,7 @@ fn a_section_is_written_with_its_highest_bytes_first(rt: HostRuntime) {
     assert!(rt; matches!(section.try_into_ctx(&mut room, Endian::Big), Ok(40)) && room == *want);
 }
 
-/// Raw data, by their offset and size.
+/// Raw data, by its offset and size.
 type Place = (u32, u32);
 
 /// Whether raw data overlaps, as the section with the first of them says.
@@ -126,7 +126,7 @@ fn overlap(first: Place, second: Place) -> bool {
     section(0, 0, first.1, first.0).overlaps_with(&section(0, 0, second.1, second.0))
 }
 
-/// Raw data, and whether they overlap, as either section says.
+/// Raw data, other raw data, and whether these overlap, as either section says.
 const PLACES: &[(Place, Place, bool)] = &[
     ((5, 0), (0, 10), true),
     ((5, 0), (5, 0), false),

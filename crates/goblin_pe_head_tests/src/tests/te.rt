@@ -35,7 +35,7 @@ fn is_adjusted(file: &[u8]) -> bool {
     is_adjusted && offset == 40
 }
 
-/// Whether these are its sections.
+/// Whether these are a file's sections, by a header before which 0x128 bytes are stripped.
 fn are_sections(alloc: Global, file: &[u8], want: &[SectionTable]) -> bool {
     let sections = header(0x128).sections(alloc, file, &mut 40);
     matches!(&sections, Ok(sections) if sections.as_slice() == want)

@@ -37,7 +37,7 @@ fn a_header_without_room_leaves_the_buffer(rt: HostRuntime) {
     assert!(rt; is_refused && buffer == [0xAA; TABLE - 1]);
 }
 
-/// What comes of writing the sample file's header where there is no room, if it has this magic, and
+/// What comes of writing a file's header where there is no room, if it has this magic, and
 /// an image base that 32 bits do not hold.
 fn write_wide(file: &[u8], magic: u16) -> goblin_base::Result<usize> {
     let mut header = Header::parse(file)?;

@@ -203,8 +203,8 @@ fn are_sevens(table: &ImportLookupTable, count: usize) -> bool {
     table.len() == count
 }
 
-/// Whether that of a file is refused in strict mode, since its hint's place is not there, and has so
-/// many entries by the ordinal 7 in permissive mode.
+/// Whether a file's lookup table is refused in strict mode, since its hint's place is not there, and has
+/// so many entries by the ordinal 7 in permissive mode.
 fn is_cut(alloc: Global, file: &[u8], count: usize) -> bool {
     let strict = lookup_of(alloc, file, ParseMode::Strict);
     is_err(strict, &Error::Malformed(Cause::HintEntry(0x290)))
@@ -230,16 +230,17 @@ fn with_one_slot(alloc: Global, file: &[u8]) -> goblin_base::Result<ImportData<'
 }
 
 /// Whether these import data have two entries for one slot, and are refused for that.
-fn want_a_slot(alloc: Global, file: &[u8], data: &ImportData) -> bool {
+fn lack_a_slot(alloc: Global, file: &[u8], data: &ImportData) -> bool {
     let read = Import::parse::<u32>(alloc, file, data, &[sample_section()]);
     is_err(read, &Error::Malformed(Cause::SlotCount(2, 1)))
 }
 
-fn wants_a_slot(alloc: Global, file: &[u8]) -> bool {
-    matches!(&with_one_slot(alloc, file), Ok(data) if want_a_slot(alloc, file, data))
+/// Whether the sample's import data are, with one slot.
+fn is_refused_with_one_slot(alloc: Global, file: &[u8]) -> bool {
+    matches!(&with_one_slot(alloc, file), Ok(data) if lack_a_slot(alloc, file, data))
 }
 
 #[test]
 fn a_library_that_has_more_entries_than_slots_is_refused(rt: HostRuntime) {
-    assert!(rt; wants_a_slot(rt.alloc(), &sample()));
+    assert!(rt; is_refused_with_one_slot(rt.alloc(), &sample()));
 }

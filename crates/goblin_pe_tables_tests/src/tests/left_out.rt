@@ -49,15 +49,15 @@ fn libraries_and_entries_that_are_left_out_are_counted_whatever_the_mode(rt: Hos
 }
 
 /// A record of the sample's library.
-const RECORD: &[u8; 20] = b"\x40\x10\0\0\0\0\0\0\0\0\0\0\x80\x10\0\0\x60\x10\0\0";
+const RECORD_BYTES: &[u8; 20] = b"\x40\x10\0\0\0\0\0\0\0\0\0\0\x80\x10\0\0\x60\x10\0\0";
 
 /// What gives the sample file three records for its library, of which the second has no address
 /// table, and a hint that is cut.
 const THREE_LIBRARIES: &[(usize, &[u8])] = &[
     (LOOKUP, CUT_HINT),
-    (IMPORT_RECORD + 20, RECORD),
+    (IMPORT_RECORD + 20, RECORD_BYTES),
     (IMPORT_RECORD + 36, NO_ADDRESSES),
-    (IMPORT_RECORD + 40, RECORD),
+    (IMPORT_RECORD + 40, RECORD_BYTES),
 ];
 
 #[test]

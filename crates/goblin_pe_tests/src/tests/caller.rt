@@ -27,7 +27,7 @@ fn the_imports_of_a_file_are_counted(rt: HostRuntime) {
     assert!(rt; is_ok(count_imports(rt.alloc(), &file), &0));
 }
 
-/// Whether a file has two imports from one library, and none from another.
+/// Whether a file has two imports from `a.dll`, and none from `A.dll`.
 fn are_counted(layout: &Layout) -> bool {
     is_ok(count_imports_of(layout, "a.dll"), &2) && is_ok(count_imports_of(layout, "A.dll"), &0)
 }

@@ -146,8 +146,8 @@ fn is_read<F: Fn(Global, &[u8]) -> bool>(alloc: Global, span: &Span, is_the_same
     false
 }
 
-/// Whether what is read of the sample file is the same in each file that differs from it outside of
-/// these positions, at one place or at all of them.
+/// Whether a test passes for the sample file, and for each file that differs from it outside of these
+/// positions, at one place or at all of them.
 fn ignores_outside<F: Fn(Global, &[u8]) -> bool>(
     alloc: Global,
     spans: &[Span],
@@ -160,7 +160,7 @@ fn ignores_outside<F: Fn(Global, &[u8]) -> bool>(
         && ignores_all_outside(alloc, spans, is_the_same)
 }
 
-/// Whether that is so, and it is another where a byte of each span is changed.
+/// Whether that is so, and the test fails where a byte of each span is changed.
 fn depends_on<F: Fn(Global, &[u8]) -> bool>(alloc: Global, spans: &[Span], is_the_same: F) -> bool
     requires { F.IsAlwaysCallable is_the_same }
 {
@@ -172,7 +172,7 @@ fn depends_on<F: Fn(Global, &[u8]) -> bool>(alloc: Global, spans: &[Span], is_th
     ignores_outside(alloc, spans, &is_the_same)
 }
 
-/// Whether a file and the sample file have its lookup table, whichever is the first.
+/// Whether a file and the sample file both have the sample's lookup table, whichever is the first.
 fn have_lookups(alloc: Global, file: &[u8]) -> bool {
     are_lookups(alloc, &sample(), file) && are_lookups(alloc, file, &sample())
 }
@@ -259,7 +259,7 @@ fn is_header_listed(alloc: Global, file: &[u8]) -> bool {
     are_listed(&footprint_header(alloc, file), OF_HEADER)
 }
 
-/// Whether that of its imports is listed in a mode, and in both.
+/// Whether that of its imports is listed in a mode.
 fn are_imports_in(alloc: Global, file: &[u8], mode: ParseMode) -> bool {
     let sections = [sample_section()];
     let opts = in_mode(mode);
@@ -267,6 +267,7 @@ fn are_imports_in(alloc: Global, file: &[u8], mode: ParseMode) -> bool {
     are_listed(&spans, OF_IMPORTS)
 }
 
+/// Whether it is in both modes.
 fn are_imports_listed(alloc: Global, file: &[u8]) -> bool {
     are_imports_in(alloc, file, ParseMode::Strict)
         && are_imports_in(alloc, file, ParseMode::Permissive)
@@ -432,7 +433,7 @@ fn a_text_without_a_nul_is_reached_to_the_end(rt: HostRuntime) {
     assert!(rt; is_reached(rt.alloc(), &file, OF_LETTERS));
 }
 
-/// Whether the whole file is reached as before, and more.
+/// Whether the whole file is reached as before, and more: one span more than `OF_WHOLE` has.
 fn is_reached_with(alloc: Global, file: &[u8], more: Span) -> bool {
     let mut want = [more; 10];
     for (place, span) in want.iter_mut().zip(OF_WHOLE) {

@@ -8,8 +8,8 @@ use goblin_pe::options::{ParseOptions, RawPointerRule};
 use goblin_pe::{Part, Whole};
 use std::alloc::Global;
 
-/// Whether a file is read, and passes a test. It takes the answer: of a type that it does not know
-/// that costs its proof little.
+/// Whether a call answered what passes a test. The answer is taken, and its type not known, so that
+/// the proof is cheap.
 fn passes<'e, A: Drop, F: Fn(&A) -> bool>(answer: ResultOf<'e, A>, test: F) -> bool
     requires { F.IsAlwaysCallable test }
 {
@@ -34,7 +34,7 @@ fn has_both(whole: &Whole) -> bool {
     has_imports(whole) && has_exports(whole)
 }
 
-/// Whether they are in a mode, where raw pointers are rounded.
+/// Whether a file has both in a mode, with raw pointers rounded.
 fn is_rounded(alloc: Global, file: &[u8], mode: ParseMode) -> bool {
     let opts = in_mode(mode).with_raw_pointer_rule(RawPointerRule::RoundedTo512);
     passes(Whole::read(alloc, file, &opts), has_both)
