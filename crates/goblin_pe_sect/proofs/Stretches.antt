@@ -8,10 +8,11 @@ use Rattle.std.proofs.lemmas.List.Quantifiers.{position-Some}
 use Rattle.std.proofs.lemmas.Option.{slice_get_past}
 use Rattle.std.proofs.lemmas.Bool.Decides.{nat_tests}
 use Rattle.goblin_pe_sect.specs.Mapping.{is_in_window}
-use Rattle.goblin_pe_sect.specs.WindowIndex.{first_owner, owner_of_section}
-use Rattle.goblin_pe_sect.specs.WindowStretches.{window_holds, window_covers, window_meets, owner_among, section_window_at, section_windows, FindTheSame, IsRising}
+use Rattle.goblin_pe_sect.specs.WindowIndex.{begins_of, first_owner, owner_of_section, owners_of}
+use Rattle.goblin_pe_sect.specs.WindowStretches.{window_holds, window_covers, window_meets, owner_among, piece_among, section_window_at, section_windows, FindTheSame, IsRising}
 use Rattle.goblin_pe_sect.specs.declared.options.ParseOptions.{ParseOptions}
 use Rattle.goblin_pe_sect.specs.SectionTable.{Section}
+use Rattle.goblin_pe_sect.specs.declared.windows.bounds.Piece.{Piece}
 use Rattle.goblin_pe_sect.specs.declared.windows.owners.Owner.{Owner}
 use Rattle.goblin_pe_sect.specs.declared.windows.owners.Window.{Window}
 use Rattle.goblin_pe_sect.proofs.Halving.{rising_to}
@@ -67,13 +68,22 @@ map_same f g d (x ∷ xs) same =
     let tail : map f xs ≡ map g xs = map_same f g d xs (λ i lt. same (suc i) (omega arith)) in
     cc
 
--- the owners of both halves, among the windows near to the whole, are the owners of the whole
-pub halves : (windows near : List Window) (begins : List ℕ) (old : List (Option Owner)) (k : ℕ) → IsRising begins → FindTheSame (get_or begins 0 0) (get_or begins (length begins - 1) 0) near windows → old ++ map (owner_among near) (take k begins) ++ map (owner_among near) (drop k begins) ≡ old ++ map (owner_among windows) begins
+-- the pieces of both halves, among the windows near to the whole, are the pieces of the whole
+pub halves : (windows near : List Window) (begins : List ℕ) (old : List Piece) (k : ℕ) → IsRising begins → FindTheSame (get_or begins 0 0) (get_or begins (length begins - 1) 0) near windows → old ++ map (piece_among near) (take k begins) ++ map (piece_among near) (drop k begins) ≡ old ++ map (piece_among windows) begins
 halves windows near begins old k up agree =
-    let f : ℕ → Option Owner = owner_among near in
+    let f : ℕ → Piece = piece_among near in
     let joined : map f (take k begins) ++ map f (drop k begins) ≡ map f begins = sym (map-append f (take k begins) (drop k begins)) ∙ ap (map f) (take-append-drop k begins) in
-    let same : map f begins ≡ map (owner_among windows) begins = map_same f (owner_among windows) 0 begins (λ i lt. ap (option_map (λ (w : Window). w.owner)) (agree (get_or begins i 0) (up 0 i (omega arith) lt) (up i (length begins - 1) (omega arith) (omega arith)))) in
-    append_assoc old (map f (take k begins)) (map f (drop k begins)) ∙ ap (λ (z : List (Option Owner)). old ++ z) (joined ∙ same)
+    let same : map f begins ≡ map (piece_among windows) begins = map_same f (piece_among windows) 0 begins (λ i lt. ap (λ (found : Option Window). record { begin = get_or begins i 0; owner = option_map (λ (w : Window). w.owner) found }) (agree (get_or begins i 0) (up 0 i (omega arith) lt) (up i (length begins - 1) (omega arith) (omega arith)))) in
+    append_assoc old (map f (take k begins)) (map f (drop k begins)) ∙ ap (λ (z : List Piece). old ++ z) (joined ∙ same)
+
+-- where such pieces begin, and their owners
+pub begins-among : (windows : List Window) (begins : List ℕ) → begins_of (map (piece_among windows) begins) ≡ begins
+begins-among windows [] = refl
+begins-among windows (b ∷ begins) = ap (λ (bs : List ℕ). b ∷ bs) (begins-among windows begins)
+
+pub owners-among : (windows : List Window) (begins : List ℕ) → owners_of (map (piece_among windows) begins) ≡ map (owner_among windows) begins
+owners-among windows [] = refl
+owners-among windows (b ∷ begins) = ap (λ (os : List (Option Owner)). owner_among windows b ∷ os) (owners-among windows begins)
 
 -- ---- the windows of a section table
 

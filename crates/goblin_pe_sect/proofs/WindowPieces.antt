@@ -12,9 +12,10 @@ use Rattle.std.proofs.lemmas.Option.{slice_get_past, get_or_from_slice_get}
 use Rattle.std.proofs.lemmas.Bool.Decides.{nat_tests}
 use Rattle.std.specs.Int.{is_power_of_two}
 use Rattle.goblin_pe_sect.specs.Mapping.{read_size, window_end, is_in_window, offset_in, file_offset}
-use Rattle.goblin_pe_sect.specs.WindowIndex.{IsCut, IsIndex, Pieces, AreNear, reached, last_owner, located, owner_offset, first_owner, owner_of_section}
+use Rattle.goblin_pe_sect.specs.WindowIndex.{IsCut, IsIndex, Pieces, AreNear, reached, last_owner, located, owner_offset, first_owner, owner_of_section, owners_of}
 use Rattle.goblin_pe_sect.specs.declared.options.ParseOptions.{ParseOptions}
 use Rattle.goblin_pe_sect.specs.SectionTable.{Section}
+use Rattle.goblin_pe_sect.specs.declared.windows.bounds.Piece.{Piece}
 use Rattle.goblin_pe_sect.specs.declared.windows.owners.Owner.{Owner}
 use Rattle.goblin_pe_sect.proofs.First.{find_same}
 use Rattle.goblin_pe_sect.proofs.Halving.{rising_at, rising_to}
@@ -212,6 +213,19 @@ pub piece_within : (resolves : Bool) (begins : List ℕ) (owners : List (Option 
 piece_within resolves begins owners w seen h rva n is some =
     let at : n ≡ reached begins rva = is ∙ ap (λ (v : Pieces). reached v.begins rva) (sym seen) in
     omega (arith, at, h.one_each, prefix_len-le-length {X = ℕ})
+
+pub length-owners : (pieces : List Piece) → length (owners_of pieces) ≡ length pieces
+length-owners pieces = length-map pieces (λ (p : Piece). p.owner)
+
+-- the owner of a piece that was read
+pub owner_read : (pieces : List Piece) (i : ℕ) (p : Piece) → i < length (owners_of pieces) → p ≡ get_or pieces i p → slice_index_or (owners_of pieces) i None ≡ p.owner
+owner_read pieces i p within read =
+    get_or-map (λ (p : Piece). p.owner) pieces i p None (omega (arith, within, length-owners pieces)) ∙ ap (λ (p : Piece). p.owner) (sym read)
+
+-- and that of the last of n pieces
+pub last_owner_read : (resolves : Bool) (begins : List ℕ) (pieces : List Piece) (w : Pieces) → record { resolves = resolves; begins = begins; owners = owners_of pieces } ≡ w → (n : ℕ) (p : Piece) → 0 < n → n - 1 < length (owners_of pieces) → p ≡ get_or pieces (n - 1) p → last_owner w.owners n ≡ p.owner
+last_owner_read resolves begins pieces w seen n p some within read =
+    ap (λ (v : Pieces). last_owner v.owners n) (sym seen) ∙ last_owner_some (owners_of pieces) n some ∙ owner_read pieces (n - 1) p within read
 
 -- where it has an owner, the address lies within reach of the owner's, and has the offset that the index answers
 pub piece_answers : (resolves : Bool) (begins : List ℕ) (owners : List (Option Owner)) (w : Pieces) → record { resolves = resolves; begins = begins; owners = owners } ≡ w → IsIndex resolves begins owners → (rva n : ℕ) → n ≡ reached w.begins rva → 0 < n → (o : Owner) → (n - 1 < length owners → slice_index_or owners (n - 1) None ≡ Some o) → (o.address ≤ rva) × (rva < o.address + 2 ^ 33) × (Some (owner_offset rva o) ≡ option_map (owner_offset rva) (last_owner w.owners n))

@@ -2,13 +2,14 @@
 -- returns.
 use Rattle.std.specs.Prelude.{ℕ, zero, suc, ◌+◌, ◌-◌, ◌*◌, ◌/◌, ◌≡◌, ◌<◌, ◌≤◌, ◌^◌, ◌==◌, ◌⊎◌, Bool}
 use Rattle.std.specs.Prelude.{false, nat_le, nat_lt, if◌then◌else◌, List, [], Option, Some, None}
-use Rattle.std.specs.Prelude.{length, slice_index, slice_index_or, slice_get, Contains, position}
+use Rattle.std.specs.Prelude.{length, map, slice_index, slice_index_or, slice_get, Contains, position}
 use Rattle.std.specs.Prelude.{IsTrue}
 use Rattle.std.specs.List.{prefix_len}
 use Rattle.std.specs.List.Sorted.{IsStrictlyIncreasing}
 use Rattle.std.specs.Int.{is_power_of_two}
 use Rattle.std.specs.Option.{option_map, option_and_then}
 use Rattle.goblin_pe_sect.specs.declared.options.ParseOptions.{ParseOptions}
+use Rattle.goblin_pe_sect.specs.declared.windows.bounds.Piece.{Piece}
 use Rattle.goblin_pe_sect.specs.declared.windows.owners.Owner.{Owner}
 use Rattle.goblin_pe_sect.specs.Mapping.{read_size, window_end, is_in_window, raw_begin}
 use Rattle.goblin_pe_sect.specs.SectionTable.{Section}
@@ -19,6 +20,13 @@ pub record Pieces : Type 0 where
   pub resolves : Bool
   pub begins : List ℕ
   pub owners : List (Option Owner)
+
+-- where each of these pieces begins, and what is kept of the section that each belongs to
+abbrev pub begins_of : List Piece → List ℕ
+begins_of pieces = map (λ (p : Piece). p.begin) pieces
+
+abbrev pub owners_of : List Piece → List (Option Owner)
+owners_of pieces = map (λ (p : Piece). p.owner) pieces
 
 -- an index has pieces: addresses are mapped, by an alignment that is a power of two
 abbrev pub HasPieces : ParseOptions → ℕ → Type 0

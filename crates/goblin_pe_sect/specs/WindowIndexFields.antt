@@ -2,13 +2,16 @@
 use Rattle.std.specs.Prelude.{◌≡◌}
 use Rattle.goblin_pe_sect.specs.declared.windows.WindowIndex.TheInside.{Inside}
 use Rattle.goblin_pe_sect.specs.declared.windows.bounds.Bounds.TheInside.{Inside as InsideBounds}
+use Rattle.goblin_pe_sect.specs.declared.windows.bounds.Piece.{Piece}
 
--- nothing but its pieces: indexes that have the same bounds and owners, and map addresses or don't,
--- are the same
+-- nothing but its pieces: indexes that have the same pieces, and map addresses or don't, are the
+-- same
 abbrev pub KeepsPiecesAlone : Type 0
-KeepsPiecesAlone =
-    (v w : Inside) → v.resolves ≡ w.resolves → v.bounds ≡ w.bounds → v.owners ≡ w.owners → v ≡ w
+KeepsPiecesAlone = (v w : Inside) → v.resolves ≡ w.resolves → v.pieces ≡ w.pieces → v ≡ w
 
--- bounds keep nothing but where pieces begin
+-- bounds keep nothing but pieces, and a piece nothing but where it begins and what is kept of its
+-- section
 abbrev pub KeepsBeginsAlone : Type 0
-KeepsBeginsAlone = (b c : InsideBounds) → b.begins ≡ c.begins → b ≡ c
+KeepsBeginsAlone =
+    ((b c : InsideBounds) → b.pieces ≡ c.pieces → b ≡ c)
+    × ((p q : Piece) → p.begin ≡ q.begin → p.owner ≡ q.owner → p ≡ q)

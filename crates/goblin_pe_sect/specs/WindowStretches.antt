@@ -4,6 +4,7 @@ use Rattle.std.specs.Prelude.{find, length, map, slice_index}
 use Rattle.std.specs.List.{enumerate_from}
 use Rattle.std.specs.Option.{option_map}
 use Rattle.goblin_pe_sect.specs.declared.options.ParseOptions.{ParseOptions}
+use Rattle.goblin_pe_sect.specs.declared.windows.bounds.Piece.{Piece}
 use Rattle.goblin_pe_sect.specs.declared.windows.owners.Owner.{Owner}
 use Rattle.goblin_pe_sect.specs.declared.windows.owners.Window.{Window}
 use Rattle.goblin_pe_sect.specs.Mapping.{window_end}
@@ -24,6 +25,10 @@ window_meets first last w = nat_le w.begin last && nat_lt first w.end
 -- the owner of the first of these windows that holds an address
 abbrev pub owner_among : List Window → ℕ → Option Owner
 owner_among windows rva = option_map (λ (w : Window). w.owner) (find (window_holds rva) windows)
+
+-- the piece that begins at an address, owned by the first of these windows that holds it
+abbrev pub piece_among : List Window → ℕ → Piece
+piece_among windows begin = record { begin = begin; owner = owner_among windows begin }
 
 -- for each address from first to last, the first window that holds it is the same among the fewer
 -- windows

@@ -24,16 +24,16 @@ mod owners;
 
 use crate::options::ParseOptions;
 use crate::section_table::SectionTable;
-pub use bounds::Bounds;
+pub use bounds::{Bounds, Piece};
 use division::division_of;
 use goblin_base::ResultOf;
-use owners::Owner;
+pub use owners::Owner;
 use std::alloc::Global;
 use std::marker::Model;
 
 // How many pieces begin at or before the address, and how many bounds were looked at.
 #[inline(never)]
-fn count_reached(bounds: &Bounds, rva: usize) -> (usize, usize)
+fn count_reached(bounds: &Bounds<'_>, rva: usize) -> (usize, usize)
     requires { IsStrictlyIncreasing bounds.now }
     ensures value { result.0 ≡ reached bounds.now rva }
     ensures most { (d : ℕ) → length bounds.now < 2 ^ d → result.1 ≤ d }
@@ -59,7 +59,7 @@ fn count_reached(bounds: &Bounds, rva: usize) -> (usize, usize)
 // bounds were looked at.
 #[inline(always)]
 #[tactic(auto, using(crate::proofs::Halving::reached_last, crate::proofs::Halving::reached_before))]
-fn count_in_piece(bounds: &Bounds, i: usize, rva: usize) -> (Option<usize>, usize)
+fn count_in_piece(bounds: &Bounds<'_>, i: usize, rva: usize) -> (Option<usize>, usize)
     requires { IsStrictlyIncreasing bounds.now }
     ensures value { IfSome result.0 (λ count. (count ≡ reached bounds.now rva) × (count ≡ i + 1)) }
     ensures found { reached bounds.now rva ≡ i + 1 → result.0 ≡ Some (i + 1) }
@@ -87,7 +87,7 @@ fn count_in_piece(bounds: &Bounds, i: usize, rva: usize) -> (Option<usize>, usiz
 // How many pieces begin at or before the address, and how many bounds were looked at: those of piece
 // `near` first, and no others where the address lies in it.
 #[inline(always)]
-fn count_near(bounds: &Bounds, near: usize, rva: usize) -> (usize, usize)
+fn count_near(bounds: &Bounds<'_>, near: usize, rva: usize) -> (usize, usize)
     requires { IsStrictlyIncreasing bounds.now }
     ensures value { result.0 ≡ reached bounds.now rva }
     ensures most { (d : ℕ) → length bounds.now < 2 ^ d → result.1 ≤ d + 2 }
@@ -108,20 +108,23 @@ fn count_near(bounds: &Bounds, near: usize, rva: usize) -> (usize, usize)
 /// to 512, by the options that the index was prepared with.
 #[derive(Drop)]
 pub struct WindowIndex {
-    bounds: Bounds,
-    owners: Vec<Option<Owner>>,
+    pieces: Vec<Piece>,
     resolves: bool,
 }
 
 impl Model for WindowIndex {
-    ghost use Rattle.goblin_pe_sect.specs.WindowIndex.{Pieces, IsIndex};
+    ghost use Rattle.goblin_pe_sect.specs.WindowIndex.{Pieces, IsIndex, begins_of, owners_of};
 
     ghost Value = { Pieces };
 
-    ghost view = { λ w.
-        record { resolves = w.resolves; begins = w.bounds; owners = w.owners.items } };
+    ghost view = { λ w. record {
+      resolves = w.resolves;
+      begins = begins_of w.pieces.items;
+      owners = owners_of w.pieces.items;
+    } };
 
-    ghost invariant = { λ w. IsIndex w.resolves w.bounds w.owners.items };
+    ghost invariant = { λ w.
+        IsIndex w.resolves (begins_of w.pieces.items) (owners_of w.pieces.items) };
 }
 
 impl WindowIndex {
@@ -132,8 +135,7 @@ impl WindowIndex {
     {
         WindowIndex {
             resolves,
-            bounds: Bounds::new(Vec::new(alloc)),
-            owners: Vec::new(alloc),
+            pieces: Vec::new(alloc),
         }
     }
 
@@ -170,12 +172,20 @@ impl WindowIndex {
         if !file_alignment.is_power_of_two() {
             return Ok(WindowIndex::without_pieces(alloc, true));
         }
-        let division = division_of(alloc, sections, file_alignment, opts)?;
+        let pieces = division_of(alloc, sections, file_alignment, opts)?;
         Ok(WindowIndex {
             resolves: true,
-            bounds: Bounds::new(division.begins),
-            owners: division.owners,
+            pieces,
         })
+    }
+
+    // Where its pieces begin.
+    #[inline(always)]
+    fn bounds(&self) -> Bounds<'_>
+        ensures value { result ≡ self.now.begins }
+        ensures rising { IsStrictlyIncreasing result }
+    {
+        Bounds::new(&self.pieces)
     }
 
     /// The number of pieces.
@@ -183,7 +193,7 @@ impl WindowIndex {
         ensures count { result ≡ length self.now.begins }
         ensures whole { KeepsPiecesAlone }
     {
-        self.bounds.len()
+        self.bounds().len()
     }
 
     // The file offset of an address, by how many pieces begin at or before it: one or more.
@@ -192,7 +202,7 @@ impl WindowIndex {
         requires some { 0 < count }
         ensures { result ≡ option_map (owner_offset rva) (last_owner self.now.owners count) }
     {
-        let owner = self.owners[count - 1]?;
+        let owner = self.pieces[count - 1].owner?;
         Some(owner.pointer as usize + (rva - owner.address as usize))
     }
 
@@ -217,7 +227,7 @@ impl WindowIndex {
         ensures counted { result.1
             ≡ halvings (length self.now.begins) (reached self.now.begins rva) }
     {
-        let (count, probes) = count_reached(&self.bounds, rva);
+        let (count, probes) = count_reached(&self.bounds(), rva);
         (self.offset_by_count(count, rva), probes)
     }
 
@@ -240,7 +250,7 @@ impl WindowIndex {
         ensures counted { result.1
             ≡ near_probes (length self.now.begins) near.old (reached self.now.begins rva) }
     {
-        let (count, probes) = count_near(&self.bounds, *near, rva);
+        let (count, probes) = count_near(&self.bounds(), *near, rva);
         *near = count.saturating_sub(1);
         (self.offset_by_count(count, rva), probes)
     }

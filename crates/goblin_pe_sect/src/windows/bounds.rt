@@ -1,31 +1,53 @@
-//! Where the pieces of the address space begin, seen by a call that counts.
+//! The pieces of the address space. Where they begin is seen by a call that counts.
 
 ghost use Rattle.std.specs.Prelude.{◌≡◌, ◌+◌, ◌*◌, ◌^◌, ◌<◌, ◌≤◌, ◌↔◌, IsTrue, length, slice_index};
+ghost use Rattle.goblin_pe_sect.specs.WindowIndex.{begins_of};
 ghost use Rattle.goblin_pe_sect.specs.WindowIndexFields.{KeepsBeginsAlone};
 
+use super::owners::Owner;
 use std::marker::Model;
+
+/// A piece of the address space. Where it begins is seen only through [`Bounds::reaches`].
+#[derive(Copy, Clone)]
+pub struct Piece {
+    begin: usize,
+    /// What is kept of the section that the piece belongs to, if it belongs to one.
+    pub owner: Option<Owner>,
+}
+
+impl Piece {
+    /// The piece that begins at this address, and what is kept of its section.
+    #[inline(always)]
+    pub fn new(begin: usize, owner: Option<Owner>) -> Piece
+        ensures { result ≡ record { begin = begin; owner = owner } }
+    {
+        Piece { begin, owner }
+    }
+}
 
 /// Where the pieces of the address space begin. A search sees a bound only through
 /// [`Bounds::reaches`], which counts its calls.
 #[derive(Drop)]
-pub struct Bounds {
-    begins: Vec<usize>,
+pub struct Bounds<'p> {
+    pieces: &'p [Piece],
 }
 
-impl Model for Bounds {
+impl<'p> Model for Bounds<'p> {
     ghost use Rattle.std.specs.Prelude.{ℕ, List};
+    ghost use Rattle.goblin_pe_sect.specs.WindowIndex.{begins_of};
 
     ghost Value = { List ℕ };
 
-    ghost view = { λ b. b.begins.items };
+    ghost view = { λ b. begins_of b.pieces.now };
 }
 
-impl Bounds {
-    /// The bounds of pieces that begin at these addresses.
-    pub fn new(begins: Vec<usize>) -> Bounds
-        ensures { result ≡ begins.items }
+impl<'p> Bounds<'p> {
+    /// The bounds of these pieces.
+    #[inline(always)]
+    pub fn new(pieces: &'p [Piece]) -> Bounds<'p>
+        ensures { result ≡ begins_of pieces.now }
     {
-        Bounds { begins }
+        Bounds { pieces }
     }
 
     /// The number of pieces.
@@ -34,7 +56,7 @@ impl Bounds {
         ensures room { 2 * result < 2 ^ 64 }
         ensures whole { KeepsBeginsAlone }
     {
-        self.begins.len()
+        self.pieces.len()
     }
 
     /// Whether piece `i` begins at or before the address `rva`; adds one to `probes`.
@@ -45,6 +67,15 @@ impl Bounds {
         ensures counted { probes.new ≡ probes.old + 1 }
     {
         *probes += 1;
-        self.begins[i] <= rva
+        begins_by(self.pieces, i, rva)
     }
+}
+
+// Whether piece `i` begins at or before the address.
+#[inline(always)]
+fn begins_by(pieces: &[Piece], i: usize, rva: usize) -> bool
+    requires { i < length pieces.now }
+    ensures { IsTrue result ↔ (slice_index (begins_of pieces.now) i ≤ rva) }
+{
+    pieces[i].begin <= rva
 }

@@ -1,24 +1,24 @@
 //! Where the address space is cut into pieces.
 
-ghost use Rattle.std.specs.Prelude.{◌<◌, OnOk};
+ghost use Rattle.std.specs.Prelude.{◌<◌, IfOk};
 ghost use Rattle.goblin_pe_sect.specs.WindowIndex.{AreNear, IsCut};
 
 use crate::section_table::SectionTable;
 use crate::utils::section_window;
-use std::alloc::AllocError;
+use std::alloc::{AllocError, Global};
 
-/// Puts into `points`, in place of what it holds, where the address space is cut, in rising order: at
-/// 0 and at each start and end of a window that is not empty.
-pub(super) fn put_cuts(
-    points: &mut Vec<usize>,
+/// Where the address space is cut, in rising order: at 0 and at each start and end of a window that
+/// is not empty.
+pub(super) fn cuts_of(
+    alloc: Global,
     sections: &[SectionTable],
     file_alignment: u32,
-) -> Result<(), AllocError>
+) -> Result<Vec<usize>, AllocError>
     requires { 0 < file_alignment }
-    ensures cut { OnOk result (IsCut sections.now file_alignment points.new.items) }
-    ensures near { OnOk result (AreNear sections.now file_alignment) }
+    ensures cut { IfOk result (λ v. IsCut sections.now file_alignment v.items) }
+    ensures near { IfOk result (λ v. AreNear sections.now file_alignment) }
 {
-    points.clear();
+    let mut points = Vec::with_capacity(alloc, 2 * sections.len() + 1)?;
     points.push(0)?;
     for section in sections {
         let (begin, end) = section_window(section, file_alignment);
@@ -29,5 +29,5 @@ pub(super) fn put_cuts(
     }
     points.sort_unstable();
     points.dedup();
-    Ok(())
+    Ok(points)
 }

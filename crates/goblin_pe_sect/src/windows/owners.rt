@@ -6,11 +6,12 @@
 ghost use Rattle.std.specs.Prelude.{◌≡◌, ◌+◌, ◌^◌, ◌<◌, ◌≤◌, ◌++◌, IfOk, OnOk, map, find, filter};
 ghost use Rattle.std.specs.Prelude.{position};
 ghost use Rattle.std.specs.List.Sorted.{IsStrictlyIncreasing};
-ghost use Rattle.goblin_pe_sect.specs.WindowIndex.{first_owner};
+ghost use Rattle.goblin_pe_sect.specs.WindowIndex.{begins_of, first_owner, owners_of};
 ghost use Rattle.goblin_pe_sect.specs.WindowStretches.{window_covers, window_meets};
-ghost use Rattle.goblin_pe_sect.specs.WindowStretches.{owner_among, section_window_at};
+ghost use Rattle.goblin_pe_sect.specs.WindowStretches.{owner_among, piece_among, section_window_at};
 ghost use Rattle.goblin_pe_sect.specs.WindowStretches.{section_windows, FindTheSame, IsRising};
 
+use super::bounds::Piece;
 use crate::options::ParseOptions;
 use crate::section_table::SectionTable;
 use crate::utils::{raw_begin, section_window};
@@ -144,69 +145,77 @@ fn nearby(
     Ok(near)
 }
 
-// Adds the owner of each piece, by a walk over the windows for each.
-fn push_each_owner(
+// The piece that begins at the address, and belongs to the first window that holds it.
+fn piece_at(begin: usize, windows: &[Window]) -> Piece
+    ensures { result ≡ piece_among windows.now begin }
+{
+    Piece::new(begin, owner_at(begin, windows))
+}
+
+// Adds the piece that begins at each address, by a walk over the windows for each.
+fn push_each_piece(
     begins: &[usize],
     windows: &[Window],
-    owners: &mut Vec<Option<Owner>>,
+    pieces: &mut Vec<Piece>,
 ) -> Result<(), AllocError>
     ensures { OnOk result
-        (owners.new.items ≡ owners.old.items ++ map (owner_among windows.now) begins.now) }
+        (pieces.new.items ≡ pieces.old.items ++ map (piece_among windows.now) begins.now) }
 {
     'pieces: for begin in begins {
-        owners.push(owner_at(*begin, windows))?;
+        pieces.push(piece_at(*begin, windows))?;
     }
     Ok(())
 }
 
-// Adds the owner of each piece: halves of the pieces, each with the windows that may own some of
-// them.
-fn push_owners(
+// Adds the piece that begins at each address: halves of the pieces, each with the windows that may
+// own some of them.
+fn push_pieces(
     alloc: Global,
     begins: &[usize],
     windows: &[Window],
-    owners: &mut Vec<Option<Owner>>,
+    pieces: &mut Vec<Piece>,
 ) -> Result<(), AllocError>
     requires { IsRising begins.now }
     ensures { OnOk result
-        (owners.new.items ≡ owners.old.items ++ map (owner_among windows.now) begins.now) }
+        (pieces.new.items ≡ pieces.old.items ++ map (piece_among windows.now) begins.now) }
 {
     if begins.is_empty() {
         return Ok(());
     }
     if windows.len() <= FEW {
-        return push_each_owner(begins, windows, owners);
+        return push_each_piece(begins, windows, pieces);
     }
     let count = begins.len();
     let first = begins[0];
     if count == 1 {
-        owners.push(owner_at(first, windows))?;
+        pieces.push(piece_at(first, windows))?;
         return Ok(());
     }
     let near = nearby(alloc, first, begins[count - 1], windows)?;
     let (front, back) = begins.split_at(count / 2);
-    push_owners(alloc, front, &near, owners)?;
-    push_owners(alloc, back, &near, owners)?;
+    push_pieces(alloc, front, &near, pieces)?;
+    push_pieces(alloc, back, &near, pieces)?;
     Ok(())
 }
 
-/// Puts into `owners`, in place of what it holds, what is kept of the section of each piece: the
-/// first whose window holds the piece's start, if one does.
-pub(super) fn put_owners(
+/// Puts into `pieces`, in place of what it holds, the piece that begins at each address, with what
+/// is kept of its section: the first whose window holds the piece's start, if one does.
+pub(super) fn put_pieces(
     alloc: Global,
     begins: &[usize],
     sections: &[SectionTable],
     file_alignment: u32,
     opts: &ParseOptions,
-    owners: &mut Vec<Option<Owner>>,
+    pieces: &mut Vec<Piece>,
 ) -> Result<(), AllocError>
     requires aligned { 0 < file_alignment }
     requires rising { IsStrictlyIncreasing begins.now }
-    ensures { OnOk result
-        (owners.new.items ≡ map (first_owner opts.now sections.now file_alignment) begins.now) }
+    ensures begins { OnOk result (begins_of pieces.new.items ≡ begins.now) }
+    ensures owners { OnOk result
+        (owners_of pieces.new.items ≡ map (first_owner opts.now sections.now file_alignment) begins.now) }
 {
     let windows = windows_of(alloc, sections, file_alignment, opts)?;
-    owners.clear();
-    push_owners(alloc, begins, &windows, owners)?;
+    pieces.clear();
+    push_pieces(alloc, begins, &windows, pieces)?;
     Ok(())
 }

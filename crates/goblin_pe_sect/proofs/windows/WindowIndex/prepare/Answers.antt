@@ -1,4 +1,5 @@
 use Rattle.std.proofs.Common.{rules}
+use Rattle.goblin_pe_sect.specs.WindowIndex.{begins_of, owners_of}
 use Rattle.goblin_pe_sect.proofs.WindowPieces.{located-direct, located-unaligned, located-prepared, index_is}
 use Rattle.goblin_pe_sect.proofs.windows.WindowIndex.prepare.Goals as goal
 
@@ -12,8 +13,8 @@ returns-then-not-is_power_of_two-clause-mapped c =
 
 pub invariant_of-result : goal.invariant_of-result
 invariant_of-result c =
-    rw (c.new.ensures, c.in_ok-division.ensures.owned) (index_is c.args.opts.now c.args.sections.now c.args.file_alignment c.in_ok-division.division.begins.items c.in_ok-division.ensures.cut c.in_ok-division.ensures.near)
+    rw c.in_ok-pieces.ensures.owned (index_is c.args.opts.now c.args.sections.now c.args.file_alignment (begins_of c.in_ok-pieces.pieces.items) c.in_ok-pieces.ensures.cut c.in_ok-pieces.ensures.near)
 
 pub returns-clause-mapped : goal.returns-clause-mapped
 returns-clause-mapped c =
-    λ rva. rw c.new.ensures (located-prepared c.args.opts.now c.args.sections.now c.args.file_alignment c.in_ok-division.division.begins.items c.in_ok-division.division.owners.items (search rules) (cc) c.in_ok-division.ensures.cut c.in_ok-division.ensures.owned rva)
+    λ rva. located-prepared c.args.opts.now c.args.sections.now c.args.file_alignment (begins_of c.in_ok-pieces.pieces.items) (owners_of c.in_ok-pieces.pieces.items) (search rules) (cc) c.in_ok-pieces.ensures.cut c.in_ok-pieces.ensures.owned rva

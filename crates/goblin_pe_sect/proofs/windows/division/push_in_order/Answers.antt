@@ -2,6 +2,7 @@ use Rattle.std.proofs.Common.{ℕ, ◌≡◌, ◌∙◌, ◌+◌, ◌-◌, ◌*�
 use Rattle.std.proofs.lemmas.Bool.{cases_lt}
 use Rattle.std.proofs.lemmas.Option.{slice_get_read}
 use Rattle.goblin_pe_sect.specs.Mapping.{read_size, window_end}
+use Rattle.goblin_pe_sect.specs.WindowIndex.{begins_of, owners_of}
 use Rattle.goblin_pe_sect.specs.WindowStretches.{section_window_at}
 use Rattle.goblin_pe_sect.specs.declared.windows.owners.Window.{Window}
 use Rattle.goblin_pe_sect.proofs.InOrder.{AreInOrder, in_order_empty, in_order_touching, in_order_apart, near_in_order, cut_in_order, owners_in_order}
@@ -21,20 +22,20 @@ sections-preserved c =
       | then-window+else-window-end w ↦
           let some : 0 < read_size s c.args.file_alignment = omega (arith, w.if-window.true, begin, end) in
           let last : c.if-window.end ≡ window_end s c.args.file_alignment = w.end-is ∙ end in
-          let order : AreInOrder c.args.opts.now c.args.file_alignment c.args.sections.now c.if-window.division.begins.items c.if-window.division.owners.items c.if-window.end (c.sections.index + 1) = elim (cases_lt c.sections.end s.virtual_address) [
+          let order : AreInOrder c.args.opts.now c.args.file_alignment c.args.sections.now (begins_of c.if-window.pieces.items) (owners_of c.if-window.pieces.items) c.if-window.end (c.sections.index + 1) = elim (cases_lt c.sections.end s.virtual_address) [
             | inl after ↦
-                rw (w.division-is, last, w.push_window.ensures.apart_begins (omega arith), w.push_window.ensures.apart_owners (omega arith), window) (in_order_apart _ _ _ _ _ _ _ s c.sections.invariant.order here after some small)
+                rw (w.pieces-is, last, w.push_window.ensures.apart_begins (omega arith), w.push_window.ensures.apart_owners (omega arith), window) (in_order_apart _ _ _ _ _ _ _ s c.sections.invariant.order here after some small)
             | inr before ↦
                 let touching : c.sections.end ≡ s.virtual_address = omega (arith, w.if-window-end.false, before, begin) in
-                rw (w.division-is, last, w.push_window.ensures.begins (omega arith), w.push_window.ensures.owners (omega arith), window) (in_order_touching _ _ _ _ _ _ _ s c.sections.invariant.order here touching some small)
+                rw (w.pieces-is, last, w.push_window.ensures.begins (omega arith), w.push_window.ensures.owners (omega arith), window) (in_order_touching _ _ _ _ _ _ _ s c.sections.invariant.order here touching some small)
           ] in
           record {
             order = order;
-            room = rw w.division-is (w.push_window.ensures.room left (omega (arith, c.sections.invariant.room)));
+            room = rw w.pieces-is (w.push_window.ensures.room left (omega (arith, c.sections.invariant.room)));
           }
       | else-window w ↦
           let empty : read_size s c.args.file_alignment ≡ 0 = omega (arith, w.if-window.false, begin, end) in
-          rw (w.division-is, w.end-is) (record {
+          rw (w.pieces-is, w.end-is) (record {
             order = in_order_empty _ _ _ _ _ _ _ s c.sections.invariant.order here empty;
             room = omega (arith, c.sections.invariant.room);
           })

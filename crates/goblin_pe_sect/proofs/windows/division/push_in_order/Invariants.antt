@@ -1,10 +1,11 @@
 use Rattle.std.proofs.Common.{◌+◌, ◌-◌, ◌*◌, length}
 use Rattle.goblin_pe_sect.specs.WindowDivision.{HasRoom}
+use Rattle.goblin_pe_sect.specs.WindowIndex.{begins_of, owners_of}
 use Rattle.goblin_pe_sect.proofs.InOrder.{AreInOrder}
 use Rattle.goblin_pe_sect.proofs.windows.division.push_in_order.Given as goal
 
 abbrev pub invariant-sections : goal.invariant-sections
 invariant-sections l = record {
-  order : AreInOrder l.fn.opts l.fn.file_alignment l.fn.sections l.division.begins.items l.division.owners.items l.end l.index;
-  room : HasRoom l.division (2 * (length l.fn.sections - l.index) + 1);
+  order : AreInOrder l.fn.opts l.fn.file_alignment l.fn.sections (begins_of l.pieces.items) (owners_of l.pieces.items) l.end l.index;
+  room : HasRoom l.pieces (2 * (length l.fn.sections - l.index) + 1);
 }

@@ -1,5 +1,5 @@
 use Rattle.goblin_pe_sect.proofs.Cuts.{HasCuts}
-use Rattle.goblin_pe_sect.proofs.windows.cuts.put_cuts.Given as goal
+use Rattle.goblin_pe_sect.proofs.windows.cuts.cuts_of.Given as goal
 
 abbrev pub invariant-loop-section : goal.invariant-loop-section
 invariant-loop-section l = HasCuts l.sections l.file_alignment l.points.items l.section-index

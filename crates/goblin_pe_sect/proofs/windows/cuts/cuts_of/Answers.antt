@@ -4,8 +4,8 @@ use Rattle.std.proofs.lemmas.List.Filters.{dedup_is}
 use Rattle.std.proofs.lemmas.Option.{slice_get_read}
 use Rattle.goblin_pe_sect.specs.Mapping.{window_end}
 use Rattle.goblin_pe_sect.proofs.Cuts.{cut_from, near_from, cuts_more, cuts_empty}
-use Rattle.goblin_pe_sect.proofs.windows.cuts.put_cuts.Goals as goal
-use Rattle.goblin_pe_sect.proofs.windows.cuts.put_cuts.Goals.{then-begin-end+in_ok-push-2+in_ok-push-3, else-begin-end}
+use Rattle.goblin_pe_sect.proofs.windows.cuts.cuts_of.Goals as goal
+use Rattle.goblin_pe_sect.proofs.windows.cuts.cuts_of.Goals.{then-begin-end+in_ok-push-2+in_ok-push-3, else-begin-end}
 
 pub loop-section-preserved : goal.loop-section-preserved
 loop-section-preserved c =
