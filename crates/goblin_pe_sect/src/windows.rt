@@ -12,7 +12,7 @@ ghost use Rattle.std.specs.Option.{option_map};
 ghost use Rattle.std.specs.List.Sorted.{IsStrictlyIncreasing};
 ghost use Rattle.goblin_base.specs.Answers.{IsMemory};
 ghost use Rattle.goblin_pe_sect.specs.Mapping.{file_offset};
-ghost use Rattle.goblin_pe_sect.specs.WindowIndex.{IsCut, first_owner, last_owner, located};
+ghost use Rattle.goblin_pe_sect.specs.WindowIndex.{IsCut, begins_of, first_owner, last_owner, located};
 ghost use Rattle.goblin_pe_sect.specs.WindowIndex.{owner_offset, reached, halvings, HasPieces};
 ghost use Rattle.goblin_pe_sect.specs.WindowIndex.{first_probes, near_probes};
 ghost use Rattle.goblin_pe_sect.specs.WindowIndexFields.{KeepsPiecesAlone};
@@ -32,7 +32,7 @@ use std::alloc::Global;
 use std::marker::Model;
 
 // How many pieces begin at or before the address, and how many bounds were looked at.
-#[inline(never)]
+#[inline(always)]
 fn count_reached(bounds: &Bounds<'_>, rva: usize) -> (usize, usize)
     requires { IsStrictlyIncreasing bounds.now }
     ensures value { result.0 ≡ reached bounds.now rva }
@@ -53,6 +53,20 @@ fn count_reached(bounds: &Bounds<'_>, rva: usize) -> (usize, usize)
         }
     }
     (low, probes)
+}
+
+// As `count_reached`, of these pieces: a call is given them in registers.
+#[inline(never)]
+fn search(pieces: &[Piece], rva: usize) -> (usize, usize)
+    requires { IsStrictlyIncreasing (begins_of pieces.now) }
+    ensures value { result.0 ≡ reached (begins_of pieces.now) rva }
+    ensures most { (d : ℕ) → length (begins_of pieces.now) < 2 ^ d → result.1 ≤ d }
+    ensures few { result.1 ≤ 64 }
+    ensures fewest { (d : ℕ) → 2 ^ d ≤ length (begins_of pieces.now) + 1 → d ≤ result.1 }
+    ensures counted { result.1
+        ≡ halvings (length (begins_of pieces.now)) (reached (begins_of pieces.now) rva) }
+{
+    count_reached(&Bounds::new(pieces), rva)
 }
 
 // How many pieces begin at or before the address, if the last of them is piece `i`, and how many
@@ -82,24 +96,6 @@ fn count_in_piece(bounds: &Bounds<'_>, i: usize, rva: usize) -> (Option<usize>, 
         return (None, probes);
     }
     (Some(next), probes)
-}
-
-// How many pieces begin at or before the address, and how many bounds were looked at: those of piece
-// `near` first, and no others where the address lies in it.
-#[inline(always)]
-fn count_near(bounds: &Bounds<'_>, near: usize, rva: usize) -> (usize, usize)
-    requires { IsStrictlyIncreasing bounds.now }
-    ensures value { result.0 ≡ reached bounds.now rva }
-    ensures most { (d : ℕ) → length bounds.now < 2 ^ d → result.1 ≤ d + 2 }
-    ensures there { reached bounds.now rva ≡ near + 1 → result.1 ≤ 2 }
-    ensures counted { result.1 ≡ near_probes (length bounds.now) near (reached bounds.now rva) }
-{
-    let (found, first) = count_in_piece(bounds, near, rva);
-    let Some(count) = found else {
-        let (count, probes) = count_reached(bounds, rva);
-        return (count, first + probes);
-    };
-    (count, first)
 }
 
 /// The address space, cut into pieces at the windows of sections. Each piece keeps the index, the
@@ -179,13 +175,13 @@ impl WindowIndex {
         })
     }
 
-    // Where its pieces begin.
+    // Its pieces, in rising order.
     #[inline(always)]
-    fn bounds(&self) -> Bounds<'_>
-        ensures value { result ≡ self.now.begins }
-        ensures rising { IsStrictlyIncreasing result }
+    fn in_order(&self) -> &[Piece]
+        ensures value { begins_of result.now ≡ self.now.begins }
+        ensures rising { IsStrictlyIncreasing (begins_of result.now) }
     {
-        Bounds::new(&self.pieces)
+        &self.pieces
     }
 
     /// The number of pieces.
@@ -193,14 +189,14 @@ impl WindowIndex {
         ensures count { result ≡ length self.now.begins }
         ensures whole { KeepsPiecesAlone }
     {
-        self.bounds().len()
+        self.pieces.len()
     }
 
     // The file offset of an address, by how many pieces begin at or before it: one or more.
     fn offset_in_piece(&self, count: usize, rva: usize) -> Option<usize>
         requires counted { count ≡ reached self.now.begins rva }
         requires some { 0 < count }
-        ensures { result ≡ option_map (owner_offset rva) (last_owner self.now.owners count) }
+        ensures { result ≡ located self.now rva }
     {
         let owner = self.pieces[count - 1].owner?;
         Some(owner.pointer as usize + (rva - owner.address as usize))
@@ -227,7 +223,7 @@ impl WindowIndex {
         ensures counted { result.1
             ≡ halvings (length self.now.begins) (reached self.now.begins rva) }
     {
-        let (count, probes) = count_reached(&self.bounds(), rva);
+        let (count, probes) = search(self.in_order(), rva);
         (self.offset_by_count(count, rva), probes)
     }
 
@@ -250,9 +246,14 @@ impl WindowIndex {
         ensures counted { result.1
             ≡ near_probes (length self.now.begins) near.old (reached self.now.begins rva) }
     {
-        let (count, probes) = count_near(&self.bounds(), *near, rva);
-        *near = count.saturating_sub(1);
-        (self.offset_by_count(count, rva), probes)
+        let pieces = self.in_order();
+        let (found, first) = count_in_piece(&Bounds::new(pieces), *near, rva);
+        let Some(count) = found else {
+            let (count, probes) = search(pieces, rva);
+            *near = count.saturating_sub(1);
+            return (self.offset_by_count(count, rva), first + probes);
+        };
+        (self.offset_in_piece(count, rva), first)
     }
 
     /// The file offset of the address `rva`, as [`WindowIndex::find`] returns it. The bounds of piece

@@ -1,5 +1,4 @@
-use Rattle.std.proofs.Common.{◌∙◌}
-use Rattle.goblin_pe_sect.proofs.WindowPieces.{located-none, located-itself, located-piece}
+use Rattle.goblin_pe_sect.proofs.WindowPieces.{located-none, located-itself}
 use Rattle.goblin_pe_sect.proofs.windows.WindowIndex.offset_by_count.Goals as goal
 
 pub returns-then-self : goal.returns-then-self
@@ -9,7 +8,3 @@ returns-then-self c =
 pub returns-else-self : goal.returns-else-self
 returns-else-self c =
     located-itself _ _ _ _ c.self.view_is c.args.rva _ c.requires c.if-self.false
-
-pub returns : goal.returns
-returns c =
-    c.offset_in_piece.ensures ∙ located-piece _ _ _ _ c.self.view_is c.args.rva _ c.requires c.self.invariant c.if-count-eq0.false
