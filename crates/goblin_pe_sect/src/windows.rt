@@ -6,7 +6,7 @@
 //! address is then found among n pieces by about log n comparisons.
 
 ghost use Rattle.std.specs.Prelude.{◌≡◌, ℕ, ◌+◌, ◌-◌, ◌*◌, ◌^◌, ◌<◌, ◌≤◌, IsTrue, IfOk, IfErr};
-ghost use Rattle.std.specs.Prelude.{IfSome, Some, length, map, []};
+ghost use Rattle.std.specs.Prelude.{IfSome, Some, length, map, slice_index, []};
 ghost use Rattle.std.specs.Int.{is_power_of_two};
 ghost use Rattle.std.specs.Option.{option_map};
 ghost use Rattle.std.specs.List.Sorted.{IsStrictlyIncreasing};
@@ -69,30 +69,44 @@ fn search(pieces: &[Piece], rva: usize) -> (usize, usize)
     count_reached(&Bounds::new(pieces), rva)
 }
 
+// The bounds of the pieces from piece `i` on.
+#[inline(always)]
+fn bounds_from(pieces: &[Piece], i: usize) -> Bounds<'_>
+    requires { i < length pieces.now }
+    ensures count { i + length result ≡ length (begins_of pieces.now) }
+    ensures first { slice_index result 0 ≡ slice_index (begins_of pieces.now) i }
+    ensures second { 1 < length result
+        → slice_index result 1 ≡ slice_index (begins_of pieces.now) (i + 1) }
+{
+    Bounds::new(&pieces[i..])
+}
+
 // How many pieces begin at or before the address, if the last of them is piece `i`, and how many
 // bounds were looked at.
 #[inline(always)]
 #[tactic(auto, using(crate::proofs::Halving::reached_last, crate::proofs::Halving::reached_before))]
-fn count_in_piece(bounds: &Bounds<'_>, i: usize, rva: usize) -> (Option<usize>, usize)
-    requires { IsStrictlyIncreasing bounds.now }
-    ensures value { IfSome result.0 (λ count. (count ≡ reached bounds.now rva) × (count ≡ i + 1)) }
-    ensures found { reached bounds.now rva ≡ i + 1 → result.0 ≡ Some (i + 1) }
-    ensures counted { result.1 ≡ first_probes (length bounds.now) i (reached bounds.now rva) }
+fn count_in_piece(pieces: &[Piece], i: usize, rva: usize) -> (Option<usize>, usize)
+    requires { IsStrictlyIncreasing (begins_of pieces.now) }
+    ensures value { IfSome result.0
+        (λ count. (count ≡ reached (begins_of pieces.now) rva) × (count ≡ i + 1)) }
+    ensures found { reached (begins_of pieces.now) rva ≡ i + 1 → result.0 ≡ Some (i + 1) }
+    ensures counted { result.1
+        ≡ first_probes (length (begins_of pieces.now)) i (reached (begins_of pieces.now) rva) }
     ensures few { result.1 ≤ 2 }
 {
-    let count = bounds.len();
     let mut probes = 0;
-    if i >= count {
+    if i >= pieces.len() {
         return (None, probes);
     }
-    if !bounds.reaches(i, rva, &mut probes) {
+    let here = bounds_from(pieces, i);
+    if !here.reaches(0, rva, &mut probes) {
         return (None, probes);
     }
     let next = i + 1;
-    if next == count {
+    if next == pieces.len() {
         return (Some(next), probes);
     }
-    if bounds.reaches(next, rva, &mut probes) {
+    if here.reaches(1, rva, &mut probes) {
         return (None, probes);
     }
     (Some(next), probes)
@@ -247,7 +261,7 @@ impl WindowIndex {
             ≡ near_probes (length self.now.begins) near.old (reached self.now.begins rva) }
     {
         let pieces = self.in_order();
-        let (found, first) = count_in_piece(&Bounds::new(pieces), *near, rva);
+        let (found, first) = count_in_piece(pieces, *near, rva);
         let Some(count) = found else {
             let (count, probes) = search(pieces, rva);
             *near = count.saturating_sub(1);
