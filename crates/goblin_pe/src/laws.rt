@@ -22,7 +22,6 @@ mod header;
 mod modes;
 mod order;
 mod parts;
-mod texts;
 mod whole;
 
 pub use footprint::footprint_whole;

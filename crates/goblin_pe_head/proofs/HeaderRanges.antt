@@ -1,5 +1,5 @@
 -- What a search for a Rich header and an optional header reach, as positions in the file.
-use Rattle.std.proofs.Common.{◌≡◌, ◌<◌, ℕ, ◌+◌, ◌*◌, ◌==◌, false, nat_le, Option, Some, None, List}
+use Rattle.std.proofs.Common.{◌≡◌, ◌≢◌, ◌<◌, ℕ, rules, ◌+◌, ◌*◌, ◌==◌, false, nat_le, Option, Some, None, List}
 use Rattle.std.proofs.Common.{[], ◌++◌, drop, take, length, append-nil, refl, ap, ◌∙◌, arith}
 use Rattle.std.proofs.Common.{inl, inr}
 use Rattle.std.proofs.lemmas.Bool.{cases_Bool}
@@ -7,6 +7,7 @@ use Rattle.goblin_base.specs.declared.endian.Endian.TheVariants.{Little}
 use Rattle.goblin_base.specs.Bytes.{number_at}
 use Rattle.goblin_base.specs.Footprints.{Range, led_to, positions, slice_footprint}
 use Rattle.goblin_base.specs.Parts.{front_through, moved_by, search_footprint}
+use Rattle.goblin_base.specs.Record.{record_at}
 use Rattle.goblin_base.proofs.Below.{concat_below-agree}
 use Rattle.goblin_base.proofs.Ranges.{moved-append, moved-below, moved-led, moved-positions}
 use Rattle.goblin_base.proofs.Ranges.{moved-slice}
@@ -14,9 +15,28 @@ use Rattle.goblin_base.proofs.SomeRanges.{some-left}
 use Rattle.readings.specs.Reads.{in_rest}
 use Rattle.goblin_pe_sect.specs.DirectoryReadings.{directories_at}
 use Rattle.goblin_pe_head.specs.declared.optional_header.FixedFields.{FixedFields}
-use Rattle.goblin_pe_head.specs.HeaderReadings.{fixed_fields, optional_header}
+use Rattle.goblin_pe_head.specs.declared.header.dos.DosHeader.{DosHeader}
+use Rattle.goblin_pe_head.specs.declared.header.coff.CoffHeader.{CoffHeader}
+use Rattle.goblin_pe_head.specs.CoffHeader.{coff_header}
+use Rattle.goblin_pe_head.specs.DosHeader.{dos_record}
+use Rattle.goblin_pe_head.specs.HeaderReadings.{dos_header, fixed_fields, optional_at}
+use Rattle.goblin_pe_head.specs.HeaderReadings.{optional_header, parts_at}
 use Rattle.goblin_pe_head.specs.RichHeader.{dans_place, is_rich, marker_place, word_at}
 use Rattle.goblin_pe_head.specs.RichReadings.{rich_before, rich_in}
+
+-- ---- the DOS header
+
+-- what the record of a DOS header leads to: the PE signature
+abbrev pub signature_reach : List ℕ → DosHeader → List Range
+signature_reach bytes header = slice_footprint bytes header.pe_pointer 4
+
+pub dos-reaches : (bytes : List ℕ)
+    → dos_header.reaches bytes
+    ≡ slice_footprint bytes 0 2
+    ++ (slice_footprint bytes 0 64
+    ++ led_to (record_at 64 (dos_record Little) bytes 0) (signature_reach bytes))
+unfolding dos_header
+dos-reaches bytes = refl
 
 -- ---- the Rich header
 
@@ -166,3 +186,29 @@ optional-reaches p bytes =
     (led_by p bytes)
     (λ fields.
     moved-directories p bytes fields.windows_fields.number_of_rva_and_sizes fields.size))))
+
+-- ---- the parts from a signature on
+
+-- what a COFF header after a signature at p leads to: the optional header
+abbrev pub optional_reach : ℕ → List ℕ → CoffHeader → List Range
+optional_reach p bytes coff = (optional_at coff.size_of_optional_header (p + 24)).reaches bytes
+
+pub parts-reaches : (p : ℕ) (bytes : List ℕ)
+    → (parts_at p).reaches bytes
+    ≡ slice_footprint bytes p 4
+    ++ (slice_footprint bytes (p + 4) 20
+    ++ led_to (record_at 20 (coff_header Little) bytes (p + 4)) (optional_reach p bytes))
+unfolding parts_at
+parts-reaches p bytes = refl
+
+pub optional-none : (size p : ℕ) (bytes : List ℕ) → size ≡ 0
+    → (optional_at size p).reaches bytes ≡ []
+unfolding optional_at
+optional-none size p bytes is = rw is refl
+
+pub optional-there : (size p : ℕ) (bytes : List ℕ) → size ≢ 0
+    → (optional_at size p).reaches bytes ≡ (in_rest p optional_header).reaches bytes
+unfolding optional_at
+optional-there size p bytes some =
+    let test : (size == 0) ≡ false = search (rules, some) in
+    rw test refl

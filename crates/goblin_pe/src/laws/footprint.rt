@@ -12,9 +12,8 @@ ghost use Rattle.goblin_pe.specs.Whole.{entry_format, export_part, import_parts,
 ghost use Rattle.goblin_pe.specs.Whole.{relocation_part, table_parts, whole_after};
 ghost use Rattle.goblin_pe.specs.Whole.{whole_file, whole_with};
 
-use crate::laws::texts::error_for;
 use goblin_base::footprint::add_slice;
-use goblin_base::{ResultOf, is_passed_over};
+use goblin_base::{ResultOf, error_for, is_passed_over};
 use goblin_pe_export::laws::add_exports;
 use goblin_pe_head::header::{Header, SIZEOF_COFF_HEADER, SIZEOF_PE_MAGIC};
 use goblin_pe_head::laws::{add_header, add_sections};

@@ -6,12 +6,11 @@ ghost use Rattle.goblin_pe.specs.TableRuns.{AreAlike, AreGrown, AreTables};
 
 use crate::data_directories::DataDirectory;
 use crate::import::{Bitfield, ImportData, ImportLookupTable, SyntheticImportLookupTableEntry};
-use crate::laws::texts::answer_for;
 use crate::options::ParseOptions;
 use crate::relocation::RelocationData;
 use crate::section_table::SectionTable;
 use crate::utils::{get_data_with_opts, safe_try_name};
-use goblin_base::{ResultOf, TryFromCtx};
+use goblin_base::{ResultOf, TryFromCtx, answer_for};
 use goblin_pe_export::laws::{ExportRead, read_exports};
 use std::alloc::Global;
 

@@ -11,13 +11,12 @@ ghost use Rattle.goblin_pe.specs.TwinParts.{te_view};
 
 use crate::data_directories::DataDirectory;
 use crate::header::{CoffHeader, Header, TeHeader};
-use crate::laws::texts::answer_for;
 use crate::options::ParseOptions;
 use crate::relocation::RelocationData;
 use crate::section_table::SectionTable;
 use crate::symbol::SymbolTable;
 use crate::utils::get_data_with_opts;
-use goblin_base::{Result, ResultOf, Strtab, TryFromCtx};
+use goblin_base::{Result, ResultOf, Strtab, TryFromCtx, answer_for};
 use std::alloc::Global;
 
 /// The answers of the readers of headers and of single tables, with errors whose texts live for

@@ -30,7 +30,6 @@ const SIZEOF_MAGIC: usize = 2;
 const SIZEOF_MARKER_AND_KEY: usize = 8;
 
 // Adds the footprint of the DOS header, and of the PE signature where it points.
-#[tactic(auto, unfolding(crate::specs::HeaderReadings::dos_header, goblin_base::specs::Footprints::led_to))]
 fn add_dos_header<'e>(ranges: &mut Vec<(usize, usize)>, bytes: &[u8]) -> ResultOf<'e, ()>
     ensures added { OnOk result
         (ranges.new.items ≡ ranges.old.items ++ reading.dos_header.reaches bytes.now) }
@@ -178,7 +177,6 @@ fn add_optional_header<'e>(
 }
 
 // Adds the footprint of the parts from the signature at an offset on.
-#[tactic(auto, unfolding(crate::specs::HeaderReadings::parts_at, crate::specs::HeaderReadings::optional_at, goblin_base::specs::Footprints::led_to))]
 fn add_parts<'e>(ranges: &mut Vec<(usize, usize)>, bytes: &[u8], offset: usize) -> ResultOf<'e, ()>
     requires { offset ≤ length bytes.now }
     ensures added { let reached = (reading.parts_at offset).reaches bytes.now in

@@ -7,7 +7,7 @@ ghost use Rattle.goblin_pe_head.specs.declared.optional_header.windows_fields.Wi
 ghost use Rattle.goblin_pe_head.specs.declared.optional_header.windows_fields.WindowsFields64.{WindowsFields64};
 ghost use Rattle.goblin_pe_head.specs.OptionalHeader.{windows_32_record, windows_32_fields};
 ghost use Rattle.goblin_pe_head.specs.OptionalHeader.{windows_64_record, windows_64_fields};
-ghost use Rattle.goblin_pe_head.specs.OptionalHeader.{windows_from_32, narrowed, IsTooWide};
+ghost use Rattle.goblin_pe_head.specs.OptionalHeader.{windows_from_32, windows_to_32, narrowed};
 ghost use Rattle.goblin_pe_head.specs.OptionalHeader.{NarrowsWindows};
 
 use goblin_base::{
@@ -376,10 +376,40 @@ impl From<WindowsFields32> for WindowsFields64 {
 }
 
 // A number that fits 32 bits.
-fn narrow(number: u64) -> Result<u32>
-    ensures { Answers (λ n. n) result (narrowed number) IsTooWide }
+fn narrow(number: u64) -> Option<u32>
+    ensures { result ≡ narrowed number }
 {
-    u32::try_from(number).map_err(|_| Error::Malformed(Cause::FieldTooWide))
+    u32::try_from(number).ok()
+}
+
+// The same fields, where the five wide ones fit 32 bits.
+#[tactic(auto, unfolding(crate::specs::OptionalHeader::windows_to_32))]
+fn windows_to_32(fields: &WindowsFields64) -> Option<WindowsFields32>
+    ensures { result ≡ windows_to_32 fields.now }
+{
+    Some(WindowsFields32 {
+        image_base: narrow(fields.image_base)?,
+        section_alignment: fields.section_alignment,
+        file_alignment: fields.file_alignment,
+        major_operating_system_version: fields.major_operating_system_version,
+        minor_operating_system_version: fields.minor_operating_system_version,
+        major_image_version: fields.major_image_version,
+        minor_image_version: fields.minor_image_version,
+        major_subsystem_version: fields.major_subsystem_version,
+        minor_subsystem_version: fields.minor_subsystem_version,
+        win32_version_value: fields.win32_version_value,
+        size_of_image: fields.size_of_image,
+        size_of_headers: fields.size_of_headers,
+        check_sum: fields.check_sum,
+        subsystem: fields.subsystem,
+        dll_characteristics: fields.dll_characteristics,
+        size_of_stack_reserve: narrow(fields.size_of_stack_reserve)?,
+        size_of_stack_commit: narrow(fields.size_of_stack_commit)?,
+        size_of_heap_reserve: narrow(fields.size_of_heap_reserve)?,
+        size_of_heap_commit: narrow(fields.size_of_heap_commit)?,
+        loader_flags: fields.loader_flags,
+        number_of_rva_and_sizes: fields.number_of_rva_and_sizes,
+    })
 }
 
 impl TryFrom<WindowsFields64> for WindowsFields32 {
@@ -392,30 +422,10 @@ impl TryFrom<WindowsFields64> for WindowsFields32 {
     /// # Errors
     /// [`Error::Malformed`] with [`Cause::FieldTooWide`] if one of the five wide fields does not
     /// fit 32 bits.
-    #[tactic(auto, unfolding(crate::specs::OptionalHeader::windows_to_32))]
     fn try_from(fields: WindowsFields64) -> Result<WindowsFields32> {
-        Ok(WindowsFields32 {
-            image_base: narrow(fields.image_base)?,
-            section_alignment: fields.section_alignment,
-            file_alignment: fields.file_alignment,
-            major_operating_system_version: fields.major_operating_system_version,
-            minor_operating_system_version: fields.minor_operating_system_version,
-            major_image_version: fields.major_image_version,
-            minor_image_version: fields.minor_image_version,
-            major_subsystem_version: fields.major_subsystem_version,
-            minor_subsystem_version: fields.minor_subsystem_version,
-            win32_version_value: fields.win32_version_value,
-            size_of_image: fields.size_of_image,
-            size_of_headers: fields.size_of_headers,
-            check_sum: fields.check_sum,
-            subsystem: fields.subsystem,
-            dll_characteristics: fields.dll_characteristics,
-            size_of_stack_reserve: narrow(fields.size_of_stack_reserve)?,
-            size_of_stack_commit: narrow(fields.size_of_stack_commit)?,
-            size_of_heap_reserve: narrow(fields.size_of_heap_reserve)?,
-            size_of_heap_commit: narrow(fields.size_of_heap_commit)?,
-            loader_flags: fields.loader_flags,
-            number_of_rva_and_sizes: fields.number_of_rva_and_sizes,
-        })
+        match windows_to_32(&fields) {
+            Some(narrow) => Ok(narrow),
+            None => Err(Error::Malformed(Cause::FieldTooWide)),
+        }
     }
 }
