@@ -6,7 +6,7 @@ use Rattle.std.proofs.lemmas.List.Kept.{AllPairs-from_increasing}
 use Rattle.std.proofs.lemmas.List.Sums.{prefix_len-le-length, prefix_len_is, prefix_len_passes, prefix_len_stops}
 use Rattle.std.proofs.lemmas.Bool.{cases_lt, ne_eqb}
 use Rattle.std.proofs.lemmas.Nat.{pow-add, pow_pos}
-use Rattle.goblin_pe_sect.specs.WindowIndex.{reached, halvings_within, halvings, first_probes}
+use Rattle.goblin_pe_sect.specs.WindowIndex.{reached, halvings_within, halvings}
 
 -- ---- the number of comparisons
 
@@ -100,25 +100,6 @@ reached-below begins rva half passes =
 -- no more numbers begin at or before an address than there are
 pub reached-within : (begins : List ℕ) (rva : ℕ) → reached begins rva ≤ length begins
 reached-within begins rva = prefix_len-le-length (λ b. nat_le b rva) begins
-
--- ---- where a look-up begins at a piece
-
-module _ (n i k : ℕ) where
-  pub first-none : n ≤ i → first_probes n i k ≡ 0
-  first-none past = let out : nat_lt i n ≡ false = search (rules, tests) in rw out refl
-
-  pub first-after : i < n → k ≤ i → first_probes n i k ≡ 1
-  first-after within after =
-      let inside : nat_lt i n ≡ true = search (rules, tests) in
-      let out : nat_lt i k ≡ false = search (rules, tests) in
-      rw (inside, out) refl
-
-  pub first-two : i < n → i < k → (i + 1 ≡ n → ⊥) → first_probes n i k ≡ 2
-  first-two within before more =
-      let inside : nat_lt i n ≡ true = search (rules, tests) in
-      let begun : nat_lt i k ≡ true = search (rules, tests) in
-      let not : (i + 1 == n) ≡ false = ne_eqb (i + 1) n more in
-      rw (inside, begun, not) refl
 
 -- half of a number has a digit less
 pub half_below : (e s : ℕ) → 0 < s → s < 2 ^ e → (1 ≤ e) × (s / 2 < 2 ^ (e - 1))
@@ -217,9 +198,6 @@ module _ (begins : List ℕ) (rva i : ℕ) (up : IsStrictlyIncreasing begins) (f
       let passes : (k : ℕ) → k < i + 1 → nat_le (get_or begins k 0) rva ≡ true = λ k lt. let below : get_or begins k 0 ≤ rva = omega (arith, from, rising_to begins up k i (omega arith) within) in search (rules, tests) in
       let stops : i + 1 < length begins → nat_le (get_or begins (i + 1) 0) rva ≡ false = λ lt. let above : rva < get_or begins (i + 1) 0 = next lt in search (rules, tests) in
       prefix_len_is (λ b. nat_le b rva) begins (i + 1) 0 (omega arith) passes stops
-
-  pub reached_last : i + 1 ≡ length begins → i + 1 ≡ reached begins rva
-  reached_last last = sym (reached_after (omega arith) (λ lt. absurd (omega (arith, lt, last))))
 
   pub reached_before : i + 1 < length begins → rva < slice_index begins (i + 1) → i + 1 ≡ reached begins rva
   reached_before within next = sym (reached_after (omega arith) (λ _. next))

@@ -19,6 +19,7 @@ pub mod PermissiveReads
 pub mod RelocationRecords
 pub mod RelocationsRoundTrip
 pub mod Reordered
+pub mod Runs
 pub mod SectionNameRoundTrip
 pub mod SectionTableRoundTrip
 pub mod Stretches

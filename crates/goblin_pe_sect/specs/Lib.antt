@@ -8,6 +8,7 @@ pub mod Mapping
 pub mod Multiples
 pub mod Options
 pub mod Relocations
+pub mod Runs
 pub mod SectionName
 pub mod SectionReadings
 pub mod SectionTable

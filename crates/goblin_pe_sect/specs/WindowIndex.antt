@@ -80,17 +80,6 @@ halvings_within (suc most) n k =
 unfoldable pub halvings : ℕ → ℕ → ℕ
 halvings n k = halvings_within n n k
 
--- The probes of a look-up that begins at piece `near` of n, where k of them begin at or before the
--- address: where that piece begins and, if at or before the address, where the next does, unless it
--- is the last.
-abbrev pub first_probes : ℕ → ℕ → ℕ → ℕ
-first_probes n near k =
-    if nat_lt near n then if nat_lt near k then if near + 1 == n then 1 else 2 else 1 else 0
-
--- Then come those of a search, unless the address lies in piece `near`.
-abbrev pub near_probes : ℕ → ℕ → ℕ → ℕ
-near_probes n near k = first_probes n near k + (if near + 1 == k then 0 else halvings n k)
-
 -- the owner of the last of the first n pieces
 abbrev pub last_owner : List (Option Owner) → ℕ → Option Owner
 last_owner owners zero = None

@@ -1,21 +1,22 @@
 //! Where addresses lie in the file, by an index that is prepared once.
 
-ghost use Rattle.std.specs.Prelude.{◌≡◌, ◌-◌, ◌↔◌, ◌<◌, ℕ, IfErr, IfOk, IsTrue, option_map};
+ghost use Rattle.std.specs.Prelude.{◌≡◌, ◌↔◌, ℕ, IfErr, IfOk, IsTrue};
 ghost use Rattle.goblin_base.specs.Answers.{GivesOrMemory, IsMemory};
-ghost use Rattle.goblin_base.specs.Reading.{Reads};
-ghost use Rattle.goblin_pe_sect.specs.AddressReadings.{name_or_none};
 ghost use Rattle.goblin_pe_sect.specs.Mapping.{file_offset};
 ghost use Rattle.goblin_base.specs.declared.permissive.ParseMode.TheVariants.{Permissive};
 ghost use Rattle.goblin_pe_sect.specs.Addresses.{KeepsIndexAlone, TakesMap, map_by, map_of};
-ghost use Rattle.goblin_pe_sect.specs.Addresses.{offset_of, reads_strictly, strict_map};
-ghost use Rattle.goblin_pe_sect.specs.WindowIndex.{located, reached};
+ghost use Rattle.goblin_pe_sect.specs.Addresses.{offset_of, strict_map};
+ghost use Rattle.goblin_pe_sect.specs.WindowIndex.{located};
 
 use crate::options::{ParseMode, ParseOptions};
 use crate::section_table::SectionTable;
-use crate::utils::safe_name_at;
 use crate::windows::WindowIndex;
 use goblin_base::ResultOf;
 use std::alloc::Global;
+
+mod finder;
+
+pub use finder::Finder;
 
 /// How addresses are mapped to file offsets, and how the bytes there are read: the options, and what
 /// is prepared of the sections for the mapping. The sections may be dropped.
@@ -98,35 +99,5 @@ impl AddressMap {
         ensures { result ≡ offset_of (map_of self.now) rva }
     {
         self.index.find(rva as usize)
-    }
-
-    /// The file offset of an address, as [`AddressMap::offset_of`]: it is looked for first in the
-    /// piece `near`, any number, which then is where the next is looked for first.
-    #[inline(always)]
-    pub fn offset_near(&self, rva: u32, near: &mut usize) -> Option<usize>
-        ensures value { result ≡ offset_of (map_of self.now) rva }
-        ensures piece { near.new ≡ reached self.now.index.begins rva - 1 }
-    {
-        self.index.find_near(rva as usize, near)
-    }
-
-    /// The text at an address: in permissive mode `None` if there is none. The address is looked for
-    /// first in the piece `near`, as by [`AddressMap::offset_near`].
-    ///
-    /// # Errors
-    /// As [`safe_try_name`](crate::utils::safe_try_name).
-    #[tactic(auto, unfolding(crate::specs::AddressReadings::name_or_none, crate::specs::AddressReadings::name_at))]
-    pub fn name_near<'a, 'e>(
-        &self,
-        bytes: &'a [u8],
-        rva: u32,
-        near: &mut usize,
-    ) -> ResultOf<'e, Option<&'a str>>
-        ensures value { Reads (option_map (λ s. s.now)) result
-            (name_or_none (reads_strictly (map_of self.now)) (offset_of (map_of self.now)) rva) bytes.now }
-        ensures piece { near.new ≡ reached self.now.index.begins rva - 1 }
-    {
-        let offset = self.offset_near(rva, near);
-        safe_name_at(bytes, rva as usize, offset, &self.opts)
     }
 }

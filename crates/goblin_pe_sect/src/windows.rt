@@ -5,22 +5,22 @@
 //! each start and end of a window that is not empty, and each piece keeps its first section; an
 //! address is then found among n pieces by about log n comparisons.
 
-ghost use Rattle.std.specs.Prelude.{◌≡◌, ℕ, ◌+◌, ◌-◌, ◌*◌, ◌^◌, ◌<◌, ◌≤◌, IsTrue, IfOk, IfErr};
-ghost use Rattle.std.specs.Prelude.{IfSome, Some, length, map, slice_index, []};
+ghost use Rattle.std.specs.Prelude.{◌≡◌, ℕ, ◌+◌, ◌*◌, ◌^◌, ◌<◌, ◌≤◌, IsTrue, IfOk, IfErr};
+ghost use Rattle.std.specs.Prelude.{length, map, []};
 ghost use Rattle.std.specs.Int.{is_power_of_two};
-ghost use Rattle.std.specs.Option.{option_map};
 ghost use Rattle.std.specs.List.Sorted.{IsStrictlyIncreasing};
 ghost use Rattle.goblin_base.specs.Answers.{IsMemory};
 ghost use Rattle.goblin_pe_sect.specs.Mapping.{file_offset};
-ghost use Rattle.goblin_pe_sect.specs.WindowIndex.{IsCut, begins_of, first_owner, last_owner, located};
-ghost use Rattle.goblin_pe_sect.specs.WindowIndex.{owner_offset, reached, halvings, HasPieces};
-ghost use Rattle.goblin_pe_sect.specs.WindowIndex.{first_probes, near_probes};
+ghost use Rattle.goblin_pe_sect.specs.Runs.{IsRun, run_of_piece};
+ghost use Rattle.goblin_pe_sect.specs.WindowIndex.{IsCut, begins_of, first_owner, located};
+ghost use Rattle.goblin_pe_sect.specs.WindowIndex.{reached, halvings, HasPieces};
 ghost use Rattle.goblin_pe_sect.specs.WindowIndexFields.{KeepsPiecesAlone};
 
 mod bounds;
 mod cuts;
 mod division;
 mod owners;
+mod run;
 
 use crate::options::ParseOptions;
 use crate::section_table::SectionTable;
@@ -28,6 +28,7 @@ pub use bounds::{Bounds, Piece};
 use division::division_of;
 use goblin_base::ResultOf;
 pub use owners::Owner;
+pub(crate) use run::Run;
 use std::alloc::Global;
 use std::marker::Model;
 
@@ -67,49 +68,6 @@ fn search(pieces: &[Piece], rva: usize) -> (usize, usize)
         ≡ halvings (length (begins_of pieces.now)) (reached (begins_of pieces.now) rva) }
 {
     count_reached(&Bounds::new(pieces), rva)
-}
-
-// The bounds of the pieces from piece `i` on.
-#[inline(always)]
-fn bounds_from(pieces: &[Piece], i: usize) -> Bounds<'_>
-    requires { i < length pieces.now }
-    ensures count { i + length result ≡ length (begins_of pieces.now) }
-    ensures first { slice_index result 0 ≡ slice_index (begins_of pieces.now) i }
-    ensures second { 1 < length result
-        → slice_index result 1 ≡ slice_index (begins_of pieces.now) (i + 1) }
-{
-    Bounds::new(&pieces[i..])
-}
-
-// How many pieces begin at or before the address, if the last of them is piece `i`, and how many
-// bounds were looked at.
-#[inline(always)]
-#[tactic(auto, using(crate::proofs::Halving::reached_last, crate::proofs::Halving::reached_before))]
-fn count_in_piece(pieces: &[Piece], i: usize, rva: usize) -> (Option<usize>, usize)
-    requires { IsStrictlyIncreasing (begins_of pieces.now) }
-    ensures value { IfSome result.0
-        (λ count. (count ≡ reached (begins_of pieces.now) rva) × (count ≡ i + 1)) }
-    ensures found { reached (begins_of pieces.now) rva ≡ i + 1 → result.0 ≡ Some (i + 1) }
-    ensures counted { result.1
-        ≡ first_probes (length (begins_of pieces.now)) i (reached (begins_of pieces.now) rva) }
-    ensures few { result.1 ≤ 2 }
-{
-    let mut probes = 0;
-    if i >= pieces.len() {
-        return (None, probes);
-    }
-    let here = bounds_from(pieces, i);
-    if !here.reaches(0, rva, &mut probes) {
-        return (None, probes);
-    }
-    let next = i + 1;
-    if next == pieces.len() {
-        return (Some(next), probes);
-    }
-    if here.reaches(1, rva, &mut probes) {
-        return (None, probes);
-    }
-    (Some(next), probes)
 }
 
 /// The address space, cut into pieces at the windows of sections. Each piece keeps the index, the
@@ -249,36 +207,28 @@ impl WindowIndex {
         self.find_counted(rva).0
     }
 
-    /// The answer of [`WindowIndex::find_near`], and how many probes were made: at most two where the
-    /// address lies in piece `near`, and else at most two more than a binary search makes.
-    #[inline(always)]
-    pub fn find_near_counted(&self, rva: usize, near: &mut usize) -> (Option<usize>, usize)
-        ensures value { result.0 ≡ located self.now rva }
-        ensures piece { near.new ≡ reached self.now.begins rva - 1 }
-        ensures most { (d : ℕ) → length self.now.begins < 2 ^ d → result.1 ≤ d + 2 }
-        ensures there { reached self.now.begins rva ≡ near.old + 1 → result.1 ≤ 2 }
-        ensures counted { result.1
-            ≡ near_probes (length self.now.begins) near.old (reached self.now.begins rva) }
+    // The run of the last of so many pieces.
+    fn run_by_count(&self, count: usize) -> Run
+        requires { count ≤ length self.now.begins }
+        ensures run { result ≡ run_of_piece self.now count }
+        ensures is { IsRun self.now result }
     {
-        let pieces = self.in_order();
-        let (found, first) = count_in_piece(pieces, *near, rva);
-        let Some(count) = found else {
-            let (count, probes) = search(pieces, rva);
-            *near = count.saturating_sub(1);
-            return (self.offset_by_count(count, rva), first + probes);
-        };
-        (self.offset_in_piece(count, rva), first)
+        if count == 0 || count == self.pieces.len() {
+            return Run::default();
+        }
+        self.pieces[count - 1].run_to(&self.pieces[count])
     }
 
-    /// The file offset of the address `rva`, as [`WindowIndex::find`] returns it. The bounds of piece
-    /// `near`, which may be any number, are looked at first, and no others where the address lies in
-    /// it; `near` is then the piece of the address, or 0 where there is none. So addresses that lie
-    /// near one another are found with two probes each.
-    #[inline(always)]
-    pub fn find_near(&self, rva: usize, near: &mut usize) -> Option<usize>
-        ensures value { result ≡ located self.now rva }
-        ensures piece { near.new ≡ reached self.now.begins rva - 1 }
+    /// The file offset of the address `rva`, as [`WindowIndex::find`] returns it, and the run of the
+    /// addresses of its piece, which have their offsets without another search: none where no section
+    /// owns the piece, or where there are no pieces.
+    #[inline(never)]
+    pub(crate) fn find_run(&self, rva: usize) -> (Option<usize>, Run)
+        ensures value { result.0 ≡ located self.now rva }
+        ensures run { result.1 ≡ run_of_piece self.now (reached self.now.begins rva) }
+        ensures is { IsRun self.now result.1 }
     {
-        self.find_near_counted(rva, near).0
+        let (count, _) = search(self.in_order(), rva);
+        (self.offset_by_count(count, rva), self.run_by_count(count))
     }
 }

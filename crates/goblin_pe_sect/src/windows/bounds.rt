@@ -1,13 +1,16 @@
 //! The pieces of the address space. Where they begin is seen by a call that counts.
 
-ghost use Rattle.std.specs.Prelude.{◌≡◌, ◌+◌, ◌*◌, ◌^◌, ◌<◌, ◌≤◌, ◌↔◌, IsTrue, length, slice_index};
+ghost use Rattle.std.specs.Prelude.{◌≡◌, ◌+◌, ◌*◌, ◌^◌, ◌<◌, ◌≤◌, ◌↔◌, IfSome, IsTrue, length};
+ghost use Rattle.std.specs.Prelude.{slice_index};
+ghost use Rattle.goblin_pe_sect.specs.Runs.{run_between};
 ghost use Rattle.goblin_pe_sect.specs.WindowIndex.{begins_of};
-ghost use Rattle.goblin_pe_sect.specs.WindowIndexFields.{KeepsBeginsAlone};
+ghost use Rattle.goblin_pe_sect.specs.WindowIndexFields.{KeepsBoundsAlone};
 
 use super::owners::Owner;
+use super::run::Run;
 use std::marker::Model;
 
-/// A piece of the address space. Where it begins is seen only through [`Bounds::reaches`].
+/// A piece of the address space. A search sees where it begins only through [`Bounds::reaches`].
 #[derive(Copy, Clone)]
 pub struct Piece {
     begin: usize,
@@ -22,6 +25,24 @@ impl Piece {
         ensures { result ≡ record { begin = begin; owner = owner } }
     {
         Piece { begin, owner }
+    }
+
+    /// The addresses from where this piece begins to where the next does.
+    pub fn run_to(&self, next: &Piece) -> Run
+        requires rising { self.now.begin ≤ next.now.begin }
+        requires near { IfSome self.now.owner (λ o.
+            (o.address ≤ self.now.begin) × (next.now.begin ≤ o.address + 2 ^ 33)) }
+        ensures run { result ≡ run_between self.now.begin next.now.begin self.now.owner }
+        ensures fits { result.offset + result.size < 2 ^ 64 }
+    {
+        match self.owner {
+            Some(owner) => Run {
+                first: self.begin,
+                size: next.begin - self.begin,
+                offset: owner.pointer as usize + (self.begin - owner.address as usize),
+            },
+            None => Run::default(),
+        }
     }
 }
 
@@ -54,7 +75,7 @@ impl<'p> Bounds<'p> {
     pub fn len(&self) -> usize
         ensures count { result ≡ length self.now }
         ensures room { 2 * result < 2 ^ 64 }
-        ensures whole { KeepsBeginsAlone }
+        ensures whole { KeepsBoundsAlone }
     {
         self.pieces.len()
     }

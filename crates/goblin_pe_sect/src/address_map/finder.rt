@@ -1,0 +1,128 @@
+//! Where addresses lie in the file, for who asks for many that lie near one another.
+
+ghost use Rattle.std.specs.Prelude.{◌≡◌, ◌↔◌, IsTrue, option_map};
+ghost use Rattle.goblin_base.specs.Reading.{Reads};
+ghost use Rattle.goblin_base.specs.declared.permissive.ParseMode.TheVariants.{Permissive};
+ghost use Rattle.goblin_pe_sect.specs.AddressReadings.{name_or_none};
+ghost use Rattle.goblin_pe_sect.specs.Addresses.{map_of, offset_of, reads_strictly};
+
+use crate::address_map::AddressMap;
+use crate::options::ParseOptions;
+use crate::utils::safe_name_at;
+use crate::windows::Run;
+use goblin_base::ResultOf;
+use std::marker::Model;
+
+/// A map of addresses, with the addresses around the last one that was found: one that lies among
+/// them is found without a search. What it answers does not depend on what was asked before.
+#[derive(Drop)]
+pub struct Finder<'m> {
+    address_map: &'m AddressMap,
+    // The addresses around the last one, and around the last one of a name.
+    run: Run,
+    names: Run,
+}
+
+impl<'m> Model for Finder<'m> {
+    ghost use Rattle.goblin_pe_sect.specs.declared.address_map.AddressMap.{AddressMap};
+    ghost use Rattle.goblin_pe_sect.specs.Runs.{IsRun};
+
+    ghost Value = { AddressMap };
+
+    ghost view = { λ f. f.address_map.now };
+
+    ghost invariant = { λ f.
+        IsRun f.address_map.now.index f.run × IsRun f.address_map.now.index f.names };
+}
+
+impl<'m> Finder<'m> {
+    /// A finder by this map.
+    pub fn of(address_map: &'m AddressMap) -> Finder<'m>
+        ensures { result ≡ address_map.now }
+    {
+        Finder {
+            address_map,
+            run: Run::default(),
+            names: Run::default(),
+        }
+    }
+
+    /// Another by the same map, which begins where this one is.
+    pub fn again(&self) -> Finder<'m>
+        ensures { result ≡ self.now }
+    {
+        Finder {
+            address_map: self.address_map,
+            run: self.run,
+            names: self.names,
+        }
+    }
+
+    /// The map.
+    #[inline(always)]
+    pub fn address_map(&self) -> &'m AddressMap
+        ensures { result.now ≡ self.now }
+    {
+        self.address_map
+    }
+
+    /// The options for mapping addresses and for reading there.
+    #[inline(always)]
+    pub fn opts(&self) -> &ParseOptions
+        ensures { result.now ≡ (map_of self.now).opts }
+    {
+        self.address_map.opts()
+    }
+
+    /// Whether damaged parts are passed over.
+    #[inline(always)]
+    pub fn is_permissive(&self) -> bool
+        ensures { IsTrue result ↔ ((map_of self.now).opts.parse_mode ≡ Permissive) }
+    {
+        self.address_map.is_permissive()
+    }
+
+    /// The file offset of an address, as [`AddressMap::offset_of`].
+    #[inline(always)]
+    pub fn offset_of(&mut self, rva: u32) -> Option<usize>
+        ensures value { result ≡ offset_of (map_of self.old) rva }
+        ensures same { self.new ≡ self.old }
+    {
+        if let Some(offset) = self.run.offset_of(rva as usize) {
+            return Some(offset);
+        }
+        let (offset, run) = self.address_map.index.find_run(rva as usize);
+        self.run = run;
+        offset
+    }
+
+    /// The file offset of the address of a name, as [`AddressMap::offset_of`]. Names have a place of
+    /// their own in the finder, for they seldom lie where that is which they name.
+    #[inline(always)]
+    pub fn offset_of_name(&mut self, rva: u32) -> Option<usize>
+        ensures value { result ≡ offset_of (map_of self.old) rva }
+        ensures same { self.new ≡ self.old }
+    {
+        if let Some(offset) = self.names.offset_of(rva as usize) {
+            return Some(offset);
+        }
+        let (offset, run) = self.address_map.index.find_run(rva as usize);
+        self.names = run;
+        offset
+    }
+
+    /// The text at an address: in permissive mode `None` if there is none.
+    ///
+    /// # Errors
+    /// As [`safe_try_name`](crate::utils::safe_try_name).
+    #[tactic(auto, unfolding(crate::specs::AddressReadings::name_or_none, crate::specs::AddressReadings::name_at))]
+    pub fn name<'a, 'e>(&mut self, bytes: &'a [u8], rva: u32) -> ResultOf<'e, Option<&'a str>>
+        ensures value { let m = map_of self.old in
+            Reads (option_map (λ s. s.now)) result
+            (name_or_none (reads_strictly m) (offset_of m) rva) bytes.now }
+        ensures same { self.new ≡ self.old }
+    {
+        let offset = self.offset_of_name(rva);
+        safe_name_at(bytes, rva as usize, offset, self.address_map.opts())
+    }
+}

@@ -1,0 +1,31 @@
+//! Runs of addresses whose bytes lie side by side in the file.
+
+ghost use Rattle.std.specs.Prelude.{◌≡◌, ◌+◌, ◌^◌, ◌<◌};
+ghost use Rattle.goblin_pe_sect.specs.Runs.{offset_in_run};
+
+/// Addresses that follow one another as their bytes do in the file.
+#[derive(Copy, Clone, Default)]
+pub struct Run {
+    /// The first address.
+    pub first: usize,
+    /// How many addresses there are.
+    pub size: usize,
+    /// The file offset of the first.
+    pub offset: usize,
+}
+
+impl Run {
+    /// The file offset of an address of the run.
+    #[inline(always)]
+    pub fn offset_of(&self, rva: usize) -> Option<usize>
+        requires { self.now.offset + self.now.size < 2 ^ 64 }
+        ensures { result ≡ offset_in_run self.now rva }
+    {
+        let past = rva.checked_sub(self.first)?;
+        if past < self.size {
+            Some(self.offset + past)
+        } else {
+            None
+        }
+    }
+}
