@@ -104,7 +104,7 @@ file-given (Narrow s) r (Wide t) given = absurd given
 file-given (Wide s) r (Narrow t) given = absurd given
 
 over-again : {T : Type 0} (bytes : List ℕ) (m : MapOfAddresses) (s t : Imports T)
-    → IsOver bytes m s → IsOver s.walk.bytes.now (map_of s.walk.address_map.now) t → IsOver bytes m t
+    → IsOver bytes m s → IsOver s.walk.bytes.now (map_of s.walk.finder) t → IsOver bytes m t
 over-again bytes m s t over again = (again.0 ∙ over.0, again.1 ∙ over.1)
 
 after-again : {T : Type 0} (bytes : List ℕ) (r : Option (Result WalkedImport ErrorOf)) (t : Imports T)

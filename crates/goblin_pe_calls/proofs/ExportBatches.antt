@@ -80,8 +80,8 @@ module _ (start : Exports) (old : List PeExport) where
 at-over : (s t : Exports) (x : ℕ) → KeepsOver s t → exports_at t x ≡ exports_at s x
 at-over s t x h =
     ap (λ (m : MapOfAddresses). numbered_from (offset_of m) t.bytes.now (walked_tables t) x) h.0.1
-    ∙ ap (λ (b : List ℕ). numbered_from (offset_of (map_of s.address_map.now)) b (walked_tables t) x) h.0.0
-    ∙ ap (λ (tables : ExportTables). numbered_from (offset_of (map_of s.address_map.now)) s.bytes.now tables x) h.1
+    ∙ ap (λ (b : List ℕ). numbered_from (offset_of (map_of s.finder)) b (walked_tables t) x) h.0.0
+    ∙ ap (λ (tables : ExportTables). numbered_from (offset_of (map_of s.finder)) s.bytes.now tables x) h.1
 
 module _ (m : MapOfAddresses) (places : TablePlaces) (bytes : List ℕ) (found : Part Exports)
     (read : (export_part m.opts (offset_of m) places).value bytes ≡ Some (part_map walked_exports found)) (x : ℕ) (old : List PeExport) where

@@ -230,7 +230,7 @@ here-more format s now next old records first count h x r gives within says =
     let one = gives.0 in
     let so_far : AtWalk (imports_left format) (IsImportsCause format) s now h.values = record { yielded = h.yielded; cause = h.cause } in
     let walk = walk-more (imports_left format) (IsImportsCause format) s now h.values so_far walked_value next x one in
-    let over : IsOver s.walk.bytes.now (map_of s.walk.address_map.now) next = (gives.3.0 ∙ h.over.0, gives.3.1 ∙ h.over.1) in
+    let over : IsOver s.walk.bytes.now (map_of s.walk.finder) next = (gives.3.0 ∙ h.over.0, gives.3.1 ∙ h.over.1) in
     record {
       values = h.values ++ walked_value x ∷ [];
       batch = λ base before at.

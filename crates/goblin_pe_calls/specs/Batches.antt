@@ -156,7 +156,7 @@ pub record FillsHere {T : Type 0} (format : Format EntryValue) (s t : Imports T)
   pub yielded : imports_left format s ≡ map (λ x. Some x) values ++ imports_left format t
   pub cause : (e : ErrorOf) → IsImportsCause format t e → IsImportsCause format s e
   pub kept : HasPosition format s → HasPosition format t
-  pub over : IsOver s.walk.bytes.now (map_of s.walk.address_map.now) t
+  pub over : IsOver s.walk.bytes.now (map_of s.walk.finder) t
   pub inside : HasPosition format s → IsInTable s.walk.bytes.now (position_of s)
       → IsInTable s.walk.bytes.now (position_of t)
 

@@ -73,7 +73,7 @@ module _ (strict : Bool) (format : Format EntryValue) (offset_of : ℕ → Optio
 walk-not_memory : (format : Format EntryValue) (w : Walk) (e : ErrorOf) → IsWalkCause format w e
     → ¬ IsMemory e
 walk-not_memory format w e fault =
-    let m = map_of w.address_map.now in
+    let m = map_of w.finder in
     let strict = reads_strictly m in
     let bytes = w.bytes.now in
     let table = untested_table strict format (offset_of m) w.untested in
@@ -95,7 +95,7 @@ pub import-given : {T : Type 0} (format : Format EntryValue) (s t : Imports T)
     (result : Option (Result WalkedImport ErrorOf))
     → GivesNext walked_value (walk_left format) (IsWalkCause format) s.walk result t.walk
     → (IsPlaced format s.walk → IsPlaced format t.walk × IsAfterImport result t)
-    → IsOver s.walk.bytes.now (map_of s.walk.address_map.now) t → GivesImport format s result t
+    → IsOver s.walk.bytes.now (map_of s.walk.finder) t → GivesImport format s result t
 import-given format s t None given placed over = (given, placed, tt, over)
 import-given format s t (Some (Ok import)) given placed over = (given, placed, tt, over)
 import-given format s t (Some (Err e)) given placed over =

@@ -35,10 +35,10 @@ use Rattle.goblin_pe_import.proofs.ImportsWalk.{from_record, imports-once, parts
 
 module _ (format : Format EntryValue) (w : Walk) where
   abbrev strict : Bool
-  strict = reads_strictly (map_of w.address_map.now)
+  strict = reads_strictly (map_of w.finder)
 
   abbrev places : ℕ → Option ℕ
-  places = offset_of (map_of w.address_map.now)
+  places = offset_of (map_of w.finder)
 
   abbrev file : List ℕ
   file = w.bytes.now

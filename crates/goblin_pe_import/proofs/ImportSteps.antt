@@ -6,6 +6,7 @@ use Rattle.goblin_base.specs.declared.error.ErrorOf.{ErrorOf}
 use Rattle.goblin_base.specs.Answers.{FirstFault, ◌>>=◌, all_of}
 use Rattle.goblin_base.specs.Tables.{Format}
 use Rattle.readings.specs.Walks.{GivesNext, until_refused}
+use Rattle.goblin_pe_sect.specs.declared.address_map.AddressMap.{AddressMap}
 use Rattle.goblin_pe_import.specs.declared.import.imports.Walk.{Walk}
 use Rattle.goblin_pe_import.specs.declared.import.kept.KeptEntry.{KeptEntry}
 use Rattle.goblin_pe_sect.specs.Addresses.{map_of, offset_of, reads_strictly}
@@ -29,18 +30,27 @@ pub record AtImports (format : Format EntryValue) (start now : Walk) : Type 0 wh
   pub bound : walk_bound now ≤ walk_bound start
   pub placed : IsPlaced format start → IsInLibrary format now
   pub bytes : now.bytes.now ≡ start.bytes.now
-  pub address_map : now.address_map.now ≡ start.address_map.now
+  pub finder : now.finder ≡ start.finder
 
--- the walk at another place, whose last address was found in a piece
-abbrev pub moved : Walk → ℕ → ℕ → Walk
-moved s place near = record {
+-- what comes from the next library on, by a map
+abbrev pub GivesBy : Format EntryValue → Walk → AddressMap → Option (Result Walk ErrorOf) → Type 0
+GivesBy format s map r =
+    let m = map_of map in
+    GivesLibrary (walk_left format) (IsWalkCause format)
+    (later_items (reads_strictly m) format (offset_of m) s.bytes.now s.untested s.next)
+    (λ e. (reads_strictly m ≡ true)
+    × IsLaterCause (reads_strictly m) format (offset_of m) s.bytes.now s.untested s.next e)
+    r
+
+-- the walk at another place
+abbrev pub moved : Walk → ℕ → Walk
+moved s place = record {
   bytes = s.bytes;
-  address_map = s.address_map;
+  finder = s.finder;
   dll = s.dll;
   rva = s.rva;
   offset = s.offset;
   place = Some place;
-  near = near;
   untested = s.untested;
   next = s.next;
 }
@@ -52,7 +62,7 @@ imports-start format start = record {
   bound = omega arith;
   placed = λ placed. placed.0;
   bytes = refl;
-  address_map = refl;
+  finder = refl;
 }
 
 -- a walk that has ended
@@ -68,10 +78,10 @@ module _ (format : Format EntryValue) (t : Walk) (h : HasEnded t) where
 
 module _ (format : Format EntryValue) (start s : Walk) (h : AtImports format start s) where
   abbrev strict : Bool
-  strict = reads_strictly (map_of s.address_map.now)
+  strict = reads_strictly (map_of s.finder)
 
   abbrev places : ℕ → Option ℕ
-  places = offset_of (map_of s.address_map.now)
+  places = offset_of (map_of s.finder)
 
   abbrev left : Option ℕ → List (Option KeptValue)
   left = entries_from strict format places s.bytes.now s.offset
@@ -90,7 +100,7 @@ module _ (format : Format EntryValue) (start s : Walk) (h : AtImports format sta
 
   module _ (r : Result KeptEntry ErrorOf) (given : Steps (Some r)) where
     -- an entry is kept
-    module _ (kept : KeptEntry) (is : r ≡ Ok kept) (place : ℕ) (to : place ≡ kept.place + format.width) (near : ℕ)
+    module _ (kept : KeptEntry) (is : r ≡ Ok kept) (place : ℕ) (to : place ≡ kept.place + format.width)
       where
         steps : Steps (Some (Ok kept))
         steps = subst (λ (q : Result KeptEntry ErrorOf). Steps (Some q)) is given
@@ -98,8 +108,8 @@ module _ (format : Format EntryValue) (start s : Walk) (h : AtImports format sta
         abbrev item : ImportValue
         item = kept_import format.width s.dll.now s.rva s.offset (kept_value kept)
 
-        pub next-one : (walk_left format start ≡ Some item ∷ walk_left format (moved s place near))
-            × ((e : ErrorOf) → IsWalkCause format (moved s place near) e → IsWalkCause format start e)
+        pub next-one : (walk_left format start ≡ Some item ∷ walk_left format (moved s place))
+            × ((e : ErrorOf) → IsWalkCause format (moved s place) e → IsWalkCause format start e)
         unfolding until_refused all_of
         next-one = (
           h.same ∙ rw (steps.0, to) refl,
@@ -133,9 +143,7 @@ module _ (format : Format EntryValue) (start s : Walk) (h : AtImports format sta
   -- no entries are left
   module _ (none : Steps None) where
     abbrev Gives : Option (Result Walk ErrorOf) → Type 0
-    Gives r =
-        GivesLibrary (walk_left format) (IsWalkCause format) later
-        (λ e. (strict ≡ true) × IsLater e) r
+    Gives = GivesBy format s s.finder
 
     same_later : walk_left format start ≡ until_refused later
     same_later = h.same ∙ rw (none.0) refl
@@ -158,7 +166,7 @@ module _ (format : Format EntryValue) (start s : Walk) (h : AtImports format sta
 
     pub next-library : (r : Result Walk ErrorOf) (walk : Walk) → Gives (Some r) → r ≡ Ok walk
         → IfOk r (λ t. t.bytes.now ≡ s.bytes.now)
-        → IfOk r (λ t. t.address_map.now ≡ s.address_map.now)
+        → IfOk r (λ t. t.finder ≡ s.finder)
         → IfOk r (λ t. walk_bound t ≤ bound_at s.bytes.now s.next)
         → IfOk r (λ t. IsInLibrary format t) → AtImports format start walk
     next-library r walk given is same_if map_if bound_if placed_if =
@@ -176,8 +184,8 @@ module _ (format : Format EntryValue) (start s : Walk) (h : AtImports format sta
           placed = λ _. subst (λ (q : Result Walk ErrorOf). IfOk q (λ t. IsInLibrary format t)) is
               placed_if;
           bytes = same ∙ h.bytes;
-          address_map = subst
-              (λ (q : Result Walk ErrorOf). IfOk q (λ t. t.address_map.now ≡ s.address_map.now)) is
+          finder = subst
+              (λ (q : Result Walk ErrorOf). IfOk q (λ t. t.finder ≡ s.finder)) is
               map_if
-              ∙ h.address_map;
+              ∙ h.finder;
         }

@@ -243,7 +243,7 @@ IsLaterCause strict format offset_of bytes untested next e =
 -- what is still to come
 abbrev pub walk_left : Format EntryValue → Walk → List (Option ImportValue)
 walk_left format w =
-    let m = map_of w.address_map.now in
+    let m = map_of w.finder in
     let strict = reads_strictly m in
     until_refused
     (imports_in strict format (offset_of m) w.bytes.now w.dll.now w.rva w.offset w.place
@@ -251,7 +251,7 @@ walk_left format w =
 
 abbrev pub IsWalkCause : Format EntryValue → Walk → ErrorOf → Type 0
 IsWalkCause format w e =
-    let m = map_of w.address_map.now in
+    let m = map_of w.finder in
     let strict = reads_strictly m in
     (strict ≡ true)
     × FirstFault (all_of (entries_from strict format (offset_of m) w.bytes.now w.offset w.place))
@@ -298,7 +298,7 @@ abbrev pub IsLibraryBy : Format EntryValue → Walk → Option ℕ → Option Im
 IsLibraryBy format w None next = Unit {0}
 IsLibraryBy format w (Some place) None = ⊥
 IsLibraryBy format w (Some place) (Some at) =
-    let m = map_of w.address_map.now in
+    let m = map_of w.finder in
     IsLibrary (reads_strictly m) format (offset_of m) w.bytes.now w.dll.now w.rva w.offset
     w.untested at
 
@@ -336,7 +336,7 @@ HasPosition format it = IsPlaced format it.walk
 
 -- the imports of these bytes, whose addresses are mapped so
 abbrev pub IsOver : {T : Type 0} → List ℕ → MapOfAddresses → Imports T → Type 0
-IsOver bytes m it = (it.walk.bytes.now ≡ bytes) × (map_of it.walk.address_map.now ≡ m)
+IsOver bytes m it = (it.walk.bytes.now ≡ bytes) × (map_of it.walk.finder ≡ m)
 
 -- where a walk is
 abbrev pub position_of : {T : Type 0} → Imports T → Option ImportPosition
@@ -358,7 +358,7 @@ imports_bound it = walk_bound it.walk
 
 -- an error that ends a walk: it comes only in strict mode, and is never Memory
 abbrev pub IsWalkFault : Walk → ErrorOf → Type 0
-IsWalkFault w e = (reads_strictly (map_of w.address_map.now) ≡ true) × ¬ IsMemory e
+IsWalkFault w e = (reads_strictly (map_of w.finder) ≡ true) × ¬ IsMemory e
 
 -- A call of `next` gives the next import, or such an error; it keeps the position and what is walked
 -- over.
@@ -368,12 +368,12 @@ GivesImport format s result t =
     GivesNext walked_value (imports_left format) (IsImportsCause format) s result t
     × (HasPosition format s → HasPosition format t × IsAfterImport result t)
     × IfSome result (λ r. IfErr r (IsWalkFault s.walk))
-    × IsOver s.walk.bytes.now (map_of s.walk.address_map.now) t
+    × IsOver s.walk.bytes.now (map_of s.walk.finder) t
 
 -- the library that a walk is in has no more imports, or the next of them is refused
 abbrev pub IsHereOver : Format EntryValue → Walk → Type 0
 IsHereOver format w =
-    let m = map_of w.address_map.now in
+    let m = map_of w.finder in
     let here = entries_from (reads_strictly m) format (offset_of m) w.bytes.now w.offset w.place in
     (here ≡ []) ⊎ (here ≡ None ∷ [])
 

@@ -222,8 +222,7 @@ impl<'a> ImportData<'a> {
             → IsSomeAnd (offset_of m directory.virtual_address) (HasRecords bytes.now)) }
     {
         let rva = directory.virtual_address;
-        let mut near = 0;
-        let Some(offset) = directory_offset(rva, address_map, &mut near) else {
+        let Some(offset) = directory_offset(rva, address_map) else {
             return Err(Error::Malformed(Cause::Unmapped(rva as usize)));
         };
         let import_data = if address_map.is_permissive() && offset == 0 {

@@ -36,7 +36,7 @@ use crate::import::kept::{KeptEntry, next_kept};
 use crate::import::library::{address_table_rva, directory_offset, library_name, lookup_offset};
 use crate::import::lookup_table::SyntheticImportLookupTableEntry;
 use goblin_base::{Cause, Endian, Error, Record, ResultOf};
-use goblin_pe_sect::address_map::AddressMap;
+use goblin_pe_sect::address_map::{AddressMap, Finder};
 use goblin_pe_sect::data_directories::DataDirectory;
 use std::fmt;
 use std::iter::FusedIterator;
@@ -70,15 +70,13 @@ pub struct ImportPosition {
 #[derive(Drop)]
 struct Walk<'a, 'm> {
     bytes: &'a [u8],
-    address_map: &'m AddressMap,
+    finder: Finder<'m>,
     // The library's name, and the address of its address table.
     dll: &'a str,
     rva: u32,
     // Where its lookup table begins, and its next slot; `None` between two libraries.
     offset: usize,
     place: Option<usize>,
-    // Where the map found the last address.
-    near: usize,
     // The address of its address table if that is to be tested after its entries.
     untested: Option<u32>,
     // Where the walk goes on after the library.
@@ -90,24 +88,24 @@ struct Walk<'a, 'm> {
 fn test_untested<'a, 'e, T: Bitfield<'a>>(
     bytes: &'a [u8],
     untested: Option<u32>,
-    address_map: &AddressMap,
-    near: &mut usize,
+    finder: &mut Finder<'_>,
 ) -> ResultOf<'e, ()>
-    ensures value { let m = map_of address_map.now in
+    ensures value { let m = map_of finder.old in
         Reads (λ _. tt {0}) result
         (mapped (λ _. tt {0}) (untested_table (reads_strictly m) T.format (offset_of m) untested))
         bytes.now }
-    ensures strictly { IfErr result (λ e. reads_strictly (map_of address_map.now) ≡ true) }
+    ensures strictly { IfErr result (λ e. reads_strictly (map_of finder.old) ≡ true) }
     ensures there { IfErr result (λ e. 1 ≤ one_if untested) }
     ensures wide { 1 ≤ T.format.width }
+    ensures same { finder.new ≡ finder.old }
 {
     let Some(rva) = untested else {
         return Ok(());
     };
-    if address_map.is_permissive() {
+    if finder.is_permissive() {
         return Ok(());
     }
-    let Some(offset) = address_map.offset_near(rva, near) else {
+    let Some(offset) = finder.offset_of(rva) else {
         return Err(Error::Malformed(Cause::Unmapped(rva as usize)));
     };
     test_numbers::<T>(bytes, offset)
@@ -194,25 +192,20 @@ fn bound_at(bytes: &[u8], position: Option<ImportPosition>) -> Option<usize>
 
 impl<'a, 'm> Walk<'a, 'm> {
     // A walk from a position on.
-    fn from(
-        bytes: &'a [u8],
-        next: Option<ImportPosition>,
-        address_map: &'m AddressMap,
-    ) -> Walk<'a, 'm>
+    fn from(bytes: &'a [u8], next: Option<ImportPosition>, finder: Finder<'m>) -> Walk<'a, 'm>
         ensures bytes { result.bytes.now ≡ bytes.now }
-        ensures address_map { result.address_map.now ≡ address_map.now }
+        ensures finder { result.finder ≡ finder.entry }
         ensures place { result.place ≡ None }
         ensures untested { result.untested ≡ None }
         ensures next { result.next ≡ next }
     {
         Walk {
             bytes,
-            address_map,
+            finder,
             dll: "",
             rva: 0,
             offset: 0,
             place: None,
-            near: 0,
             untested: None,
             next,
         }
@@ -221,7 +214,7 @@ impl<'a, 'm> Walk<'a, 'm> {
     // Ends the walk.
     fn end(&mut self)
         ensures bytes { self.new.bytes.now ≡ self.old.bytes.now }
-        ensures address_map { self.new.address_map.now ≡ self.old.address_map.now }
+        ensures finder { self.new.finder ≡ self.old.finder }
         ensures place { self.new.place ≡ None }
         ensures untested { self.new.untested ≡ None }
         ensures next { self.new.next ≡ None }
@@ -232,16 +225,15 @@ impl<'a, 'm> Walk<'a, 'm> {
     }
 
     // A walk over the library of a record from a slot on, and then over those whose records are in
-    // the directory from the offset `next` on. Addresses are looked for first at `near`.
+    // the directory from the offset `next` on.
     fn in_library<'e, T: Bitfield<'a>>(
         bytes: &'a [u8],
         entry: &ImportDirectoryEntry,
         slot: Option<usize>,
         next: usize,
-        address_map: &'m AddressMap,
-        mut near: usize,
+        mut finder: Finder<'m>,
     ) -> ResultOf<'e, Walk<'a, 'm>>
-        ensures gives { let m = map_of address_map.now in
+        ensures gives { let m = map_of finder.entry in
             let strict = reads_strictly m in
             let name = library_name strict (offset_of m) entry.now in
             MatchResult result
@@ -262,7 +254,7 @@ impl<'a, 'm> Walk<'a, 'm> {
             20 ≤ next → (record_here (next - 20)).value bytes.now ≡ Some entry.now
             → is_last_record entry.now ≡ false → IsInLibrary T.format t) }
         ensures bytes { IfOk result (λ t. t.bytes.now ≡ bytes.now) }
-        ensures address_map { IfOk result (λ t. t.address_map.now ≡ address_map.now) }
+        ensures finder { IfOk result (λ t. t.finder ≡ finder.entry) }
         ensures next { IfOk result (λ t.
             t.next ≡ Some (record { «record» = next; slot = None })) }
         ensures place { IfOk result (λ t. IfSome t.place (λ place. IfSome slot (λ slot.
@@ -272,19 +264,18 @@ impl<'a, 'm> Walk<'a, 'm> {
             record: next,
             slot: None,
         };
-        if is_left_out::<T>(bytes, entry, address_map) {
-            return Ok(Walk::from(bytes, Some(after), address_map));
+        if is_left_out::<T>(bytes, entry, finder.address_map()) {
+            return Ok(Walk::from(bytes, Some(after), finder));
         }
-        let dll = library_name(bytes, entry.name_rva, address_map, &mut near)?;
-        let table = lookup_offset(entry, address_map, &mut near);
+        let dll = library_name(bytes, entry.name_rva, &mut finder)?;
+        let table = lookup_offset(entry, &mut finder);
         Ok(Walk {
             bytes,
-            address_map,
+            finder,
             dll,
             rva: entry.import_address_table_rva,
             offset: table.unwrap_or(0),
             place: begin_at(slot, table),
-            near,
             untested: Some(address_table_rva(entry)),
             next: Some(after),
         })
@@ -296,10 +287,9 @@ impl<'a, 'm> Walk<'a, 'm> {
         bytes: &'a [u8],
         untested: Option<u32>,
         next: Option<ImportPosition>,
-        address_map: &'m AddressMap,
-        mut near: usize,
+        mut finder: Finder<'m>,
     ) -> Option<ResultOf<'e, Walk<'a, 'm>>>
-        ensures gives { let m = map_of address_map.now in
+        ensures gives { let m = map_of finder.entry in
             GivesLibrary (walk_left T.format) (IsWalkCause T.format)
             (later_items (reads_strictly m) T.format (offset_of m) bytes.now
             untested next)
@@ -308,22 +298,21 @@ impl<'a, 'm> Walk<'a, 'm> {
             untested next e) result }
         ensures placed { IfSome result (λ r. IfOk r (λ t. IsInLibrary T.format t)) }
         ensures bytes { IfSome result (λ r. IfOk r (λ t. t.bytes.now ≡ bytes.now)) }
-        ensures address_map { IfSome result (λ r. IfOk r (λ t.
-            t.address_map.now ≡ address_map.now)) }
+        ensures finder { IfSome result (λ r. IfOk r (λ t. t.finder ≡ finder.entry)) }
         ensures nearer { IfSome result (λ r. IfOk r (λ t.
             records_left bytes.now t.next < records_left bytes.now next)) }
         ensures bound { IfSome result (λ r. IfOk r (λ t. walk_bound t ≤ bound_at bytes.now next)) }
         ensures there { IfSome result (λ r. IfErr r (λ e.
             1 ≤ one_if untested + bound_at bytes.now next)) }
     {
-        if let Err(error) = test_untested::<T>(bytes, untested, address_map, &mut near) {
+        if let Err(error) = test_untested::<T>(bytes, untested, &mut finder) {
             return Some(Err(error));
         }
         let Some(at) = next else {
             return None;
         };
         let Ok(record) = ImportDirectoryEntry::read_at(bytes, at.record, Endian::Little) else {
-            if address_map.is_permissive() {
+            if finder.is_permissive() {
                 return None;
             }
             return Some(Err(Error::Malformed(Cause::ImportRecordEnd(at.record))));
@@ -332,7 +321,7 @@ impl<'a, 'm> Walk<'a, 'm> {
             return None;
         }
         let after = at.record + SIZEOF_IMPORT_DIRECTORY_ENTRY;
-        Some(Walk::in_library::<T>(bytes, &record, at.slot, after, address_map, near))
+        Some(Walk::in_library::<T>(bytes, &record, at.slot, after, finder))
     }
 
     // Where the walk is.
@@ -369,14 +358,11 @@ impl<'a, 'm> Walk<'a, 'm> {
         ensures placed { IsPlaced T.format self.old → IsPlaced T.format self.new }
         ensures inside { IfSome result (λ _. IsSomeAnd self.new.place (λ place. 0 < place)) }
         ensures bytes { self.new.bytes.now ≡ self.old.bytes.now }
-        ensures address_map { self.new.address_map.now ≡ self.old.address_map.now }
+        ensures finder { self.new.finder ≡ self.old.finder }
     {
-        let mut near = self.near;
-        let (bytes, address_map) = (self.bytes, self.address_map);
-        match next_kept::<T>(bytes, self.offset, self.place, address_map, &mut near) {
+        match next_kept::<T>(self.bytes, self.offset, self.place, &mut self.finder) {
             Some(Ok(kept)) => {
                 self.place = Some(kept.place + T::size_of());
-                self.near = near;
                 let import = import_of::<T>(kept, self.dll, self.rva, self.offset);
                 Some(import)
             }
@@ -393,16 +379,13 @@ impl<'a, 'm> Walk<'a, 'm> {
         ensures placed { IsPlaced T.format self.old → IsPlaced T.format self.new }
         ensures inside { IfSome result (λ r. IfOk r (λ _. IsSomeAnd self.new.place (λ place. 0 < place))) }
         ensures bytes { self.new.bytes.now ≡ self.old.bytes.now }
-        ensures address_map { self.new.address_map.now ≡ self.old.address_map.now }
+        ensures finder { self.new.finder ≡ self.old.finder }
         ensures fewer { IfSome result (λ r. walk_bound self.new < walk_bound self.old) }
     {
         'libraries: loop {
-            let mut near = self.near;
-            let (bytes, address_map) = (self.bytes, self.address_map);
-            match next_kept::<T>(bytes, self.offset, self.place, address_map, &mut near) {
+            match next_kept::<T>(self.bytes, self.offset, self.place, &mut self.finder) {
                 Some(Ok(kept)) => {
                     self.place = Some(kept.place + T::size_of());
-                    self.near = near;
                     let import = import_of::<T>(kept, self.dll, self.rva, self.offset);
                     return Some(Ok(import));
                 }
@@ -416,8 +399,7 @@ impl<'a, 'm> Walk<'a, 'm> {
                 self.bytes,
                 self.untested,
                 self.next,
-                self.address_map,
-                self.near,
+                self.finder.again(),
             ) {
                 Some(Ok(walk)) => *self = walk,
                 Some(Err(error)) => {
@@ -471,16 +453,13 @@ impl<'a, 'm, 'e, T: Bitfield<'a>> Imports<'a, 'm, 'e, T> {
         ensures position { IfOk result (HasPosition T.format) }
     {
         let rva = directory.virtual_address;
-        let mut near = 0;
-        let Some(offset) = directory_offset(rva, address_map, &mut near) else {
+        let Some(offset) = directory_offset(rva, address_map) else {
             return Err(Error::Malformed(Cause::Unmapped(rva as usize)));
         };
         if address_map.is_permissive() && offset == 0 {
             return Ok(Imports::from_position(bytes, None, address_map));
         }
-        let mut imports = Imports::at(bytes, offset, address_map);
-        imports.walk.near = near;
-        Ok(imports)
+        Ok(Imports::at(bytes, offset, address_map))
     }
 
     /// The imports of the libraries of the directory at the file offset `offset`.
@@ -521,7 +500,7 @@ impl<'a, 'm, 'e, T: Bitfield<'a>> Imports<'a, 'm, 'e, T> {
         ensures wide { 1 ≤ T.format.width }
     {
         Imports {
-            walk: Walk::from(bytes, position, address_map),
+            walk: Walk::from(bytes, position, Finder::of(address_map)),
             items: PhantomData,
         }
     }
@@ -541,11 +520,11 @@ impl<'a, 'm, 'e, T: Bitfield<'a>> Imports<'a, 'm, 'e, T> {
     /// the walk has ended.
     pub fn position(&self) -> Option<ImportPosition>
         ensures left { let w = self.now.walk in
-            let m = map_of w.address_map.now in
+            let m = map_of w.finder in
             HasPosition T.format self.now → imports_left T.format self.now
             ≡ imports_at (reads_strictly m) T.format (offset_of m) w.bytes.now result }
         ensures cause { let w = self.now.walk in
-            let m = map_of w.address_map.now in
+            let m = map_of w.finder in
             (e : ErrorOf) → HasPosition T.format self.now → reads_strictly m ≡ true
             → IsCauseAt (reads_strictly m) T.format (offset_of m) w.bytes.now result e
             → IsImportsCause T.format self.now e }

@@ -9,7 +9,7 @@ ghost use Rattle.readings.specs.Walks.{GivesNext};
 use crate::import::bitfield::{Bitfield, read_entry};
 use crate::import::lookup_table::SyntheticImportLookupTableEntry;
 use goblin_base::{Cause, Error, ResultOf};
-use goblin_pe_sect::address_map::AddressMap;
+use goblin_pe_sect::address_map::Finder;
 
 // An entry that a lookup table keeps, and where it stands.
 #[derive(Drop)]
@@ -24,17 +24,15 @@ pub(super) struct KeptEntry<'a> {
 }
 
 // The next entry that a lookup table at `offset` keeps, of the slots from the one at `place` on; the
-// error if one before it is refused, and `None` at the end or without a place. Addresses are looked
-// for first where the last one was, at `near`.
+// error if one before it is refused, and `None` at the end or without a place.
 #[inline(always)]
 pub(super) fn next_kept<'a, 'e, T: Bitfield<'a>>(
     bytes: &'a [u8],
     offset: usize,
     place: Option<usize>,
-    address_map: &AddressMap,
-    near: &mut usize,
+    finder: &mut Finder<'_>,
 ) -> Option<ResultOf<'e, KeptEntry<'a>>>
-    ensures steps { let m = map_of address_map.now in
+    ensures steps { let m = map_of finder.old in
         GivesNext kept_value
         (entries_from (reads_strictly m) T.format (offset_of m) bytes.now offset)
         (IsEntriesCause (reads_strictly m) T.format (offset_of m) bytes.now)
@@ -43,13 +41,14 @@ pub(super) fn next_kept<'a, 'e, T: Bitfield<'a>>(
         (place ≤ kept.place) × (kept.place + T.format.width ≤ length bytes.now)))) }
     ensures short { IfSome result (λ r. IfOk r (λ kept. kept.place + T.format.width < 2 ^ 63)) }
     ensures there { IfSome result (λ r. IsSome place) }
-    ensures strictly { IfSome result (λ r. IfErr r (λ e. reads_strictly (map_of address_map.now) ≡ true)) }
+    ensures strictly { IfSome result (λ r. IfErr r (λ e. reads_strictly (map_of finder.old) ≡ true)) }
+    ensures same { finder.new ≡ finder.old }
 {
     let size = T::size_of();
     let mut place = place?;
     'slots: loop {
         let Ok(entry) = read_entry::<T>(bytes, place) else {
-            if address_map.is_permissive() {
+            if finder.is_permissive() {
                 return None;
             }
             return Some(Err(Error::Malformed(Cause::LookupEnd(place))));
@@ -57,7 +56,7 @@ pub(super) fn next_kept<'a, 'e, T: Bitfield<'a>>(
         if entry.is_zero() {
             return None;
         }
-        match SyntheticImportLookupTableEntry::kept(&entry, bytes, address_map, near) {
+        match SyntheticImportLookupTableEntry::kept(&entry, bytes, finder) {
             Ok(Some(entry)) => {
                 let slot = place.saturating_sub(offset) / size;
                 return Some(Ok(KeptEntry { slot, place, entry }));

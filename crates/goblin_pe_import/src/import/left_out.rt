@@ -10,7 +10,7 @@ use crate::import::bitfield::{Bitfield, read_entry};
 use crate::import::directory_entry::{ImportDirectoryEntry, SIZEOF_IMPORT_DIRECTORY_ENTRY};
 use crate::import::library::lookup_offset;
 use goblin_base::{Endian, Record, pread_slice};
-use goblin_pe_sect::address_map::AddressMap;
+use goblin_pe_sect::address_map::{AddressMap, Finder};
 use goblin_pe_sect::data_directories::DataDirectory;
 
 /// How much permissive mode leaves out of the imports of a directory.
@@ -102,8 +102,7 @@ fn of_record<'a, T: Bitfield<'a>>(
             entries: 0,
         };
     }
-    let mut near = 0;
-    let entries = match lookup_offset(entry, address_map, &mut near) {
+    let entries = match lookup_offset(entry, &mut Finder::of(address_map)) {
         Some(offset) => entries_of_table::<T>(bytes, offset, address_map),
         None => 0,
     };

@@ -20,7 +20,7 @@ use crate::import::bitfield::Bitfield;
 use crate::import::directory_entry::ImportDirectoryEntry;
 use crate::import::lookup_table::{ImportLookupTable, SyntheticImportLookupTableEntry, no_text};
 use goblin_base::{Cause, Error, ResultOf};
-use goblin_pe_sect::address_map::AddressMap;
+use goblin_pe_sect::address_map::{AddressMap, Finder};
 use goblin_pe_sect::options::ParseOptions;
 use goblin_pe_sect::section_table::SectionTable;
 use std::alloc::Global;
@@ -94,56 +94,47 @@ fn lookup_table_if<'a, 'e, T: Bitfield<'a>>(
     Ok((Some(table), slots))
 }
 
-// The name of a library; in permissive mode the empty one where none can be read. Its address is
-// looked for first where the last one was, at `near`.
+// The name of a library; in permissive mode the empty one where none can be read.
 #[inline(always)]
 #[tactic(auto, unfolding(goblin_pe_sect::specs::AddressReadings::name_or_none), using(crate::proofs::LibraryNames::taken, crate::proofs::LibraryNames::missing))]
 pub(super) fn library_name<'a, 'e>(
     bytes: &'a [u8],
     rva: u32,
-    address_map: &AddressMap,
-    near: &mut usize,
+    finder: &mut Finder<'_>,
 ) -> ResultOf<'e, &'a str>
-    ensures { let m = map_of address_map.now in
+    ensures value { let m = map_of finder.old in
         Reads (λ s. s.now) result
         (or_else (reads_strictly m) [] (name_at (offset_of m) rva)) bytes.now }
+    ensures same { finder.new ≡ finder.old }
 {
-    let name = address_map.name_near(bytes, rva, near)?;
+    let name = finder.name(bytes, rva)?;
     Ok(name.unwrap_or(no_text(bytes)))
 }
 
 // The offset of the directory at an address: permissive mode treats an address without an offset as
-// one that leads to the front of the file. It is looked for first at `near`.
+// one that leads to the front of the file.
 #[inline(always)]
-pub(super) fn directory_offset(
-    rva: u32,
-    address_map: &AddressMap,
-    near: &mut usize,
-) -> Option<usize>
+pub(super) fn directory_offset(rva: u32, address_map: &AddressMap) -> Option<usize>
     ensures { let m = map_of address_map.now in
         result ≡ in_its_place (reads_strictly m) 0 (offset_of m rva) }
 {
-    match address_map.offset_near(rva, near) {
+    match address_map.offset_of(rva) {
         None if address_map.is_permissive() => Some(0),
         offset => offset,
     }
 }
 
-// The offset of a record's lookup table: at its own address, or at that of the address table. They
-// are looked for first where the last one was, at `near`.
+// The offset of a record's lookup table: at its own address, or at that of the address table.
 #[inline(always)]
-pub(crate) fn lookup_offset(
-    entry: &ImportDirectoryEntry,
-    address_map: &AddressMap,
-    near: &mut usize,
-) -> Option<usize>
-    ensures { result ≡ lookup_offset (offset_of (map_of address_map.now)) entry.now }
+pub(crate) fn lookup_offset(entry: &ImportDirectoryEntry, finder: &mut Finder<'_>) -> Option<usize>
+    ensures value { result ≡ lookup_offset (offset_of (map_of finder.old)) entry.now }
+    ensures same { finder.new ≡ finder.old }
 {
     let lookup_rva = entry.import_lookup_table_rva;
     let address_rva = entry.import_address_table_rva;
-    match address_map.offset_near(lookup_rva, near) {
+    match finder.offset_of(lookup_rva) {
         Some(offset) => Some(offset),
-        None => address_map.offset_near(address_rva, near),
+        None => finder.offset_of(address_rva),
     }
 }
 
@@ -258,9 +249,9 @@ impl<'a> SyntheticImportDirectoryEntry<'a> {
             import_directory_entry) }
     {
         let record = &import_directory_entry;
-        let mut near = 0;
-        let name = library_name(bytes, record.name_rva, address_map, &mut near)?;
-        let lookup_offset = lookup_offset(record, address_map, &mut near);
+        let mut finder = Finder::of(address_map);
+        let name = library_name(bytes, record.name_rva, &mut finder)?;
+        let lookup_offset = lookup_offset(record, &mut finder);
         let (import_lookup_table, import_lookup_slots) = lookup_table_if::<T>(
             alloc,
             bytes,
@@ -268,7 +259,7 @@ impl<'a> SyntheticImportDirectoryEntry<'a> {
             address_map,
         )?;
         let address_rva = address_table_rva(record);
-        let Some(offset) = address_map.offset_near(address_rva, &mut near) else {
+        let Some(offset) = finder.offset_of(address_rva) else {
             return Err(Error::Malformed(Cause::Unmapped(address_rva as usize)));
         };
         let import_address_table = address_table::<T>(alloc, bytes, offset)?;

@@ -17,7 +17,7 @@ ghost use Rattle.goblin_pe_import.specs.LookupReadings as reading;
 
 use crate::import::bitfield::{Bitfield, read_entry};
 use goblin_base::{Cause, Endian, Error, Result, ResultOf, pread_str, pread_u16};
-use goblin_pe_sect::address_map::AddressMap;
+use goblin_pe_sect::address_map::{AddressMap, Finder};
 use goblin_pe_sect::options::ParseOptions;
 use goblin_pe_sect::section_table::SectionTable;
 use goblin_pe_sect::table::Table;
@@ -98,31 +98,30 @@ pub enum SyntheticImportLookupTableEntry<'a> {
 }
 
 impl<'a> SyntheticImportLookupTableEntry<'a> {
-    // What a table keeps of an entry: `None` if it leads nowhere, or in permissive mode to no hint. Its
-    // address is looked for first where the last one was, at `near`.
+    // What a table keeps of an entry: `None` if it leads nowhere, or in permissive mode to no hint.
     #[inline(always)]
     #[tactic(auto, unfolding(crate::specs::LookupReadings::kept_entry, crate::specs::LookupReadings::kept_name))]
     pub(super) fn kept<'e, T: Bitfield<'a>>(
         entry: &T,
         bytes: &'a [u8],
-        address_map: &AddressMap,
-        near: &mut usize,
+        finder: &mut Finder<'_>,
     ) -> ResultOf<'e, Option<SyntheticImportLookupTableEntry<'a>>>
-        ensures { let m = map_of address_map.now in
+        ensures value { let m = map_of finder.old in
             Reads kept_view result
             (reading.kept_entry (reads_strictly m) (offset_of m) (T.value entry.now)) bytes.now }
+        ensures same { finder.new ≡ finder.old }
     {
         if entry.is_ordinal() {
             let ordinal = entry.to_ordinal();
             return Ok(Some(SyntheticImportLookupTableEntry::OrdinalNumber(ordinal)));
         }
         let rva = entry.to_rva();
-        let Some(offset) = address_map.offset_near(rva, near) else {
+        let Some(offset) = finder.offset_of_name(rva) else {
             return Ok(None);
         };
-        match HintNameTableEntry::parse_with_opts(bytes, offset, address_map.opts()) {
+        match HintNameTableEntry::parse_with_opts(bytes, offset, finder.opts()) {
             Ok(named) => Ok(Some(SyntheticImportLookupTableEntry::HintNameTableRVA((rva, named)))),
-            Err(_) if address_map.is_permissive() => Ok(None),
+            Err(_) if finder.is_permissive() => Ok(None),
             Err(error) => Err(error),
         }
     }
@@ -271,7 +270,7 @@ impl<'a> SyntheticImportLookupTableEntry<'a> {
         let mut slots = Vec::new(alloc);
         let mut place = offset;
         let mut slot = 0;
-        let mut near = 0;
+        let mut finder = Finder::of(address_map);
         'slots: loop {
             let Ok(entry) = read_entry::<T>(bytes, place) else {
                 if address_map.is_permissive() {
@@ -282,12 +281,7 @@ impl<'a> SyntheticImportLookupTableEntry<'a> {
             if entry.is_zero() {
                 break 'slots;
             }
-            let kept = SyntheticImportLookupTableEntry::kept(
-                &entry,
-                bytes,
-                address_map,
-                &mut near,
-            )?;
+            let kept = SyntheticImportLookupTableEntry::kept(&entry, bytes, &mut finder)?;
             push_kept(&mut entries, &mut slots, kept, slot)?;
             place += size;
             slot += 1;

@@ -17,7 +17,7 @@ use crate::import::{
 };
 use goblin_base::footprint::{add_positions, add_stretch};
 use goblin_base::{Endian, Record, ResultOf, pread_slice};
-use goblin_pe_sect::address_map::AddressMap;
+use goblin_pe_sect::address_map::{AddressMap, Finder};
 use goblin_pe_sect::data_directories::DataDirectory;
 use goblin_pe_sect::options::ParseOptions;
 use goblin_pe_sect::section_table::SectionTable;
@@ -205,8 +205,7 @@ fn add_library<'a, 'e, T: Bitfield<'a>>(
         OnErr result (0 < length reached) }
 {
     add_text(ranges, bytes, address_map.offset_of(entry.name_rva))?;
-    let mut near = 0;
-    let lookup = lookup_offset(entry, address_map, &mut near);
+    let lookup = lookup_offset(entry, &mut Finder::of(address_map));
     add_lookup::<T>(ranges, bytes, lookup, address_map)?;
     let addresses = address_map.offset_of(address_table_rva(entry));
     add_addresses::<T>(ranges, bytes, addresses)

@@ -10,40 +10,40 @@ pub returns-in_err-place-clause-steps : goal.returns-in_err-place-clause-steps
 returns-in_err-place-clause-steps g c = rw c.from_residual.ensures (none-left _ _ _ _ _ _ c.in_err-place.was)
 
 pub slots-init : goal.slots-init
-slots-init g c = rest-start _ _ _ _ _ _ _ c.in_ok-place.was
+slots-init g c = (rest-start _ _ _ _ _ _ _ c.in_ok-place.was, refl)
 
 pub returns-then-is_permissive-clause-steps : goal.returns-then-is_permissive-clause-steps
 returns-then-is_permissive-clause-steps g c =
     let wide : 1 ≤ g.T.Bitfield.format.width = omega (arith, c.size_of-size.ensures.width, c.size_of-size.ensures.positive) in
-    rest-end _ _ _ _ _ _ _ c.slots.invariant wide c.in_default.ensures.0 (permissive _ _ c.is_permissive.ensures c.if-is_permissive.true)
+    rest-end _ _ _ _ _ _ _ c.slots.invariant.0 wide c.in_default.ensures.0 (permissive _ _ (rw c.slots.invariant.1 at c.is_permissive.ensures) c.if-is_permissive.true)
 
 pub returns-in_default-clause-steps : goal.returns-in_default-clause-steps
 returns-in_default-clause-steps g c =
     let wide : 1 ≤ g.T.Bitfield.format.width = omega (arith, c.size_of-size.ensures.width, c.size_of-size.ensures.positive) in
-    rest-missing _ _ _ _ _ _ _ c.slots.invariant wide (Malformed (LookupEnd c.slots.place)) c.in_default.ensures.0 (strict _ _ c.is_permissive.ensures c.if-is_permissive.false) refl
+    rest-missing _ _ _ _ _ _ _ c.slots.invariant.0 wide (Malformed (LookupEnd c.slots.place)) c.in_default.ensures.0 (strict _ _ (rw c.slots.invariant.1 at c.is_permissive.ensures) c.if-is_permissive.false) refl
 
 pub returns-then-is_zero-clause-steps : goal.returns-then-is_zero-clause-steps
 returns-then-is_zero-clause-steps g c =
     let wide : 1 ≤ g.T.Bitfield.format.width = omega (arith, c.size_of-size.ensures.width, c.size_of-size.ensures.positive) in
-    rest-last _ _ _ _ _ _ _ c.slots.invariant wide _ c.in-Ok.ensures (sym c.is_zero.ensures ∙ c.if-is_zero.true)
+    rest-last _ _ _ _ _ _ _ c.slots.invariant.0 wide _ c.in-Ok.ensures (sym c.is_zero.ensures ∙ c.if-is_zero.true)
 
 pub returns-in-Ok-Some-clause-steps : goal.returns-in-Ok-Some-clause-steps
 returns-in-Ok-Some-clause-steps g c =
     let wide : 1 ≤ g.T.Bitfield.format.width = omega (arith, c.size_of-size.ensures.width, c.size_of-size.ensures.positive) in
-    rw (c.saturating_sub.ensures, c.size_of-size.ensures.width) (rest-kept _ _ _ _ _ _ _ c.slots.invariant wide _ c.in-Ok.ensures (sym c.is_zero.ensures ∙ c.if-is_zero.false) _ c.in-Ok-Some.ensures _ c.in-Ok-Some.field-0-is)
+    rw (c.saturating_sub.ensures, c.size_of-size.ensures.width) (rest-kept _ _ _ _ _ _ _ c.slots.invariant.0 wide _ c.in-Ok.ensures (sym c.is_zero.ensures ∙ c.if-is_zero.false) _ (rw c.slots.invariant.1 at c.in-Ok-Some.ensures.value) _ c.in-Ok-Some.field-0-is)
 
 pub returns-in-Err-clause-steps : goal.returns-in-Err-clause-steps
 returns-in-Err-clause-steps g c =
     let wide : 1 ≤ g.T.Bitfield.format.width = omega (arith, c.size_of-size.ensures.width, c.size_of-size.ensures.positive) in
-    rest-refused _ _ _ _ _ _ _ c.slots.invariant wide _ c.in-Ok.ensures (sym c.is_zero.ensures ∙ c.if-is_zero.false) _ c.in-Err.ensures
+    rest-refused _ _ _ _ _ _ _ c.slots.invariant.0 wide _ c.in-Ok.ensures (sym c.is_zero.ensures ∙ c.if-is_zero.false) _ (rw c.slots.invariant.1 at c.in-Err.ensures.value)
 
 pub slots-preserved : goal.slots-preserved
 slots-preserved g c =
     let wide : 1 ≤ g.T.Bitfield.format.width = omega (arith, c.size_of-size.ensures.width, c.size_of-size.ensures.positive) in
-    rw c.size_of-size.ensures.width (rest-skip _ _ _ _ _ _ _ c.slots.invariant wide _ c.in-Ok.ensures (sym c.is_zero.ensures ∙ c.if-is_zero.false) _ c.in-Ok-None.ensures c.in-Ok-None.field-0-is)
+    rw c.size_of-size.ensures.width (rest-skip _ _ _ _ _ _ _ c.slots.invariant.0 wide _ c.in-Ok.ensures (sym c.is_zero.ensures ∙ c.if-is_zero.false) _ (rw c.slots.invariant.1 at c.in-Ok-None.ensures.value) c.in-Ok-None.field-0-is, c.in-Ok-None.ensures.same ∙ c.slots.invariant.1)
 
 pub returns-in_default-clause-strictly : goal.returns-in_default-clause-strictly
-returns-in_default-clause-strictly g c = strict _ _ c.is_permissive.ensures c.if-is_permissive.false
+returns-in_default-clause-strictly g c = strict _ _ (rw c.slots.invariant.1 at c.is_permissive.ensures) c.if-is_permissive.false
 
 pub returns-in-Err-clause-strictly : goal.returns-in-Err-clause-strictly
-returns-in-Err-clause-strictly g c = refused-strictly _ _ _ _ c.in-Err.ensures.0
+returns-in-Err-clause-strictly g c = refused-strictly _ _ _ _ (rw c.slots.invariant.1 at c.in-Err.ensures.value).0

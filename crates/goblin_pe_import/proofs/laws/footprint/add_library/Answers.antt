@@ -21,6 +21,6 @@ returns-clause-added g c =
     let Appended : List Range → Type 0 =
     λ all. OnOk c.add_addresses.result (c.add_addresses.new.ranges.items ≡ all) in
     let text = subst Text c.offset_of.ensures c.in_ok-add_text.ensures.added in
-    let lookup = subst Lookup c.lookup_offset-lookup.ensures c.in_ok-add_lookup.ensures.added in
+    let lookup = subst Lookup (rw c.of.ensures at c.lookup_offset-lookup.ensures.value) c.in_ok-add_lookup.ensures.added in
     let place = c.offset_of-addresses.ensures ∙ ap (offset_of m) c.address_table_rva.ensures in
     subst Appended (appended _ _ _ _ _ _ text lookup) (subst Addresses place c.add_addresses.ensures.added)

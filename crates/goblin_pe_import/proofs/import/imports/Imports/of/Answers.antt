@@ -17,7 +17,7 @@ returns-then-offset-eq0-clause-walks g c =
 pub returns-clause-walks : goal.returns-clause-walks
 returns-clause-walks g c =
     data-at _ g.T.Bitfield.format _ _ _ _ _ c.in-Some.offset (sym c.in-Some.ensures)
-    (past-front _ c.is_permissive.result c.in-Some.offset c.is_permissive.ensures c.else-is_permissive.either) c.at-imports.ensures.walks
+    (past-front _ c.is_permissive.result c.in-Some.offset c.is_permissive.ensures c.else-is_permissive.either) c.at.ensures.walks
 
 pub returns-in_default-clause-begins : goal.returns-in_default-clause-begins
 returns-in_default-clause-begins g c = begins-nowhere (map_of c.args.address_map.now) g.T.Bitfield.format c.args.bytes.now c.args.directory.virtual_address (sym c.in_default.ensures) _ refl
@@ -32,4 +32,4 @@ pub returns-clause-begins : goal.returns-clause-begins
 returns-clause-begins g c =
     begins-past (map_of c.args.address_map.now) g.T.Bitfield.format c.args.bytes.now c.args.directory.virtual_address c.in-Some.offset (sym c.in-Some.ensures)
     (past-front _ c.is_permissive.result c.in-Some.offset c.is_permissive.ensures c.else-is_permissive.either)
-    (record c.at-imports.result { walk = record c.at-imports.result.walk { near = c.directory_offset.new.near } }) c.at-imports.ensures.begins
+    c.at.result c.at.ensures.begins

@@ -5,17 +5,17 @@ use Rattle.goblin_pe_import.proofs.import.imports.Walk.in_library.Goals as goal
 
 pub returns-then-is_left_out-clause-gives : goal.returns-then-is_left_out-clause-gives
 returns-then-is_left_out-clause-gives g c =
-    let out = sym c.is_left_out.ensures ∙ c.if-is_left_out.true in
-    rw (c.from.ensures.address_map, c.from.ensures.bytes, c.from.ensures.place, c.from.ensures.untested, c.from.ensures.next)
+    let out = sym (rw c.address_map.ensures at c.is_left_out.ensures) ∙ c.if-is_left_out.true in
+    rw (c.from.ensures.finder, c.from.ensures.bytes, c.from.ensures.place, c.from.ensures.untested, c.from.ensures.next)
     (walk-left_out _ _ _ _ _ _ _ out _ _ _)
 
 pub returns-in_err-dll-clause-gives : goal.returns-in_err-dll-clause-gives
 returns-in_err-dll-clause-gives g c =
     let e = err_from_is_err_and c.from_residual.result c.from_residual.ensures.1 in
-    rw (e.1, e.2) (walk-unnamed _ _ _ _ _ c.args.slot c.args.next _ c.in_err-dll.ensures.0 c.in_err-dll.ensures.1)
+    rw (e.1, e.2) (walk-unnamed _ _ _ _ _ c.args.slot c.args.next _ c.in_err-dll.ensures.value.0 c.in_err-dll.ensures.value.1)
 
 pub returns-clause-gives : goal.returns-clause-gives
 returns-clause-gives g c =
-    let kept = sym c.is_left_out.ensures ∙ c.if-is_left_out.false in
-    rw (c.begin_at.ensures, c.unwrap_or.ensures, c.lookup_offset-table.ensures, c.address_table_rva.ensures)
-    (entered _ _ _ _ _ _ _ _ c.in_ok-dll.ensures kept)
+    let kept = sym (rw c.address_map.ensures at c.is_left_out.ensures) ∙ c.if-is_left_out.false in
+    rw (c.begin_at.ensures, c.unwrap_or.ensures, c.lookup_offset-table.ensures.value, c.lookup_offset-table.ensures.same, c.library_name.ensures.same, c.address_table_rva.ensures)
+    (entered _ _ _ _ _ _ _ _ c.in_ok-dll.ensures.value kept)

@@ -1,5 +1,7 @@
-use Rattle.std.proofs.Common.{ap, ◌+◌, ℕ}
-use Rattle.goblin_pe_import.proofs.ImportSteps.{imports-start, next-fault, next-library, next-none, next-one}
+use Rattle.goblin_pe_sect.specs.declared.address_map.AddressMap.{AddressMap}
+use Rattle.goblin_pe_import.specs.declared.import.imports.Walk.{Walk}
+use Rattle.std.proofs.Common.{◌≡◌, ◌∙◌, IfOk, None, Some, ap, subst, ◌+◌, ℕ}
+use Rattle.goblin_pe_import.proofs.ImportSteps.{GivesBy, imports-start, next-fault, next-library, next-none, next-one}
 use Rattle.goblin_pe_import.proofs.ImportSteps.{next-refused}
 use Rattle.goblin_pe_import.proofs.import.imports.Walk.next_import.Goals as goal
 
@@ -8,9 +10,9 @@ libraries-init g c = imports-start _ _
 
 pub returns-in-Some-Ok-clause-steps : goal.returns-in-Some-Ok-clause-steps
 returns-in-Some-Ok-clause-steps g c =
-    rw c.import_of-import.ensures
+    rw (c.import_of-import.ensures, c.next_kept.ensures.same)
     (next-one g.T.Bitfield.format c.args.self.now c.libraries.self c.libraries.invariant c.in-Some-Ok.field-0 c.in-Some-Ok.ensures.steps c.in-Some-Ok.kept c.in-Some-Ok.field-0-is _
-    (ap (λ (n : ℕ). c.in-Some-Ok.kept.place + n) c.size_of.ensures.width) c.next_kept.new.near)
+    (ap (λ (n : ℕ). c.in-Some-Ok.kept.place + n) c.size_of.ensures.width))
 
 pub returns-in-Some-Err-clause-steps : goal.returns-in-Some-Err-clause-steps
 returns-in-Some-Err-clause-steps g c =
@@ -19,14 +21,14 @@ returns-in-Some-Err-clause-steps g c =
 
 pub libraries-preserved : goal.libraries-preserved
 libraries-preserved g c =
-    next-library g.T.Bitfield.format c.args.self.now c.libraries.self c.libraries.invariant c.in-None.ensures.steps c.in-Some-Ok-next_library.field-0 c.in-Some-Ok-next_library.walk c.in-Some-Ok-next_library.ensures.gives c.in-Some-Ok-next_library.field-0-is c.in-Some-Ok-next_library.ensures.bytes c.in-Some-Ok-next_library.ensures.address_map c.in-Some-Ok-next_library.ensures.bound c.in-Some-Ok-next_library.ensures.placed
+    next-library g.T.Bitfield.format c.args.self.now c.libraries.self c.libraries.invariant c.in-None.ensures.steps c.in-Some-Ok-next_library.field-0 c.in-Some-Ok-next_library.walk (subst (λ (m : AddressMap). GivesBy g.T.Bitfield.format c.libraries.self m (Some c.in-Some-Ok-next_library.field-0)) (c.again.ensures ∙ c.next_kept.ensures.same) c.in-Some-Ok-next_library.ensures.gives) c.in-Some-Ok-next_library.field-0-is c.in-Some-Ok-next_library.ensures.bytes (subst (λ (m : AddressMap). IfOk c.in-Some-Ok-next_library.field-0 (λ (t : Walk). t.finder ≡ m)) (c.again.ensures ∙ c.next_kept.ensures.same) c.in-Some-Ok-next_library.ensures.finder) c.in-Some-Ok-next_library.ensures.bound c.in-Some-Ok-next_library.ensures.placed
 
 pub returns-in-Some-Err-next_library-clause-steps : goal.returns-in-Some-Err-next_library-clause-steps
 returns-in-Some-Err-next_library-clause-steps g c =
-    next-refused g.T.Bitfield.format c.args.self.now c.libraries.self c.libraries.invariant c.in-None.ensures.steps c.in-Some-Err-next_library.field-0 c.in-Some-Err-next_library.error c.in-Some-Err-next_library.ensures.gives c.in-Some-Err-next_library.field-0-is c.end-in-Some-Err-next_library.new.self
+    next-refused g.T.Bitfield.format c.args.self.now c.libraries.self c.libraries.invariant c.in-None.ensures.steps c.in-Some-Err-next_library.field-0 c.in-Some-Err-next_library.error (subst (λ (m : AddressMap). GivesBy g.T.Bitfield.format c.libraries.self m (Some c.in-Some-Err-next_library.field-0)) (c.again.ensures ∙ c.next_kept.ensures.same) c.in-Some-Err-next_library.ensures.gives) c.in-Some-Err-next_library.field-0-is c.end-in-Some-Err-next_library.new.self
     (record { place = c.end-in-Some-Err-next_library.ensures.place; untested = c.end-in-Some-Err-next_library.ensures.untested; next = c.end-in-Some-Err-next_library.ensures.next })
 
 pub returns-in-None-next_library-clause-steps : goal.returns-in-None-next_library-clause-steps
 returns-in-None-next_library-clause-steps g c =
-    next-none g.T.Bitfield.format c.args.self.now c.libraries.self c.libraries.invariant c.in-None.ensures.steps c.in-None-next_library.ensures.gives c.end-in-None-next_library.new.self
+    next-none g.T.Bitfield.format c.args.self.now c.libraries.self c.libraries.invariant c.in-None.ensures.steps (subst (λ (m : AddressMap). GivesBy g.T.Bitfield.format c.libraries.self m None) (c.again.ensures ∙ c.next_kept.ensures.same) c.in-None-next_library.ensures.gives) c.end-in-None-next_library.new.self
     (record { place = c.end-in-None-next_library.ensures.place; untested = c.end-in-None-next_library.ensures.untested; next = c.end-in-None-next_library.ensures.next })

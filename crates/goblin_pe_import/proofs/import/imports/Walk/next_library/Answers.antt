@@ -17,26 +17,26 @@ returns-in-Err-clause-gives g c =
 
 pub returns-in_default-next-clause-gives : goal.returns-in_default-next-clause-gives
 returns-in_default-next-clause-gives g c =
-    let m = map_of c.args.address_map.now in
+    let m = map_of c.args.finder in
     rw c.in_default-next.is (later-none (reads_strictly m) g.T.Bitfield.format (offset_of m) c.args.bytes.now c.args.untested c.in_default.ensures.value)
 
 pub returns-then-is_permissive-clause-gives : goal.returns-then-is_permissive-clause-gives
 returns-then-is_permissive-clause-gives g c =
-    rw c.in-Some.is (later-end _ g.T.Bitfield.format _ _ _ c.in_default.ensures.value c.test_untested.ensures.wide c.in-Some.at c.in_default-read_at.ensures.0 (permissive _ _ c.is_permissive.ensures c.if-is_permissive.true))
+    rw c.in-Some.is (later-end _ g.T.Bitfield.format _ _ _ c.in_default.ensures.value c.test_untested.ensures.wide c.in-Some.at c.in_default-read_at.ensures.0 (permissive _ _ (rw c.test_untested.ensures.same at c.is_permissive.ensures) c.if-is_permissive.true))
 
 pub returns-in_default-read_at-clause-gives : goal.returns-in_default-read_at-clause-gives
 returns-in_default-read_at-clause-gives g c =
-    let all = later-missing _ g.T.Bitfield.format _ _ _ c.in_default.ensures.value c.test_untested.ensures.wide c.in-Some.at (Malformed (ImportRecordEnd c.in-Some.at.«record»)) c.in_default-read_at.ensures.0 (strict _ _ c.is_permissive.ensures c.if-is_permissive.false) refl in
+    let all = later-missing _ g.T.Bitfield.format _ _ _ c.in_default.ensures.value c.test_untested.ensures.wide c.in-Some.at (Malformed (ImportRecordEnd c.in-Some.at.«record»)) c.in_default-read_at.ensures.0 (strict _ _ (rw c.test_untested.ensures.same at c.is_permissive.ensures) c.if-is_permissive.false) refl in
     rw c.in-Some.is (all.0, (all.1, all.2))
 
 pub returns-then-not-is_possibly_valid-clause-gives : goal.returns-then-not-is_possibly_valid-clause-gives
 returns-then-not-is_possibly_valid-clause-gives g c =
-    let m = map_of c.args.address_map.now in
+    let m = map_of c.args.finder in
     rw c.in-Some.is (later-last (reads_strictly m) g.T.Bitfield.format (offset_of m) c.args.bytes.now c.args.untested c.in_default.ensures.value c.test_untested.ensures.wide c.in-Some.at _ c.in-Ok.ensures (opposite _ _ true c.is_possibly_valid.ensures c.if-not-is_possibly_valid.true))
 
 pub returns-clause-gives : goal.returns-clause-gives
 returns-clause-gives g c =
-    let m = map_of c.args.address_map.now in
+    let m = map_of c.args.finder in
     let s = reads_strictly m in
     let f = g.T.Bitfield.format in
     let o = offset_of m in
@@ -45,7 +45,7 @@ returns-clause-gives g c =
     (λ (at : Option ImportPosition). GivesLibrary (walk_left f) (IsWalkCause f) (later_items s f o b c.args.untested at)
     (λ e. (s ≡ true) × IsLaterCause s f o b c.args.untested at e) (Some c.in_library.result))
     (sym c.in-Some.is)
-    (later-given s f o b c.args.untested c.in_default.ensures.value c.test_untested.ensures.wide c.in-Some.at c.in-Ok.«record» c.in-Ok.ensures (opposite _ _ false c.is_possibly_valid.ensures c.if-not-is_possibly_valid.false) (walk_left f) (IsWalkCause f) c.in_library.result c.in_library.ensures.gives)
+    (later-given s f o b c.args.untested c.in_default.ensures.value c.test_untested.ensures.wide c.in-Some.at c.in-Ok.«record» c.in-Ok.ensures (opposite _ _ false c.is_possibly_valid.ensures c.if-not-is_possibly_valid.false) (walk_left f) (IsWalkCause f) c.in_library.result (rw c.test_untested.ensures.same at c.in_library.ensures.gives))
 
 pub returns-clause-bound : goal.returns-clause-bound
 returns-clause-bound g c = rw c.in-Some.is (bound-given _ _ (record_at-some 20 _ _ _ _ c.in-Ok.ensures).end _ c.in_library.ensures.bytes c.in_library.ensures.next c.in_library.ensures.place)

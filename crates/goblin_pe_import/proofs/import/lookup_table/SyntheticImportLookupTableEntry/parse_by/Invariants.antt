@@ -12,6 +12,7 @@ invariant-slots g l =
     (kept_entry (reads_strictly (map_of l.fn.address_map)) (offset_of (map_of l.fn.address_map))) l.fn.bytes
     l.fn.offset l.place l.slot (map entry_view l.entries.items) l.slots.items
     × (l.slot ≤ l.place) × (length l.entries.items ≡ length l.slots.items)
+    × (l.finder ≡ l.fn.address_map)
 
 abbrev pub decreases-slots : goal.decreases-slots
 decreases-slots g l = length l.fn.bytes - l.place
