@@ -48,7 +48,7 @@ walked_tables walk = tables_in walk.tables
 -- what comes of a walk from a name pointer on
 abbrev pub exports_at : Exports → ℕ → List NumberedExport
 exports_at walk x =
-    numbered_from (offset_of (map_of walk.address_map.now)) walk.bytes.now (walked_tables walk) x
+    numbered_from (offset_of (map_of walk.finder)) walk.bytes.now (walked_tables walk) x
 
 -- what is still to come
 abbrev pub exports_left : Exports → List NumberedExport
@@ -56,12 +56,12 @@ exports_left walk = exports_at walk walk.next
 
 -- the walk is over these bytes, whose addresses are mapped so
 abbrev pub IsOver : List ℕ → MapOfAddresses → Exports → Type 0
-IsOver bytes m walk = (walk.bytes.now ≡ bytes) × (map_of walk.address_map.now ≡ m)
+IsOver bytes m walk = (walk.bytes.now ≡ bytes) × (map_of walk.finder ≡ m)
 
 -- the second walk is over what the first is over
 abbrev pub KeepsOver : Exports → Exports → Type 0
 KeepsOver s t =
-    IsOver s.bytes.now (map_of s.address_map.now) t × (walked_tables t ≡ walked_tables s)
+    IsOver s.bytes.now (map_of s.finder) t × (walked_tables t ≡ walked_tables s)
 
 -- no more than this comes
 abbrev pub exports_bound : Exports → ℕ

@@ -19,7 +19,7 @@ ghost use Rattle.goblin_pe_export.specs.Exports.{TakesRoomFor, exports, own_expo
 ghost use Rattle.goblin_pe_export.specs.Forwarders.{forwarder_at, forwarder_value};
 
 use goblin_base::{Result, pread_str};
-use goblin_pe_sect::address_map::AddressMap;
+use goblin_pe_sect::address_map::{AddressMap, Finder};
 use goblin_pe_sect::{DataDirectory, ParseOptions, SectionTable};
 use std::alloc::Global;
 use std::marker::Model;
@@ -191,8 +191,8 @@ impl<'a> ExportData<'a> {
             IfErr result (λ e. IsMemory e →
             IsSomeAnd (export_data (offset_of m) directory bytes.now) HasEntries) }
     {
-        let mut near = 0;
-        let tables = TablesInFile::find(bytes, directory, address_map, &mut near)?;
+        let mut finder = Finder::of(address_map);
+        let tables = TablesInFile::find(bytes, directory, &mut finder)?;
         Ok(ExportData {
             name: tables.name,
             export_directory_table: tables.export_directory_table,
@@ -304,23 +304,6 @@ fn add_row<'a>(rows: &mut Vec<Export<'a>>, export: Export<'a>, expected: usize) 
     Ok(())
 }
 
-// Where the map found the last addresses: those of names, and those of exports.
-#[derive(Copy, Clone, Default)]
-pub(crate) struct Near {
-    names: usize,
-    exports: usize,
-}
-
-impl Near {
-    // Both where the map found an address.
-    pub(crate) fn at(near: usize) -> Near {
-        Near {
-            names: near,
-            exports: near,
-        }
-    }
-}
-
 impl<'a> Export<'a> {
     // The export of a name pointer and an address, where the text of a forwarder is there.
     #[inline(always)]
@@ -329,17 +312,17 @@ impl<'a> Export<'a> {
         bytes: &'a [u8],
         pointer: u32,
         address: ExportAddressTableEntry,
-        address_map: &AddressMap,
-        near: &mut Near,
+        finder: &mut Finder<'_>,
     ) -> Option<Export<'a>>
-        ensures { let m = map_of address_map.now in
+        ensures value { let m = map_of finder.old in
             result ≡ (reading.row_of (offset_of m) pointer address).value bytes.now }
+        ensures same { finder.new ≡ finder.old }
     {
         let rva = rva_of(address);
-        let offset = address_map.offset_near(rva, &mut near.exports);
+        let offset = finder.offset_of(rva);
         let reexport = reexport_of(bytes, address, offset)?;
         Some(Export {
-            name: text_at(bytes, address_map.offset_near(pointer, &mut near.names)),
+            name: text_at(bytes, finder.offset_of_name(pointer)),
             offset,
             rva: rva as usize,
             size: 0,
@@ -355,19 +338,19 @@ impl<'a> Export<'a> {
         bytes: &'a [u8],
         tables: &T,
         index: usize,
-        address_map: &AddressMap,
-        near: &mut Near,
+        finder: &mut Finder<'_>,
     ) -> Option<(u16, Export<'a>)>
-        ensures { let m = map_of address_map.now in
+        ensures value { let m = map_of finder.old in
             let t = T.entries tables.now in
             let row = export_row (offset_of m) bytes.now t index in
             MatchOption result (row ≡ None)
             (λ x. (row ≡ Some x.1) × (slice_get t.export_ordinal_table index ≡ Some x.0)) }
+        ensures same { finder.new ≡ finder.old }
     {
         let pointer = tables.pointer(index)?;
         let ordinal = tables.ordinal(index)?;
         let address = tables.address(usize::from(ordinal))?;
-        let export = Export::of_address(bytes, pointer, address, address_map, near)?;
+        let export = Export::of_address(bytes, pointer, address, finder)?;
         Some((ordinal, export))
     }
 
@@ -451,9 +434,9 @@ impl<'a> Export<'a> {
             return Ok(rows);
         }
         let expected = expected_count(export_data);
-        let mut near = Near::default();
+        let mut finder = Finder::of(address_map);
         'rows: for index in 0..export_data.pointers() {
-            let export = Export::of_pointer(bytes, export_data, index, address_map, &mut near);
+            let export = Export::of_pointer(bytes, export_data, index, &mut finder);
             if let Some((_, export)) = export {
                 add_row(&mut rows, export, expected)?;
             }

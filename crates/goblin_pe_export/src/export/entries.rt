@@ -18,7 +18,7 @@ use crate::export::tables::{
 use crate::export::{ExportData, text_at};
 use goblin_base::{Cause, Endian, Error, Result, ResultOf, field_u16, field_u32};
 use goblin_pe_sect::DataDirectory;
-use goblin_pe_sect::address_map::AddressMap;
+use goblin_pe_sect::address_map::Finder;
 use goblin_pe_sect::table::Table;
 use std::alloc::Global;
 
@@ -78,27 +78,27 @@ pub(crate) struct TablesInFile<'a> {
 }
 
 impl<'a> TablesInFile<'a> {
-    // The tables that a record leads to. Their addresses are looked for first at `near`.
+    // The tables that a record leads to.
     #[inline(always)]
     #[tactic(auto, unfolding(crate::specs::ExportReadings::export_tables, goblin_pe_sect::specs::AddressReadings::name_at), using(crate::proofs::WholeEntries::counted_is, crate::proofs::WholeEntries::entry_count))]
     fn of_record(
         bytes: &'a [u8],
         table: ExportDirectoryTable,
         directory: DataDirectory,
-        address_map: &AddressMap,
-        near: &mut usize,
+        finder: &mut Finder<'_>,
     ) -> TablesInFile<'a>
-        ensures value { let m = map_of address_map.now in
+        ensures value { let m = map_of finder.old in
             let tables = reading.export_tables (offset_of m) directory table in
             tables.value bytes.now ≡ Some (tables_in result) }
         ensures counted { AreCounted (tables_in result) }
+        ensures same { finder.new ≡ finder.old }
     {
         let names = table.number_of_name_pointers;
-        let pointers = address_map.offset_near(table.name_pointer_rva, near);
-        let ordinals = address_map.offset_near(table.ordinal_table_rva, near);
-        let addresses = address_map.offset_near(table.export_address_table_rva, near);
+        let pointers = finder.offset_of(table.name_pointer_rva);
+        let ordinals = finder.offset_of(table.ordinal_table_rva);
+        let addresses = finder.offset_of(table.export_address_table_rva);
         TablesInFile {
-            name: text_at(bytes, address_map.offset_near(table.name_rva, near)),
+            name: text_at(bytes, finder.offset_of_name(table.name_rva)),
             export_directory_table: table,
             directory,
             name_pointers: whole_entries(bytes, pointers, SIZEOF_NAME_POINTER, names),
@@ -113,26 +113,25 @@ impl<'a> TablesInFile<'a> {
     }
 
     // The tables that the record at a directory's address leads to, if its counts fit the file.
-    // Addresses are looked for first where the last one was, at `near`.
     #[inline(always)]
     #[tactic(auto, unfolding(crate::specs::ExportReadings::export_data, crate::specs::ExportReadings::tables_if, crate::specs::ExportReadings::fitting))]
     pub(crate) fn find(
         bytes: &'a [u8],
         directory: DataDirectory,
-        address_map: &AddressMap,
-        near: &mut usize,
+        finder: &mut Finder<'_>,
     ) -> Result<TablesInFile<'a>>
-        ensures value { let m = map_of address_map.now in
+        ensures value { let m = map_of finder.old in
             Reads tables_in result (reading.export_data (offset_of m) directory) bytes.now }
         ensures counted { IfOk result (λ t. AreCounted (tables_in t)) }
+        ensures same { finder.new ≡ finder.old }
     {
-        let Some(offset) = address_map.offset_near(directory.virtual_address, near) else {
+        let Some(offset) = finder.offset_of(directory.virtual_address) else {
             let rva = directory.virtual_address as usize;
             return Err(Error::Malformed(Cause::Unmapped(rva)));
         };
         let table = ExportDirectoryTable::parse(bytes, offset)?;
         test_counts(bytes, &table)?;
-        Ok(TablesInFile::of_record(bytes, table, directory, address_map, near))
+        Ok(TablesInFile::of_record(bytes, table, directory, finder))
     }
 
     // The name pointers in memory.

@@ -7,16 +7,17 @@ ghost use Rattle.std.specs.Iterator.SizeHint.{IsWithinCount};
 ghost use Rattle.goblin_base.specs.Reading.{Reads};
 ghost use Rattle.goblin_pe_sect.specs.Addresses.{map_of, offset_of};
 ghost use Rattle.goblin_pe_export.specs.ExportReadings.{export_read};
+ghost use Rattle.goblin_pe_export.specs.ExportRecords.{tables_in};
 ghost use Rattle.goblin_pe_export.specs.ExportWalks.{IsOver, KeepsOver, exports_at, exports_bound};
 ghost use Rattle.goblin_pe_export.specs.ExportWalks.{exports_left, numbered_export, numbered_from};
 ghost use Rattle.goblin_pe_export.specs.ExportWalks.{walked_export, walked_tables};
 
+use crate::export::Export;
 use crate::export::entries::{Entries, TablesInFile};
 use crate::export::tables::{ExportAddressTableEntry, ExportDirectoryTable};
-use crate::export::{Export, Near};
 use goblin_base::Result;
 use goblin_pe_sect::DataDirectory;
-use goblin_pe_sect::address_map::AddressMap;
+use goblin_pe_sect::address_map::{AddressMap, Finder};
 use std::fmt;
 use std::iter::FusedIterator;
 
@@ -40,11 +41,10 @@ pub struct WalkedExport<'a> {
 #[derive(Drop)]
 pub struct Exports<'a, 'm> {
     bytes: &'a [u8],
-    address_map: &'m AddressMap,
+    finder: Finder<'m>,
     tables: TablesInFile<'a>,
     // The index of the name pointer that is read next.
     next: usize,
-    near: Near,
 }
 
 impl<'a, 'm> Exports<'a, 'm> {
@@ -68,14 +68,13 @@ impl<'a, 'm> Exports<'a, 'm> {
             ≡ numbered_from (offset_of m) bytes.now (walked_tables walk) 0) }
         ensures over { IfOk result (IsOver bytes.now (map_of address_map.now)) }
     {
-        let mut near = 0;
-        let tables = TablesInFile::find(bytes, directory, address_map, &mut near)?;
+        let mut finder = Finder::of(address_map);
+        let tables = TablesInFile::find(bytes, directory, &mut finder)?;
         Ok(Exports {
             bytes,
-            address_map,
+            finder,
             tables,
             next: 0,
-            near: Near::at(near),
         })
     }
 
@@ -87,10 +86,9 @@ impl<'a, 'm> Exports<'a, 'm> {
     {
         Exports {
             bytes: self.bytes,
-            address_map: self.address_map,
+            finder: self.finder,
             tables: self.tables,
             next: position,
-            near: self.near,
         }
     }
 
@@ -134,19 +132,19 @@ impl<'a, 'm> Exports<'a, 'm> {
     // The export of the name pointer at an index, where that has one.
     #[inline(always)]
     #[tactic(auto, unfolding(crate::specs::ExportWalks::numbered_export))]
-    fn export_at(&self, index: usize, near: &mut Near) -> Option<WalkedExport<'a>>
-        ensures { let m = map_of self.now.address_map.now in
+    fn export_at(
+        bytes: &'a [u8],
+        tables: &TablesInFile<'a>,
+        index: usize,
+        finder: &mut Finder<'_>,
+    ) -> Option<WalkedExport<'a>>
+        ensures value { let m = map_of finder.old in
             option_map walked_export result
-            ≡ numbered_export (offset_of m) self.now.bytes.now (walked_tables self.now) index }
+            ≡ numbered_export (offset_of m) bytes.now (tables_in tables.now) index }
+        ensures same { finder.new ≡ finder.old }
     {
-        let (ordinal, export) = Export::of_pointer(
-            self.bytes,
-            &self.tables,
-            index,
-            self.address_map,
-            near,
-        )?;
-        let base = self.tables.export_directory_table.ordinal_base;
+        let (ordinal, export) = Export::of_pointer(bytes, tables, index, finder)?;
+        let base = tables.export_directory_table.ordinal_base;
         Some(WalkedExport {
             hint: index,
             ordinal: base as usize + usize::from(ordinal),
@@ -169,11 +167,10 @@ impl<'a, 'm> Iterator for Exports<'a, 'm> {
             self.old result self.new }
         ensures over { KeepsOver self.old self.new }
     {
-        let mut near = self.near;
         'pointers: for index in self.next..self.tables.pointers() {
             self.next = index + 1;
-            if let Some(export) = self.export_at(index, &mut near) {
-                self.near = near;
+            let finder = &mut self.finder;
+            if let Some(export) = Exports::export_at(self.bytes, &self.tables, index, finder) {
                 return Some(export);
             }
         }

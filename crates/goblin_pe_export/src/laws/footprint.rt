@@ -15,7 +15,7 @@ use crate::export::{
 };
 use goblin_base::ResultOf;
 use goblin_base::footprint::{add_positions, add_slice, add_stretch};
-use goblin_pe_sect::address_map::AddressMap;
+use goblin_pe_sect::address_map::{AddressMap, Finder};
 use goblin_pe_sect::data_directories::DataDirectory;
 use goblin_pe_sect::options::ParseOptions;
 use goblin_pe_sect::section_table::SectionTable;
@@ -231,8 +231,8 @@ pub fn add_exports<'e>(
         OnErr result (0 < length reached) }
 {
     add_export_data(ranges, bytes, directory, address_map)?;
-    let mut near = 0;
-    let Ok(tables) = TablesInFile::find(bytes, directory, address_map, &mut near) else {
+    let mut finder = Finder::of(address_map);
+    let Ok(tables) = TablesInFile::find(bytes, directory, &mut finder) else {
         return Ok(());
     };
     add_pointers(ranges, bytes, &tables, address_map)

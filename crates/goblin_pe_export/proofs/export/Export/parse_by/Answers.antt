@@ -3,6 +3,7 @@ use Rattle.std.specs.Option.{option_to_list}
 use Rattle.std.proofs.lemmas.Result.{err_from_is_err_and}
 use Rattle.goblin_base.specs.Tables.{concat_below}
 use Rattle.goblin_pe_sect.specs.Addresses.{map_of, offset_of}
+use Rattle.goblin_pe_sect.specs.declared.address_map.AddressMap.{AddressMap}
 use Rattle.goblin_pe_export.specs.ExportRecords.{ExportRow}
 use Rattle.goblin_pe_export.specs.Exports.{export_row}
 use Rattle.goblin_pe_export.proofs.ExportRoom.{room_expected}
@@ -12,21 +13,28 @@ use Rattle.goblin_pe_export.proofs.export.Export.parse_by.Goals.{in-Some+in_ok-a
 
 pub rows-init : goal.rows-init
 rows-init c =
-    (c.new-rows.ensures.items ∙ sym (rows_none _), (λ _. c.new-rows.ensures.capacity, omega (arith, c.new-rows.ensures.capacity)))
+    (c.new-rows.ensures.items ∙ sym (rows_none _), (λ _. c.new-rows.ensures.capacity, omega (arith, c.new-rows.ensures.capacity)), c.of-finder.ensures)
 
 pub rows-preserved : goal.rows-preserved
 rows-preserved c =
+    let row : AddressMap → Option ExportRow =
+    λ m. export_row (offset_of (map_of m)) c.args.bytes.now c.args.export_data.now c.rows.index in
+    let here = ap row c.rows.invariant.2 in
+    let same = c.of_pointer-export.ensures.same ∙ c.rows.invariant.2 in
     elim c.match-export.branch [
       | in-Some+in_ok-add_row w ↦
           rw w.rows-is
-          (w.in_ok-add_row.ensures.added ∙ row_more _ _ _ c.rows.invariant.0 _ (sym w.in-Some.ensures.0), w.in_ok-add_row.ensures.room c.rows.invariant.1)
-      | in_default w ↦ rw w.rows-is (row_none _ _ _ c.rows.invariant.0 (sym w.in_default.ensures), c.rows.invariant.1)
+          (w.in_ok-add_row.ensures.added ∙ row_more _ _ _ c.rows.invariant.0 _ (sym w.in-Some.ensures.value.0 ∙ here), w.in_ok-add_row.ensures.room c.rows.invariant.1, same)
+      | in_default w ↦ rw w.rows-is (row_none _ _ _ c.rows.invariant.0 (sym w.in_default.ensures.value ∙ here), c.rows.invariant.1, same)
     ]
 
 pub returns-in_err-add_row-clause-grown : goal.returns-in_err-add_row-clause-grown
 returns-in_err-add_row-clause-grown c =
     let e = err_from_is_err_and c.from_residual.result c.from_residual.ensures.1 in
-    rw e.1 (c.rows.index, omega (arith, c.rows-test.true, c.pointers-index-end.ensures), rw c.in-Some.ensures.0 refl)
+    let row : AddressMap → Option ExportRow =
+    λ m. export_row (offset_of (map_of m)) c.args.bytes.now c.args.export_data.now c.rows.index in
+    let there = sym (ap row c.rows.invariant.2) ∙ c.in-Some.ensures.value.0 in
+    rw e.1 (c.rows.index, omega (arith, c.rows-test.true, c.pointers-index-end.ensures), rw there refl)
 
 pub returns-clause-value : goal.returns-clause-value
 returns-clause-value c =

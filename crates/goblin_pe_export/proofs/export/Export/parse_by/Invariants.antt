@@ -9,4 +9,4 @@ abbrev pub invariant-rows : goal.invariant-rows
 invariant-rows l =
     (l.rows.items
     ≡ concat_below (λ x. option_to_list (export_row (offset_of (map_of l.fn.address_map)) l.fn.bytes l.fn.export_data x)) l.index)
-    × TakesRoomFor l.expected l.rows
+    × TakesRoomFor l.expected l.rows × (l.finder ≡ l.fn.address_map)

@@ -1,7 +1,9 @@
-use Rattle.std.proofs.Common.{ap, arith, length, sym, ◌∙◌}
+use Rattle.std.proofs.Common.{◌∷◌, ◌+◌, ap, arith, length, sym, ◌∙◌}
 use Rattle.std.specs.Prelude.{option_map}
-use Rattle.goblin_pe_export.specs.ExportRecords.{ExportTables, name_pointers}
-use Rattle.goblin_pe_export.specs.ExportWalks.{walked_export}
+use Rattle.goblin_pe_sect.specs.Addresses.{map_of, offset_of}
+use Rattle.goblin_pe_sect.specs.declared.address_map.AddressMap.{AddressMap}
+use Rattle.goblin_pe_export.specs.ExportRecords.{ExportTables, name_pointers, tables_in}
+use Rattle.goblin_pe_export.specs.ExportWalks.{numbered_from, walked_export}
 use Rattle.goblin_pe_export.proofs.ExportWalk.{from_end, from_export, from_none}
 use Rattle.goblin_pe_export.proofs.WholeEntries.{entry_count}
 use Rattle.goblin_pe_export.proofs.export.exports.ExportsIterator.next.Goals as goal
@@ -10,13 +12,16 @@ pub pointers-preserved : goal.pointers-preserved
 pointers-preserved c =
     let before = c.pointers.invariant in
     let count = ap (λ (t : ExportTables). length t.export_name_pointer_table) before.over.1 in
+    let same = c.export_at.ensures.same in
     record {
       begun = omega (arith, before.begun);
       at = omega arith;
-      over = before.over;
+      over = ((before.over.0.0, ap map_of same ∙ before.over.0.1), before.over.1);
       left = before.left
           ∙ from_none _ _ _ c.pointers.index (omega (arith, c.pointers-test.true, c.pointers-index-end.ensures, count))
-          (sym c.export_at.ensures ∙ ap (option_map walked_export) c.in_default.is);
+          (sym c.export_at.ensures.value ∙ ap (option_map walked_export) c.in_default.is)
+          ∙ ap (λ (m : AddressMap). numbered_from (offset_of (map_of m)) c.pointers.self.bytes.now (tables_in c.pointers.self.tables) (c.pointers.index + 1))
+          (sym same);
     }
 
 pub returns-in-Some-clause-steps : goal.returns-in-Some-clause-steps
@@ -25,7 +30,9 @@ returns-in-Some-clause-steps c =
     let count = ap (λ (t : ExportTables). length t.export_name_pointer_table) before.over.1 in
     before.left
     ∙ from_export _ _ _ c.pointers.index _ (omega (arith, c.pointers-test.true, c.pointers-index-end.ensures, count))
-    (sym c.export_at.ensures ∙ ap (option_map walked_export) c.in-Some.is)
+    (sym c.export_at.ensures.value ∙ ap (option_map walked_export) c.in-Some.is)
+    ∙ ap (λ (m : AddressMap). walked_export c.in-Some.export ∷ numbered_from (offset_of (map_of m)) c.pointers.self.bytes.now (tables_in c.pointers.self.tables) (c.pointers.index + 1))
+    (sym c.export_at.ensures.same)
 
 pub returns-in-Some-clause-goes : goal.returns-in-Some-clause-goes
 returns-in-Some-clause-goes c =
