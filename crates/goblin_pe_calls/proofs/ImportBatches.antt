@@ -1,6 +1,6 @@
 -- A loop that fills records with the imports of a file from a position on.
 use Rattle.std.proofs.Common.{◌≡◌, ◌≢◌, ◌⊎◌, append-nil, ℕ, ◌+◌, ◌<◌, ◌≤◌, ◌^◌, Bool, true, false, List, [], ◌∷◌, ◌++◌, length, map, drop, set, ap, subst, sym, refl, arith, ◌∙◌, inl, inr}
-use Rattle.std.specs.Prelude.{◌==◌, ◌&&◌, if◌then◌else◌, IsSome, IsSomeAnd, Option, None, Some, Ok, Err, option_map, unwrap_or}
+use Rattle.std.specs.Prelude.{◌==◌, ◌&&◌, if◌then◌else◌, IsSome, IsSomeAnd, MatchResult, Option, None, Result, Some, Ok, Err, option_map, unwrap_or}
 use Rattle.std.proofs.lemmas.Bool.{ne_eqb}
 use Rattle.std.proofs.lemmas.List.{append_assoc, length-append, length-map, map-append}
 use Rattle.goblin_base.specs.declared.error.ErrorOf.{ErrorOf}
@@ -29,7 +29,7 @@ use Rattle.goblin_pe.specs.declared.whole.imports.FileImports.TheVariants.{Narro
 use Rattle.goblin_pe.proofs.ImportStarts.{file-given, start-there, start-value}
 use Rattle.goblin_pe_calls.specs.declared.import.PeImport.{PeImport}
 use Rattle.goblin_pe_calls.specs.declared.next.PeImportPosition.{PeImportPosition}
-use Rattle.goblin_pe_calls.specs.Batches.{AtBatch, FillsHere, FillsLibrary, GivesImports, GoesOn, HasImports, IsBatch, IsEnd, IsRefusedNext, imports_from, imports_in}
+use Rattle.goblin_pe_calls.specs.Batches.{AtBatch, ImportBatch, IsImportsFault, FillsHere, FillsLibrary, GivesImports, GoesOn, HasImports, IsBatch, IsEnd, IsRefusedNext, imports_from, imports_in}
 use Rattle.goblin_pe_calls.specs.Batches.{position_numbers, position_said, start_value, values_before}
 use Rattle.goblin_pe_calls.specs.Imports.{import_said, import_view}
 use Rattle.goblin_pe_calls.proofs.Batches.{batch-end, batch-more, batch-none, batch-start, before-all, before-end}
@@ -109,6 +109,57 @@ module _ (m : MapOfAddresses) (places : TablePlaces) (bytes : List ℕ) where
   pub goes-start : (p : PeImportPosition) (imports : FileImports)
       → StartsAt m places.magic bytes (import_start m.opts (offset_of m) places (position_said p)) (Ok (part.Read imports)) → GoesOn m places bytes p imports
   goes-start p imports starts = started p imports ((import_start m.opts (offset_of m) places (position_said p)).value bytes) refl starts
+
+-- ---- a batch from where the imports start
+
+module _ (m : MapOfAddresses) (places : TablePlaces) (bytes : List ℕ) (old new : ImportBatch) (imports : FileImports) where
+  abbrev Starts : Type 0
+  Starts = StartsAt m places.magic bytes (import_start m.opts (offset_of m) places (position_said old.position)) (Ok (part.Read imports))
+
+  abbrev left_of : List (Option ImportValue)
+  left_of = file_imports_left imports
+
+  -- what is filled from the walk is filled from where it starts
+  pub batch-given : Starts → (count : ℕ)
+      → IsBatch import_view import_said (values_before left_of) old.records new.records count
+      × (imports_from m places bytes new.position ≡ Some (drop count left_of)) × (IsRefusedNext left_of → length old.records ≡ 0)
+      × (IsEnd left_of old.records count → new.position ≡ position_numbers None)
+      × (length old.records ≡ 0 → new.position ≡ old.position)
+      → GivesImports m places bytes old new count
+  batch-given starts count given =
+      subst
+      (λ (all : Option (List (Option ImportValue))). IsSomeAnd all (λ left.
+      IsBatch import_view import_said (values_before left) old.records new.records count
+      × (imports_from m places bytes new.position ≡ Some (drop count left)) × (IsRefusedNext left → length old.records ≡ 0)
+      × (IsEnd left old.records count → new.position ≡ position_numbers None)
+      × (length old.records ≡ 0 → new.position ≡ old.position)))
+      (sym (goes-start m places bytes old.position imports starts).left) given
+
+  -- and a refusal of the very next is one there
+  fault-by : (start : Option (Part (Option ImportPosition))) → (import_start m.opts (offset_of m) places (position_said old.position)).value bytes ≡ start
+      → IsSomeAnd start (λ s. PartGives m places.magic bytes s (part.Read imports)) → (e : ErrorOf) → IsRefusedNext left_of
+      → IsFileImportsCause imports e → 0 < length old.records → IsImportsFault m places bytes old e
+  fault-by None is gives e next cause some = absurd gives
+  fault-by (Some Absent) is gives e next cause some = absurd gives
+  fault-by (Some Refused) is gives e next cause some = absurd gives
+  fault-by (Some (part.Read position)) is gives e next cause some =
+      rw is (some, (subst (λ (left : List (Option ImportValue)). IsRefusedNext left) gives.left next, gives.cause e cause))
+
+  pub fault-given : Starts → (e : ErrorOf) → IsRefusedNext left_of → IsFileImportsCause imports e → 0 < length old.records
+      → IsImportsFault m places bytes old e
+  fault-given starts e next cause some = fault-by _ refl starts e next cause some
+
+  pub batch-answered : Starts → (r : Result ℕ ErrorOf)
+      → MatchResult r
+      (λ count. IsBatch import_view import_said (values_before left_of) old.records new.records count
+      × (imports_from m places bytes new.position ≡ Some (drop count left_of)) × (IsRefusedNext left_of → length old.records ≡ 0)
+      × (IsEnd left_of old.records count → new.position ≡ position_numbers None)
+      × (length old.records ≡ 0 → new.position ≡ old.position))
+      (λ e. IsRefusedNext left_of × IsFileImportsCause imports e × (0 < length old.records)
+      × (new.records ≡ old.records) × (new.position ≡ old.position))
+      → MatchResult r (GivesImports m places bytes old new) (λ e. IsImportsFault m places bytes old e × (new ≡ old))
+  batch-answered starts (Ok count) given = batch-given starts count given
+  batch-answered starts (Err e) given = (fault-given starts e given.0 given.1 given.2, rw (given.3, given.4) refl)
 
 -- ---- where there are none
 

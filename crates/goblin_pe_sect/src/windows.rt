@@ -219,16 +219,17 @@ impl WindowIndex {
         self.pieces[count - 1].run_to(&self.pieces[count])
     }
 
-    /// The file offset of the address `rva`, as [`WindowIndex::find`] returns it, and the run of the
+    /// The file offset of the address `rva`, as [`WindowIndex::find`] returns it. `run` becomes the
     /// addresses of its piece, which have their offsets without another search: none where no section
     /// owns the piece, or where there are no pieces.
     #[inline(never)]
-    pub(crate) fn find_run(&self, rva: usize) -> (Option<usize>, Run)
-        ensures value { result.0 ≡ located self.now rva }
-        ensures run { result.1 ≡ run_of_piece self.now (reached self.now.begins rva) }
-        ensures is { IsRun self.now result.1 }
+    pub(crate) fn find_run(&self, rva: usize, run: &mut Run) -> Option<usize>
+        ensures value { result ≡ located self.now rva }
+        ensures piece { run.new ≡ run_of_piece self.now (reached self.now.begins rva) }
+        ensures is { IsRun self.now run.new }
     {
         let (count, _) = search(self.in_order(), rva);
-        (self.offset_by_count(count, rva), self.run_by_count(count))
+        *run = self.run_by_count(count);
+        self.offset_by_count(count, rva)
     }
 }

@@ -91,7 +91,8 @@ impl<'m> Finder<'m> {
         if let Some(offset) = self.run.offset_of(rva as usize) {
             return Some(offset);
         }
-        let (offset, run) = self.address_map.index.find_run(rva as usize);
+        let mut run = self.run;
+        let offset = self.address_map.index.find_run(rva as usize, &mut run);
         self.run = run;
         offset
     }
@@ -106,8 +107,9 @@ impl<'m> Finder<'m> {
         if let Some(offset) = self.names.offset_of(rva as usize) {
             return Some(offset);
         }
-        let (offset, run) = self.address_map.index.find_run(rva as usize);
-        self.names = run;
+        let mut names = self.names;
+        let offset = self.address_map.index.find_run(rva as usize, &mut names);
+        self.names = names;
         offset
     }
 

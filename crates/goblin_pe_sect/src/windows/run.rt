@@ -21,11 +21,13 @@ impl Run {
         requires { self.now.offset + self.now.size < 2 ^ 64 }
         ensures { result ≡ offset_in_run self.now rva }
     {
-        let past = rva.checked_sub(self.first)?;
-        if past < self.size {
-            Some(self.offset + past)
-        } else {
-            None
+        if rva < self.first {
+            return None;
         }
+        let past = rva - self.first;
+        if self.size <= past {
+            return None;
+        }
+        Some(self.offset + past)
     }
 }
