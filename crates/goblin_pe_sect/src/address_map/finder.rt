@@ -91,6 +91,10 @@ impl<'m> Finder<'m> {
         if let Some(offset) = self.run.offset_of(rva as usize) {
             return Some(offset);
         }
+        if let Some(offset) = self.names.offset_of(rva as usize) {
+            self.run = self.names;
+            return Some(offset);
+        }
         let mut run = self.run;
         let offset = self.address_map.index.find_run(rva as usize, &mut run);
         self.run = run;
@@ -105,6 +109,10 @@ impl<'m> Finder<'m> {
         ensures same { self.new ≡ self.old }
     {
         if let Some(offset) = self.names.offset_of(rva as usize) {
+            return Some(offset);
+        }
+        if let Some(offset) = self.run.offset_of(rva as usize) {
+            self.names = self.run;
             return Some(offset);
         }
         let mut names = self.names;

@@ -1,4 +1,4 @@
-use Rattle.std.proofs.Common.{◌∙◌, ◌+◌, ◌^◌, ◌<◌, ◌≡◌, ap, length, sym, subst, arith, rules}
+use Rattle.std.proofs.Common.{◌∙◌, ◌+◌, ◌^◌, ◌<◌, ap, length, sym, subst, arith}
 use Rattle.goblin_pe_sect.specs.Runs.{IsRun}
 use Rattle.goblin_pe_sect.specs.declared.windows.run.Run.{Run}
 use Rattle.goblin_pe_sect.specs.WindowIndex.{Pieces}
