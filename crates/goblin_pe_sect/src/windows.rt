@@ -32,16 +32,19 @@ pub(crate) use run::Run;
 use std::alloc::Global;
 use std::marker::Model;
 
-// How many pieces begin at or before the address, and how many bounds were looked at.
-#[inline(always)]
-fn count_reached(bounds: &Bounds<'_>, rva: usize) -> (usize, usize)
-    requires { IsStrictlyIncreasing bounds.now }
-    ensures value { result.0 ≡ reached bounds.now rva }
-    ensures most { (d : ℕ) → length bounds.now < 2 ^ d → result.1 ≤ d }
+// How many pieces begin at or before the address, and how many bounds were looked at. It is never in
+// line: a call is given the pieces in registers.
+#[inline(never)]
+fn search(pieces: &[Piece], rva: usize) -> (usize, usize)
+    requires { IsStrictlyIncreasing (begins_of pieces.now) }
+    ensures value { result.0 ≡ reached (begins_of pieces.now) rva }
+    ensures most { (d : ℕ) → length (begins_of pieces.now) < 2 ^ d → result.1 ≤ d }
     ensures few { result.1 ≤ 64 }
-    ensures fewest { (d : ℕ) → 2 ^ d ≤ length bounds.now + 1 → d ≤ result.1 }
-    ensures counted { result.1 ≡ halvings (length bounds.now) (reached bounds.now rva) }
+    ensures fewest { (d : ℕ) → 2 ^ d ≤ length (begins_of pieces.now) + 1 → d ≤ result.1 }
+    ensures counted { result.1
+        ≡ halvings (length (begins_of pieces.now)) (reached (begins_of pieces.now) rva) }
 {
+    let bounds = Bounds::new(pieces);
     let mut probes = 0;
     let mut low = 0;
     let mut high = bounds.len();
@@ -54,20 +57,6 @@ fn count_reached(bounds: &Bounds<'_>, rva: usize) -> (usize, usize)
         }
     }
     (low, probes)
-}
-
-// As `count_reached`, of these pieces: a call is given them in registers.
-#[inline(never)]
-fn search(pieces: &[Piece], rva: usize) -> (usize, usize)
-    requires { IsStrictlyIncreasing (begins_of pieces.now) }
-    ensures value { result.0 ≡ reached (begins_of pieces.now) rva }
-    ensures most { (d : ℕ) → length (begins_of pieces.now) < 2 ^ d → result.1 ≤ d }
-    ensures few { result.1 ≤ 64 }
-    ensures fewest { (d : ℕ) → 2 ^ d ≤ length (begins_of pieces.now) + 1 → d ≤ result.1 }
-    ensures counted { result.1
-        ≡ halvings (length (begins_of pieces.now)) (reached (begins_of pieces.now) rva) }
-{
-    count_reached(&Bounds::new(pieces), rva)
 }
 
 /// The address space, cut into pieces at the windows of sections. Each piece keeps the index, the

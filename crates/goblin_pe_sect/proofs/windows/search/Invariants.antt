@@ -1,6 +1,6 @@
 use Rattle.std.proofs.Common.{◌*◌, ◌-◌, ◌^◌, ◌<◌}
 use Rattle.goblin_pe_sect.proofs.Halving.{IsSearched}
-use Rattle.goblin_pe_sect.proofs.windows.count_reached.Given as goal
+use Rattle.goblin_pe_sect.proofs.windows.search.Given as goal
 
 abbrev pub invariant-halving : goal.invariant-halving
 invariant-halving l = IsSearched l.bounds l.rva l.low l.high l.probes × (2 * l.high < 2 ^ 64)
