@@ -1,7 +1,7 @@
 //! The Windows fields of an optional header, for either width.
 
 ghost use Rattle.std.specs.Prelude.{◌≡◌, IfOk, length};
-ghost use Rattle.goblin_base.specs.Answers.{Answers, IsSliceFault, Writes};
+ghost use Rattle.goblin_base.specs.Answers.{IsSliceFault, Writes};
 ghost use Rattle.goblin_base.specs.Record.{ReadsBack, WritesBack, encoding, record_over};
 ghost use Rattle.goblin_pe_head.specs.declared.optional_header.windows_fields.WindowsFields32.{WindowsFields32};
 ghost use Rattle.goblin_pe_head.specs.declared.optional_header.windows_fields.WindowsFields64.{WindowsFields64};
@@ -375,7 +375,7 @@ impl From<WindowsFields32> for WindowsFields64 {
     }
 }
 
-// A number that fits 32 bits.
+// The number, if it fits 32 bits.
 fn narrow(number: u64) -> Option<u32>
     ensures { result ≡ narrowed number }
 {
@@ -424,7 +424,7 @@ impl TryFrom<WindowsFields64> for WindowsFields32 {
     /// fit 32 bits.
     fn try_from(fields: WindowsFields64) -> Result<WindowsFields32> {
         match windows_to_32(&fields) {
-            Some(narrow) => Ok(narrow),
+            Some(fields) => Ok(fields),
             None => Err(Error::Malformed(Cause::FieldTooWide)),
         }
     }
