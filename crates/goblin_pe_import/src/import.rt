@@ -15,7 +15,7 @@ ghost use Rattle.goblin_pe_import.specs.ImportDirectory.{HasRecords};
 ghost use Rattle.goblin_pe_import.specs.ImportReadings as reading;
 
 use goblin_base::{Cause, Endian, Error, Record, ResultOf, is_passed_over};
-use goblin_pe_sect::address_map::AddressMap;
+use goblin_pe_sect::address_map::{AddressMap, Finder};
 use goblin_pe_sect::data_directories::DataDirectory;
 use goblin_pe_sect::options::ParseOptions;
 use goblin_pe_sect::section_table::SectionTable;
@@ -222,7 +222,7 @@ impl<'a> ImportData<'a> {
             → IsSomeAnd (offset_of m directory.virtual_address) (HasRecords bytes.now)) }
     {
         let rva = directory.virtual_address;
-        let Some(offset) = directory_offset(rva, address_map) else {
+        let Some(offset) = directory_offset(rva, &mut Finder::of(address_map)) else {
             return Err(Error::Malformed(Cause::Unmapped(rva as usize)));
         };
         let import_data = if address_map.is_permissive() && offset == 0 {

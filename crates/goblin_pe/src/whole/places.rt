@@ -23,7 +23,7 @@ use crate::import::{ImportPosition, Imports, LeftOut};
 use crate::whole::{FileImports, Part};
 use goblin_base::{Result, ResultOf, is_passed_over};
 use goblin_pe_head::optional_header::{MAGIC_32, OptionalHeader};
-use goblin_pe_sect::address_map::AddressMap;
+use goblin_pe_sect::address_map::{AddressMap, Finder};
 use goblin_pe_sect::relocation::RelocationData;
 use goblin_pe_sect::{DataDirectory, ParseOptions};
 
@@ -151,10 +151,11 @@ impl Places {
     ) -> FileImports<'a, 'm, 'e>
         ensures { GivesFrom (map_of address_map.now) self.now.magic bytes.now position result }
     {
+        let finder = Finder::of(address_map);
         if self.has_narrow_entries() {
-            FileImports::Narrow(Imports::from_position(bytes, position, address_map))
+            FileImports::Narrow(Imports::from_position(bytes, position, finder))
         } else {
-            FileImports::Wide(Imports::from_position(bytes, position, address_map))
+            FileImports::Wide(Imports::from_position(bytes, position, finder))
         }
     }
 

@@ -453,32 +453,33 @@ impl<'a, 'm, 'e, T: Bitfield<'a>> Imports<'a, 'm, 'e, T> {
         ensures position { IfOk result (HasPosition T.format) }
     {
         let rva = directory.virtual_address;
-        let Some(offset) = directory_offset(rva, address_map) else {
+        let mut finder = Finder::of(address_map);
+        let Some(offset) = directory_offset(rva, &mut finder) else {
             return Err(Error::Malformed(Cause::Unmapped(rva as usize)));
         };
         if address_map.is_permissive() && offset == 0 {
-            return Ok(Imports::from_position(bytes, None, address_map));
+            return Ok(Imports::from_position(bytes, None, finder));
         }
-        Ok(Imports::at(bytes, offset, address_map))
+        Ok(Imports::at(bytes, offset, finder))
     }
 
     /// The imports of the libraries of the directory at the file offset `offset`.
-    pub fn at(bytes: &'a [u8], offset: usize, address_map: &'m AddressMap) -> Imports<'a, 'm, 'e, T>
-        ensures walks { let m = map_of address_map.now in
+    pub fn at(bytes: &'a [u8], offset: usize, finder: Finder<'m>) -> Imports<'a, 'm, 'e, T>
+        ensures walks { let m = map_of finder.entry in
             let libraries = libraries_at (reads_strictly m) T.format (offset_of m) offset in
             IsWalkOf (λ xs. xs)
             (mapped (flat_map (kept_imports (λ x. x) T.format.width)) libraries) bytes.now
             (imports_left T.format result) (IsImportsCause T.format result) }
-        ensures begins { GoesOnAt (map_of address_map.now) T.format bytes.now
+        ensures begins { GoesOnAt (map_of finder.entry) T.format bytes.now
             (Some (record { «record» = offset; slot = None })) result }
-        ensures over { IsOver bytes.now (map_of address_map.now) result }
+        ensures over { IsOver bytes.now (map_of finder.entry) result }
         ensures position { HasPosition T.format result }
     {
         let begin = ImportPosition {
             record: offset,
             slot: None,
         };
-        Imports::from_position(bytes, Some(begin), address_map)
+        Imports::from_position(bytes, Some(begin), finder)
     }
 
     /// The imports from a position on, as [`Imports::position`] gave it: what was still to come
@@ -486,21 +487,21 @@ impl<'a, 'm, 'e, T: Bitfield<'a>> Imports<'a, 'm, 'e, T> {
     pub fn from_position(
         bytes: &'a [u8],
         position: Option<ImportPosition>,
-        address_map: &'m AddressMap,
+        finder: Finder<'m>,
     ) -> Imports<'a, 'm, 'e, T>
-        ensures left { let m = map_of address_map.now in
+        ensures left { let m = map_of finder.entry in
             imports_left T.format result
             ≡ imports_at (reads_strictly m) T.format (offset_of m) bytes.now position }
-        ensures cause { let m = map_of address_map.now in
+        ensures cause { let m = map_of finder.entry in
             (e : ErrorOf) → IsImportsCause T.format result e
             → (reads_strictly m ≡ true)
             × IsCauseAt (reads_strictly m) T.format (offset_of m) bytes.now position e }
-        ensures over { IsOver bytes.now (map_of address_map.now) result }
+        ensures over { IsOver bytes.now (map_of finder.entry) result }
         ensures position { HasPosition T.format result }
         ensures wide { 1 ≤ T.format.width }
     {
         Imports {
-            walk: Walk::from(bytes, position, Finder::of(address_map)),
+            walk: Walk::from(bytes, position, finder),
             items: PhantomData,
         }
     }

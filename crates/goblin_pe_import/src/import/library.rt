@@ -114,12 +114,13 @@ pub(super) fn library_name<'a, 'e>(
 // The offset of the directory at an address: permissive mode treats an address without an offset as
 // one that leads to the front of the file.
 #[inline(always)]
-pub(super) fn directory_offset(rva: u32, address_map: &AddressMap) -> Option<usize>
-    ensures { let m = map_of address_map.now in
+pub(super) fn directory_offset(rva: u32, finder: &mut Finder<'_>) -> Option<usize>
+    ensures value { let m = map_of finder.old in
         result ≡ in_its_place (reads_strictly m) 0 (offset_of m rva) }
+    ensures same { finder.new ≡ finder.old }
 {
-    match address_map.offset_of(rva) {
-        None if address_map.is_permissive() => Some(0),
+    match finder.offset_of(rva) {
+        None if finder.is_permissive() => Some(0),
         offset => offset,
     }
 }

@@ -6,7 +6,7 @@ use goblin_base::ParseMode;
 use goblin_pe_import::import::{
     Bitfield, ImportPosition, Imports, SyntheticImportLookupTableEntry, WalkedImport,
 };
-use goblin_pe_sect::address_map::AddressMap;
+use goblin_pe_sect::address_map::{AddressMap, Finder};
 use std::alloc::Global;
 
 /// Whether this is the import of a row, from `a.dll`. The name of an import by ordinal is not in the
@@ -45,7 +45,7 @@ fn goes_on<'a, T: Bitfield<'a>>(
     map: &AddressMap,
     rows: &[ImportRow],
 ) -> bool {
-    let mut walk = Imports::<T>::from_position(bytes, position, map);
+    let mut walk = Imports::<T>::from_position(bytes, position, Finder::of(map));
     gives_all(&mut walk, rows) && walk.next().is_none()
 }
 
