@@ -16,7 +16,7 @@ use Rattle.goblin_pe_import.specs.declared.import.imports.WalkedImport.{WalkedIm
 use Rattle.goblin_pe.specs.Addresses.{MapOfAddresses, map_of, offset_of}
 use Rattle.goblin_pe.specs.Imports.{ImportValue}
 use Rattle.goblin_pe.specs.ImportWalks.{GivesImport, IsImportsCause, IsInTable, imports_at, imports_left, position_of}
-use Rattle.goblin_pe.specs.ImportWalks.{HasPosition, IsOver, walked_value}
+use Rattle.goblin_pe.specs.ImportWalks.{IsOver, walked_value}
 use Rattle.goblin_pe.specs.LayoutPositions.{IsImportWalk, PartGives, StartsAt}
 use Rattle.goblin_pe.specs.LayoutPositions.{file_imports_at, file_position, import_start, start_by}
 use Rattle.goblin_pe.specs.Layouts.{GivesFileImport, IsFileImportsCause, file_imports_left}

@@ -75,7 +75,7 @@ rising_to xs up i j le within =
     ]
 
 -- the place that a search looks for lies above a number that begins at or before the address
-pub reached-above : (begins : List ℕ) (rva half : ℕ) → IsStrictlyIncreasing begins → half < length begins → slice_index begins half ≤ rva → half < reached begins rva
+reached-above : (begins : List ℕ) (rva half : ℕ) → IsStrictlyIncreasing begins → half < length begins → slice_index begins half ≤ rva → half < reached begins rva
 reached-above begins rva half up within reaches =
     elim (cases_lt half (reached begins rva)) [
       | inl less ↦ less
@@ -87,7 +87,7 @@ reached-above begins rva half up within reaches =
     ]
 
 -- and at or below one that begins after it
-pub reached-below : (begins : List ℕ) (rva half : ℕ) → rva < slice_index begins half → reached begins rva ≤ half
+reached-below : (begins : List ℕ) (rva half : ℕ) → rva < slice_index begins half → reached begins rva ≤ half
 reached-below begins rva half passes =
     elim (cases_lt half (reached begins rva)) [
       | inl less ↦
@@ -193,14 +193,12 @@ searched_all begins rva low high probes h done =
 
 -- a number that begins at or before the address, and after which the next does not, is the last that is reached
 module _ (begins : List ℕ) (rva i : ℕ) (up : IsStrictlyIncreasing begins) (from : slice_index begins i ≤ rva) where
-  reached_after : i < length begins → (i + 1 < length begins → rva < slice_index begins (i + 1)) → reached begins rva ≡ i + 1
-  reached_after within next =
-      let passes : (k : ℕ) → k < i + 1 → nat_le (get_or begins k 0) rva ≡ true = λ k lt. let below : get_or begins k 0 ≤ rva = omega (arith, from, rising_to begins up k i (omega arith) within) in search (rules, tests) in
-      let stops : i + 1 < length begins → nat_le (get_or begins (i + 1) 0) rva ≡ false = λ lt. let above : rva < get_or begins (i + 1) 0 = next lt in search (rules, tests) in
-      prefix_len_is (λ b. nat_le b rva) begins (i + 1) 0 (omega arith) passes stops
-
   pub reached_before : i + 1 < length begins → rva < slice_index begins (i + 1) → i + 1 ≡ reached begins rva
-  reached_before within next = sym (reached_after (omega arith) (λ _. next))
+  reached_before within next =
+      let passes : (k : ℕ) → k < i + 1 → nat_le (get_or begins k 0) rva ≡ true = λ k lt. let below : get_or begins k 0 ≤ rva = omega (arith, from, rising_to begins up k i (omega arith) (omega (arith, within))) in search (rules, tests) in
+      let above : rva < get_or begins (i + 1) 0 = next in
+      let stops : i + 1 < length begins → nat_le (get_or begins (i + 1) 0) rva ≡ false = λ lt. search (rules, tests) in
+      sym (prefix_len_is (λ b. nat_le b rva) begins (i + 1) 0 (omega (arith, within)) passes stops)
 
 -- and it made no fewer probes than halving needs
 pub searched_fewest : (begins : List ℕ) (rva low high probes : ℕ) → IsSearched begins rva low high probes → high ≤ low → (d : ℕ) → 2 ^ d ≤ length begins + 1 → d ≤ probes

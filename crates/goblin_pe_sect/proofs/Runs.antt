@@ -12,27 +12,8 @@ use Rattle.goblin_pe_sect.proofs.Halving.{reached_before, rising_to}
 use Rattle.goblin_pe_sect.proofs.WindowPieces.{begin_read, begins-length, last_owner_some, length-owners, located-piece, owner_read}
 
 -- no address is one of an empty run
-pub empty_run : (w : Pieces) → IsRun w no_run
+empty_run : (w : Pieces) → IsRun w no_run
 empty_run w = record { fits = omega arith; answers = λ rva low within. absurd (omega (arith, within)) }
-
--- an address of a run is found in it, as the index finds it
-pub found_in_run : (w : Pieces) (r : Run) (rva offset : ℕ) → IsRun w r → offset_in_run r rva ≡ Some offset → Some offset ≡ located w rva
-found_in_run w r rva offset h found =
-    elim (cases_lt rva r.first) [
-      | inl before ↦
-          let out : nat_le r.first rva ≡ false = search (rules, tests) in
-          absurd (cc)
-      | inr after ↦
-          let low : nat_le r.first rva ≡ true = search (rules, tests) in
-          elim (cases_lt (rva - r.first) r.size) [
-            | inl within ↦
-                let inside : nat_lt (rva - r.first) r.size ≡ true = search (rules, tests) in
-                sym found ∙ rw (low, inside) (sym (h.answers rva after within))
-            | inr past ↦
-                let out : nat_lt (rva - r.first) r.size ≡ false = search (rules, tests) in
-                absurd (cc)
-          ]
-    ]
 
 -- the run of a piece: its begin, that of the next, and its owner
 module _ (resolves : Bool) (begins : List ℕ) (owners : List (Option Owner)) (h : IsIndex resolves begins owners) (n : ℕ) (some : 0 < n) where

@@ -23,7 +23,7 @@ abbrev pub run_of_piece : Pieces → ℕ → Run
 run_of_piece w n =
     run_between (slice_index w.begins (n - 1)) (slice_index w.begins n) (last_owner w.owners n)
 
--- an index answers for each address of a run as the run does
+-- an index answers for each address of a run as the run does, and no offset of it passes 64 bits
 pub record IsRun (w : Pieces) (r : Run) : Type 0 where
   pub fits : r.offset + r.size < 2 ^ 64
   pub answers : (rva : ℕ) → r.first ≤ rva → rva - r.first < r.size

@@ -32,8 +32,8 @@ pub(crate) use run::Run;
 use std::alloc::Global;
 use std::marker::Model;
 
-// How many pieces begin at or before the address, and how many bounds were looked at. It is never in
-// line: a call is given the pieces in registers.
+// How many pieces begin at or before the address, and how many bounds were looked at. It is not
+// inlined, since a call passes the pieces in registers.
 #[inline(never)]
 fn search(pieces: &[Piece], rva: usize) -> (usize, usize)
     requires { IsStrictlyIncreasing (begins_of pieces.now) }
@@ -175,7 +175,7 @@ impl WindowIndex {
     }
 
     /// The answer of [`WindowIndex::find`], and how many probes were made: calls of
-    /// [`Bounds::reaches`], the only call that says where a piece begins. Fewer than 2 to the power
+    /// [`Bounds::reaches`], by which a search sees where a piece begins. Fewer than 2 to the power
     /// d pieces take at most d probes. The number is that of a binary search for this address.
     pub fn find_counted(&self, rva: usize) -> (Option<usize>, usize)
         ensures value { result.0 ≡ located self.now rva }
@@ -196,7 +196,7 @@ impl WindowIndex {
         self.find_counted(rva).0
     }
 
-    // The run of the last of so many pieces.
+    // The run of the last of the first `count` pieces.
     fn run_by_count(&self, count: usize) -> Run
         requires { count ≤ length self.now.begins }
         ensures run { result ≡ run_of_piece self.now count }
@@ -210,7 +210,8 @@ impl WindowIndex {
 
     /// The file offset of the address `rva`, as [`WindowIndex::find`] returns it. `run` becomes the
     /// addresses of its piece, which have their offsets without another search: none where no section
-    /// owns the piece, or where there are no pieces.
+    /// owns the piece, or where there are no pieces. (A result of that size would cost loops that
+    /// seldom search more than an argument does.)
     #[inline(never)]
     pub(crate) fn find_run(&self, rva: usize, run: &mut Run) -> Option<usize>
         ensures value { result ≡ located self.now rva }

@@ -1,4 +1,4 @@
-//! Where addresses lie in the file, for who asks for many that lie near one another.
+//! Where addresses lie in the file, for callers that ask for many.
 
 ghost use Rattle.std.specs.Prelude.{◌≡◌, ◌↔◌, IsTrue, option_map};
 ghost use Rattle.goblin_base.specs.Reading.{Reads};
@@ -13,12 +13,13 @@ use crate::windows::Run;
 use goblin_base::ResultOf;
 use std::marker::Model;
 
-/// A map of addresses, with the addresses around the last one that was found: one that lies among
-/// them is found without a search. What it answers does not depend on what was asked before.
+/// A map of addresses that keeps the addresses of the same piece as the last one asked for, with
+/// their offsets: one that lies among them takes no search. What it answers does not depend on what
+/// was asked before.
 #[derive(Drop)]
 pub struct Finder<'m> {
     address_map: &'m AddressMap,
-    // The addresses around the last one, and around the last one of a name.
+    // The addresses of the last one's piece, and of the last name's.
     run: Run,
     names: Run,
 }
@@ -47,7 +48,7 @@ impl<'m> Finder<'m> {
         }
     }
 
-    /// Another by the same map, which begins where this one is.
+    /// A copy of this finder.
     pub fn again(&self) -> Finder<'m>
         ensures { result ≡ self.now }
     {
@@ -101,8 +102,8 @@ impl<'m> Finder<'m> {
         offset
     }
 
-    /// The file offset of the address of a name, as [`AddressMap::offset_of`]. Names have a place of
-    /// their own in the finder, for they seldom lie where that is which they name.
+    /// The file offset of the address of a name, as [`AddressMap::offset_of`]. The finder keeps the
+    /// piece of names apart, since names often lie in another section than what they name.
     #[inline(always)]
     pub fn offset_of_name(&mut self, rva: u32) -> Option<usize>
         ensures value { result ≡ offset_of (map_of self.old) rva }

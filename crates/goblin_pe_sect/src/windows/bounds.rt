@@ -1,4 +1,4 @@
-//! The pieces of the address space. Where they begin is seen by a call that counts.
+//! The pieces of the address space. A search sees where they begin by a call that counts.
 
 ghost use Rattle.std.specs.Prelude.{◌≡◌, ◌+◌, ◌*◌, ◌^◌, ◌<◌, ◌≤◌, ◌↔◌, IfSome, IsTrue, length};
 ghost use Rattle.std.specs.Prelude.{slice_index};
@@ -28,7 +28,7 @@ impl Piece {
     }
 
     /// The addresses from where this piece begins to where the next does.
-    pub fn run_to(&self, next: &Piece) -> Run
+    pub(super) fn run_to(&self, next: &Piece) -> Run
         requires rising { self.now.begin ≤ next.now.begin }
         requires near { IfSome self.now.owner (λ o.
             (o.address ≤ self.now.begin) × (next.now.begin ≤ o.address + 2 ^ 33)) }
