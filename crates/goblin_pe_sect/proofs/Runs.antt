@@ -1,10 +1,9 @@
 -- What an index answers for the addresses of a run.
-use Rattle.std.proofs.Common.{◌≡◌, get_or, IfSome, ℕ, ◌+◌, ◌-◌, ◌^◌, ◌<◌, ◌≤◌, Bool, true, false, List, length, slice_index, nat_le, nat_lt, Option, Some, None, refl, ap, sym, subst, ◌∙◌, inl, inr, arith, tests, rules}
+use Rattle.std.proofs.Common.{◌≡◌, get_or, IfSome, ℕ, ◌+◌, ◌-◌, ◌^◌, ◌<◌, ◌≤◌, Bool, List, length, slice_index, Option, Some, None, refl, ap, sym, subst, ◌∙◌, arith}
 use Rattle.std.specs.List.{slice_index_or}
 use Rattle.std.specs.Option.{option_map}
-use Rattle.std.proofs.lemmas.Bool.{cases_lt}
 use Rattle.goblin_pe_sect.specs.WindowIndex.{IsIndex, Pieces, begins_of, owners_of, reached, last_owner, located, owner_offset}
-use Rattle.goblin_pe_sect.specs.Runs.{IsRun, no_run, offset_in_run, run_between, run_of_piece}
+use Rattle.goblin_pe_sect.specs.Runs.{IsRun, no_run, run_between, run_of_piece}
 use Rattle.goblin_pe_sect.specs.declared.windows.owners.Owner.{Owner}
 use Rattle.goblin_pe_sect.specs.declared.windows.run.Run.{Run}
 use Rattle.goblin_pe_sect.specs.declared.windows.bounds.Piece.{Piece}
