@@ -1,11 +1,13 @@
 """The samples, the built programs, the library for callers, and how the tests run a command."""
 import atexit
 import functools
+import importlib
 import os
 import pathlib
 import resource
 import shutil
 import subprocess
+import sys
 import tempfile
 import unittest
 
@@ -147,6 +149,14 @@ def library():
     if status:
         raise AssertionError(f"callers/build: {said.decode()}")
     return made
+
+
+@functools.cache
+def package():
+    """The package for callers in Python, over the library for callers."""
+    os.environ["GOBLIN_PE_SO"] = str(library() / "libgoblin_pe.so")
+    sys.path.insert(0, str(CALLERS / "python"))
+    return importlib.import_module("goblin_pe")
 
 
 def environment(**more):

@@ -4,12 +4,11 @@
 mod addresses;
 mod base;
 mod directories;
-mod header;
 mod index;
 mod optional_header;
 mod relocations;
 mod rich;
 mod sections;
+mod stub;
 mod symbols;
 mod te;
-mod written;

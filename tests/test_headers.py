@@ -1,0 +1,401 @@
+"""Headers, data directories, sections and Terse Executables: what is read, refused and written of files whose every byte is
+known, by the package for Python over the library for callers."""
+import ctypes
+import mmap
+import struct
+import tempfile
+import types
+import unittest
+
+from tests.programs import CC, SAMPLES, need, package
+
+
+def with_parts(file, *parts):
+    """The file with other bytes in it: each part a pair (offset, bytes)."""
+    file = bytearray(file)
+    for offset, data in parts:
+        file[offset:offset + len(data)] = data
+    return bytes(file)
+
+
+# The modes in which a row holds.
+STRICT, PERMISSIVE = ("strict",), ("permissive",)
+BOTH = STRICT + PERMISSIVE
+
+# An image for 32 bits with one section, which has two imports and two exports.
+SAMPLE = with_parts(
+    bytes(0x300),
+    # The DOS header, the PE signature and the COFF header.
+    (0x00, b"MZ"), (0x3C, b"\x40"), (0x40, b"PE"), (0x44, b"\x4C\x01\x01\x00"), (0x54, b"\xE0\x00\x02\x01"),
+    # The optional header: magic, file alignment, the number of directories, exports and imports.
+    (0x58, b"\x0B\x01"), (0x7C, b"\x00\x02\x00\x00"), (0xB4, b"\x10"), (0xB8, b"\xA0\x10\x00\x00\x60\x00\x00\x00\x00\x10\x00\x00\x28"),
+    # The section table.
+    (0x138, b".rdata"), (0x140, b"\x00\x01\x00\x00\x00\x10\x00\x00\x00\x01\x00\x00\x00\x02"),
+    # The import directory, its two tables, and their names.
+    (0x200, b"\x40\x10"), (0x20C, b"\x80\x10\x00\x00\x60\x10"), (0x240, b"\x90\x10\x00\x00\x07\x00\x00\x80"),
+    (0x260, b"\x90\x10\x00\x00\x07\x00\x00\x80"), (0x280, b"a.dll"), (0x290, b"\x05\x00Go"),
+    # The export directory, its three tables, and their names.
+    (0x2AC, b"\x80\x10\x00\x00\x01\x00\x00\x00\x02\x00\x00\x00\x02"), (0x2BC, b"\xC8\x10\x00\x00\xD0\x10\x00\x00\xD8\x10"),
+    (0x2C8, b"\x10\x10\x00\x00\xE0\x10\x00\x00\xF0\x10\x00\x00\x80\x10"), (0x2DA, b"\x01"), (0x2E0, b"b.#12"), (0x2F0, b"f"))
+
+# Where its section table begins and ends.
+TABLE, TABLE_END = 0x138, 0x160
+
+# The sample with a section whose name stands elsewhere in the file: where that of the library is.
+NAMED_ELSEWHERE = with_parts(SAMPLE, (TABLE, b"/640\0\0\0\0"))
+
+
+def short_file(*parts):
+    """A file of 64 bytes with these parts."""
+    return with_parts(bytes(64), (0, b"MZ"), *parts)
+
+
+# A file whose PE signature stands at 4, in the DOS header.
+SIGNATURE_AT_4 = short_file((4, b"PE"), (0x3C, b"\x04"))
+
+# The program of 64 bytes that prints its message and ends.
+DEFAULT_STUB = (b"\x0E\x1F\xBA\x0E\x00\xB4\x09\xCD\x21\xB8\x01\x4C\xCD\x21This program cannot be run in DOS mode.\x0D\x0D\x0A\x24"
+                b"\0\0\0\0\0\0\0")
+
+# What the headers of the programs of samples/ have alike, as another tool shows it.
+PROGRAM_STUB = b"\x0E\x1F\xBA\x0E\x00\xB4\x09\xCD\x21\xB8\x01\x4C\xCD\x21This program cannot be run in DOS mode.$\0\0"
+PROGRAM_DOS = dict(signature=0x5A4D, bytes_on_last_page=120, pages_in_file=1, size_of_header_in_paragraphs=4,
+                   file_address_of_relocation_table=64, pe_pointer=120)
+PROGRAM_STANDARD = dict(major_linker_version=14, size_of_code=512, size_of_initialized_data=1536, address_of_entry_point=0x1020,
+                        base_of_code=0x1000)
+PROGRAM_WINDOWS = dict(section_alignment=4096, file_alignment=512, major_operating_system_version=6, major_subsystem_version=6,
+                       size_of_image=20480, size_of_headers=1024, subsystem=3, size_of_stack_reserve=1_048_576, size_of_stack_commit=4096,
+                       size_of_heap_reserve=1_048_576, size_of_heap_commit=4096, number_of_rva_and_sizes=16)
+
+# Files, the modes, and the parts of their headers: the fields that are not zero, and of the data directories that are there, by
+# their indexes, where the record ends in the optional header, the address and the size.
+HEADERS = (
+    ("a small image for 32 bits", SAMPLE, BOTH, dict(
+        dos_header=dict(signature=0x5A4D, pe_pointer=0x40), stub=b"", rich_header=None,
+        coff_header=dict(machine=0x14C, number_of_sections=1, size_of_optional_header=0xE0, characteristics=0x102),
+        standard_fields=dict(magic=0x10B), windows_fields=dict(file_alignment=0x200, number_of_rva_and_sizes=16),
+        directories={0: (104, 0x10A0, 0x60), 1: (112, 0x1000, 0x28)})),
+    ("a signature in the DOS header, before any stub", SIGNATURE_AT_4, PERMISSIVE, dict(
+        dos_header=dict(signature=0x5A4D, pages_in_file=0x4550, pe_pointer=4), stub=DEFAULT_STUB, rich_header=None, coff_header={},
+        standard_fields=None, windows_fields=None, directories={})),
+    ("a program for 32 bits", (SAMPLES / "program_x86.exe").read_bytes(), STRICT, dict(
+        dos_header=PROGRAM_DOS, stub=PROGRAM_STUB, rich_header=None,
+        coff_header=dict(machine=0x14C, number_of_sections=4, size_of_optional_header=224, characteristics=0x102),
+        standard_fields=PROGRAM_STANDARD | dict(magic=0x10B),
+        windows_fields=PROGRAM_WINDOWS | dict(image_base=0x40_0000, dll_characteristics=0x8540),
+        directories={0: (104, 0x2004, 0x4D), 5: (144, 0x4000, 0x20)})),
+    ("a program for 64 bits", (SAMPLES / "program_x64.exe").read_bytes(), STRICT, dict(
+        dos_header=PROGRAM_DOS, stub=PROGRAM_STUB, rich_header=None,
+        coff_header=dict(machine=0x8664, number_of_sections=4, size_of_optional_header=240, characteristics=0x22),
+        standard_fields=PROGRAM_STANDARD | dict(magic=0x20B),
+        windows_fields=PROGRAM_WINDOWS | dict(image_base=0x1_4000_0000, dll_characteristics=0x8160),
+        directories={0: (120, 0x2004, 0x4D), 5: (160, 0x4000, 0x10)})),
+)
+
+# Files that are refused, the modes, and why.
+REFUSED = (
+    ("the magic of a ROM image", with_parts(SAMPLE, (0x58, b"\x07\x01")), BOTH, ("BAD_MAGIC", 0, 0x107, 0)),
+    ("seventeen data directories", with_parts(SAMPLE, (0xB4, b"\x11")), BOTH, ("MALFORMED", "DIRECTORY_COUNT", 17, 0)),
+    ("more sections than the file has room for", with_parts(SAMPLE, (0x46, b"\x14")), BOTH, ("TOO_SHORT", "SECTIONS", 20, 0)),
+    ("sections past the end", with_parts(SAMPLE, (0x46, b"\x13")), BOTH, ("BAD_READ", "TOO_BIG", 0, 0)),
+    ("a signature past the end", short_file((0x3C, b"\x3C\xFF")), BOTH, ("MALFORMED", "NO_PE_SIGNATURE", 0xFF3C, 0)),
+    ("a signature in the DOS header", SIGNATURE_AT_4, STRICT, ("MALFORMED", "STUB_BEFORE_START", 4, 0)),
+)
+
+# Optional headers: the widths of the standard and of the Windows fields, and their values where the bytes of each kind go up from
+# 1 on, the highest byte of a field first. Only the magic and the number of directories are others.
+FIELDS = (
+    ("for 32 bits", (2, 1, 1, *[4] * 6), (*[4] * 3, *[2] * 6, *[4] * 4, 2, 2, *[4] * 6), dict(
+        magic=0x10B, major_linker_version=0x03, minor_linker_version=0x04, size_of_code=0x0506_0708,
+        size_of_initialized_data=0x090A_0B0C, size_of_uninitialized_data=0x0D0E_0F10, address_of_entry_point=0x1112_1314,
+        base_of_code=0x1516_1718, base_of_data=0x191A_1B1C), dict(
+        image_base=0x0102_0304, section_alignment=0x0506_0708, file_alignment=0x090A_0B0C, major_operating_system_version=0x0D0E,
+        minor_operating_system_version=0x0F10, major_image_version=0x1112, minor_image_version=0x1314, major_subsystem_version=0x1516,
+        minor_subsystem_version=0x1718, win32_version_value=0x191A_1B1C, size_of_image=0x1D1E_1F20, size_of_headers=0x2122_2324,
+        check_sum=0x2526_2728, subsystem=0x292A, dll_characteristics=0x2B2C, size_of_stack_reserve=0x2D2E_2F30,
+        size_of_stack_commit=0x3132_3334, size_of_heap_reserve=0x3536_3738, size_of_heap_commit=0x393A_3B3C, loader_flags=0x3D3E_3F40,
+        number_of_rva_and_sizes=16)),
+    ("for 64 bits", (2, 1, 1, *[4] * 5), (8, 4, 4, *[2] * 6, *[4] * 4, 2, 2, *[8] * 4, 4, 4), dict(
+        magic=0x20B, major_linker_version=0x03, minor_linker_version=0x04, size_of_code=0x0506_0708,
+        size_of_initialized_data=0x090A_0B0C, size_of_uninitialized_data=0x0D0E_0F10, address_of_entry_point=0x1112_1314,
+        base_of_code=0x1516_1718, base_of_data=0), dict(
+        image_base=0x0102_0304_0506_0708, section_alignment=0x090A_0B0C, file_alignment=0x0D0E_0F10,
+        major_operating_system_version=0x1112, minor_operating_system_version=0x1314, major_image_version=0x1516,
+        minor_image_version=0x1718, major_subsystem_version=0x191A, minor_subsystem_version=0x1B1C, win32_version_value=0x1D1E_1F20,
+        size_of_image=0x2122_2324, size_of_headers=0x2526_2728, check_sum=0x292A_2B2C, subsystem=0x2D2E, dll_characteristics=0x2F30,
+        size_of_stack_reserve=0x3132_3334_3536_3738, size_of_stack_commit=0x393A_3B3C_3D3E_3F40,
+        size_of_heap_reserve=0x4142_4344_4546_4748, size_of_heap_commit=0x494A_4B4C_4D4E_4F50, loader_flags=0x5152_5354,
+        number_of_rva_and_sizes=16)),
+)
+
+
+def rising(widths):
+    """Fields of these widths, whose bytes go up from 1 on, the highest of each first: in the file it stands last."""
+    fields, first = b"", 1
+    for width in widths:
+        fields += bytes(range(first, first + width))[::-1]
+        first += width
+    return fields
+
+
+def image(magic, fields, directories):
+    """An image of headers alone, whose optional header has these fields, but for the magic and sixteen as the number of data
+    directories, and these directories."""
+    fields = with_parts(fields, (0, struct.pack("<H", magic)), (len(fields) - 4, struct.pack("<I", 16)))
+    size = struct.pack("<H", len(fields + directories))
+    return with_parts(bytes(0x58), (0, b"MZ"), (0x3C, b"\x40"), (0x40, b"PE"), (0x54, size)) + fields + directories
+
+
+# The data directories of a small program, and one in the place that is reserved.
+DIRECTORIES = with_parts(bytes(128), *((8 * index, struct.pack("<II", address, size)) for index, address, size in (
+    (1, 14584, 160), (2, 24576, 18192), (3, 20480, 264), (5, 45056, 60), (6, 13160, 112), (10, 12304, 320), (12, 12624, 328))))
+NARROW, WIDE = image(0x10B, bytes(96), DIRECTORIES), image(0x20B, bytes(112), DIRECTORIES)
+RESERVED = image(0x20B, bytes(112), bytes(127) + b"\x01")
+
+# Images, and the directories that are there, as in the table of headers.
+ENTRIES = (
+    ("for 32 bits", NARROW, {1: (112, 14584, 160), 2: (120, 24576, 18192), 3: (128, 20480, 264), 5: (144, 45056, 60),
+                             6: (152, 13160, 112), 10: (184, 12304, 320), 12: (200, 12624, 328)}),
+    ("for 64 bits", WIDE, {1: (128, 14584, 160), 2: (136, 24576, 18192), 3: (144, 20480, 264), 5: (160, 45056, 60),
+                           6: (168, 13160, 112), 10: (200, 12304, 320), 12: (216, 12624, 328)}),
+    ("the reserved one", RESERVED, {15: (240, 0, 0x0100_0000)}),
+)
+
+# The sample with two data directories, after which a byte stands that is not of them.
+TWO_DIRECTORIES = with_parts(SAMPLE, (0xB4, b"\x02"), (0xC8, b"\xFF"))
+
+# Files, the mode in which they are read, and the headers that are written of them.
+WRITTEN = (
+    ("as it was read", SAMPLE, STRICT, SAMPLE[:TABLE]),
+    ("zeros for the directories past their count", TWO_DIRECTORIES, STRICT, TWO_DIRECTORIES[:0xC8].ljust(TABLE, b"\0")),
+    ("directories for 32 bits", NARROW, PERMISSIVE, NARROW),
+    ("directories for 64 bits", WIDE, PERMISSIVE, WIDE),
+)
+
+# Magics and image bases that are put into the header of the sample, how much room there is, and why it is not written.
+UNWRITTEN = (
+    ("a byte of room is missing", 0x10B, 0, TABLE - 1, ("BAD_READ", "TOO_BIG", 0, 0)),
+    ("a field for 32 bits is too wide", 0x10B, 1 << 32, TABLE, ("MALFORMED", "FIELD_TOO_WIDE", 0, 0)),
+    ("width is tested before room", 0x10B, 1 << 32, 0, ("MALFORMED", "FIELD_TOO_WIDE", 0, 0)),
+    ("magic is tested before both", 0x107, 1 << 32, 0, ("BAD_MAGIC", 0, 0x107, 0)),
+)
+
+# Names in the records of sections, and what they say in both modes, where b"MZ" stands at 0 and b"twelve" at 12; or why they are
+# refused.
+NAMES = (
+    (b".rdata\0\0", b".rdata"),
+    (b"/+12\0\0\0\0", b"twelve"),
+    (b"/12\0\xFF\xFF\xFF\xFF", b"twelve"),
+    (b"//\0\0\0\0\0\0", b"MZ"),
+)
+REFUSED_NAMES = (
+    (b"/\0\0\0\0\0\0\0", "NAME_DECIMAL"),
+    (b"/+\0\0\0\0\0\0", "NAME_DECIMAL"),
+    (b"/\xC3\xA9\0\0\0\0\0", "NAME_DECIMAL"),
+    (b"//-\0\0\0\0\0", "NAME_BASE64"),
+)
+
+# Offsets in a string table, and the names that say them.
+OFFSETS = (
+    (0, b"/0\0\0\0\0\0\0"),
+    (9_999_999, b"/9999999"),
+    (10_000_000, b"//AAmJaA"),
+    (68_719_476_735, b"////////"),
+)
+
+# Sections by their size in memory, and their size and offset in the file; the file; and their data: the bytes that the file has of
+# it, and how many zeros follow them.
+ZEROS, NINE_AT_7 = bytes(16), with_parts(bytes(16), (7, b"\x09"))
+SECTION_DATA = (
+    ("as much as in memory", (4, 4, 4), ZEROS, (bytes(4), 0)),
+    ("none, at the end of the file", (0, 0, 16), ZEROS, (b"", 0)),
+    ("zeros, and more of them in memory", (6, 4, 4), ZEROS, (bytes(4), 2)),
+    ("more in memory", (6, 4, 4), NINE_AT_7, (b"\0\0\0\x09", 2)),
+)
+
+
+def terse(stripped_size):
+    """A Terse Executable of which so many bytes were stripped, with an entry point at 0x1010 and a section at 0x1000, whose data
+    begin at 0x200."""
+    return with_parts(bytes(80), (0, b"VZ"), (4, b"\x01"), (6, struct.pack("<H", stripped_size)), (8, b"\x10\x10"), (0x35, b"\x10"),
+                      (0x3D, b"\x02"))
+
+
+def setUpModule():
+    need(CC)  # (for the shared library)
+    package()
+
+
+def read(file, mode):
+    """The image in a file, by one of the modes."""
+    return package().Pe(file, package().Options(is_permissive=mode == "permissive"))
+
+
+def raw(name, *arguments):
+    """Makes one of the library's own calls."""
+    package()._refused.test(getattr(package()._library.LIB, name)(*arguments))
+
+
+def refusal(call, *arguments):
+    """Why a call is refused: the status and the cause by their names, and the numbers; None where it is not."""
+    try:
+        call(*arguments)
+    except package().Refused as refused:
+        return refused.status.name, getattr(refused.cause, "name", refused.cause), refused.first, refused.second
+    return None
+
+
+def opened(file, mode="strict"):
+    """What the library fills of an image: its record, those of its data directories and of its sections, and the stub."""
+    records = package().records
+    how = records.Options(mode == "permissive", True, False, True)
+    found = types.SimpleNamespace(file=records.File(), directories=(records.Directory * 16)())
+    with records.Tables() as tables:
+        raw("goblin_pe_raw_open", file, len(file), ctypes.byref(how), ctypes.byref(found.file), found.directories, 16, ctypes.byref(tables))
+        found.stub = ctypes.string_at(tables.dos_stub.bytes, tables.dos_stub.length)
+        found.sections = [records.Section.from_buffer_copy(it) for it in tables.records("sections")]
+    return found
+
+
+def entries(found):
+    """The data directories that are there, as in the table of headers."""
+    return {index: (it.end, *it.directory) for index, it in enumerate(found.directories) if it.is_present}
+
+
+def nonzero(record):
+    """The fields that are not zero, by their names."""
+    return {name: it for name, it in record._asdict().items() if (any(it) if isinstance(it, (tuple, bytes)) else it)}
+
+
+def header(file, mode):
+    """The parts of a header, as in the table of headers."""
+    pe, found = read(file, mode), opened(file, mode)
+    standard, windows = pe.optional_header or (None, None)
+    return dict(dos_header=nonzero(pe.dos_header), stub=found.stub, rich_header=pe.rich_header, coff_header=nonzero(pe.coff_header),
+                standard_fields=standard and nonzero(standard), windows_fields=windows and nonzero(windows), directories=entries(found))
+
+
+def written(found, room):
+    """Writes the header of an image that was opened into so many bytes of 0xAA: why that is refused, how many bytes it says are
+    written, and what stands there afterwards."""
+    out, size = ctypes.create_string_buffer(b"\xAA" * room, room + 1), ctypes.c_size_t()
+    refused = refusal(raw, "goblin_pe_raw_write_header", ctypes.byref(found.file), found.directories, found.file.directories,
+                      found.stub, len(found.stub), out, room, ctypes.byref(size))
+    return refused, size.value, out.raw[:room]
+
+
+class Headers(unittest.TestCase):
+    def test_the_parts_of_a_header_are_read(self):
+        for name, file, modes, wanted in HEADERS:
+            for mode in modes:
+                with self.subTest(name, mode=mode):
+                    self.assertEqual(header(file, mode), wanted)
+
+    def test_files_are_refused_for_their_headers(self):
+        for name, file, modes, wanted in REFUSED:
+            for mode in modes:
+                with self.subTest(name, mode=mode):
+                    self.assertEqual(refusal(read, file, mode), wanted)
+
+    def test_the_fields_of_an_optional_header_stand_in_their_order(self):
+        for name, standard_widths, windows_widths, standard, windows in FIELDS:
+            with self.subTest(name):
+                file = image(standard["magic"], rising(standard_widths) + rising(windows_widths), bytes(128))
+                self.assertEqual([it._asdict() for it in read(file, "strict").optional_header], [standard, windows])
+
+    def test_data_directories_are_read_with_the_ends_of_their_records(self):
+        for name, file, wanted in ENTRIES:
+            with self.subTest(name):
+                self.assertEqual(entries(opened(file, "permissive")), wanted)
+
+
+class Written(unittest.TestCase):
+    def test_a_header_is_written_and_nothing_after_it(self):
+        for name, file, (mode,), wanted in WRITTEN:
+            with self.subTest(name):
+                self.assertEqual(written(opened(file, mode), len(wanted) + 8), (None, len(wanted), wanted + b"\xAA" * 8))
+
+    def test_a_header_that_is_refused_leaves_the_buffer(self):
+        for name, magic, image_base, room, wanted in UNWRITTEN:
+            with self.subTest(name):
+                found = opened(SAMPLE)
+                standard, windows = found.file.optional_header
+                changed = standard._replace(magic=magic), windows._replace(image_base=image_base)
+                found.file.optional_header = package().records.record_of(package().OptionalHeader, package().OptionalHeader(*changed))
+                self.assertEqual(written(found, room), (wanted, 0, b"\xAA" * room))
+
+    def test_wide_standard_fields_keep_their_low_halves(self):
+        pe = read(SAMPLE, "strict")
+        wide = pe.optional_header.standard_fields._replace(size_of_code=0x1_0000_0005)
+        again = read(pe.write(optional_header=pe.optional_header._replace(standard_fields=wide)), "strict")
+        self.assertEqual(again.optional_header.standard_fields.size_of_code, 5)
+
+
+class Sections(unittest.TestCase):
+    def test_a_name_says_where_it_stands_in_both_modes(self):
+        for name, wanted in NAMES:
+            for mode in BOTH:
+                with self.subTest(name=name, mode=mode):
+                    section, = read(with_parts(SAMPLE, (12, b"twelve"), (TABLE, name)), mode).sections
+                    self.assertEqual((section.name, section.raw_name), (wanted, name))
+
+    def test_a_name_without_a_number_is_refused_in_both_modes(self):
+        for name, cause in REFUSED_NAMES:
+            for mode in BOTH:
+                with self.subTest(name=name, mode=mode):
+                    self.assertEqual(refusal(read, with_parts(SAMPLE, (TABLE, name)), mode), ("MALFORMED", cause, 0, 0))
+
+    def test_a_name_that_is_no_text_is_refused_in_strict_mode_alone(self):
+        file = with_parts(SAMPLE, (TABLE, b"/\xFF\0\0\0\0\0\0"))
+        self.assertEqual(refusal(read, file, "strict"), ("MALFORMED", "NAME_TEXT", 0, 0))
+        self.assertEqual(read(file, "permissive").sections[0].name, b"/\xFF")
+
+    def test_a_name_is_made_to_say_an_offset(self):
+        for offset, wanted in OFFSETS:
+            with self.subTest(offset=offset):
+                section, = opened(SAMPLE).sections
+                raw("goblin_pe_raw_set_name_offset", ctypes.byref(section), offset)
+                self.assertEqual(bytes(section.name), wanted)
+
+    def test_a_name_says_the_offset_that_it_is_made_to_say(self):
+        for offset, name in OFFSETS:
+            with self.subTest(offset=offset), tempfile.TemporaryFile() as file:
+                file.write(with_parts(SAMPLE, (TABLE, name)))
+                file.seek(offset)  # (nothing is stored of what lies between)
+                file.write(b"MZ, or far away")
+                file.flush()
+                with mmap.mmap(file.fileno(), 0, access=mmap.ACCESS_READ) as data:
+                    self.assertEqual([read(data, mode).sections[0].name for mode in BOTH], [b"MZ, or far away"] * 2)
+
+    def test_an_offset_that_no_name_can_say_leaves_the_section(self):
+        section, = opened(SAMPLE).sections
+        before = bytes(section)
+        self.assertEqual(refusal(raw, "goblin_pe_raw_set_name_offset", ctypes.byref(section), 68_719_476_736),
+                         ("MALFORMED", "NAME_OFFSET", 68_719_476_736, 0))
+        self.assertEqual(bytes(section), before)
+
+    def test_a_section_is_written_as_it_stood(self):
+        section, = opened(NAMED_ELSEWHERE).sections
+        self.assertEqual(ctypes.string_at(section.real_name.bytes, section.real_name.length), b"a.dll")
+        out, size = ctypes.create_string_buffer(b"\xFF" * 40, 40), ctypes.c_size_t()
+        raw("goblin_pe_raw_write_section", ctypes.byref(section), out, 40, ctypes.byref(size))
+        self.assertEqual((out.raw, size.value), (NAMED_ELSEWHERE[TABLE:TABLE_END], 40))
+
+    def test_data_goes_on_with_zeros_up_to_the_size_in_memory(self):
+        section, = read(SAMPLE, "strict").sections
+        for name, (memory, size, pointer), file, wanted in SECTION_DATA:
+            with self.subTest(name):
+                of_row = section._replace(virtual_size=memory, size_of_raw_data=size, pointer_to_raw_data=pointer)
+                self.assertEqual(of_row.data(file), wanted)
+
+
+class TerseExecutables(unittest.TestCase):
+    def test_addresses_are_adjusted_by_what_was_stripped(self):
+        te = package().Te(terse(0x128))
+        self.assertEqual((te.header.entry_point, te.header.reloc_dir), (0xF10, (0xFFFF_FF00, 0)))
+        self.assertEqual([nonzero(it) for it in te.sections], [dict(virtual_address=0xF00, pointer_to_raw_data=0x100)])
+
+    def test_a_header_of_which_too_little_was_stripped_is_refused(self):
+        for stripped_size in 0x17, 0x27:
+            with self.subTest(stripped_size=stripped_size):
+                self.assertEqual(refusal(package().Te, terse(stripped_size)), ("MALFORMED", "STRIPPED_SIZE", stripped_size, 0))
