@@ -1,0 +1,270 @@
+"""Rich headers, symbols, relocations, and where addresses lie in a file: worked values, which the library for callers reads."""
+import struct
+import unittest
+
+from tests import images
+from tests.programs import CC, need, package
+
+# The parts of a small file with a Rich header, by their offsets: one entry under the key 1, before a signature.
+SMALL = [(0, b"MZ"), (0x3C, b"\x60"), (0x40, b"\x45\x61\x6E\x53\x01\0\0\0\x01\0\0\0\x01\0\0\0"),
+         (0x50, b"\x03\0\x03\0\x05\0\0\0Rich\x01\0\0\0"), (0x60, b"PE\0\0")]
+# What makes its first marker stand after the second.
+TURNED = [(0x40, b"\x44"), (0x3C, b"\x64"), (0x60, b"\x45\x61\x6E\x53PE\0\0")]
+# A larger one after the usual stub: its key, and its entries by build, product and use count.
+KEY = 0xE2352D37
+ENTRIES = [(25203, 260, 10), (25203, 259, 5), (25203, 261, 127), (25305, 259, 9), (25305, 261, 35), (25305, 260, 18), (25203, 257, 11),
+           (0, 1, 152), (0, 0, 20), (25547, 258, 1)]
+STUB = b"\x0E\x1F\xBA\x0E\x00\xB4\x09\xCD\x21\xB8\x01\x4C\xCD\x21This program cannot be run in DOS mode.\r\r\n$\0\0\0\0\0\0\0"
+LARGE = [(0, b"MZ"), (0x3C, b"\xF8"), (0x40, STUB), (0x80, b"\x73\x4C\x5B\xB1" + struct.pack("<3I", KEY, KEY, KEY)),
+         (0x90, b"".join(struct.pack("<II", (product << 16 | build) ^ KEY, count ^ KEY) for build, product, count in ENTRIES)),
+         (0xE0, b"Rich" + struct.pack("<I", KEY)), (0xF8, b"PE\0\0")]
+# The parts of a file; its Rich header's key, size of padding, and offsets of the markers; its entries; and why a rest is none.
+RICH = [
+    ("one entry", SMALL, (1, 12, 0x40, 0x58), [(2, 3, 4)], None),
+    ("ten entries", LARGE, (KEY, 12, 0x80, 0xE0), ENTRIES, None),
+    ("no second marker", [(0, b"MZ"), (0x3C, b"\x43"), (0x43, b"PE\0\0")], None, [], None),
+    ("a rest that is no whole entry",
+     [(0, b"MZ"), (0x3C, b"\x5C"), (0x40, b"DanS\0\0\0\0\x02\0\x03\0\x04\0\0\0\x09\x09\x09\x09Rich\0\0\0\0"), (0x5C, b"PE\0\0")],
+     (0, 4, 0x40, 0x54), [(2, 3, 4)], ("BAD_READ", "TOO_BIG", 0, 0)),
+]
+RICH_REFUSED = [
+    ("the small one without its first marker", [*SMALL, (0x40, b"\x44")], ("MALFORMED", "NO_DANS", 0, 0)),
+    ("the large one without its first marker", [*LARGE, (0x80, b"\x12")], ("MALFORMED", "NO_DANS", 0, 0)),
+    ("the first marker after the second", [*SMALL, *TURNED], ("MALFORMED", "RICH_BOUNDS", 0x24, 0x18)),
+]
+
+# Records of the symbol table of a small object that a compiler made, and its string table.
+SYMBOL_RECORDS = (
+    b".text\0\0\0\0\0\0\0\x01\0\0\0\x03\x01"
+    b"Z\0\0\0\x06\0\0\0xB\xC3.\x01\0\0\0\0\0"
+    b"\0\0\0\0G\0\0\0\0\0\0\0\x04\0\0\0\x02\0"
+    b".drectve\0\0\0\0\x06\0\0\0\x03\x01"
+    b")\0\0\0\0\0\0\0F\xE7x\x91\x06\0\0\0\0\0"
+    b"odd\0\0\0\0\x000\0\0\0\x01\0 \0\x02\0"
+    b"\0\0\0\0\x04\0\0\0\0\0\0\0\0\0\0\0\x02\0"
+    b".file\0\0\0\0\0\0\0\xFE\xFF\0\0g\x01"
+    b"free.c\0\0\0\0\0\0\0\0\0\0\0\0")
+STRINGS = b"_\0\0\0__imp_GetTickCount\0.llvm_addrsig\0__imp_Odd\0??_C@_01OJONOECF@b?$AA@\0??_C@_01MCMALHOG@a?$AA@\0"
+# Its symbols as another tool shows them: index, value, section, class, number of auxiliary records, and name.
+SYMBOLS = [
+    (0, 0, 1, 3, 1, b".text"),
+    (2, 0, 4, 2, 0, b"??_C@_01MCMALHOG@a?$AA@"),
+    (3, 0, 6, 3, 1, b".drectve"),
+    (5, 48, 1, 2, 0, b"odd"),
+    (6, 0, 0, 2, 0, b"__imp_GetTickCount"),
+    (7, 0, -2, 103, 1, b".file"),
+]
+# What stands in the eight bytes of a symbol's name, its string table, and its name: the number that is stored there counts the
+# four bytes of the table's length.
+NAMES = [
+    ("a number below four", b"\0\0\0\0\x03\0\0\0", b"\x0C\0\0\0abc\0def\0", None),
+    ("the first text", b"\0\0\0\0\x04\0\0\0", b"\x0C\0\0\0abc\0def\0", b"abc"),
+    ("a text at 4, whatever stands before the number", b"\0ABC\x08\0\0\0", b"\x0C\0\0\0abc\0def\0", b"def"),
+    ("the first text of a table that has no bytes", b"\0\0\0\0\x04\0\0\0", b"\x04\0\0\0", None),
+]
+# How many auxiliary records the first symbol says it has, how many records there are, and the indexes of the symbols.
+INDEXES = [(1, 3, [0, 2]), (0xFF, 1, [0])]
+
+# The relocations of a section of a small object that a compiler made: as stored, and their addresses and the indexes of their
+# symbols, as another tool shows them.
+RELOCATION_RECORDS = (
+    b"\x03\0\0\0\x12\0\0\0\x04\0\x0F\0\0\0\x13\0\0\0\x04\0\x26\0\0\0\x15\0\0\0\x04\0"
+    b"\x36\0\0\0\x17\0\0\0\x04\0\x43\0\0\0\x12\0\0\0\x04\0\x4F\0\0\0\x13\0\0\0\x04\0")
+RELOCATIONS = [(0x3, 18), (0xF, 19), (0x26, 21), (0x36, 23), (0x43, 18), (0x4F, 19)]
+
+# The base relocations of a small library that a linker made: as stored, and their types and addresses, block by block, as another
+# tool shows them.
+LIBRARY = b"\0\x10\0\0\x14\0\0\0\x01\x30\x0B\x30\x22\x30\x31\x30\x3B\x30\0\0\0\x30\0\0\x10\0\0\0\0\x30\x04\x30\x08\x30\0\0"
+BASE_RELOCATIONS = [[(3, 0x1001), (3, 0x100B), (3, 0x1022), (3, 0x1031), (3, 0x103B), (0, 0x1000)],
+                    [(3, 0x3000), (3, 0x3004), (3, 0x3008), (0, 0x3000)]]
+# The bytes of a directory; the blocks in it, by address, size and words; and why a rest is none.
+BLOCKS = [
+    ("no words and no byte after them", b"\0\x10\0\0\x08\0\0\0", [], ("MALFORMED", "BLOCK_RANGE", 8, 0)),
+    ("no words before another block", b"\0\x10\0\0\x08\0\0\0\0\x20\0\0\x0C\0\0\0\x03\x30\0\0",
+     [(0x1000, 8, []), (0x2000, 12, [0x3003, 0])], None),
+    ("two words", b"\0\x20\0\0\x0C\0\0\0\x03\x30\0\0", [(0x2000, 12, [0x3003, 0])], None),
+    ("a word and a byte, which is none", b"\0\0\0\0\x0B\0\0\0\x01\0\x02", [(0, 11, [1])], None),
+]
+
+# Sections by their address, their size in memory, and their data's size and offset in the file. The window of the wide one holds
+# that of the narrow one; two have the same window.
+NARROW = (0x1200, 0x200, 0x200, 0x400)
+WIDE = (0x1000, 0x800, 0x800, 0x800)
+LOW = (0x1000, 0x200, 0x200, 0x400)
+HIGH = (0x1000, 0x200, 0x200, 0x800)
+LESS_DATA_THAN_MEMORY = (0x1000, 0x600, 0x400, 0x200)
+AT_NO_MULTIPLE = (0x1000, 0x100, 0x100, 0x210)
+WITHOUT_DATA = (0x1FB000, 0x28590, 0, 0)
+ROUNDED, UNMAPPED = {"rounds_raw_pointers": True}, {"resolve_rva": False}
+# Sections, the file alignment, options, an address, and its offset in the file.
+OFFSETS = [
+    ([LESS_DATA_THAN_MEMORY], 0x200, {}, 0x1123, 0x323),
+    ([LESS_DATA_THAN_MEMORY], 0x200, {}, 0x13FF, 0x5FF),
+    ([LESS_DATA_THAN_MEMORY], 0x200, {}, 0x1400, None),
+    ([WITHOUT_DATA], 0x200, {}, 0x1FB000, None),
+    ([WITHOUT_DATA], 0x200, {}, 0x215580, None),
+    ([AT_NO_MULTIPLE], 0, {}, 0x1000, None),
+    ([AT_NO_MULTIPLE], 0x300, {}, 0x1000, None),
+    ([AT_NO_MULTIPLE], 0x200, {}, 0x1000, 0x210),
+    ([AT_NO_MULTIPLE], 0x200, {}, 0x11FF, 0x40F),
+    ([AT_NO_MULTIPLE], 0x200, {}, 0x1200, None),
+    ([AT_NO_MULTIPLE], 0x200, ROUNDED, 0x1000, 0x200),
+    ([AT_NO_MULTIPLE], 0x200, ROUNDED, 0x11FF, 0x3FF),
+    ([AT_NO_MULTIPLE], 0x200, ROUNDED, 0x1200, None),
+    ([WIDE], 0, UNMAPPED, 0x1100, 0x1100),
+    ([NARROW, WIDE], 0x200, {}, 0, None),
+    ([NARROW, WIDE], 0x200, {}, 0xFFF, None),
+    ([NARROW, WIDE], 0x200, {}, 0x1100, 0x900),
+    ([NARROW, WIDE], 0x200, {}, 0x1250, 0x450),
+    ([NARROW, WIDE], 0x200, {}, 0x1500, 0xD00),
+    ([NARROW, WIDE], 0x200, {}, 0x1800, None),
+    ([NARROW, WIDE], 0x200, {}, 2**64 - 1, None),
+    ([WIDE, NARROW], 0x200, {}, 0x1250, 0xA50),
+    ([LOW, HIGH], 0x200, {}, 0x1010, 0x410),
+    ([HIGH, LOW], 0x200, {}, 0x1010, 0x810),
+    ([], 0x200, {}, 0, None),
+]
+# Bytes at the end of a file, at the address 0x1000 of a section of 16 bytes; an address; a size; and the text and so many bytes there.
+CONTENTS = [
+    (b"one\0two", 0x1000, 3, b"one", b"one"),
+    (b"one\0two", 0x1004, 3, b"two", b"two"),
+    (b"one\0two", 0x1003, 0, b"", b""),
+    (b"one\0two", 0x1003, 5, b"", None),
+    (b"one\0two", 0x1007, 0, None, None),
+    (b"one\0two", 0xFFF, 1, None, None),
+    (b"\xFFone", 0x1000, 1, None, b"\xFF"),
+    (bytes(16) + b"more", 0x100F, 3, b"", b"\0mo"),
+]
+
+
+def setUpModule():
+    need(CC)
+    package()
+
+
+def put_together(parts):
+    """The bytes of parts that stand at offsets, and of later ones over earlier; between them are zeros."""
+    made = bytearray(max(offset + len(part) for offset, part in parts))
+    for offset, part in parts:
+        made[offset:offset + len(part)] = part
+    return made
+
+
+def signed(parts):
+    """An image of these parts, which ends with a COFF header of zeros after its signature: it has no sections."""
+    return put_together(parts) + bytes(20)
+
+
+def symbols_of(records, strings):
+    """The symbols of an object that has these records and this string table."""
+    header = struct.pack("<HHIIIHH", 0x8664, 0, 0, 20, len(records) // 18, 0, 0)
+    return package().ObjectFile(header + records + strings).symbols
+
+
+def symbol_record(name=bytes(8), auxiliary=0):
+    """The record of a symbol."""
+    return struct.pack("<8sIhHBB", name, 0, 0, 0, 0, auxiliary)
+
+
+def relocated(records):
+    """An object of one section, which has these relocations."""
+    headers = struct.pack("<HHIIIHH8sIIIIIIHHI", 0x8664, 1, 0, 0, 0, 0, 0, b".text", 0, 0, 0, 0, 60, 0, len(records) // 10, 0, 0)
+    return headers + records
+
+
+def with_sections(sections, alignment=0x200):
+    """The headers of an image with these sections and this file alignment."""
+    headers = images.image_headers(0x148 + 40 * len(sections), len(sections), 0x10000, ())
+    struct.pack_into("<I", headers, 0x7C, alignment)
+    for index, (address, size, raw_size, pointer) in enumerate(sections):
+        struct.pack_into("<4I", headers, 0x148 + 40 * index + 8, size, address, raw_size, pointer)
+    return headers
+
+
+def with_blocks(directory):
+    """An image without sections, which ends with these base relocations, at an address that is their offset."""
+    return images.image_headers(0x148, 0, 0x1000, ((5, 0x148, len(directory)),)) + directory
+
+
+def fault(refused):
+    """What a refusal says: the names of its status and its cause, and the numbers of that."""
+    return refused and (refused.status.name, refused.cause.name, refused.first, refused.second)
+
+
+class Tables(unittest.TestCase):
+    def assert_refused(self, wanted, call, *arguments):
+        with self.assertRaises(package().Refused) as caught:
+            call(*arguments)
+        self.assertEqual(fault(caught.exception), wanted)
+
+    def test_a_rich_header_has_its_place_and_its_entries(self):
+        for name, parts, header, entries, rest in RICH:
+            with self.subTest(name):
+                pe = package().Pe(signed(parts))
+                self.assertEqual((pe.rich_header, pe.rich_entries, fault(pe.rich_rest)), (header, entries, rest))
+
+    def test_a_rich_header_needs_both_markers_in_order(self):
+        for name, parts, wanted in RICH_REFUSED:
+            with self.subTest(name):
+                self.assert_refused(wanted, package().Pe, signed(parts))
+
+    def test_the_symbols_of_an_object_are_those_that_another_tool_shows(self):
+        found = [(it.index, it.value, it.section_number, it.storage_class, it.number_of_aux_symbols, it.name)
+                 for it in symbols_of(SYMBOL_RECORDS, STRINGS)]
+        self.assertEqual(found, SYMBOLS)
+
+    def test_auxiliary_records_are_read(self):
+        by_name = {it.name: it for it in symbols_of(SYMBOL_RECORDS, STRINGS)}
+        definition = by_name[b".text"].aux(package().AuxSectionDefinition)
+        self.assertEqual(definition, (90, 6, 0, 0x2EC34278, 1, 0, (0, 0, 0)))
+        self.assertEqual((by_name[b".file"].aux_file(), by_name[b"odd"].aux_file()), (b"free.c", None))
+
+    def test_auxiliary_records_are_no_symbols(self):
+        for auxiliary, count, wanted in INDEXES:
+            with self.subTest(auxiliary=auxiliary):
+                found = symbols_of(symbol_record(auxiliary=auxiliary) + bytes(18 * (count - 1)), b"\x04\0\0\0")
+                self.assertEqual([it.index for it in found], wanted)
+
+    def test_a_stored_number_is_an_offset_from_the_length_field(self):
+        for name, stored, strings, wanted in NAMES:
+            with self.subTest(name):
+                self.assertEqual([it.name for it in symbols_of(symbol_record(stored), strings)], [wanted])
+
+    def test_a_string_table_is_as_long_as_its_length_field_at_least(self):
+        self.assertEqual(symbols_of(b"", b"\x04\0\0\0"), [])
+        self.assert_refused(("MALFORMED", "COFF_LENGTH", 0, 0), symbols_of, b"", b"\x01\0\0\0")
+
+    def test_the_relocations_of_a_section_are_those_that_another_tool_shows(self):
+        file = relocated(RELOCATION_RECORDS)
+        section, = package().ObjectFile(file).sections
+        self.assertEqual(section.relocations(file), [(address, symbol, 4) for address, symbol in RELOCATIONS])
+
+    def test_no_relocations_are_read_before_the_end_and_refused_at_it(self):
+        section = package().ObjectFile(relocated(b"")).sections[0]._replace(pointer_to_relocations=0)
+        self.assertEqual(section.relocations(b"a"), [])
+        self.assert_refused(("BAD_READ", "BAD_OFFSET", 0, 0), section.relocations, b"")
+
+    def test_the_base_relocations_of_a_library_are_those_that_another_tool_shows(self):
+        headers = images.image_headers(0x200, 1, 0x5000, ((5, 0x4000, len(LIBRARY)),))
+        images.put_section(headers, 0x148, b".reloc", LIBRARY, 0x4000, 0x200)
+        pe = package().Pe(headers + LIBRARY)
+        found = [[(word >> 12, block.rva + (word & 0xFFF)) for word in block.words] for block in pe.blocks]
+        self.assertEqual((found, pe.block_rest), (BASE_RELOCATIONS, None))
+
+    def test_a_block_needs_a_byte_after_its_head_and_has_whole_words(self):
+        for name, directory, wanted, rest in BLOCKS:
+            with self.subTest(name):
+                pe = package().Pe(with_blocks(directory), package().Options(resolve_rva=False))
+                self.assertEqual((pe.blocks, fault(pe.block_rest)), (wanted, rest))
+
+    def test_an_address_lies_where_the_first_section_has_it_whose_window_holds_it(self):
+        for sections, alignment, how, rva, wanted in OFFSETS:
+            with self.subTest(sections=sections, alignment=alignment, rva=hex(rva), **how):
+                pe = package().Pe(with_sections(sections, alignment), package().Options(**how))
+                self.assertEqual(pe.find_offset(rva), wanted)
+
+    def test_what_stands_at_an_address(self):
+        for data, rva, size, text, wanted in CONTENTS:
+            with self.subTest(data=data, rva=hex(rva), size=size):
+                pe = package().Pe(with_sections([(0x1000, 16, 16, 0x170)]) + data)
+                self.assertEqual((pe.text_at(rva), pe.bytes_at(rva, size)), (text, wanted))
