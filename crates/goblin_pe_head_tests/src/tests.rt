@@ -7,7 +7,6 @@ mod directories;
 mod index;
 mod optional_header;
 mod relocations;
-mod rich;
 mod sections;
 mod stub;
 mod symbols;
