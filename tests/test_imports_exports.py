@@ -1,0 +1,347 @@
+"""Imports and exports: as lists and as walks, what permissive mode leaves out of them, damage, and sections that overlap.
+
+Each table has files whose every byte is known, and what is read of them."""
+import struct
+import unittest
+from unittest import mock
+
+from tests import images
+from tests.programs import CC, need, package
+
+# The bytes of an image for 32 bits that are not zero, by their offset: its headers, with the addresses and the sizes of its
+# exports and of its imports.
+HEADERS = [
+    (0x00, b"MZ"), (0x3C, b"\x40"), (0x40, b"PE"), (0x44, b"\x4C\x01\x01"), (0x54, b"\xE0\0\x02\x01"),
+    (0x58, b"\x0B\x01"), (0x7C, b"\0\x02"), (0xB4, b"\x10"), (0xB8, struct.pack("<4I", 0x10A0, 0x60, 0x1000, 0x28)),
+]
+# Its one section, at the address 0x1000.
+SECTION = [(0x138, b".rdata"), (0x140, struct.pack("<4I", 0x100, 0x1000, 0x100, 0x200))]
+# What stands in that section: two imports, from the record on to the name of the first, and two exports.
+IMPORTS = [
+    (0x200, b"\x40\x10"), (0x20C, b"\x80\x10\0\0\x60\x10"), (0x240, b"\x90\x10\0\0\x07\0\0\x80"),
+    (0x260, b"\x90\x10\0\0\x07\0\0\x80"), (0x280, b"a.dll"), (0x290, b"\x05\0Go"),
+]
+EXPORTS = [
+    (0x2AC, struct.pack("<4I", 0x1080, 1, 2, 2)), (0x2BC, struct.pack("<3I", 0x10C8, 0x10D0, 0x10D8)),
+    (0x2C8, struct.pack("<4I", 0x1010, 0x10E0, 0x10F0, 0x1080)), (0x2DA, b"\x01"), (0x2E0, b"b.#12"), (0x2F0, b"f"),
+]
+
+
+def made(length, *parts):
+    """A file of so many bytes, with these at their offsets."""
+    data = bytearray(length)
+    for offset, part in parts:
+        data[offset: offset + len(part)] = part
+    return data
+
+
+def sample(*changes):
+    """The image, with other bytes at these offsets."""
+    return made(0x300, *HEADERS, *SECTION, *IMPORTS, *EXPORTS, *changes)
+
+
+def wide_sample():
+    """The same section in an image for 64 bits."""
+    headers = images.image_headers(0x200, 1, 0x2000, ((0, 0x10A0, 0x60), (1, 0x1000, 0x28)))
+    return made(0x300, (0, headers), (0x148, sample()[0x138:0x160]), (0x200, sample()[0x200:]))
+
+
+def moved_headers():
+    """The image with its headers from the PE signature on at 0x10, so that no stub can stand before them."""
+    return sample((0x10, sample()[0x40:0x200]), (0x3C, b"\x10"))
+
+
+def packed_sample(length):
+    """So many bytes of the image, whose address table and library's name stand before the lookup table at 0x240. It has no
+    exports."""
+    record = struct.pack("<5I", 0x1040, 0, 0, 0x1034, 0x1028)
+    return sample((0xB8, bytes(8)), (0x200, record), (0x228, b"\x90\x10\0\0\x07\0\0\x80\0\0\0\0a.dll"))[:length]
+
+
+# Its imports: the library, the name, the hint or the ordinal, the address of the slot, that of the name, and the slot.
+GO = (b"a.dll", b"Go", 5, 0x1060, 0x1090, 0)
+SEVEN = (b"a.dll", None, 7, 0x1064, 0, 1)
+# Its exports: the name, the ordinal, the hint, the address, its file offset, and the forwarder.
+PLAIN = (b"f", 1, 0, 0x1010, 0x210, None)
+FORWARDED = (b"a.dll", 2, 1, 0x10E0, 0x2E0, (b"b", 12))
+
+# Files, and their imports in both modes.
+IMPORTED = [
+    ("the sample", sample(), [GO, SEVEN]),
+    ("no text after the NUL of the library's name", sample((0x28A, b"\xFF")), [GO, SEVEN]),
+    ("no lookup table, so that the address table is read in its place", sample((0x200, b"\0\0")), [GO, SEVEN]),
+    ("a lookup table at the directory, whose entry leads to its own bytes", sample((0x200, b"\0\x10")),
+     [(b"a.dll", b"", 4096, 0x1060, 0x1000, 0)]),
+    ("a hint that no section maps", sample((0x240, b"\0\x90")), [SEVEN]),
+    ("a name that reaches the end", sample((0xB8, bytes(8)))[:0x292] + b"A" * 366,
+     [(b"a.dll", b"A" * 366, 5, 0x1060, 0x1090, 0), SEVEN]),
+    ("entries of eight bytes", wide_sample(), [(b"a.dll", None, 4240, 0x1060, 0, 0)]),
+]
+# A record of the sample's library whose address table no section maps, from the end of it on, and the sample's own record.
+TWO_RECORDS = struct.pack("<6I", 0x9000, 0x1040, 0, 0, 0x1080, 0x1060)
+# Files, why strict mode refuses their imports, and those in permissive mode.
+REFUSED_IMPORTS = [
+    ("a hint without a name", sample((0x240, b"\xFE\x10")), ("BAD_OFFSET", 0, 0), [(b"a.dll", b"", 0, 0x1060, 0x10FE, 0), SEVEN]),
+    ("a hint that is not whole", sample((0x240, b"\xFF\x10")), ("HINT_ENTRY", 0x2FF, 0), [SEVEN]),
+    ("an address table that no section maps", sample((0x210, TWO_RECORDS)), ("UNMAPPED", 0x9000, 0), [GO, SEVEN]),
+    ("the end after two entries, where the names would stand", packed_sample(0x248), ("HINT_ENTRY", 0x290, 0),
+     [(b"a.dll", None, 7, 0x102C, 0, 1)]),
+    ("the end within the second entry", packed_sample(0x247), ("HINT_ENTRY", 0x290, 0), []),
+]
+
+# Files, and their exports.
+EXPORTED = [
+    ("the sample", sample(), [PLAIN, FORWARDED]),
+    ("another ordinal base", sample((0x2B0, b"\0\x01")),
+     [(b"f", 256, 0, 0x1010, 0x210, None), (b"a.dll", 257, 1, 0x10E0, 0x2E0, (b"b", 12))]),
+    ("a name that no section maps", sample((0x2D0, b"\0\x90")), [(None, 1, 0, 0x1010, 0x210, None), FORWARDED]),
+    ("two names of one address", sample((0x2D8, b"\x01")), [(b"f", 2, 0, 0x10E0, 0x2E0, (b"b", 12)), FORWARDED]),
+    ("an ordinal without an address", sample((0x2D8, b"\x02")), [FORWARDED]),
+    ("a forwarder without a dot", sample((0x2E1, b"-")), [PLAIN]),
+]
+# Files in which a table meets the end, the hints of their exports, and how many addresses there are. Of the twelve name
+# pointers that are there, three have ordinals without an address.
+CUT_EXPORTS = [
+    ("768 name pointers", sample((0x2B8, b"\0\x03")), [0, 1, 2, 3, 7, 8, 9, 10, 11], 2),
+    ("768 ordinals, of which four are there", sample((0x2B8, b"\0\x03"), (0x2C4, b"\xF8\x10")), [0, 1, 2, 3], 2),
+    ("768 addresses", sample((0x2B4, b"\0\x03")), [0, 1], 14),
+]
+# Files that are shorter than their export tables, and why they are refused.
+SHORT_EXPORTS = [
+    ("name pointers", sample((0x2B4, b"\x01\x03"), (0x2B8, b"\x01\x03")), ("NAME_POINTERS", 769, 0)),
+    ("addresses", sample((0x2B4, b"\x01\x03")), ("ADDRESS_TABLE_ENTRIES", 769, 0)),
+]
+# Texts, and the library and the name or ordinal that they forward to; and texts that are no forwarders.
+FORWARDERS = [
+    (b"KERNEL32.HeapAlloc", (b"KERNEL32", b"HeapAlloc")), (b".x", (b"", b"x")), (b"a.b.#1", (b"a", b"b.#1")),
+    (b"a.#12", (b"a", 12)), (b"a.#+7", (b"a", 7)),
+]
+NO_FORWARDERS = [b"a.", b"a", b"", b"a.#4294967296", b"a.#"]
+
+# A hint that the end of the file cuts; three records of one library, of which the second has no address table.
+CUT_HINT = (0x240, b"\xFF\x10")
+RECORD = struct.pack("<5I", 0x1040, 0, 0, 0x1080, 0x1060)
+THREE_RECORDS = [(0x214, RECORD), (0x224, b"\0\x90"), (0x228, RECORD)]
+# Files, and how many libraries and entries permissive mode leaves out, as is told in both modes.
+LEFT_OUT = [
+    ("the sample", sample(), (0, 0)),
+    ("an address table that no section maps", sample((0x210, b"\0\x90")), (1, 0)),
+    ("a hint that is not whole", sample(CUT_HINT), (0, 1)),
+    ("a hint without a name, which is kept", sample((0x240, b"\xFE\x10")), (0, 0)),
+    ("a hint that no section maps, which strict mode leaves out, too", sample((0x240, b"\0\x90")), (0, 0)),
+    ("the entries of two libraries, and a third library", sample(CUT_HINT, *THREE_RECORDS), (1, 2)),
+]
+# Files of which one part is damaged, why strict mode refuses that, and how many libraries and entries are left out.
+DAMAGED = [
+    ("a section's name that is no text", sample((0x138, b"/\xFF\0\0\0\0\0\0")), "section_names", ("NAME_TEXT", 0, 0), (0, 0)),
+    ("an address table that no section maps", sample((0x211, b"\x90")), "imports", ("UNMAPPED", 0x9060, 0), (1, 0)),
+    ("a hint that would pass the file", sample(CUT_HINT), "imports", ("HINT_ENTRY", 0x2FF, 0), (0, 1)),
+    ("16 of the 40 bytes of an export directory's record", sample((0xB8, b"\xF0")), "exports", ("EXPORT_TABLE", 0x2F0, 0), (0, 0)),
+    ("base relocations that pass the file", sample((0xE0, b"\xF8\x10\0\0\x09")), "relocations", ("RELOC_RANGE", 0x2F8, 9), (0, 0)),
+    ("a stub that would begin after its end", moved_headers(), "dos_stub", ("STUB_BEFORE_START", 0x10, 0), (0, 0)),
+]
+
+# Where two sections overlap, each has a library, an import and an export of its own: a file has an import record at the address
+# 0x1000 and an export record at 0x1100, which lead to addresses that lie in both.
+IN_BOTH = [
+    (0x800, b"\x10\x12"), (0x80C, b"\x40\x12\0\0\x20\x12"), (0x90C, b"\x40\x12"), (0x914, b"\x01\0\0\0\x01"),
+    (0x91C, b"\x80\x12\0\0\x84\x12\0\0\x88\x12"),
+    (0x410, b"\x50\x12"), (0x420, b"\x0B"), (0x440, b"narrow"), (0x450, b"\x05\0f"), (0x480, b"\x90\x12\0\0\x40\x12"),
+    (0xA10, b"\x50\x12"), (0xA20, b"\x16"), (0xA40, b"wide"), (0xA50, b"\x06\0g"), (0xA80, b"\xA0\x12\0\0\x40\x12"),
+]
+# The sections, by their address, their size, their raw pointer, and whether that may be rounded: the one that lies within the
+# other, the one around it, one apart from both, and others above them.
+NARROW = (0x1200, 0x200, 0x400, True)
+WIDE = (0x1000, 0x800, 0x800, True)
+APART = (0x1C00, 0x200, 0x200, False)
+ABOVE = [(0x2000 + 0x1000 * index, 0x200, 0x200, False) for index in range(18)]
+# What is found in each: where its part of the overlap begins in the file, the library's name, its first address, the import's
+# hint and name, and the export's address.
+IN_NARROW = (0x400, b"narrow", 0x0B, 5, b"f", 0x1290)
+IN_WIDE = (0xA00, b"wide", 0x16, 6, b"g", 0x12A0)
+# Two sections in an order, and what is found.
+ORDERS = [
+    ("the narrow one first", [NARROW, WIDE], IN_NARROW), ("the wide one first", [WIDE, NARROW], IN_WIDE),
+    ("one apart after it", [WIDE, APART], IN_WIDE), ("one apart before it", [APART, WIDE], IN_WIDE),
+]
+# The sections that stand before these two, and after them.
+OTHERS = [("none", [], []), ("after", [], ABOVE), ("before", ABOVE[::-1], [])]
+
+
+def setUpModule():
+    need(CC)  # (for the shared library)
+    package()
+
+
+def overlapping(sections, past):
+    """The file with these sections, whose records stand after their data. The raw pointers that may be rounded lie so many
+    bytes past the data."""
+    records = b"".join(struct.pack("<8s4I16x", b"", size, address, size, pointer + past * may_be_rounded)
+                       for address, size, pointer, may_be_rounded in sections)
+    directories = struct.pack("<4I", 0x1100, 40, 0x1000, 40)
+    changes = [(0x46, struct.pack("<H", len(sections))), (0x54, struct.pack("<H", 0x1000 - 0x58)), (0xB8, directories)]
+    return made(0x1000, *HEADERS, *changes, *IN_BOTH) + records
+
+
+def modes():
+    """The options of each mode."""
+    return package().Options(), package().Options(is_permissive=True)
+
+
+def read(data, **how):
+    return package().Pe(data, package().Options(**how))
+
+
+def said(refused):
+    """The cause of a refusal, with its numbers."""
+    return refused.cause.name, refused.first, refused.second
+
+
+class Read(unittest.TestCase):
+    def assert_refused(self, data, wanted):
+        """Strict mode refuses a file for this cause."""
+        with self.assertRaises(package().Refused) as caught:
+            read(data)
+        self.assertEqual(said(caught.exception), wanted)
+
+    def assert_walks(self, walk, wanted):
+        """A walk gives these, and so does one that goes on anew from the position after each of them."""
+        for batch in (256, 1):
+            with mock.patch.object(package(), "_BATCH", batch):
+                self.assertEqual(list(walk()), wanted)
+
+    def assert_imports(self, pe, wanted):
+        self.assertEqual((pe.import_table, pe.imports), (package().State.READ, wanted))
+        self.assert_walks(pe.walk_imports, wanted)
+
+    def assert_exports(self, pe, wanted):
+        self.assertEqual((pe.export_table, pe.exports), (package().State.READ, wanted))
+        self.assert_walks(pe.walk_exports, wanted)
+
+
+class Imports(Read):
+    def test_imports_that_both_modes_list_are_the_same(self):
+        for name, data, wanted in IMPORTED:
+            for how in modes():
+                with self.subTest(name, how=how):
+                    self.assert_imports(package().Pe(data, how), wanted)
+
+    def test_imports_that_strict_mode_refuses_are_listed_in_permissive_mode(self):
+        for name, data, refused, wanted in REFUSED_IMPORTS:
+            with self.subTest(name):
+                self.assert_refused(data, refused)
+                self.assert_imports(read(data, is_permissive=True), wanted)
+
+
+class Exports(Read):
+    def test_both_modes_list_the_same(self):
+        for name, data, wanted in EXPORTED:
+            for how in modes():
+                with self.subTest(name, how=how):
+                    self.assert_exports(package().Pe(data, how), wanted)
+
+    def test_tables_are_cut_at_the_end_of_the_file(self):
+        for name, data, hints, addresses in CUT_EXPORTS:
+            for how in modes():
+                with self.subTest(name, how=how):
+                    pe = package().Pe(data, how)
+                    self.assertEqual(([it.hint for it in pe.exports], len(pe.export_addresses)), (hints, addresses))
+
+    def test_counts_above_the_length_of_the_file_are_refused(self):
+        for name, data, refused in SHORT_EXPORTS:
+            with self.subTest(name):
+                self.assert_refused(data, refused)
+                pe = read(data, is_permissive=True)
+                self.assertEqual((pe.export_table, pe.exports, said(pe.damage.exports)), (package().State.REFUSED, [], refused))
+
+    def test_forwarders_name_a_library_and_a_name_or_an_ordinal(self):
+        for text, wanted in FORWARDERS:
+            with self.subTest(text):
+                self.assertEqual([it.forwarder for it in read(images.library(b"a.dll", [(b"f", text)])).exports], [wanted])
+
+    def test_texts_that_are_no_forwarders_are_no_exports(self):
+        for text in NO_FORWARDERS:
+            with self.subTest(text):
+                pe = read(images.library(b"a.dll", [(b"f", text)]))
+                self.assertEqual((pe.exports, [it.forwards for it in pe.export_addresses]), ([], [True]))
+
+
+class Damage(Read):
+    def damage(self, data, how):
+        """What is told of a file, which takes the place of the sample once that is open: strict mode opens not all of these."""
+        held = sample()
+        pe = package().Pe(held, how)
+        held[:] = data
+        return pe.damage
+
+    def test_libraries_and_entries_that_are_left_out_are_counted_whatever_the_mode(self):
+        for name, data, wanted in LEFT_OUT:
+            for how in modes():
+                with self.subTest(name, how=how):
+                    self.assertEqual(self.damage(data, how)[5:], wanted)
+
+    def test_a_sound_file_has_no_damage_in_either_mode(self):
+        for how in modes():
+            with self.subTest(how=how):
+                self.assertEqual(self.damage(sample(), how), (None, None, None, None, None, 0, 0))
+
+    def test_damage_is_told_part_by_part(self):
+        for name, data, part, refused, left_out in DAMAGED:
+            with self.subTest(name):
+                self.assert_refused(data, refused)
+                told = read(data, is_permissive=True).damage
+                self.assertEqual({it: said(why) for it, why in zip(told._fields, told[:5]) if why}, {part: refused})
+                self.assertEqual(told[5:], left_out)
+
+
+class WholeFiles(Read):
+    def test_a_file_is_read_in_both_modes(self):
+        for how in modes():
+            with self.subTest(how=how):
+                pe = package().Pe(sample(), how)
+                self.assert_headers(pe)
+                self.assert_imports(pe, [GO, SEVEN])
+                self.assert_exports(pe, [PLAIN, FORWARDED])
+                self.assertEqual((pe.relocation_table, pe.blocks), (package().State.ABSENT, []))
+
+    def assert_headers(self, pe):
+        fields = pe.optional_header
+        self.assertEqual((pe.dos_header.pe_pointer, pe.coff_header), (0x40, (0x14C, 1, 0, 0, 0, 0xE0, 0x102)))
+        self.assertEqual((fields.standard_fields.magic, fields.windows_fields.file_alignment), (0x10B, 0x200))
+        self.assertEqual(pe.data_directories, {0: (0x10A0, 0x60), 1: (0x1000, 0x28)})
+        self.assertEqual(pe.sections, [(b".rdata", 0x100, 0x1000, 0x100, 0x200, 0, 0, 0, 0, 0, b".rdata\0\0")])
+
+    def test_what_the_export_directory_leads_to(self):
+        pe = read(sample())
+        self.assertEqual(pe.export_directory, (b"a.dll", (0, 0, 0, 0, 0x1080, 1, 2, 2, 0x10C8, 0x10D0, 0x10D8)))
+        self.assertEqual(pe.export_addresses, [(1, 0x1010, False), (2, 0x10E0, True)])
+
+    def test_a_raw_pointer_that_is_no_multiple_of_512_is_rounded_where_that_is_asked_for(self):
+        data = sample((0x14C, b"\x10"))
+        for is_permissive in (False, True):
+            pe = read(data, is_permissive=is_permissive, rounds_raw_pointers=True)
+            self.assert_imports(pe, [GO, SEVEN])
+            self.assert_exports(pe, [PLAIN, FORWARDED])
+        pe = read(data, is_permissive=True)
+        self.assert_imports(pe, [])
+        self.assertEqual((pe.export_table, pe.exports), (package().State.REFUSED, []))
+
+
+class OverlappingSections(Read):
+    """Each reader takes what stands where find_offset says: in the first section that has the address."""
+
+    def test_sections_in_many_orders(self):
+        for rounds in (False, True):
+            for where, before, after in OTHERS:
+                for name, two, held in ORDERS:
+                    with self.subTest(name, others=where, rounds=rounds):
+                        data = overlapping([*before, *two, *after], 0x10 if rounds else 0)
+                        self.assert_found(read(data, rounds_raw_pointers=rounds), *held)
+
+    def assert_found(self, pe, begin, name, address, hint, imported, exported):
+        for rva in (0x1210, 0x1220, 0x1240, 0x1250, 0x1280):
+            self.assertEqual(pe.find_offset(rva), begin + rva - 0x1200)
+        self.assert_imports(pe, [(name, imported, hint, 0x1220, 0x1250, 0)])
+        self.assertEqual(pe.bytes_at(pe.imports[0].slot_rva, 4), struct.pack("<I", address))
+        self.assert_exports(pe, [(name, 0, 0, exported, begin + exported - 0x1200, None)])
+        self.assertEqual(pe.export_directory.name, name)
