@@ -97,7 +97,7 @@ fn is_import(import: &Import, row: &ImportRow) -> bool {
 }
 
 /// Whether this is the entry of `Go` in the sample file's lookup table.
-pub fn is_go(entry: &SyntheticImportLookupTableEntry) -> bool {
+fn is_go(entry: &SyntheticImportLookupTableEntry) -> bool {
     match entry {
         SyntheticImportLookupTableEntry::HintNameTableRVA((rva, named)) => *rva == 0x1090
             && named.hint == 5
@@ -107,7 +107,7 @@ pub fn is_go(entry: &SyntheticImportLookupTableEntry) -> bool {
 }
 
 /// Whether this is its entry by the ordinal 7.
-pub fn is_seven(entry: &SyntheticImportLookupTableEntry) -> bool {
+fn is_seven(entry: &SyntheticImportLookupTableEntry) -> bool {
     matches!(entry, SyntheticImportLookupTableEntry::OrdinalNumber(7))
 }
 
@@ -158,6 +158,6 @@ pub fn are_exports(exports: &[Export], rows: &[ExportRow]) -> bool {
 }
 
 /// Whether this is the export of a row.
-pub fn is_export(export: &Export, row: &ExportRow) -> bool {
+fn is_export(export: &Export, row: &ExportRow) -> bool {
     (export.name, export.offset, export.rva, export.reexport) == *row && export.size == 0
 }

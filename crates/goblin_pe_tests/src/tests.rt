@@ -5,8 +5,6 @@
 //! it, or takes it.
 
 mod caller;
-mod damage;
 mod footprints;
 mod modes;
 mod sample;
-mod whole;

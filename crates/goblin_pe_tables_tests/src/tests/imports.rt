@@ -1,11 +1,7 @@
-//! Imports, by entry types of two, four and eight bytes.
+//! Imports by entries of two bytes, and what only a caller in Rattle can ask for or make.
 
-use crate::rows::{
-    GO, ImportRow, RECORD, SEVEN, Short, are_imports, is_sample_library, is_sample_table, is_seven,
-};
-use fixture::sample::{
-    ALIGNMENT, IMPORTS, LOOKUP, cut, in_mode, is_err, put, sample, sample_section, sample_with,
-};
+use crate::rows::{ImportRow, RECORD, Short, are_imports, is_sample_library, is_sample_table};
+use fixture::sample::{ALIGNMENT, IMPORTS, LOOKUP, in_mode, is_err, sample, sample_section};
 use goblin_base::{Cause, Error, ParseMode, ResultOf};
 use goblin_pe_import::import::{
     Bitfield, Import, ImportData, ImportDirectoryEntry, ImportLookupTable,
@@ -50,64 +46,13 @@ fn are_alike<'a, T: Bitfield<'a>>(alloc: Global, file: &'a [u8], rows: &[ImportR
         && are_listed::<T>(alloc, file, ParseMode::Permissive, rows)
 }
 
-/// What is listed of the sample file by entries of eight and of two bytes.
-const OF_EIGHT: &[ImportRow] = &[("ORDINAL 4240", 4240, 0x1060, 0, 8, 0)];
-
+/// What is listed of the sample file.
 const OF_TWO: &[ImportRow] = &[("Go", 5, 0x1060, 0x1090, 2, 0)];
 
 #[test]
-fn imports_are_listed_by_entries_of_each_width(rt: HostRuntime) {
+fn imports_are_listed_by_entries_of_two_bytes(rt: HostRuntime) {
     let file = sample();
-    assert!(rt; are_alike::<u64>(rt.alloc(), &file, OF_EIGHT));
     assert!(rt; are_alike::<Short>(rt.alloc(), &file, OF_TWO));
-}
-
-/// Bytes that are changed, and the imports that are left in both modes.
-const CHANGES: &[(usize, &[u8], &[ImportRow])] = &[
-    // The sample file as it stands.
-    (0, b"MZ", &[GO, SEVEN]),
-    // No text, after the NUL of the library's name.
-    (0x28A, b"\xFF", &[GO, SEVEN]),
-    // No lookup table: the address table is read in its place.
-    (0x200, b"\0\0", &[GO, SEVEN]),
-    // A lookup table at the directory's own place, whose one entry leads to its own bytes.
-    (0x200, b"\x00\x10", &[("", 4096, 0x1060, 0x1000, 4, 0)]),
-    // A hint that no section maps.
-    (0x240, b"\x00\x90", &[SEVEN]),
-];
-
-#[test]
-fn imports_that_both_modes_list_are_the_same(rt: HostRuntime) {
-    for (offset, bytes, want) in CHANGES {
-        let file = sample_with(*offset, bytes);
-        assert!(rt;
-            are_alike::<u32>(rt.alloc(), &file, want),
-            "{offset:#x} {bytes:?}"
-        );
-    }
-}
-
-/// Whether the imports of a file are refused in strict mode, and not for want of memory, and are
-/// these in permissive mode.
-fn are_refused(alloc: Global, file: &[u8], rows: &[ImportRow]) -> bool {
-    let read = imports_of::<u32>(alloc, file, ParseMode::Strict);
-    matches!(&read, Err(error) if !matches!(error, Error::Memory(_)))
-        && are_listed::<u32>(alloc, file, ParseMode::Permissive, rows)
-}
-
-/// What strict mode refuses as the first entry of the lookup table, and the imports that are listed
-/// in permissive mode: a hint without a name, and one that is not whole.
-const REFUSED: &[(&[u8], &[ImportRow])] = &[
-    (b"\xFE\x10", &[("", 0, 0x1060, 0x10FE, 4, 0), SEVEN]),
-    (b"\xFF\x10", &[SEVEN]),
-];
-
-#[test]
-fn imports_that_strict_mode_refuses_are_listed_in_permissive_mode(rt: HostRuntime) {
-    for (entry, want) in REFUSED {
-        let file = sample_with(LOOKUP, entry);
-        assert!(rt; are_refused(rt.alloc(), &file, want), "{entry:?}");
-    }
 }
 
 /// Whether a record leads to the sample's library.
@@ -126,42 +71,6 @@ fn a_record_without_an_address_table_has_it_at_its_lookup_table(rt: HostRuntime)
         ..RECORD
     };
     assert!(rt; is_library_of(rt.alloc(), record));
-}
-
-/// A record of the sample's library whose address table no section maps, from the end of it on, and
-/// the sample's own record after it.
-const TWO_RECORDS: &[u8] = b"\0\x90\0\0\x40\x10\0\0\0\0\0\0\0\0\0\0\x80\x10\0\0\x60\x10";
-
-/// Whether the imports are refused in strict mode, since no section maps that address table.
-fn is_unmapped(alloc: Global, file: &[u8]) -> bool {
-    let read = imports_of::<u32>(alloc, file, ParseMode::Strict);
-    is_err(read, &Error::Malformed(Cause::Unmapped(0x9000)))
-}
-
-#[test]
-fn a_record_whose_address_table_is_not_mapped_is_left_out_or_refused(rt: HostRuntime) {
-    let file = sample_with(0x210, TWO_RECORDS);
-    assert!(rt; is_unmapped(rt.alloc(), &file));
-    assert!(rt; are_listed::<u32>(rt.alloc(), &file, ParseMode::Permissive, &[GO, SEVEN]));
-}
-
-/// Whether these are two imports, of which the first has a name of 366 letters A.
-fn begins_with_a_long_name(imports: &[Import]) -> bool {
-    matches!(imports, [import, _] if import.name.as_bytes() == [b'A'; 366].as_slice())
-}
-
-/// Whether they are the imports of a file in strict mode.
-fn has_a_long_name(alloc: Global, file: &[u8]) -> bool {
-    let read = imports_of::<u32>(alloc, file, ParseMode::Strict);
-    matches!(&read, Ok(imports) if begins_with_a_long_name(imports))
-}
-
-#[test]
-fn a_name_may_reach_the_end(rt: HostRuntime) {
-    // The sample file up to the first name of an import, and letters in the place of that name.
-    let mut file = [b'A'; 0x400];
-    put(&mut file, 0, cut(&sample(), 0x292));
-    assert!(rt; has_a_long_name(rt.alloc(), &file));
 }
 
 /// The lookup table of a file in a mode, and the slots of its entries.
@@ -191,33 +100,6 @@ fn a_lookup_table_is_read_with_its_slots(rt: HostRuntime) {
     let file = sample();
     assert!(rt; has_both_slots(rt.alloc(), &file, ParseMode::Strict));
     assert!(rt; has_both_slots(rt.alloc(), &file, ParseMode::Permissive));
-}
-
-/// Whether a lookup table has so many entries, each by the ordinal 7.
-fn are_sevens(table: &ImportLookupTable, count: usize) -> bool {
-    for entry in table {
-        if !is_seven(entry) {
-            return false;
-        }
-    }
-    table.len() == count
-}
-
-/// Whether a file's lookup table is refused in strict mode, since its hint's place is not there, and has
-/// so many entries by the ordinal 7 in permissive mode.
-fn is_cut(alloc: Global, file: &[u8], count: usize) -> bool {
-    let strict = lookup_of(alloc, file, ParseMode::Strict);
-    is_err(strict, &Error::Malformed(Cause::HintEntry(0x290)))
-        && matches!(&lookup_of(alloc, file, ParseMode::Permissive), Ok((table, _))
-            if are_sevens(table, count))
-}
-
-#[test]
-fn a_lookup_table_that_meets_the_end_is_cut_in_permissive_mode_alone(rt: HostRuntime) {
-    // The names are past the end.
-    let file = sample();
-    assert!(rt; is_cut(rt.alloc(), cut(&file, 0x248), 1));
-    assert!(rt; is_cut(rt.alloc(), cut(&file, 0x247), 0));
 }
 
 /// The sample's import data, with one slot for its library.

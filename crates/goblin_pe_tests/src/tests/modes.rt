@@ -1,13 +1,14 @@
 //! Readers in both modes, under two tables of sections, and of two files at once.
 
-use super::sample::{COFF_HEADER, OfSample, are_both_samples, is_section};
+use super::sample::{COFF_HEADER, OfSample, are_both_samples, are_samples, is_section};
 use fixture::sample::{
     ALIGNMENT, EXPORTS, IMPORTS, LOOKUP, TABLE, directory, put_all, sample, sample_section, section,
 };
 use goblin_base::{CauseOf, ErrorOf, ResultOf};
 use goblin_pe::import::{Import, ImportData, ImportDirectoryEntry};
 use goblin_pe::laws::{
-    PartsOf, Request, TablesOf, mode_header, mode_tables, reorder_whole_tables, twin_parts,
+    PartsOf, Request, TablesOf, mode_header, mode_tables, mode_whole, reorder_whole_tables,
+    twin_parts,
 };
 use goblin_pe::options::ParseOptions;
 use goblin_pe_sect::DataDirectory;
@@ -37,6 +38,12 @@ fn both_modes_read_the_same_header(rt: HostRuntime) {
     let file = sample();
     let headers = mode_header(&file, &ParseOptions::default());
     assert!(rt; matches!(&headers, (Ok(strict), Ok(permissive)) if strict == permissive));
+}
+
+#[test]
+fn both_modes_read_the_same_file(rt: HostRuntime) {
+    let file = sample();
+    assert!(rt; are_samples(mode_whole(rt.alloc(), &file, &ParseOptions::default())));
 }
 
 /// Whether an answer is the sample file's.

@@ -79,7 +79,7 @@ fn is_export_data(tables: &ExportData) -> bool {
         && are_addresses(tables.export_address_table.as_slice())
 }
 
-pub fn has_imports(whole: &Whole) -> bool {
+fn has_imports(whole: &Whole) -> bool {
     match (&whole.import_data, &whole.imports) {
         (Part::Read(data), Part::Read(imports)) => {
             is_import_data(data) && are_imports(imports, &[GO, SEVEN])
@@ -88,7 +88,7 @@ pub fn has_imports(whole: &Whole) -> bool {
     }
 }
 
-pub fn has_exports(whole: &Whole) -> bool {
+fn has_exports(whole: &Whole) -> bool {
     match (&whole.export_data, &whole.exports) {
         (Part::Read(tables), Part::Read(exports)) => {
             is_export_data(tables) && are_exports(exports, &[PLAIN, FORWARDED])
@@ -97,7 +97,7 @@ pub fn has_exports(whole: &Whole) -> bool {
     }
 }
 
-pub fn is_whole(whole: &Whole) -> bool {
+fn is_whole(whole: &Whole) -> bool {
     is_header(&whole.header)
         && is_section(&whole.sections)
         && has_imports(whole)
