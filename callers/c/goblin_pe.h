@@ -561,6 +561,10 @@ struct goblin_pe_import {
     uint16_t ordinal;
     /* Whether the import is by name. */
     bool is_by_name;
+    /* 0, in place of padding: no byte of the record is undefined. */
+    uint8_t zero;
+    /* 0, as `zero`. */
+    uint32_t zeros;
 };
 
 /* Where a walk over imports goes on; zeros are the beginning. It may be kept, and copied. */
@@ -598,6 +602,10 @@ struct goblin_pe_export {
     bool has_offset;
     /* What it forwards to: a goblin_pe_forwards. */
     uint8_t forwards;
+    /* 0, in place of padding: no byte of the record is undefined. */
+    uint8_t zero;
+    /* 0, as `zero`. */
+    uint32_t zeros;
 };
 
 /* An entry of the export address table. Its index and the ordinal base are the ordinal that it

@@ -1,5 +1,5 @@
--- The bytes that are left after some that are ASCII and no NUL.
-use Rattle.std.proofs.Common.{◌≡◌, ℕ, ◌+◌, ◌-◌, ◌<◌, ◌≤◌, List, length, take, drop, sym, ap, ◌∙◌, arith, inl, inr}
+-- Runs of bytes that are ASCII and no NUL.
+use Rattle.std.proofs.Common.{◌≡◌, ℕ, ◌+◌, ◌-◌, ◌<◌, List, length, take, drop, sym, ap, ◌∙◌, arith, inl, inr}
 use Rattle.std.specs.Prelude.{slice_index, slice_range}
 use Rattle.std.proofs.lemmas.Bool.{cases_lt}
 use Rattle.std.proofs.lemmas.List.{get_or-drop, length-drop}
@@ -9,42 +9,17 @@ use Rattle.std.proofs.Math.Seq.{take-length}
 abbrev pub IsPlain : ℕ → Type 0
 IsPlain byte = (0 < byte) × (byte < 128)
 
--- what is left of bytes after some that are ASCII and no NUL
-pub record IsLeft (bytes rest : List ℕ) : Type 0 where
-  pub within : length rest ≤ length bytes
-  pub same : (k : ℕ) → slice_index rest k ≡ slice_index bytes (length bytes - length rest + k)
-  pub plain : (k : ℕ) → k < length bytes - length rest → IsPlain (slice_index bytes k)
+-- so are the first bytes, up to an index
+abbrev pub ArePlain : List ℕ → ℕ → Type 0
+ArePlain bytes n = (k : ℕ) → k < n → IsPlain (slice_index bytes k)
 
-pub all_left : (bytes : List ℕ) → IsLeft bytes bytes
-all_left bytes = record {
-  within = omega arith;
-  same = λ k. ap (slice_index bytes) (omega arith);
-  plain = λ k lt. absurd (omega (arith, lt));
-}
-
-module _ (bytes rest : List ℕ) (left : IsLeft bytes rest) (run : ℕ) (within : run ≤ length rest) (plain : (k : ℕ) → k < run → IsPlain (slice_index rest k)) where
-  -- a run at the front of what is left goes on the run before it
-  pub run_after : (k : ℕ) → k < length bytes - length rest + run → IsPlain (slice_index bytes k)
-  run_after k lt =
-      let before = length bytes - length rest in
-      elim (cases_lt k before) [
-        | inl low ↦ left.plain k low
-        | inr high ↦
-            let place : before + (k - before) ≡ k = omega (arith, high) in
-            let same : slice_index rest (k - before) ≡ slice_index bytes k = left.same (k - before) ∙ ap (slice_index bytes) place in
-            rw (sym same) (plain (k - before) (omega (arith, high, lt)))
-      ]
-
-  -- what is left after it
-  pub less_left : IsLeft bytes (slice_range rest run (length rest))
-  less_left =
-      let all : slice_range rest run (length rest) ≡ drop run rest = ap (λ (n : ℕ). take n (drop run rest)) (sym (length-drop run rest)) ∙ take-length (drop run rest) in
-      let long : length (slice_range rest run (length rest)) ≡ length rest - run = ap length all ∙ length-drop run rest in
-      let low = left.within in
-      record {
-        within = omega (arith, long, low);
-        same = λ k.
-            let place : length bytes - length rest + (run + k) ≡ length bytes - length (slice_range rest run (length rest)) + k = omega (arith, long, low, within) in
-            ap (λ (s : List ℕ). slice_index s k) all ∙ get_or-drop run rest k 0 ∙ left.same (run + k) ∙ ap (slice_index bytes) place;
-        plain = λ k lt. run_after k (omega (arith, long, low, within, lt));
-      }
+-- a run at the front of what is left goes on the run before it
+pub run_after : (bytes : List ℕ) (at run : ℕ) → ArePlain bytes at → ArePlain (slice_range bytes at (length bytes)) run → ArePlain bytes (at + run)
+run_after bytes at run before plain k lt = elim (cases_lt k at) [
+  | inl low ↦ before k low
+  | inr high ↦
+      let place : at + (k - at) ≡ k = omega (arith, high) in
+      let all : slice_range bytes at (length bytes) ≡ drop at bytes = ap (λ (n : ℕ). take n (drop at bytes)) (sym (length-drop at bytes)) ∙ take-length (drop at bytes) in
+      let same : slice_index (slice_range bytes at (length bytes)) (k - at) ≡ slice_index bytes k = ap (λ (s : List ℕ). slice_index s (k - at)) all ∙ get_or-drop at bytes (k - at) 0 ∙ ap (slice_index bytes) place in
+      rw (sym same) (plain (k - at) (omega (arith, high, lt)))
+]

@@ -44,17 +44,17 @@ pub(crate) fn plain_run(bytes: &[u8]) -> Option<usize>
         → (0 < slice_index bytes.now k) × (slice_index bytes.now k < 128)) }
     ensures stops { IfSome result (λ run. run < length bytes.now → slice_index bytes.now run ≡ 0) }
 {
-    let mut rest = bytes;
-    'lanes: while 16 <= rest.len() {
-        if let Some(run) = stop_in_lanes(rest) {
-            if rest[run] != 0 {
+    let mut at = 0;
+    'lanes: while 16 <= bytes.len() - at {
+        if let Some(run) = stop_in_lanes(&bytes[at..]) {
+            let end = at + run;
+            if bytes[end] != 0 {
                 return None;
             }
-            return Some(bytes.len() - rest.len() + run);
+            return Some(end);
         }
-        rest = &rest[16..];
+        at += 16;
     }
-    let mut at = bytes.len() - rest.len();
     'bytes: while at < bytes.len() && is_plain(bytes[at]) {
         at += 1;
     }

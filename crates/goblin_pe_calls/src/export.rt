@@ -62,6 +62,10 @@ pub struct PeExport<'a> {
     pub has_offset: bool,
     /// 0 no forwarder, 1 a forwarder by name, 2 a forwarder by ordinal.
     pub forwards: u8,
+    /// 0, in place of padding: no byte of the record is undefined.
+    pub zero: u8,
+    /// 0, as `zero`.
+    pub zeros: u32,
 }
 
 /// The record of an export of these bytes.
@@ -96,6 +100,8 @@ pub fn export_record<'a>(bytes: &'a [u8], walked: &WalkedExport<'a>) -> PeExport
         has_name: export.name.is_some(),
         has_offset: export.offset.is_some(),
         forwards: forwards as u8,
+        zero: 0,
+        zeros: 0,
     }
 }
 

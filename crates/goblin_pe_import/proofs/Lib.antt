@@ -1,3 +1,4 @@
+mod AddressTables
 pub mod ImportBound
 pub mod ImportDirectoryRoundTrip
 mod ImportFaults

@@ -13,7 +13,7 @@ ghost use Rattle.goblin_pe_import.specs.LookupReadings.{address_table};
 use crate::import::bitfield::{Bitfield, read_entry};
 use crate::import::directory_entry::ImportDirectoryEntry;
 use crate::import::library::address_table_rva;
-use goblin_base::{Cause, Error, ResultOf};
+use goblin_base::{Cause, Error, ReadFault, ResultOf};
 use goblin_pe_sect::address_map::AddressMap;
 use goblin_pe_sect::table::Table;
 use std::alloc::Global;
@@ -56,14 +56,19 @@ pub(super) fn test_numbers<'a, 'e, T: Bitfield<'a>>(
         (mapped (λ _. tt {0}) (address_table T.format offset)) bytes.now }
 {
     let size = T::size_of();
+    if bytes.len() < offset {
+        return Err(Error::Read(ReadFault::BadOffset));
+    }
     let mut place = offset;
-    'slots: loop {
-        let entry = read_entry::<T>(bytes, place)?;
-        if entry.is_zero() {
+    'slots: while size <= bytes.len() - place {
+        if T::read(&bytes[place..place + size]).is_zero() {
             return Ok(());
         }
         place += size;
     }
+    // (refused, since this slot is not whole)
+    read_entry::<T>(bytes, place)?;
+    Ok(())
 }
 
 // Tests whether the library of a record has an address table; its numbers are not kept.

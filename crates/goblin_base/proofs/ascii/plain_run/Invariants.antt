@@ -1,15 +1,15 @@
-use Rattle.std.proofs.Common.{ℕ, length, ◌-◌, ◌<◌, ◌≤◌, slice_index}
-use Rattle.goblin_base.proofs.AsciiRuns.{IsLeft}
+use Rattle.std.proofs.Common.{length, ◌-◌, ◌≤◌}
+use Rattle.goblin_base.proofs.AsciiRuns.{ArePlain}
 use Rattle.goblin_base.proofs.ascii.plain_run.Given as goal
 
 abbrev pub invariant-lanes : goal.invariant-lanes
-invariant-lanes l = IsLeft l.bytes l.rest
+invariant-lanes l = (l.at ≤ length l.bytes) × ArePlain l.bytes l.at
 
 abbrev pub decreases-lanes : goal.decreases-lanes
-decreases-lanes l = length l.rest
+decreases-lanes l = length l.bytes - l.at
 
 abbrev pub invariant-bytes : goal.invariant-bytes
-invariant-bytes l = (l.at ≤ length l.bytes) × ((k : ℕ) → k < l.at → (0 < slice_index l.bytes k) × (slice_index l.bytes k < 128))
+invariant-bytes l = (l.at ≤ length l.bytes) × ArePlain l.bytes l.at
 
 abbrev pub decreases-bytes : goal.decreases-bytes
 decreases-bytes l = length l.bytes - l.at

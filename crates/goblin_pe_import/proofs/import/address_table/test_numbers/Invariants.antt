@@ -1,4 +1,4 @@
-use Rattle.std.proofs.Common.{length, ◌-◌, ℕ, List}
+use Rattle.std.proofs.Common.{length, ◌-◌, ◌≤◌, ℕ, List}
 use Rattle.readings.proofs.Loops.{AtRead}
 use Rattle.goblin_pe_import.specs.ImportEntries.{entry_slots}
 use Rattle.goblin_pe_import.specs.LookupReadings.{entry_number}
@@ -6,7 +6,8 @@ use Rattle.goblin_pe_import.proofs.import.address_table.test_numbers.Given as go
 
 abbrev pub invariant-slots : goal.invariant-slots
 invariant-slots g l =
-    (numbers : List ℕ)
+    (l.place ≤ length l.fn.bytes)
+    × (numbers : List ℕ)
     × AtRead (entry_slots g.T.Bitfield.format) entry_number l.fn.bytes l.fn.offset l.place numbers
 
 abbrev pub decreases-slots : goal.decreases-slots

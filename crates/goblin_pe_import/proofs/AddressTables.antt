@@ -1,0 +1,24 @@
+-- The entries of an address table.
+use Rattle.std.proofs.Common.{◌≡◌, ◌+◌, ◌-◌, ◌<◌, ◌≤◌, ℕ, List, length, Some, None, true, false, sym, ap, ◌∙◌, arith, refl}
+use Rattle.std.specs.Prelude.{nat_le, nat_lt, slice_range}
+use Rattle.std.proofs.lemmas.Bool.{le-leb, le-ltb, lt-ltb}
+use Rattle.goblin_base.specs.Record.{record_at}
+
+-- a record whose bytes are in the file
+pub record_there : {R : Type 0} (size : ℕ) (value : List ℕ → R) (bytes : List ℕ) (p : ℕ) → 1 ≤ size → p + size ≤ length bytes → record_at size value bytes p ≡ Some (value (slice_range bytes p (p + size)))
+record_there size value bytes p wide room =
+    let start : nat_lt p (length bytes) ≡ true = lt-ltb _ _ (omega (arith, wide, room)) in
+    let end : nat_le (p + size) (length bytes) ≡ true = le-leb _ _ room in
+    rw (start, end) refl
+
+-- so is an entry that was read of so many bytes
+pub entry_there : {R T : Type 0} (size width : ℕ) (value : List ℕ → R) (view : T → R) (bytes : List ℕ) (p : ℕ) (entry : T) → width ≡ size → 1 ≤ width → width ≤ length bytes - p → p ≤ length bytes → view entry ≡ value (slice_range bytes p (p + width)) → record_at size value bytes p ≡ Some (view entry)
+entry_there size width value view bytes p entry same wide room within read =
+    let there = record_there size value bytes p (omega (arith, same, wide)) (omega (arith, same, room, within)) in
+    there ∙ ap (λ (n : ℕ). Some (value (slice_range bytes p (p + n)))) (sym same) ∙ ap (λ r. Some r) (sym read)
+
+-- and one that begins past its end
+pub record_past : {R : Type 0} (size : ℕ) (value : List ℕ → R) (bytes : List ℕ) (p : ℕ) → length bytes ≤ p → record_at size value bytes p ≡ None
+record_past size value bytes p past =
+    let start : nat_lt p (length bytes) ≡ false = le-ltb _ _ past in
+    rw start refl
