@@ -1,6 +1,36 @@
 """Images and objects that the tests and tools/benchmark make, as bytes."""
 import struct
 
+# The bytes of a small image for 32 bits that are not zero, by their offsets. Its headers: the DOS header, the PE signature and
+# the COFF header; of the optional header the magic, the file alignment and the number of directories, exports and imports.
+HEADERS = (
+    (0x00, b"MZ"), (0x3C, b"\x40"), (0x40, b"PE"), (0x44, b"\x4C\x01\x01"), (0x54, b"\xE0\0\x02\x01"),
+    (0x58, b"\x0B\x01"), (0x7C, b"\0\x02"), (0xB4, b"\x10"), (0xB8, struct.pack("<4I", 0x10A0, 0x60, 0x1000, 0x28)))
+# Its one section, at the address 0x1000.
+SECTION = ((0x138, b".rdata"), (0x140, struct.pack("<4I", 0x100, 0x1000, 0x100, 0x200)))
+# What stands in that section: the import directory, its two tables, and their names; the export directory, its three tables, and
+# their names.
+IMPORTS = (
+    (0x200, b"\x40\x10"), (0x20C, b"\x80\x10\0\0\x60\x10"), (0x240, b"\x90\x10\0\0\x07\0\0\x80"),
+    (0x260, b"\x90\x10\0\0\x07\0\0\x80"), (0x280, b"a.dll"), (0x290, b"\x05\0Go"))
+EXPORTS = (
+    (0x2AC, struct.pack("<4I", 0x1080, 1, 2, 2)), (0x2BC, struct.pack("<3I", 0x10C8, 0x10D0, 0x10D8)),
+    (0x2C8, struct.pack("<4I", 0x1010, 0x10E0, 0x10F0, 0x1080)), (0x2DA, b"\x01"), (0x2E0, b"b.#12"), (0x2F0, b"f"))
+
+
+def with_parts(file, *parts):
+    """The file with other bytes in it: each part a pair (offset, bytes). Zeros stand where it has to grow for them."""
+    file = bytearray(file)
+    for offset, data in parts:
+        file.extend(bytes(max(0, offset - len(file))))
+        file[offset:offset + len(data)] = data
+    return bytes(file)
+
+
+def sample(*changes):
+    """The small image, which has two imports and two exports, with other bytes at these offsets."""
+    return with_parts(bytes(0x300), *HEADERS, *SECTION, *IMPORTS, *EXPORTS, *changes)
+
 
 def large_image(libraries=64, functions=1500, exports=60000, blocks=20000, size=16 << 20):
     """An image for 64 bits with many imports, exports and base relocations, and data after them."""

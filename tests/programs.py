@@ -159,6 +159,20 @@ def package():
     return importlib.import_module("goblin_pe")
 
 
+def told(refused):
+    """What a refusal of the package says: the names of its status and its cause, and two numbers; None where it is none."""
+    return refused and (refused.status.name, getattr(refused.cause, "name", refused.cause), refused.first, refused.second)
+
+
+def refusal(call, *arguments):
+    """What is told of the refusal of a call of the package; None where it is not refused."""
+    try:
+        call(*arguments)
+    except package().Refused as refused:
+        return told(refused)
+    return None
+
+
 def environment(**more):
     """The environment with more in it, and without what leads callers to a library."""
     return {**{name: value for name, value in os.environ.items() if not name.startswith("GOBLIN_PE_")}, **more}

@@ -7,36 +7,16 @@ import tempfile
 import types
 import unittest
 
-from tests.programs import CC, SAMPLES, need, package
-
-
-def with_parts(file, *parts):
-    """The file with other bytes in it: each part a pair (offset, bytes)."""
-    file = bytearray(file)
-    for offset, data in parts:
-        file[offset:offset + len(data)] = data
-    return bytes(file)
+from tests.images import sample, with_parts
+from tests.programs import CC, SAMPLES, need, package, refusal
 
 
 # The modes in which a row holds.
 STRICT, PERMISSIVE = ("strict",), ("permissive",)
 BOTH = STRICT + PERMISSIVE
 
-# An image for 32 bits with one section, which has two imports and two exports.
-SAMPLE = with_parts(
-    bytes(0x300),
-    # The DOS header, the PE signature and the COFF header.
-    (0x00, b"MZ"), (0x3C, b"\x40"), (0x40, b"PE"), (0x44, b"\x4C\x01\x01\x00"), (0x54, b"\xE0\x00\x02\x01"),
-    # The optional header: magic, file alignment, the number of directories, exports and imports.
-    (0x58, b"\x0B\x01"), (0x7C, b"\x00\x02\x00\x00"), (0xB4, b"\x10"), (0xB8, b"\xA0\x10\x00\x00\x60\x00\x00\x00\x00\x10\x00\x00\x28"),
-    # The section table.
-    (0x138, b".rdata"), (0x140, b"\x00\x01\x00\x00\x00\x10\x00\x00\x00\x01\x00\x00\x00\x02"),
-    # The import directory, its two tables, and their names.
-    (0x200, b"\x40\x10"), (0x20C, b"\x80\x10\x00\x00\x60\x10"), (0x240, b"\x90\x10\x00\x00\x07\x00\x00\x80"),
-    (0x260, b"\x90\x10\x00\x00\x07\x00\x00\x80"), (0x280, b"a.dll"), (0x290, b"\x05\x00Go"),
-    # The export directory, its three tables, and their names.
-    (0x2AC, b"\x80\x10\x00\x00\x01\x00\x00\x00\x02\x00\x00\x00\x02"), (0x2BC, b"\xC8\x10\x00\x00\xD0\x10\x00\x00\xD8\x10"),
-    (0x2C8, b"\x10\x10\x00\x00\xE0\x10\x00\x00\xF0\x10\x00\x00\x80\x10"), (0x2DA, b"\x01"), (0x2E0, b"b.#12"), (0x2F0, b"f"))
+# A small image for 32 bits.
+SAMPLE = sample()
 
 # Where its section table begins and ends.
 TABLE, TABLE_END = 0x138, 0x160
@@ -234,15 +214,6 @@ def read(file, mode):
 def raw(name, *arguments):
     """Makes one of the library's own calls."""
     package()._refused.test(getattr(package()._library.LIB, name)(*arguments))
-
-
-def refusal(call, *arguments):
-    """Why a call is refused: the status and the cause by their names, and the numbers; None where it is not."""
-    try:
-        call(*arguments)
-    except package().Refused as refused:
-        return refused.status.name, getattr(refused.cause, "name", refused.cause), refused.first, refused.second
-    return None
 
 
 def opened(file, mode="strict"):

@@ -6,44 +6,14 @@ import unittest
 from unittest import mock
 
 from tests import images
-from tests.programs import CC, need, package
-
-# The bytes of an image for 32 bits that are not zero, by their offset: its headers, with the addresses and the sizes of its
-# exports and of its imports.
-HEADERS = [
-    (0x00, b"MZ"), (0x3C, b"\x40"), (0x40, b"PE"), (0x44, b"\x4C\x01\x01"), (0x54, b"\xE0\0\x02\x01"),
-    (0x58, b"\x0B\x01"), (0x7C, b"\0\x02"), (0xB4, b"\x10"), (0xB8, struct.pack("<4I", 0x10A0, 0x60, 0x1000, 0x28)),
-]
-# Its one section, at the address 0x1000.
-SECTION = [(0x138, b".rdata"), (0x140, struct.pack("<4I", 0x100, 0x1000, 0x100, 0x200))]
-# What stands in that section: two imports, from the record on to the name of the first, and two exports.
-IMPORTS = [
-    (0x200, b"\x40\x10"), (0x20C, b"\x80\x10\0\0\x60\x10"), (0x240, b"\x90\x10\0\0\x07\0\0\x80"),
-    (0x260, b"\x90\x10\0\0\x07\0\0\x80"), (0x280, b"a.dll"), (0x290, b"\x05\0Go"),
-]
-EXPORTS = [
-    (0x2AC, struct.pack("<4I", 0x1080, 1, 2, 2)), (0x2BC, struct.pack("<3I", 0x10C8, 0x10D0, 0x10D8)),
-    (0x2C8, struct.pack("<4I", 0x1010, 0x10E0, 0x10F0, 0x1080)), (0x2DA, b"\x01"), (0x2E0, b"b.#12"), (0x2F0, b"f"),
-]
-
-
-def made(length, *parts):
-    """A file of so many bytes, with these at their offsets."""
-    data = bytearray(length)
-    for offset, part in parts:
-        data[offset: offset + len(part)] = part
-    return data
-
-
-def sample(*changes):
-    """The image, with other bytes at these offsets."""
-    return made(0x300, *HEADERS, *SECTION, *IMPORTS, *EXPORTS, *changes)
+from tests.images import sample, with_parts
+from tests.programs import CC, need, package, refusal, told
 
 
 def wide_sample():
     """The same section in an image for 64 bits."""
     headers = images.image_headers(0x200, 1, 0x2000, ((0, 0x10A0, 0x60), (1, 0x1000, 0x28)))
-    return made(0x300, (0, headers), (0x148, sample()[0x138:0x160]), (0x200, sample()[0x200:]))
+    return with_parts(bytes(0x300), (0, headers), (0x148, sample()[0x138:0x160]), (0x200, sample()[0x200:]))
 
 
 def moved_headers():
@@ -81,12 +51,12 @@ IMPORTED = [
 TWO_RECORDS = struct.pack("<6I", 0x9000, 0x1040, 0, 0, 0x1080, 0x1060)
 # Files, why strict mode refuses their imports, and those in permissive mode.
 REFUSED_IMPORTS = [
-    ("a hint without a name", sample((0x240, b"\xFE\x10")), ("BAD_OFFSET", 0, 0), [(b"a.dll", b"", 0, 0x1060, 0x10FE, 0), SEVEN]),
-    ("a hint that is not whole", sample((0x240, b"\xFF\x10")), ("HINT_ENTRY", 0x2FF, 0), [SEVEN]),
-    ("an address table that no section maps", sample((0x210, TWO_RECORDS)), ("UNMAPPED", 0x9000, 0), [GO, SEVEN]),
-    ("the end after two entries, where the names would stand", packed_sample(0x248), ("HINT_ENTRY", 0x290, 0),
+    ("a hint without a name", sample((0x240, b"\xFE\x10")), ("BAD_READ", "BAD_OFFSET", 0, 0), [(b"a.dll", b"", 0, 0x1060, 0x10FE, 0), SEVEN]),
+    ("a hint that is not whole", sample((0x240, b"\xFF\x10")), ("MALFORMED", "HINT_ENTRY", 0x2FF, 0), [SEVEN]),
+    ("an address table that no section maps", sample((0x210, TWO_RECORDS)), ("MALFORMED", "UNMAPPED", 0x9000, 0), [GO, SEVEN]),
+    ("the end after two entries, where the names would stand", packed_sample(0x248), ("MALFORMED", "HINT_ENTRY", 0x290, 0),
      [(b"a.dll", None, 7, 0x102C, 0, 1)]),
-    ("the end within the second entry", packed_sample(0x247), ("HINT_ENTRY", 0x290, 0), []),
+    ("the end within the second entry", packed_sample(0x247), ("MALFORMED", "HINT_ENTRY", 0x290, 0), []),
 ]
 
 # Files, and their exports.
@@ -108,8 +78,8 @@ CUT_EXPORTS = [
 ]
 # Files that are shorter than their export tables, and why they are refused.
 SHORT_EXPORTS = [
-    ("name pointers", sample((0x2B4, b"\x01\x03"), (0x2B8, b"\x01\x03")), ("NAME_POINTERS", 769, 0)),
-    ("addresses", sample((0x2B4, b"\x01\x03")), ("ADDRESS_TABLE_ENTRIES", 769, 0)),
+    ("name pointers", sample((0x2B4, b"\x01\x03"), (0x2B8, b"\x01\x03")), ("TOO_SHORT", "NAME_POINTERS", 769, 0)),
+    ("addresses", sample((0x2B4, b"\x01\x03")), ("TOO_SHORT", "ADDRESS_TABLE_ENTRIES", 769, 0)),
 ]
 # Texts, and the library and the name or ordinal that they forward to; and texts that are no forwarders.
 FORWARDERS = [
@@ -133,12 +103,12 @@ LEFT_OUT = [
 ]
 # Files of which one part is damaged, why strict mode refuses that, and how many libraries and entries are left out.
 DAMAGED = [
-    ("a section's name that is no text", sample((0x138, b"/\xFF\0\0\0\0\0\0")), "section_names", ("NAME_TEXT", 0, 0), (0, 0)),
-    ("an address table that no section maps", sample((0x211, b"\x90")), "imports", ("UNMAPPED", 0x9060, 0), (1, 0)),
-    ("a hint that would pass the file", sample(CUT_HINT), "imports", ("HINT_ENTRY", 0x2FF, 0), (0, 1)),
-    ("16 of the 40 bytes of an export directory's record", sample((0xB8, b"\xF0")), "exports", ("EXPORT_TABLE", 0x2F0, 0), (0, 0)),
-    ("base relocations that pass the file", sample((0xE0, b"\xF8\x10\0\0\x09")), "relocations", ("RELOC_RANGE", 0x2F8, 9), (0, 0)),
-    ("a stub that would begin after its end", moved_headers(), "dos_stub", ("STUB_BEFORE_START", 0x10, 0), (0, 0)),
+    ("a section's name that is no text", sample((0x138, b"/\xFF\0\0\0\0\0\0")), "section_names", ("MALFORMED", "NAME_TEXT", 0, 0), (0, 0)),
+    ("an address table that no section maps", sample((0x211, b"\x90")), "imports", ("MALFORMED", "UNMAPPED", 0x9060, 0), (1, 0)),
+    ("a hint that would pass the file", sample(CUT_HINT), "imports", ("MALFORMED", "HINT_ENTRY", 0x2FF, 0), (0, 1)),
+    ("16 of the 40 bytes of an export directory's record", sample((0xB8, b"\xF0")), "exports", ("MALFORMED", "EXPORT_TABLE", 0x2F0, 0), (0, 0)),
+    ("base relocations that pass the file", sample((0xE0, b"\xF8\x10\0\0\x09")), "relocations", ("MALFORMED", "RELOC_RANGE", 0x2F8, 9), (0, 0)),
+    ("a stub that would begin after its end", moved_headers(), "dos_stub", ("MALFORMED", "STUB_BEFORE_START", 0x10, 0), (0, 0)),
 ]
 
 # Where two sections overlap, each has a library, an import and an export of its own: a file has an import record at the address
@@ -180,7 +150,7 @@ def overlapping(sections, past):
                        for address, size, pointer, may_be_rounded in sections)
     directories = struct.pack("<4I", 0x1100, 40, 0x1000, 40)
     changes = [(0x46, struct.pack("<H", len(sections))), (0x54, struct.pack("<H", 0x1000 - 0x58)), (0xB8, directories)]
-    return made(0x1000, *HEADERS, *changes, *IN_BOTH) + records
+    return with_parts(bytes(0x1000), *images.HEADERS, *changes, *IN_BOTH) + records
 
 
 def modes():
@@ -192,17 +162,10 @@ def read(data, **how):
     return package().Pe(data, package().Options(**how))
 
 
-def said(refused):
-    """The cause of a refusal, with its numbers."""
-    return refused.cause.name, refused.first, refused.second
-
-
 class Read(unittest.TestCase):
     def assert_refused(self, data, wanted):
         """Strict mode refuses a file for this cause."""
-        with self.assertRaises(package().Refused) as caught:
-            read(data)
-        self.assertEqual(said(caught.exception), wanted)
+        self.assertEqual(refusal(read, data), wanted)
 
     def assert_walks(self, walk, wanted):
         """A walk gives these, and so does one that goes on anew from the position after each of them."""
@@ -252,7 +215,7 @@ class Exports(Read):
             with self.subTest(name):
                 self.assert_refused(data, refused)
                 pe = read(data, is_permissive=True)
-                self.assertEqual((pe.export_table, pe.exports, said(pe.damage.exports)), (package().State.REFUSED, [], refused))
+                self.assertEqual((pe.export_table, pe.exports, told(pe.damage.exports)), (package().State.REFUSED, [], refused))
 
     def test_forwarders_name_a_library_and_a_name_or_an_ordinal(self):
         for text, wanted in FORWARDERS:
@@ -269,7 +232,7 @@ class Exports(Read):
 class Damage(Read):
     def damage(self, data, how):
         """What is told of a file, which takes the place of the sample once that is open: strict mode opens not all of these."""
-        held = sample()
+        held = bytearray(sample())
         pe = package().Pe(held, how)
         held[:] = data
         return pe.damage
@@ -289,9 +252,9 @@ class Damage(Read):
         for name, data, part, refused, left_out in DAMAGED:
             with self.subTest(name):
                 self.assert_refused(data, refused)
-                told = read(data, is_permissive=True).damage
-                self.assertEqual({it: said(why) for it, why in zip(told._fields, told[:5]) if why}, {part: refused})
-                self.assertEqual(told[5:], left_out)
+                damage = read(data, is_permissive=True).damage
+                self.assertEqual({it: told(why) for it, why in zip(damage._fields, damage[:5]) if why}, {part: refused})
+                self.assertEqual(damage[5:], left_out)
 
 
 class WholeFiles(Read):

@@ -3,7 +3,7 @@ import struct
 import unittest
 
 from tests import images
-from tests.programs import CC, need, package
+from tests.programs import CC, need, package, refusal, told
 
 # The parts of a small file with a Rich header, by their offsets: one entry under the key 1, before a signature.
 SMALL = [(0, b"MZ"), (0x3C, b"\x60"), (0x40, b"\x45\x61\x6E\x53\x01\0\0\0\x01\0\0\0\x01\0\0\0"),
@@ -142,17 +142,9 @@ def setUpModule():
     package()
 
 
-def put_together(parts):
-    """The bytes of parts that stand at offsets, and of later ones over earlier; between them are zeros."""
-    made = bytearray(max(offset + len(part) for offset, part in parts))
-    for offset, part in parts:
-        made[offset:offset + len(part)] = part
-    return made
-
-
 def signed(parts):
     """An image of these parts, which ends with a COFF header of zeros after its signature: it has no sections."""
-    return put_together(parts) + bytes(20)
+    return images.with_parts(b"", *parts) + bytes(20)
 
 
 def symbols_of(records, strings):
@@ -186,27 +178,17 @@ def with_blocks(directory):
     return images.image_headers(0x148, 0, 0x1000, ((5, 0x148, len(directory)),)) + directory
 
 
-def fault(refused):
-    """What a refusal says: the names of its status and its cause, and the numbers of that."""
-    return refused and (refused.status.name, refused.cause.name, refused.first, refused.second)
-
-
 class Tables(unittest.TestCase):
-    def assert_refused(self, wanted, call, *arguments):
-        with self.assertRaises(package().Refused) as caught:
-            call(*arguments)
-        self.assertEqual(fault(caught.exception), wanted)
-
     def test_a_rich_header_has_its_place_and_its_entries(self):
         for name, parts, header, entries, rest in RICH:
             with self.subTest(name):
                 pe = package().Pe(signed(parts))
-                self.assertEqual((pe.rich_header, pe.rich_entries, fault(pe.rich_rest)), (header, entries, rest))
+                self.assertEqual((pe.rich_header, pe.rich_entries, told(pe.rich_rest)), (header, entries, rest))
 
     def test_a_rich_header_needs_both_markers_in_order(self):
         for name, parts, wanted in RICH_REFUSED:
             with self.subTest(name):
-                self.assert_refused(wanted, package().Pe, signed(parts))
+                self.assertEqual(refusal(package().Pe, signed(parts)), wanted)
 
     def test_the_symbols_of_an_object_are_those_that_another_tool_shows(self):
         found = [(it.index, it.value, it.section_number, it.storage_class, it.number_of_aux_symbols, it.name)
@@ -232,7 +214,7 @@ class Tables(unittest.TestCase):
 
     def test_a_string_table_is_as_long_as_its_length_field_at_least(self):
         self.assertEqual(symbols_of(b"", b"\x04\0\0\0"), [])
-        self.assert_refused(("MALFORMED", "COFF_LENGTH", 0, 0), symbols_of, b"", b"\x01\0\0\0")
+        self.assertEqual(refusal(symbols_of, b"", b"\x01\0\0\0"), ("MALFORMED", "COFF_LENGTH", 0, 0))
 
     def test_the_relocations_of_a_section_are_those_that_another_tool_shows(self):
         file = relocated(RELOCATION_RECORDS)
@@ -242,7 +224,7 @@ class Tables(unittest.TestCase):
     def test_no_relocations_are_read_before_the_end_and_refused_at_it(self):
         section = package().ObjectFile(relocated(b"")).sections[0]._replace(pointer_to_relocations=0)
         self.assertEqual(section.relocations(b"a"), [])
-        self.assert_refused(("BAD_READ", "BAD_OFFSET", 0, 0), section.relocations, b"")
+        self.assertEqual(refusal(section.relocations, b""), ("BAD_READ", "BAD_OFFSET", 0, 0))
 
     def test_the_base_relocations_of_a_library_are_those_that_another_tool_shows(self):
         headers = images.image_headers(0x200, 1, 0x5000, ((5, 0x4000, len(LIBRARY)),))
@@ -255,7 +237,7 @@ class Tables(unittest.TestCase):
         for name, directory, wanted, rest in BLOCKS:
             with self.subTest(name):
                 pe = package().Pe(with_blocks(directory), package().Options(resolve_rva=False))
-                self.assertEqual((pe.blocks, fault(pe.block_rest)), (wanted, rest))
+                self.assertEqual((pe.blocks, told(pe.block_rest)), (wanted, rest))
 
     def test_an_address_lies_where_the_first_section_has_it_whose_window_holds_it(self):
         for sections, alignment, how, rva, wanted in OFFSETS:
