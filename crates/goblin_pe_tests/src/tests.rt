@@ -5,6 +5,9 @@
 //! it, or takes it.
 
 mod caller;
+mod exports;
 mod footprints;
+mod imports;
 mod modes;
+mod rows;
 mod sample;

@@ -1,5 +1,6 @@
 //! Which bytes of a file its readers depend on.
 
+use super::rows::Short;
 use super::sample::{are_samples, is_header};
 use fixture::sample::{
     ALIGNMENT, EXPORTS, IMPORTS, LOOKUP, SAMPLE_LEN, cut, in_mode, put, put_all, sample,
@@ -11,7 +12,6 @@ use goblin_pe::laws::{
     twin_header, twin_imports, twin_lookup, twin_whole,
 };
 use goblin_pe_sect::ParseOptions;
-use goblin_pe_tables_tests::rows::Short;
 use std::alloc::Global;
 
 /// Positions, by where they begin and where they end.

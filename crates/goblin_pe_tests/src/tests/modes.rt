@@ -1,5 +1,6 @@
 //! Readers in both modes, under two tables of sections, and of two files at once.
 
+use super::rows::RECORD;
 use super::sample::{COFF_HEADER, OfSample, are_both_samples, are_samples, is_section};
 use fixture::sample::{
     ALIGNMENT, EXPORTS, IMPORTS, LOOKUP, TABLE, directory, put_all, sample, sample_section, section,
@@ -13,7 +14,6 @@ use goblin_pe::laws::{
 use goblin_pe::options::ParseOptions;
 use goblin_pe_sect::DataDirectory;
 use goblin_pe_sect::relocation::RelocationData;
-use goblin_pe_tables_tests::rows::RECORD;
 use std::alloc::Global;
 
 /// The bytes of the sample file's library name.

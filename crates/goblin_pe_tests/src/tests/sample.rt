@@ -1,5 +1,9 @@
 //! What the readers find in the sample file.
 
+use super::rows::{
+    FORWARDED, GO, PLAIN, RECORD, SEVEN, are_exports, are_imports, is_sample_library,
+    is_sample_table,
+};
 use fixture::sample::{IMPORTS, sample_section};
 use goblin_base::ResultOf;
 use goblin_pe::export::{Export, ExportAddressTableEntry, ExportData, ExportDirectoryTable};
@@ -8,10 +12,6 @@ use goblin_pe::import::{ImportData, ImportLookupTable};
 use goblin_pe::optional_header::OptionalHeader;
 use goblin_pe::{Part, Whole};
 use goblin_pe_sect::SectionTable;
-use goblin_pe_tables_tests::rows::{
-    FORWARDED, GO, PLAIN, RECORD, SEVEN, are_exports, are_imports, is_sample_library,
-    is_sample_table,
-};
 
 /// The sample file's COFF header.
 pub const COFF_HEADER: CoffHeader = CoffHeader {

@@ -4,11 +4,11 @@
 ghost use Rattle.std.proofs.Common.{lit≤};
 ghost use Rattle.goblin_base.specs.Bytes.{number};
 ghost use Rattle.goblin_base.specs.declared.endian.Endian.TheVariants.{Little};
-ghost use Rattle.goblin_pe_tables_tests.specs.ShortEntry.{short_value};
+ghost use Rattle.goblin_pe_tests.specs.ShortEntry.{short_value};
 
 use goblin_base::{Endian, field_u16};
-use goblin_pe_export::export::{Export, Reexport};
-use goblin_pe_import::import::{
+use goblin_pe::export::{Export, Reexport};
+use goblin_pe::import::{
     Bitfield, Import, ImportDirectoryEntry, ImportLookupTable, SyntheticImportDirectoryEntry,
     SyntheticImportLookupTableEntry,
 };

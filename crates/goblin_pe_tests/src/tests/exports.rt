@@ -1,7 +1,7 @@
 //! Why a text is no forwarder.
 
 use goblin_base::{Cause, Error};
-use goblin_pe_export::export::Reexport;
+use goblin_pe::export::Reexport;
 
 /// Texts that name no export of a library, and why not.
 const OTHERS: &[(&[u8], Cause)] = &[

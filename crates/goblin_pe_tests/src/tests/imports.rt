@@ -1,9 +1,9 @@
 //! Imports by entries of two bytes, and what only a caller in Rattle can ask for or make.
 
-use crate::rows::{ImportRow, RECORD, Short, are_imports, is_sample_library, is_sample_table};
+use super::rows::{ImportRow, RECORD, Short, are_imports, is_sample_library, is_sample_table};
 use fixture::sample::{ALIGNMENT, IMPORTS, LOOKUP, in_mode, is_err, sample, sample_section};
 use goblin_base::{Cause, Error, ParseMode, ResultOf};
-use goblin_pe_import::import::{
+use goblin_pe::import::{
     Bitfield, Import, ImportData, ImportDirectoryEntry, ImportLookupTable,
     SyntheticImportDirectoryEntry, SyntheticImportLookupTableEntry,
 };

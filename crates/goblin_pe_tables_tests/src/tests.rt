@@ -1,4 +1,0 @@
-//! Worked values of imports and exports.
-
-mod exports;
-mod imports;
