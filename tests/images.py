@@ -16,6 +16,9 @@ IMPORTS = (
 EXPORTS = (
     (0x2AC, struct.pack("<4I", 0x1080, 1, 2, 2)), (0x2BC, struct.pack("<3I", 0x10C8, 0x10D0, 0x10D8)),
     (0x2C8, struct.pack("<4I", 0x1010, 0x10E0, 0x10F0, 0x1080)), (0x2DA, b"\x01"), (0x2E0, b"b.#12"), (0x2F0, b"f"))
+# The program of 64 bytes that prints its message and ends.
+DEFAULT_STUB = (b"\x0E\x1F\xBA\x0E\x00\xB4\x09\xCD\x21\xB8\x01\x4C\xCD\x21This program cannot be run in DOS mode.\x0D\x0D\x0A\x24"
+                b"\0\0\0\0\0\0\0")
 
 
 def with_parts(file, *parts):

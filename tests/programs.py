@@ -160,12 +160,12 @@ def package():
 
 
 def told(refused):
-    """What a refusal of the package says: the names of its status and its cause, and two numbers; None where it is none."""
+    """A refusal as rows have it: the names of its status and its cause, and its two numbers. None stays None."""
     return refused and (refused.status.name, getattr(refused.cause, "name", refused.cause), refused.first, refused.second)
 
 
 def refusal(call, *arguments):
-    """What is told of the refusal of a call of the package; None where it is not refused."""
+    """What a call of the package is refused for; None where it is not."""
     try:
         call(*arguments)
     except package().Refused as refused:

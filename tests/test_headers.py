@@ -7,7 +7,7 @@ import tempfile
 import types
 import unittest
 
-from tests.images import sample, with_parts
+from tests.images import DEFAULT_STUB, sample, with_parts
 from tests.programs import CC, SAMPLES, need, package, refusal
 
 
@@ -32,10 +32,6 @@ def short_file(*parts):
 
 # A file whose PE signature stands at 4, in the DOS header.
 SIGNATURE_AT_4 = short_file((4, b"PE"), (0x3C, b"\x04"))
-
-# The program of 64 bytes that prints its message and ends.
-DEFAULT_STUB = (b"\x0E\x1F\xBA\x0E\x00\xB4\x09\xCD\x21\xB8\x01\x4C\xCD\x21This program cannot be run in DOS mode.\x0D\x0D\x0A\x24"
-                b"\0\0\0\0\0\0\0")
 
 # What the headers of the programs of samples/ have alike, as another tool shows it.
 PROGRAM_STUB = b"\x0E\x1F\xBA\x0E\x00\xB4\x09\xCD\x21\xB8\x01\x4C\xCD\x21This program cannot be run in DOS mode.$\0\0"
@@ -126,7 +122,7 @@ def image(magic, fields, directories):
     return with_parts(bytes(0x58), (0, b"MZ"), (0x3C, b"\x40"), (0x40, b"PE"), (0x54, size)) + fields + directories
 
 
-# The data directories of a small program, and one in the place that is reserved.
+# The data directories of a small program; images of both widths that have them, and one with the reserved directory alone.
 DIRECTORIES = with_parts(bytes(128), *((8 * index, struct.pack("<II", address, size)) for index, address, size in (
     (1, 14584, 160), (2, 24576, 18192), (3, 20480, 264), (5, 45056, 60), (6, 13160, 112), (10, 12304, 320), (12, 12624, 328))))
 NARROW, WIDE = image(0x10B, bytes(96), DIRECTORIES), image(0x20B, bytes(112), DIRECTORIES)
@@ -249,7 +245,7 @@ def header(file, mode):
 def written(found, room):
     """Writes the header of an image that was opened into so many bytes of 0xAA: why that is refused, how many bytes it says are
     written, and what stands there afterwards."""
-    out, size = ctypes.create_string_buffer(b"\xAA" * room, room + 1), ctypes.c_size_t()
+    out, size = ctypes.create_string_buffer(b"\xAA" * room, room + 1), ctypes.c_size_t(7)
     refused = refusal(raw, "goblin_pe_raw_write_header", ctypes.byref(found.file), found.directories, found.file.directories,
                       found.stub, len(found.stub), out, room, ctypes.byref(size))
     return refused, size.value, out.raw[:room]
@@ -284,7 +280,8 @@ class Written(unittest.TestCase):
     def test_a_header_is_written_and_nothing_after_it(self):
         for name, file, (mode,), wanted in WRITTEN:
             with self.subTest(name):
-                self.assertEqual(written(opened(file, mode), len(wanted) + 8), (None, len(wanted), wanted + b"\xAA" * 8))
+                for more in (0, 8):
+                    self.assertEqual(written(opened(file, mode), len(wanted) + more), (None, len(wanted), wanted + b"\xAA" * more))
 
     def test_a_header_that_is_refused_leaves_the_buffer(self):
         for name, magic, image_base, room, wanted in UNWRITTEN:
@@ -293,7 +290,7 @@ class Written(unittest.TestCase):
                 standard, windows = found.file.optional_header
                 changed = standard._replace(magic=magic), windows._replace(image_base=image_base)
                 found.file.optional_header = package().records.record_of(package().OptionalHeader, package().OptionalHeader(*changed))
-                self.assertEqual(written(found, room), (wanted, 0, b"\xAA" * room))
+                self.assertEqual(written(found, room), (wanted, 7, b"\xAA" * room))
 
     def test_wide_standard_fields_keep_their_low_halves(self):
         pe = read(SAMPLE, "strict")

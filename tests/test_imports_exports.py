@@ -88,13 +88,12 @@ FORWARDERS = [
 ]
 NO_FORWARDERS = [b"a.", b"a", b"", b"a.#4294967296", b"a.#"]
 
-# A hint that the end of the file cuts; three records of one library, of which the second has no address table.
+# A hint that the end of the file cuts; three records of one library, of which no section maps the second's address table.
 CUT_HINT = (0x240, b"\xFF\x10")
 RECORD = struct.pack("<5I", 0x1040, 0, 0, 0x1080, 0x1060)
 THREE_RECORDS = [(0x214, RECORD), (0x224, b"\0\x90"), (0x228, RECORD)]
 # Files, and how many libraries and entries permissive mode leaves out, as is told in both modes.
 LEFT_OUT = [
-    ("the sample", sample(), (0, 0)),
     ("an address table that no section maps", sample((0x210, b"\0\x90")), (1, 0)),
     ("a hint that is not whole", sample(CUT_HINT), (0, 1)),
     ("a hint without a name, which is kept", sample((0x240, b"\xFE\x10")), (0, 0)),
@@ -111,16 +110,16 @@ DAMAGED = [
     ("a stub that would begin after its end", moved_headers(), "dos_stub", ("MALFORMED", "STUB_BEFORE_START", 0x10, 0), (0, 0)),
 ]
 
-# Where two sections overlap, each has a library, an import and an export of its own: a file has an import record at the address
-# 0x1000 and an export record at 0x1100, which lead to addresses that lie in both.
+# Two sections that overlap, each with a library, an import and an export of its own. The import record at 0x1000 and the export
+# record at 0x1100 lead to addresses in both.
 IN_BOTH = [
     (0x800, b"\x10\x12"), (0x80C, b"\x40\x12\0\0\x20\x12"), (0x90C, b"\x40\x12"), (0x914, b"\x01\0\0\0\x01"),
     (0x91C, b"\x80\x12\0\0\x84\x12\0\0\x88\x12"),
     (0x410, b"\x50\x12"), (0x420, b"\x0B"), (0x440, b"narrow"), (0x450, b"\x05\0f"), (0x480, b"\x90\x12\0\0\x40\x12"),
     (0xA10, b"\x50\x12"), (0xA20, b"\x16"), (0xA40, b"wide"), (0xA50, b"\x06\0g"), (0xA80, b"\xA0\x12\0\0\x40\x12"),
 ]
-# The sections, by their address, their size, their raw pointer, and whether that may be rounded: the one that lies within the
-# other, the one around it, one apart from both, and others above them.
+# The sections, by their address, their size, their raw pointer, and whether that lies past the data where raw pointers are rounded:
+# the one that lies within the other, the one around it, one apart from both, and others above them.
 NARROW = (0x1200, 0x200, 0x400, True)
 WIDE = (0x1000, 0x800, 0x800, True)
 APART = (0x1C00, 0x200, 0x200, False)
@@ -231,7 +230,7 @@ class Exports(Read):
 
 class Damage(Read):
     def damage(self, data, how):
-        """What is told of a file, which takes the place of the sample once that is open: strict mode opens not all of these."""
+        """The damage of a file. It replaces the sample after that was opened, since strict mode would not open it."""
         held = bytearray(sample())
         pe = package().Pe(held, how)
         held[:] = data
@@ -258,21 +257,13 @@ class Damage(Read):
 
 
 class WholeFiles(Read):
-    def test_a_file_is_read_in_both_modes(self):
+    def test_the_directories_and_sections_of_a_file_are_read_in_both_modes(self):
         for how in modes():
             with self.subTest(how=how):
                 pe = package().Pe(sample(), how)
-                self.assert_headers(pe)
-                self.assert_imports(pe, [GO, SEVEN])
-                self.assert_exports(pe, [PLAIN, FORWARDED])
+                self.assertEqual(pe.data_directories, {0: (0x10A0, 0x60), 1: (0x1000, 0x28)})
+                self.assertEqual(pe.sections, [(b".rdata", 0x100, 0x1000, 0x100, 0x200, 0, 0, 0, 0, 0, b".rdata\0\0")])
                 self.assertEqual((pe.relocation_table, pe.blocks), (package().State.ABSENT, []))
-
-    def assert_headers(self, pe):
-        fields = pe.optional_header
-        self.assertEqual((pe.dos_header.pe_pointer, pe.coff_header), (0x40, (0x14C, 1, 0, 0, 0, 0xE0, 0x102)))
-        self.assertEqual((fields.standard_fields.magic, fields.windows_fields.file_alignment), (0x10B, 0x200))
-        self.assertEqual(pe.data_directories, {0: (0x10A0, 0x60), 1: (0x1000, 0x28)})
-        self.assertEqual(pe.sections, [(b".rdata", 0x100, 0x1000, 0x100, 0x200, 0, 0, 0, 0, 0, b".rdata\0\0")])
 
     def test_what_the_export_directory_leads_to(self):
         pe = read(sample())

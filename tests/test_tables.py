@@ -14,11 +14,10 @@ TURNED = [(0x40, b"\x44"), (0x3C, b"\x64"), (0x60, b"\x45\x61\x6E\x53PE\0\0")]
 KEY = 0xE2352D37
 ENTRIES = [(25203, 260, 10), (25203, 259, 5), (25203, 261, 127), (25305, 259, 9), (25305, 261, 35), (25305, 260, 18), (25203, 257, 11),
            (0, 1, 152), (0, 0, 20), (25547, 258, 1)]
-STUB = b"\x0E\x1F\xBA\x0E\x00\xB4\x09\xCD\x21\xB8\x01\x4C\xCD\x21This program cannot be run in DOS mode.\r\r\n$\0\0\0\0\0\0\0"
-LARGE = [(0, b"MZ"), (0x3C, b"\xF8"), (0x40, STUB), (0x80, b"\x73\x4C\x5B\xB1" + struct.pack("<3I", KEY, KEY, KEY)),
+LARGE = [(0, b"MZ"), (0x3C, b"\xF8"), (0x40, images.DEFAULT_STUB), (0x80, b"\x73\x4C\x5B\xB1" + struct.pack("<3I", KEY, KEY, KEY)),
          (0x90, b"".join(struct.pack("<II", (product << 16 | build) ^ KEY, count ^ KEY) for build, product, count in ENTRIES)),
          (0xE0, b"Rich" + struct.pack("<I", KEY)), (0xF8, b"PE\0\0")]
-# The parts of a file; its Rich header's key, size of padding, and offsets of the markers; its entries; and why a rest is none.
+# The parts of a file; its Rich header's key, size of padding, and offsets of the markers; its entries; and why what is left is refused.
 RICH = [
     ("one entry", SMALL, (1, 12, 0x40, 0x58), [(2, 3, 4)], None),
     ("ten entries", LARGE, (KEY, 12, 0x80, 0xE0), ENTRIES, None),
@@ -77,13 +76,13 @@ RELOCATIONS = [(0x3, 18), (0xF, 19), (0x26, 21), (0x36, 23), (0x43, 18), (0x4F, 
 LIBRARY = b"\0\x10\0\0\x14\0\0\0\x01\x30\x0B\x30\x22\x30\x31\x30\x3B\x30\0\0\0\x30\0\0\x10\0\0\0\0\x30\x04\x30\x08\x30\0\0"
 BASE_RELOCATIONS = [[(3, 0x1001), (3, 0x100B), (3, 0x1022), (3, 0x1031), (3, 0x103B), (0, 0x1000)],
                     [(3, 0x3000), (3, 0x3004), (3, 0x3008), (0, 0x3000)]]
-# The bytes of a directory; the blocks in it, by address, size and words; and why a rest is none.
+# The bytes of a directory; the blocks in it, by address, size and words; and why what is left is refused.
 BLOCKS = [
     ("no words and no byte after them", b"\0\x10\0\0\x08\0\0\0", [], ("MALFORMED", "BLOCK_RANGE", 8, 0)),
     ("no words before another block", b"\0\x10\0\0\x08\0\0\0\0\x20\0\0\x0C\0\0\0\x03\x30\0\0",
      [(0x1000, 8, []), (0x2000, 12, [0x3003, 0])], None),
     ("two words", b"\0\x20\0\0\x0C\0\0\0\x03\x30\0\0", [(0x2000, 12, [0x3003, 0])], None),
-    ("a word and a byte, which is none", b"\0\0\0\0\x0B\0\0\0\x01\0\x02", [(0, 11, [1])], None),
+    ("a word, and a byte that is no word", b"\0\0\0\0\x0B\0\0\0\x01\0\x02", [(0, 11, [1])], None),
 ]
 
 # Sections by their address, their size in memory, and their data's size and offset in the file. The window of the wide one holds
@@ -95,7 +94,7 @@ HIGH = (0x1000, 0x200, 0x200, 0x800)
 LESS_DATA_THAN_MEMORY = (0x1000, 0x600, 0x400, 0x200)
 AT_NO_MULTIPLE = (0x1000, 0x100, 0x100, 0x210)
 WITHOUT_DATA = (0x1FB000, 0x28590, 0, 0)
-ROUNDED, UNMAPPED = {"rounds_raw_pointers": True}, {"resolve_rva": False}
+ROUNDED, AS_OFFSETS = {"rounds_raw_pointers": True}, {"resolve_rva": False}
 # Sections, the file alignment, options, an address, and its offset in the file.
 OFFSETS = [
     ([LESS_DATA_THAN_MEMORY], 0x200, {}, 0x1123, 0x323),
@@ -111,7 +110,7 @@ OFFSETS = [
     ([AT_NO_MULTIPLE], 0x200, ROUNDED, 0x1000, 0x200),
     ([AT_NO_MULTIPLE], 0x200, ROUNDED, 0x11FF, 0x3FF),
     ([AT_NO_MULTIPLE], 0x200, ROUNDED, 0x1200, None),
-    ([WIDE], 0, UNMAPPED, 0x1100, 0x1100),
+    ([WIDE], 0, AS_OFFSETS, 0x1100, 0x1100),
     ([NARROW, WIDE], 0x200, {}, 0, None),
     ([NARROW, WIDE], 0x200, {}, 0xFFF, None),
     ([NARROW, WIDE], 0x200, {}, 0x1100, 0x900),
@@ -239,7 +238,7 @@ class Tables(unittest.TestCase):
                 pe = package().Pe(with_blocks(directory), package().Options(resolve_rva=False))
                 self.assertEqual((pe.blocks, told(pe.block_rest)), (wanted, rest))
 
-    def test_an_address_lies_where_the_first_section_has_it_whose_window_holds_it(self):
+    def test_an_address_belongs_to_the_first_section_whose_window_holds_it(self):
         for sections, alignment, how, rva, wanted in OFFSETS:
             with self.subTest(sections=sections, alignment=alignment, rva=hex(rva), **how):
                 pe = package().Pe(with_sections(sections, alignment), package().Options(**how))

@@ -561,10 +561,11 @@ struct goblin_pe_import {
     uint16_t ordinal;
     /* Whether the import is by name. */
     bool is_by_name;
-    /* 0, in place of padding: no byte of the record is undefined. */
-    uint8_t zero;
-    /* 0, as `zero`. */
-    uint32_t zeros;
+    /* 0. With `reserved2` it stands where padding would be, so that each byte of the record is
+       defined. */
+    uint8_t reserved;
+    /* 0. */
+    uint32_t reserved2;
 };
 
 /* Where a walk over imports goes on; zeros are the beginning. It may be kept, and copied. */
@@ -602,10 +603,11 @@ struct goblin_pe_export {
     bool has_offset;
     /* What it forwards to: a goblin_pe_forwards. */
     uint8_t forwards;
-    /* 0, in place of padding: no byte of the record is undefined. */
-    uint8_t zero;
-    /* 0, as `zero`. */
-    uint32_t zeros;
+    /* 0. With `reserved2` it stands where padding would be, so that each byte of the record is
+       defined. */
+    uint8_t reserved;
+    /* 0. */
+    uint32_t reserved2;
 };
 
 /* An entry of the export address table. Its index and the ordinal base are the ordinal that it

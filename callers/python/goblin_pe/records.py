@@ -289,8 +289,8 @@ class Import(Record):
     slot: Size
     ordinal: U16
     is_by_name: Flag
-    zero: U8
-    zeros: U32
+    reserved: U8
+    reserved2: U32
 
 
 @_record
@@ -316,8 +316,8 @@ class Export(Record):
     has_name: Flag
     has_offset: Flag
     forwards: U8
-    zero: U8
-    zeros: U32
+    reserved: U8
+    reserved2: U32
 
 
 @_record

@@ -427,10 +427,11 @@ pub struct Import<'a> {
     pub ordinal: u16,
     /// Whether the import is by name.
     pub is_by_name: bool,
-    /// 0, in place of padding: no byte of the record is undefined.
-    pub zero: u8,
-    /// 0, as `zero`.
-    pub zeros: u32,
+    /// 0. With `reserved2` it stands where padding would be, so that each byte of the record is
+    /// defined.
+    pub reserved: u8,
+    /// 0.
+    pub reserved2: u32,
 }
 
 /// Where a walk over imports goes on; zeros are the beginning. It may be kept, and copied.
@@ -472,10 +473,11 @@ pub struct Export<'a> {
     pub has_offset: bool,
     /// What it forwards to: a `Forwards`.
     pub forwards: u8,
-    /// 0, in place of padding: no byte of the record is undefined.
-    pub zero: u8,
-    /// 0, as `zero`.
-    pub zeros: u32,
+    /// 0. With `reserved2` it stands where padding would be, so that each byte of the record is
+    /// defined.
+    pub reserved: u8,
+    /// 0.
+    pub reserved2: u32,
 }
 
 /// An entry of the export address table.
@@ -811,8 +813,8 @@ impl Import<'_> {
         slot: 0,
         ordinal: 0,
         is_by_name: false,
-        zero: 0,
-        zeros: 0,
+        reserved: 0,
+        reserved2: 0,
     };
 }
 
@@ -830,8 +832,8 @@ impl Export<'_> {
         has_name: false,
         has_offset: false,
         forwards: 0,
-        zero: 0,
-        zeros: 0,
+        reserved: 0,
+        reserved2: 0,
     };
 }
 

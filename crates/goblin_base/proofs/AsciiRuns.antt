@@ -9,11 +9,11 @@ use Rattle.std.proofs.Math.Seq.{take-length}
 abbrev pub IsPlain : ℕ → Type 0
 IsPlain byte = (0 < byte) × (byte < 128)
 
--- so are the first bytes, up to an index
+-- all bytes before an index are
 abbrev pub ArePlain : List ℕ → ℕ → Type 0
 ArePlain bytes n = (k : ℕ) → k < n → IsPlain (slice_index bytes k)
 
--- a run at the front of what is left goes on the run before it
+-- a run at the front of what is left extends the run before it
 pub run_after : (bytes : List ℕ) (at run : ℕ) → ArePlain bytes at → ArePlain (slice_range bytes at (length bytes)) run → ArePlain bytes (at + run)
 run_after bytes at run before plain k lt = elim (cases_lt k at) [
   | inl low ↦ before k low

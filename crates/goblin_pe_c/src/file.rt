@@ -27,7 +27,7 @@ use goblin_pe_records::kind;
 use goblin_pe_records::options::{PeOptions, options_of};
 use std::alloc::Global;
 
-/// The version of this interface. It is raised where a record or a call changes.
+/// The version of this interface. It is raised where a call or a record's layout changes.
 #[unsafe(no_mangle)]
 pub extern "C" fn goblin_pe_interface() -> u32
     ensures { result ≡ 3 }

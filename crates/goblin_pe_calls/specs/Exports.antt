@@ -32,6 +32,7 @@ pub record ExportSaid : Type 0 where
   pub has_name : Bool
   pub has_offset : Bool
   pub forwards : ℕ
+  pub reserved : ℕ × ℕ
 
 -- a forwarder's numbers and texts: its kind, its library, and its name or its ordinal there
 pub record ForwarderSaid : Type 0 where
@@ -68,6 +69,7 @@ export_said x = record {
   has_name = is_some x.row.name;
   has_offset = is_some x.row.offset;
   forwards = (forwarder_said x.row.reexport).kind;
+  reserved = (0, 0);
 }
 
 -- what a record holds
@@ -84,6 +86,7 @@ export_view x = record {
   has_name = x.has_name;
   has_offset = x.has_offset;
   forwards = x.forwards;
+  reserved = (x.reserved, x.reserved2);
 }
 
 -- what a list of records holds

@@ -13,6 +13,7 @@ pub record ImportSaid : Type 0 where
   pub slot : ℕ
   pub ordinal : ℕ
   pub is_by_name : Bool
+  pub reserved : ℕ × ℕ
 
 -- the record of an import, which is by name where its name is in the file; by ordinal it has none
 abbrev pub import_said : ImportValue → ImportSaid
@@ -24,6 +25,7 @@ import_said x = record {
   slot = x.slot;
   ordinal = x.ordinal;
   is_by_name = x.is_borrowed;
+  reserved = (0, 0);
 }
 
 -- what a record holds
@@ -36,6 +38,7 @@ import_view x = record {
   slot = x.slot;
   ordinal = x.ordinal;
   is_by_name = x.is_by_name;
+  reserved = (x.reserved, x.reserved2);
 }
 
 -- what a list of records holds

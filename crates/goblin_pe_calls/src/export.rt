@@ -62,10 +62,11 @@ pub struct PeExport<'a> {
     pub has_offset: bool,
     /// 0 no forwarder, 1 a forwarder by name, 2 a forwarder by ordinal.
     pub forwards: u8,
-    /// 0, in place of padding: no byte of the record is undefined.
-    pub zero: u8,
-    /// 0, as `zero`.
-    pub zeros: u32,
+    /// 0. With `reserved2` it stands where padding would be, so that each byte of the record is
+    /// defined.
+    pub reserved: u8,
+    /// 0.
+    pub reserved2: u32,
 }
 
 /// The record of an export of these bytes.
@@ -100,8 +101,8 @@ pub fn export_record<'a>(bytes: &'a [u8], walked: &WalkedExport<'a>) -> PeExport
         has_name: export.name.is_some(),
         has_offset: export.offset.is_some(),
         forwards: forwards as u8,
-        zero: 0,
-        zeros: 0,
+        reserved: 0,
+        reserved2: 0,
     }
 }
 

@@ -43,10 +43,11 @@ pub struct PeImport<'a> {
     pub ordinal: u16,
     /// Whether the import is by name.
     pub is_by_name: bool,
-    /// 0, in place of padding: no byte of the record is undefined.
-    pub zero: u8,
-    /// 0, as `zero`.
-    pub zeros: u32,
+    /// 0. With `reserved2` it stands where padding would be, so that each byte of the record is
+    /// defined.
+    pub reserved: u8,
+    /// 0.
+    pub reserved2: u32,
 }
 
 /// The record of an import of these bytes.
@@ -71,8 +72,8 @@ pub fn import_record<'a>(bytes: &'a [u8], import: &WalkedImport<'a>) -> PeImport
         slot: import.slot,
         ordinal,
         is_by_name,
-        zero: 0,
-        zeros: 0,
+        reserved: 0,
+        reserved2: 0,
     }
 }
 

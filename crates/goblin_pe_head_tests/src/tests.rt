@@ -1,5 +1,4 @@
-//! Worked values of what is read and written: of bytes, sections, addresses and relocations, of headers,
-//! and of what is read through a header.
+//! What only a caller in Rattle sees of bytes, sections, addresses, relocations and headers.
 
 mod addresses;
 mod base;

@@ -1,4 +1,5 @@
-//! The tests of goblin_pe: worked values of whole files, and readers of which two answers are told.
+//! The tests of goblin_pe: what only a caller in Rattle asks, footprints, and readers of which two
+//! answers are told.
 #![tactic(auto)]
 
 #[cfg(test)]

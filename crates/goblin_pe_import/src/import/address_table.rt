@@ -66,7 +66,7 @@ pub(super) fn test_numbers<'a, 'e, T: Bitfield<'a>>(
         }
         place += size;
     }
-    // (refused, since this slot is not whole)
+    // (the slot at `place` is not whole, so this is refused)
     read_entry::<T>(bytes, place)?;
     Ok(())
 }

@@ -78,10 +78,9 @@ pub const GO: ImportRow = ("Go", 5, 0x1060, 0x1090, 4, 0);
 /// The second of them, by ordinal.
 pub const SEVEN: ImportRow = ("ORDINAL 7", 7, 0x1064, 0, 4, 1);
 
-/// Whether these are the imports from `a.dll`, at most two.
+/// Whether these are the imports from `a.dll`, one or two.
 pub fn are_imports(imports: &[Import], rows: &[ImportRow]) -> bool {
     match (imports, rows) {
-        ([], []) => true,
         ([only], [row]) => is_import(only, row),
         ([first, second], [row, next]) => is_import(first, row) && is_import(second, next),
         _ => false,
@@ -147,11 +146,9 @@ pub const FORWARDED: ExportRow = (
     }),
 );
 
-/// Whether these are the exports, in this order, at most two.
+/// Whether these are the two exports, in this order.
 pub fn are_exports(exports: &[Export], rows: &[ExportRow]) -> bool {
     match (exports, rows) {
-        ([], []) => true,
-        ([only], [row]) => is_export(only, row),
         ([first, second], [row, next]) => is_export(first, row) && is_export(second, next),
         _ => false,
     }
