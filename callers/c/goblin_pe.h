@@ -561,10 +561,10 @@ struct goblin_pe_import {
     uint16_t ordinal;
     /* Whether the import is by name. */
     bool is_by_name;
-    /* 0. With `reserved2` it stands where padding would be, so that each byte of the record is
+    /* Zero. With `reserved2` it stands where padding would be, so that each byte of the record is
        defined. */
     uint8_t reserved;
-    /* 0. */
+    /* Zero. */
     uint32_t reserved2;
 };
 
@@ -603,10 +603,10 @@ struct goblin_pe_export {
     bool has_offset;
     /* What it forwards to: a goblin_pe_forwards. */
     uint8_t forwards;
-    /* 0. With `reserved2` it stands where padding would be, so that each byte of the record is
+    /* Zero. With `reserved2` it stands where padding would be, so that each byte of the record is
        defined. */
     uint8_t reserved;
-    /* 0. */
+    /* Zero. */
     uint32_t reserved2;
 };
 

@@ -62,10 +62,10 @@ pub struct PeExport<'a> {
     pub has_offset: bool,
     /// 0 no forwarder, 1 a forwarder by name, 2 a forwarder by ordinal.
     pub forwards: u8,
-    /// 0. With `reserved2` it stands where padding would be, so that each byte of the record is
+    /// Zero. With `reserved2` it stands where padding would be, so that each byte of the record is
     /// defined.
     pub reserved: u8,
-    /// 0.
+    /// Zero.
     pub reserved2: u32,
 }
 

@@ -43,10 +43,10 @@ pub struct PeImport<'a> {
     pub ordinal: u16,
     /// Whether the import is by name.
     pub is_by_name: bool,
-    /// 0. With `reserved2` it stands where padding would be, so that each byte of the record is
+    /// Zero. With `reserved2` it stands where padding would be, so that each byte of the record is
     /// defined.
     pub reserved: u8,
-    /// 0.
+    /// Zero.
     pub reserved2: u32,
 }
 
