@@ -1,12 +1,16 @@
--- What an index of the sections' windows maps.
-use Rattle.std.proofs.Common.{◌≡◌, ℕ, Bool, true, false, cond, List, [], ◌∷◌, length, Option, None, Some, refl, ap, arith}
+-- What the sections' windows map.
+use Rattle.std.proofs.Common.{◌≡◌, ℕ, Bool, true, false, cond, List, [], ◌∷◌, find, length, map, Option, None, Some, refl, ap, ◌∙◌, arith}
 use Rattle.std.proofs.Math.Path.{fun_ext}
 use Rattle.std.specs.Int.{is_power_of_two}
-use Rattle.goblin_pe_sect.specs.Mapping.{file_offset}
-use Rattle.goblin_pe_sect.specs.SectionTable.{Section}
+use Rattle.std.specs.Option.{option_map}
+use Rattle.goblin_pe_sect.specs.Mapping.{file_offset, is_in_window, offset_in, read_size}
+use Rattle.goblin_pe_sect.specs.SectionTable.{Section, unnamed}
 use Rattle.goblin_pe_sect.specs.WindowIndex.{Pieces, located}
 use Rattle.goblin_pe_sect.specs.declared.options.ParseOptions.{ParseOptions}
-use Rattle.goblin_pe_sect.specs.Addresses.{map_by}
+use Rattle.goblin_base.specs.declared.permissive.ParseMode.TheVariants.{Strict}
+use Rattle.goblin_pe_sect.specs.declared.address_map.Windows.{Windows}
+use Rattle.goblin_pe_sect.specs.declared.address_map.Windows.TheVariants.{Indexed, Walked}
+use Rattle.goblin_pe_sect.specs.Addresses.{map_by, offset_by_windows}
 
 same_by : (resolves even : Bool) (rva : ℕ) → cond resolves None (Some rva) ≡ cond resolves (cond even None None) (Some rva)
 same_by false even rva = refl
@@ -22,3 +26,34 @@ located_nowhere opts (s ∷ sections) alignment rva none = absurd (omega arith)
 -- an index that maps each address as the sections do makes the map of addresses by them
 pub same_map : (opts : ParseOptions) (sections : List Section) (alignment : ℕ) (index : Pieces) → ((rva : ℕ) → located index rva ≡ file_offset opts sections alignment rva) → record { opts = opts; offset = located index } ≡ map_by opts sections alignment
 same_map opts sections alignment index mapped = ap (λ (f : ℕ → Option ℕ). record { opts = opts; offset = f }) (fun_ext mapped)
+
+-- the mode changes no offset
+pub same_windows : (opts : ParseOptions) (w : Windows) → offset_by_windows (record opts { parse_mode = Strict }) w ≡ offset_by_windows opts w
+unfolding file_offset
+same_windows opts (Walked records alignment) = fun_ext (λ rva. refl)
+same_windows opts (Indexed index) = refl
+
+unnamed_by : (b : Bool) (s : Section) (x y : Option Section) → x ≡ option_map unnamed y → cond b (Some (unnamed s)) x ≡ option_map unnamed (cond b (Some s) y)
+unnamed_by true s x y e = refl
+unnamed_by false s x y e = e
+
+find_unnamed : (alignment rva : ℕ) (sections : List Section) → find (is_in_window alignment rva) (map unnamed sections) ≡ option_map unnamed (find (is_in_window alignment rva) sections)
+unfolding read_size
+find_unnamed alignment rva [] = refl
+find_unnamed alignment rva (s ∷ sections) = unnamed_by (is_in_window alignment rva s) s _ _ (find_unnamed alignment rva sections)
+
+offset_by : (opts : ParseOptions) (rva : ℕ) (found : Option Section) → option_map (λ s. offset_in opts s rva) (option_map unnamed found) ≡ option_map (λ s. offset_in opts s rva) found
+offset_by opts rva None = refl
+offset_by opts rva (Some s) = refl
+
+-- names change no offset
+pub unnamed_offsets : (opts : ParseOptions) (sections : List Section) (alignment : ℕ) → file_offset opts (map unnamed sections) alignment ≡ file_offset opts sections alignment
+unfolding file_offset
+unnamed_offsets opts sections alignment =
+    fun_ext (λ (rva : ℕ).
+    ap (λ (x : Option ℕ). cond opts.resolve_rva (cond (is_power_of_two alignment) x None) (Some rva))
+    (ap (option_map (λ s. offset_in opts s rva)) (find_unnamed alignment rva sections) ∙ offset_by opts rva (find (is_in_window alignment rva) sections)))
+
+-- so maps by sections that differ in their names alone are the same
+pub unnamed_map : (opts : ParseOptions) (sections : List Section) (alignment : ℕ) → map_by opts (map unnamed sections) alignment ≡ map_by opts sections alignment
+unnamed_map opts sections alignment = ap (λ (f : ℕ → Option ℕ). record { opts = opts; offset = f }) (unnamed_offsets opts sections alignment)

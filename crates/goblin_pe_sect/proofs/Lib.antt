@@ -1,4 +1,4 @@
-mod AddressMaps
+pub mod AddressMaps
 pub mod BlockItems
 pub mod BlocksOf
 pub mod CutOffsets
@@ -21,7 +21,9 @@ pub mod RelocationsRoundTrip
 pub mod Reordered
 pub mod Runs
 pub mod SectionNameRoundTrip
+pub mod SectionRecords
 pub mod SectionTableRoundTrip
 pub mod Stretches
+pub mod Walked
 pub mod WindowPieces
 pub mod WordItems

@@ -7,7 +7,8 @@ use Rattle.std.proofs.lemmas.Bool.Decides.{nat_tests}
 use lib.Count.{ones}
 use Rattle.goblin_pe_sect.specs.declared.options.ParseOptions.{ParseOptions}
 use Rattle.goblin_pe_sect.specs.SectionTable.{Section}
-use Rattle.goblin_pe_sect.specs.Mapping.{OffsetsApart, read_size, is_in_window, offset_in, file_offset, InWindow, IsFirstWindow, MapsTo, MapsNowhere, raw_begin}
+use Rattle.goblin_pe_sect.specs.Mapping.{OffsetsApart, read_size, is_in_window, offset_in, file_offset, InWindow, IsFirstWindow, MapsTo, MapsNowhere, raw_begin, window_end}
+use Rattle.goblin_pe_sect.specs.Multiples.{least_multiple}
 use Rattle.goblin_pe_sect.proofs.Multiples.{up_near}
 use Rattle.goblin_pe_sect.proofs.First.{found_at_first, found_passes, fails_before, none_passes, first_is_found}
 
@@ -27,6 +28,13 @@ pub read_size_le : (s : Section) (alignment : ℕ) → read_size s alignment ≤
 unfolding read_size
 read_size_le s alignment =
     read-bounded (s.size_of_raw_data == 0) (s.virtual_size == 0) _ _ _ _ (omega (arith, up_near 4096 s.size_of_raw_data (omega arith)))
+
+-- nor past its raw size in whole pages
+pub window_below : (s : Section) (alignment : ℕ) → window_end s alignment ≤ s.virtual_address + least_multiple 4096 s.size_of_raw_data
+unfolding read_size
+window_below s alignment =
+    let most : read_size s alignment ≤ least_multiple 4096 s.size_of_raw_data = read-bounded (s.size_of_raw_data == 0) (s.virtual_size == 0) _ _ _ _ (omega arith) in
+    omega (arith, most)
 
 -- an address in a window lies between its start and its end
 pub in_window : (alignment rva : ℕ) (s : Section) → is_in_window alignment rva s ≡ true → InWindow alignment rva s

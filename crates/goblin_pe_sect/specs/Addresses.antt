@@ -4,9 +4,11 @@ use Rattle.goblin_base.specs.declared.permissive.ParseMode.TheVariants.{Strict}
 use Rattle.goblin_pe_sect.specs.declared.options.ParseOptions.{ParseOptions}
 use Rattle.goblin_pe_sect.specs.Mapping.{file_offset}
 use Rattle.goblin_pe_sect.specs.Options.{is_strict}
-use Rattle.goblin_pe_sect.specs.SectionTable.{Section}
+use Rattle.goblin_pe_sect.specs.SectionTable.{Section, section_records}
 use Rattle.goblin_pe_sect.specs.WindowIndex.{HasPieces, located}
 use Rattle.goblin_pe_sect.specs.declared.address_map.AddressMap.{AddressMap}
+use Rattle.goblin_pe_sect.specs.declared.address_map.Windows.{Windows}
+use Rattle.goblin_pe_sect.specs.declared.address_map.Windows.TheVariants.{Indexed, Walked}
 
 -- how a file's addresses are mapped to its offsets, and how the bytes there are read
 pub record MapOfAddresses : Type 0 where
@@ -23,13 +25,20 @@ abbrev pub TakesMap : ParseOptions → List Section → ℕ → Type 0
 TakesMap opts sections file_alignment =
     HasPieces opts file_alignment × (0 < length sections)
 
+-- the file offset of an address, by the windows of these records or by an index
+abbrev pub offset_by_windows : ParseOptions → Windows → ℕ → Option ℕ
+offset_by_windows opts (Walked records file_alignment) =
+    file_offset opts (section_records records) file_alignment
+offset_by_windows opts (Indexed index) = located index
+
 -- the map that a reader was given
 abbrev pub map_of : AddressMap → MapOfAddresses
-map_of map = record { opts = map.opts; offset = located map.index }
+map_of map = record { opts = map.opts; offset = offset_by_windows map.opts map.windows }
 
--- such a map keeps nothing but its options and its index: maps that have the same are the same
-abbrev pub KeepsIndexAlone : Type 0
-KeepsIndexAlone = (m n : AddressMap) → m.opts ≡ n.opts → m.index ≡ n.index → m ≡ n
+-- such a map keeps nothing but its options and what finds the windows: maps that have the same are
+-- the same
+abbrev pub KeepsWindowsAlone : Type 0
+KeepsWindowsAlone = (m n : AddressMap) → m.opts ≡ n.opts → m.windows ≡ n.windows → m ≡ n
 
 -- the file offset of an address
 abbrev pub offset_of : MapOfAddresses → ℕ → Option ℕ

@@ -1,8 +1,8 @@
--- Runs of addresses, whose offsets an index answers without another search.
+-- Runs of addresses, whose offsets are answered without another search.
 use Rattle.std.specs.Prelude.{ℕ, ◌+◌, ◌-◌, ◌≡◌, ◌<◌, ◌≤◌, ◌^◌, ◌&&◌, nat_le, nat_lt, if◌then◌else◌, Option, Some, None, slice_index}
 use Rattle.goblin_pe_sect.specs.declared.windows.owners.Owner.{Owner}
 use Rattle.goblin_pe_sect.specs.declared.windows.run.Run.{Run}
-use Rattle.goblin_pe_sect.specs.WindowIndex.{Pieces, last_owner, located, owner_offset}
+use Rattle.goblin_pe_sect.specs.WindowIndex.{Pieces, last_owner, owner_offset}
 
 -- the file offset of an address of a run
 abbrev pub offset_in_run : Run → ℕ → Option ℕ
@@ -23,8 +23,8 @@ abbrev pub run_of_piece : Pieces → ℕ → Run
 run_of_piece w n =
     run_between (slice_index w.begins (n - 1)) (slice_index w.begins n) (last_owner w.owners n)
 
--- an index answers for each address of a run as the run does, and no offset of it passes 64 bits
-pub record IsRun (w : Pieces) (r : Run) : Type 0 where
+-- each address of a run has the offset that the run says, and none of them passes 64 bits
+pub record IsRun (offset_of : ℕ → Option ℕ) (r : Run) : Type 0 where
   pub fits : r.offset + r.size < 2 ^ 64
   pub answers : (rva : ℕ) → r.first ≤ rva → rva - r.first < r.size
-      → located w rva ≡ Some (r.offset + (rva - r.first))
+      → offset_of rva ≡ Some (r.offset + (rva - r.first))

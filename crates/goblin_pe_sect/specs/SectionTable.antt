@@ -13,6 +13,9 @@ use Rattle.goblin_base.specs.Bytes.{bounded_text_at, number}
 use Rattle.goblin_base.specs.Answers.{IsBoundedTextFault}
 use Rattle.goblin_base.specs.Record.{FieldValue, encoding, record_at}
 use Rattle.goblin_base.specs.Record.FieldValue.{octets, uint}
+use Rattle.goblin_base.specs.Tables.{records_in}
+use Rattle.goblin_base.specs.declared.endian.Endian.TheVariants.{Little}
+use Rattle.goblin_pe_sect.specs.declared.section_table.records.SectionRecords.{SectionRecords}
 
 -- Source: PE Format, "Section Table (Section Headers)" and "Section Data".
 
@@ -62,6 +65,18 @@ SectionReadsBack s =
     (endian : Endian)
     → record_at 40 (section_record endian) (encoding endian (section_fields s)) 0
     ≡ Some (record s { real_name = None })
+
+-- the section without its name from the string table
+abbrev pub unnamed : Section → Section
+unnamed s = record s { real_name = None }
+
+-- the sections of the records in these bytes, without their names from the string table
+abbrev pub sections_in : List ℕ → List Section
+sections_in bytes = records_in 40 (section_record Little) bytes
+
+-- the sections of the records as a reader gives them
+abbrev pub section_records : SectionRecords → List Section
+section_records r = sections_in r.records.now
 
 -- the name to use: that of the string table, else the text of the eight bytes
 abbrev pub name_of : Option (List ℕ) → List ℕ → Option (List ℕ)

@@ -1,29 +1,47 @@
-//! Where addresses lie in the file, by an index that is prepared once.
+//! Where addresses lie in the file, by the windows of the sections.
 
-ghost use Rattle.std.specs.Prelude.{◌≡◌, ◌↔◌, ℕ, IfErr, IfOk, IsTrue};
+ghost use Rattle.std.specs.Prelude.{◌≡◌, ◌↔◌, ◌<◌, ℕ, IfErr, IfOk, IsTrue, length};
 ghost use Rattle.goblin_base.specs.Answers.{GivesOrMemory, IsMemory};
 ghost use Rattle.goblin_pe_sect.specs.Mapping.{file_offset};
 ghost use Rattle.goblin_base.specs.declared.permissive.ParseMode.TheVariants.{Permissive};
-ghost use Rattle.goblin_pe_sect.specs.Addresses.{KeepsIndexAlone, TakesMap, map_by, map_of};
+ghost use Rattle.goblin_pe_sect.specs.Addresses.{KeepsWindowsAlone, TakesMap, map_by, map_of};
 ghost use Rattle.goblin_pe_sect.specs.Addresses.{offset_of, strict_map};
-ghost use Rattle.goblin_pe_sect.specs.WindowIndex.{located};
+ghost use Rattle.goblin_pe_sect.specs.Runs.{IsRun};
+ghost use Rattle.goblin_pe_sect.specs.SectionTable.{section_records};
+ghost use Rattle.goblin_pe_sect.specs.WindowIndex.{HasPieces, located};
 
 use crate::options::{ParseMode, ParseOptions};
-use crate::section_table::SectionTable;
-use crate::windows::WindowIndex;
+use crate::section_table::{SectionRecords, SectionTable};
+use crate::windows::{Run, WindowIndex};
 use goblin_base::ResultOf;
 use std::alloc::Global;
 
 mod finder;
+mod walk;
 
 pub use finder::Finder;
+use walk::find_in_records;
+
+// The windows of at most this many sections are walked over for each address; of more there is an
+// index.
+const FEW: usize = 16;
+
+// What addresses are mapped by.
+#[derive(Drop)]
+pub(crate) enum Windows<'s> {
+    // The records of few sections, and the file alignment.
+    Walked(SectionRecords<'s>, u32),
+    // The index of the sections' windows.
+    Indexed(WindowIndex),
+}
 
 /// How addresses are mapped to file offsets, and how the bytes there are read: the options, and what
-/// is prepared of the sections for the mapping. The sections may be dropped.
+/// the windows of the sections are found by. That is an index, which keeps nothing of the sections;
+/// or, where they are few and stand in a file, their records.
 #[derive(Drop)]
-pub struct AddressMap {
+pub struct AddressMap<'s> {
     opts: ParseOptions,
-    index: WindowIndex,
+    windows: Windows<'s>,
 }
 
 // The index of the sections' windows; where there are no sections, one without pieces, which takes
@@ -46,7 +64,19 @@ fn index_of<'e>(
     WindowIndex::prepare(alloc, sections, file_alignment, opts)
 }
 
-impl AddressMap {
+// The sections of records, without their names from the string table.
+fn listed<'e>(alloc: Global, records: SectionRecords) -> ResultOf<'e, Vec<SectionTable>>
+    ensures made { GivesOrMemory (λ v. v.items) result (section_records records.entry) }
+{
+    let count = records.len();
+    let mut sections = Vec::with_capacity(alloc, count)?;
+    'records: for i in 0..count {
+        sections.push(records.at(i))?;
+    }
+    Ok(sections)
+}
+
+impl<'s> AddressMap<'s> {
     /// Prepares the index of the sections' windows. No memory is taken where there are no sections,
     /// `opts` says that addresses are offsets or `file_alignment` is not a power of two.
     ///
@@ -59,23 +89,66 @@ impl AddressMap {
         sections: &[SectionTable],
         file_alignment: u32,
         opts: &ParseOptions,
-    ) -> ResultOf<'e, AddressMap>
+    ) -> ResultOf<'e, AddressMap<'s>>
         ensures made { GivesOrMemory map_of result
             (map_by opts.now sections.now file_alignment) }
         ensures grown { IfErr result (λ e. TakesMap opts.now sections.now file_alignment) }
-        ensures whole { KeepsIndexAlone }
+        ensures whole { KeepsWindowsAlone }
     {
         let index = index_of(alloc, sections, file_alignment, opts)?;
-        Ok(AddressMap { opts: *opts, index })
+        Ok(AddressMap {
+            opts: *opts,
+            windows: Windows::Indexed(index),
+        })
+    }
+
+    // By an index of the windows of these records.
+    #[inline(never)]
+    fn of_many<'e>(
+        alloc: Global,
+        records: SectionRecords,
+        file_alignment: u32,
+        opts: &ParseOptions,
+    ) -> ResultOf<'e, AddressMap<'s>>
+        ensures { GivesOrMemory map_of result
+            (map_by opts.now (section_records records.entry) file_alignment) }
+    {
+        let sections = listed(alloc, records)?;
+        AddressMap::prepare(alloc, &sections, file_alignment, opts)
+    }
+
+    /// By the sections of these records. Up to 16 take no memory: they are walked over for each
+    /// address.
+    ///
+    /// # Errors
+    /// Only [`Error::Memory`](goblin_base::Error::Memory).
+    #[inline(always)]
+    pub fn of_records<'e>(
+        alloc: Global,
+        records: SectionRecords<'s>,
+        file_alignment: u32,
+        opts: &ParseOptions,
+    ) -> ResultOf<'e, AddressMap<'s>>
+        ensures made { GivesOrMemory map_of result
+            (map_by opts.now (section_records records.entry) file_alignment) }
+        ensures grown { IfErr result (λ e. 16 < length (section_records records.entry)) }
+    {
+        if FEW < records.len() {
+            return AddressMap::of_many(alloc, records, file_alignment, opts);
+        }
+        Ok(AddressMap {
+            opts: *opts,
+            windows: Windows::Walked(records, file_alignment),
+        })
     }
 
     /// The same map, by which damaged parts are refused and not passed over.
-    pub fn strictly(self) -> AddressMap
-        ensures { map_of result ≡ strict_map (map_of self) }
+    pub fn strictly(self) -> AddressMap<'s>
+        ensures { map_of result ≡ strict_map (map_of self.entry) }
     {
         AddressMap {
             opts: self.opts.with_parse_mode(ParseMode::Strict),
-            index: self.index,
+            windows: self.windows,
         }
     }
 
@@ -94,10 +167,27 @@ impl AddressMap {
     }
 
     /// The file offset of an address.
-    #[inline]
     pub fn offset_of(&self, rva: u32) -> Option<usize>
         ensures { result ≡ offset_of (map_of self.now) rva }
     {
-        self.index.find(rva as usize)
+        let mut run = Run::default();
+        self.find_run(rva, &mut run)
+    }
+
+    // The file offset of an address. `run` becomes addresses about it that have their offsets
+    // without another search; it may stay where the address has none. (A result of that size would
+    // cost loops that seldom search more than an argument does.)
+    #[inline(never)]
+    pub(crate) fn find_run(&self, rva: u32, run: &mut Run) -> Option<usize>
+        requires { IsRun (offset_of (map_of self.now)) run.old }
+        ensures value { result ≡ offset_of (map_of self.now) rva }
+        ensures is { IsRun (offset_of (map_of self.now)) run.new }
+    {
+        match &self.windows {
+            Windows::Walked(records, file_alignment) => {
+                find_in_records(*records, *file_alignment, &self.opts, rva, run)
+            }
+            Windows::Indexed(index) => index.find_run(rva as usize, run),
+        }
     }
 }

@@ -1,6 +1,6 @@
 //! The section records of a PE file.
 
-ghost use Rattle.std.specs.Prelude.{◌≡◌, ◌↔◌, ◌+◌, ◌*◌, ◌<◌, ◌≤◌, Bool, Err, IfErr, IfOk, IfSome};
+ghost use Rattle.std.specs.Prelude.{◌≡◌, ◌↔◌, ◌+◌, ◌*◌, ◌<◌, ◌≤◌, Bool, Err, IfErr, IfOk, IfSome, ℕ};
 ghost use Rattle.std.specs.Prelude.{IsSomeAnd, IsTrue, None, Ok, OnErr, OnOk, Some, if◌then◌else◌};
 ghost use Rattle.std.specs.Prelude.{length, nat_eq, slice_range, string_bytes, true};
 ghost use Rattle.std.specs.Cow.{cow_slice_items, IsBorrowedSlice};
@@ -22,7 +22,7 @@ ghost use Rattle.goblin_pe_sect.specs.SectionReadings.{SectionWritesBack, raw_da
 ghost use Rattle.goblin_pe_sect.specs.SectionReadings.{section_data, text_in_table};
 ghost use Rattle.goblin_pe_sect.specs.SectionTable.{Section, section_eq, section_per};
 ghost use Rattle.goblin_pe_sect.specs.SectionTable.{SectionReadsBack};
-ghost use Rattle.goblin_pe_sect.specs.SectionTable.{section_record, section_fields};
+ghost use Rattle.goblin_pe_sect.specs.SectionTable.{section_record, section_fields, unnamed};
 ghost use Rattle.goblin_pe_sect.specs.SectionTable.{name_of, IsNoName, OverlapRawData};
 
 use crate::digits::{Digits, decimal_number, indirect_name};
@@ -37,6 +37,7 @@ use std::borrow::CowSlice;
 use std::marker::Model;
 
 mod constants;
+mod records;
 
 pub use constants::{
     IMAGE_SCN_ALIGN_1BYTES, IMAGE_SCN_ALIGN_2BYTES, IMAGE_SCN_ALIGN_4BYTES, IMAGE_SCN_ALIGN_8BYTES,
@@ -51,6 +52,7 @@ pub use constants::{
     IMAGE_SCN_MEM_PURGEABLE, IMAGE_SCN_MEM_READ, IMAGE_SCN_MEM_SHARED, IMAGE_SCN_MEM_WRITE,
     IMAGE_SCN_TYPE_NO_PAD,
 };
+pub use records::SectionRecords;
 
 /// The size of a section record, in bytes.
 pub const SIZEOF_SECTION_TABLE: usize = 40;
@@ -147,8 +149,9 @@ impl PartialEq for SectionTable {
 
 impl SectionTable {
     // The section in a record's bytes, with this real name.
+    #[inline(always)]
     #[tactic(auto, unfolding(crate::specs::SectionTable::section_record))]
-    fn in_record(bytes: &[u8], real_name: Option<String>) -> SectionTable
+    pub(crate) fn in_record(bytes: &[u8], real_name: Option<String>) -> SectionTable
         requires { length bytes.now ≡ 40 }
         ensures { result ≡ record (section_record Endian.Little bytes.now)
             { real_name = option_map string_bytes real_name } }
@@ -224,6 +227,32 @@ impl SectionTable {
         let real_name = real_name(alloc, bytes, string_table_offset, value)?;
         *offset = end;
         Ok(SectionTable::in_record(record, real_name))
+    }
+
+    /// Reads the record at the file offset `offset` and moves `offset` past it, as
+    /// [`SectionTable::parse_with_opts`], but without its name from the string table: its name is
+    /// tested alone, and no memory is taken.
+    ///
+    /// # Errors
+    /// [`Error::Read`] if the 40 bytes run past the end of the file; as
+    /// [`SectionTable::name_offset_with_opts`] where the name is refused. `offset` is then unchanged.
+    #[inline(always)]
+    #[tactic(auto, unfolding(crate::specs::SectionReadings::section_at, crate::specs::SectionName::IsNameFault, crate::specs::SectionTable::section_record))]
+    pub fn parse_unnamed(
+        bytes: &[u8],
+        offset: &mut usize,
+        opts: &ParseOptions,
+    ) -> Result<SectionTable>
+        ensures value { (table : ℕ) → Reads (λ s. s) result
+            (mapped unnamed (section_at (is_strict opts.now.parse_mode) table offset.old)) bytes.now }
+        ensures ok { OnOk result (offset.new ≡ offset.old + 40) }
+        ensures err { OnErr result (offset.new ≡ offset.old) }
+    {
+        let mut end = *offset;
+        let record = gread_slice(bytes, &mut end, SIZEOF_SECTION_TABLE)?;
+        name_in_record(record, opts.parse_mode)?;
+        *offset = end;
+        Ok(SectionTable::in_record(record, None))
     }
 
     /// A copy with its own text. It takes no memory if there is no real name or the real name is
@@ -471,6 +500,7 @@ impl SectionTable {
 }
 
 // What the name in a record says. Most names begin with no slash and are looked at no further.
+#[inline(always)]
 #[tactic(auto, unfolding(crate::specs::SectionName::name_value))]
 pub(crate) fn name_in_record(bytes: &[u8], mode: ParseMode) -> Result<Option<usize>>
     requires { length bytes.now ≡ 40 }

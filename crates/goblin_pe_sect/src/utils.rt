@@ -2,7 +2,7 @@
 //!
 //! Addresses are relative to the image's base (RVAs); offsets are file offsets. Both are in bytes.
 
-ghost use Rattle.std.specs.Prelude.{◌≡◌, ◌+◌, ◌^◌, ◌<◌, ◌≤◌, ◌↔◌, IsTrue, IfSome, MatchOption};
+ghost use Rattle.std.specs.Prelude.{◌≡◌, ◌+◌, ◌^◌, ◌<◌, ◌≤◌, ◌↔◌, ℕ, IsTrue, IfSome, MatchOption};
 ghost use Rattle.std.specs.Prelude.{find};
 ghost use Rattle.std.specs.Int.{is_power_of_two};
 ghost use Rattle.std.specs.Option.{option_copied, option_map};
@@ -80,6 +80,17 @@ pub(crate) fn section_window(section: &SectionTable, file_alignment: u32) -> (us
 {
     let begin = section.virtual_address as usize;
     (begin, begin + read_size(section, file_alignment))
+}
+
+// An address that the section's window does not reach, whatever the file alignment, as no more than
+// the raw size in whole pages is read. It takes fewer steps than the window.
+#[inline(always)]
+#[tactic(auto, using(crate::proofs::Mapped::window_below))]
+pub(crate) fn past_window(section: &SectionTable) -> usize
+    ensures past { (alignment : ℕ) → window_end section.now alignment ≤ result }
+    ensures near { result < section.now.virtual_address + 2 ^ 33 }
+{
+    section.virtual_address as usize + round_up(section.size_of_raw_data as usize, 4096)
 }
 
 /// The addresses that the section maps, as the pair (start, end), the end not among them; `None` if

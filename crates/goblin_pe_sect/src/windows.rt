@@ -200,7 +200,7 @@ impl WindowIndex {
     fn run_by_count(&self, count: usize) -> Run
         requires { count ≤ length self.now.begins }
         ensures run { result ≡ run_of_piece self.now count }
-        ensures is { IsRun self.now result }
+        ensures is { IsRun (located self.now) result }
     {
         if count == 0 || count == self.pieces.len() {
             return Run::default();
@@ -216,7 +216,7 @@ impl WindowIndex {
     pub(crate) fn find_run(&self, rva: usize, run: &mut Run) -> Option<usize>
         ensures value { result ≡ located self.now rva }
         ensures piece { run.new ≡ run_of_piece self.now (reached self.now.begins rva) }
-        ensures is { IsRun self.now run.new }
+        ensures is { IsRun (located self.now) run.new }
     {
         let (count, _) = search(self.in_order(), rva);
         *run = self.run_by_count(count);

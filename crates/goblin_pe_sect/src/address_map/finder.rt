@@ -18,7 +18,7 @@ use std::marker::Model;
 /// was asked before.
 #[derive(Drop)]
 pub struct Finder<'m> {
-    address_map: &'m AddressMap,
+    address_map: &'m AddressMap<'m>,
     // The addresses of the last one's piece, and of the last name's.
     run: Run,
     names: Run,
@@ -26,6 +26,7 @@ pub struct Finder<'m> {
 
 impl<'m> Model for Finder<'m> {
     ghost use Rattle.goblin_pe_sect.specs.declared.address_map.AddressMap.{AddressMap};
+    ghost use Rattle.goblin_pe_sect.specs.Addresses.{map_of, offset_of};
     ghost use Rattle.goblin_pe_sect.specs.Runs.{IsRun};
 
     ghost Value = { AddressMap };
@@ -33,7 +34,8 @@ impl<'m> Model for Finder<'m> {
     ghost view = { λ f. f.address_map.now };
 
     ghost invariant = { λ f.
-        IsRun f.address_map.now.index f.run × IsRun f.address_map.now.index f.names };
+        IsRun (offset_of (map_of f.address_map.now)) f.run
+        × IsRun (offset_of (map_of f.address_map.now)) f.names };
 }
 
 impl<'m> Finder<'m> {
@@ -61,7 +63,7 @@ impl<'m> Finder<'m> {
 
     /// The map.
     #[inline(always)]
-    pub fn address_map(&self) -> &'m AddressMap
+    pub fn address_map(&self) -> &'m AddressMap<'m>
         ensures { result.now ≡ self.now }
     {
         self.address_map
@@ -97,7 +99,7 @@ impl<'m> Finder<'m> {
             return Some(offset);
         }
         let mut run = self.run;
-        let offset = self.address_map.index.find_run(rva as usize, &mut run);
+        let offset = self.address_map.find_run(rva, &mut run);
         self.run = run;
         offset
     }
@@ -117,7 +119,7 @@ impl<'m> Finder<'m> {
             return Some(offset);
         }
         let mut names = self.names;
-        let offset = self.address_map.index.find_run(rva as usize, &mut names);
+        let offset = self.address_map.find_run(rva, &mut names);
         self.names = names;
         offset
     }

@@ -1,0 +1,6 @@
+use Rattle.std.proofs.Common.{◌≡◌, take}
+use Rattle.goblin_pe_sect.specs.SectionTable.{section_records}
+use Rattle.goblin_pe_sect.proofs.address_map.listed.Given as goal
+
+abbrev pub invariant-records : goal.invariant-records
+invariant-records l = l.sections.items ≡ take l.i (section_records l.records)

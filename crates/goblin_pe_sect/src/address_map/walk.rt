@@ -1,0 +1,80 @@
+//! The walk over the windows of few sections.
+
+ghost use Rattle.std.specs.Prelude.{◌≡◌, ◌<◌, IsTrue};
+ghost use Rattle.std.specs.Int.{is_power_of_two};
+ghost use Rattle.goblin_pe_sect.specs.Mapping.{file_offset};
+ghost use Rattle.goblin_pe_sect.specs.Runs.{IsRun};
+ghost use Rattle.goblin_pe_sect.specs.SectionTable.{section_records};
+
+use crate::options::ParseOptions;
+use crate::section_table::SectionRecords;
+use crate::utils::{past_window, raw_begin, section_window};
+use crate::windows::Run;
+
+// The file offset of an address, by the first section whose window holds it. `run` becomes the
+// addresses about it that this section owns, up to the windows of the sections before it.
+#[inline(always)]
+fn find_window(
+    records: SectionRecords,
+    file_alignment: u32,
+    opts: &ParseOptions,
+    rva: u32,
+    run: &mut Run,
+) -> Option<usize>
+    requires maps { IsTrue opts.now.resolve_rva }
+    requires aligned { IsTrue (is_power_of_two file_alignment) }
+    ensures value { result ≡ file_offset opts.now (section_records records.entry) file_alignment rva }
+    ensures is { let offset_of = file_offset opts.now (section_records records.entry) file_alignment in
+        IsRun offset_of run.old → IsRun offset_of run.new }
+{
+    let rva = rva as usize;
+    let mut low = 0;
+    let mut high = usize::MAX;
+    'records: for i in 0..records.len() {
+        let section = records.at(i);
+        let past = past_window(&section);
+        if past <= rva {
+            low = low.max(past);
+            continue 'records;
+        }
+        let (begin, end) = section_window(&section, file_alignment);
+        if rva < begin {
+            high = high.min(begin);
+        } else if end <= rva {
+            low = low.max(end);
+        } else {
+            let pointer = raw_begin(&section, opts) as usize;
+            let first = low.max(begin);
+            *run = Run {
+                first,
+                size: high.min(end) - first,
+                offset: pointer + (first - begin),
+            };
+            return Some(pointer + (rva - begin));
+        }
+    }
+    None
+}
+
+/// The file offset of an address by the sections of these records. `run` becomes addresses about it
+/// that have their offsets without another walk, where a section owns it.
+#[tactic(auto, unfolding(crate::specs::Mapping::file_offset))]
+pub(super) fn find_in_records(
+    records: SectionRecords,
+    file_alignment: u32,
+    opts: &ParseOptions,
+    rva: u32,
+    run: &mut Run,
+) -> Option<usize>
+    ensures value { result ≡ file_offset opts.now (section_records records.entry) file_alignment rva }
+    ensures is { let offset_of = file_offset opts.now (section_records records.entry) file_alignment in
+        IsRun offset_of run.old → IsRun offset_of run.new }
+{
+    if !opts.resolve_rva {
+        return Some(rva as usize);
+    }
+    if !file_alignment.is_power_of_two() {
+        return None;
+    }
+    find_window(records, file_alignment, opts, rva, run)
+}

@@ -1,0 +1,54 @@
+//! The records of a section table, as they stand in the file.
+
+ghost use Rattle.std.specs.Prelude.{◌≡◌, ◌<◌, ◌/◌, Some, length, slice_get};
+ghost use Rattle.goblin_pe_sect.specs.SectionTable.{section_records, sections_in};
+
+use crate::section_table::{SIZEOF_SECTION_TABLE, SectionTable};
+
+/// The records of a section table, as they stand in the file: 40 bytes each. A section is read from
+/// its record when it is asked for, without its name from the string table, so none takes memory.
+///
+/// Source: PE Format, "Section Table (Section Headers)".
+#[derive(Copy, Clone)]
+pub struct SectionRecords<'a> {
+    records: &'a [u8],
+}
+
+// The section of the record at this index.
+#[inline(always)]
+#[tactic(auto, using(crate::proofs::SectionRecords::section_there))]
+fn section_in(records: &[u8], index: usize) -> SectionTable
+    requires { index < length records.now / 40 }
+    ensures { slice_get (sections_in records.now) index ≡ Some result }
+{
+    let begin = SIZEOF_SECTION_TABLE * index;
+    SectionTable::in_record(&records[begin..begin + SIZEOF_SECTION_TABLE], None)
+}
+
+impl<'a> SectionRecords<'a> {
+    /// The records in these bytes, one after the other. Fewer than 40 bytes at the end are left out.
+    pub fn of(records: &'a [u8]) -> SectionRecords<'a>
+        ensures { section_records result ≡ sections_in records.now }
+    {
+        SectionRecords { records }
+    }
+
+    /// How many sections there are.
+    #[inline(always)]
+    #[tactic(auto, using(crate::proofs::SectionRecords::length_sections))]
+    pub fn len(&self) -> usize
+        ensures { result ≡ length (section_records self.now) }
+    {
+        self.records.len() / SIZEOF_SECTION_TABLE
+    }
+
+    /// The section at this index, without its name from the string table.
+    #[inline(always)]
+    #[tactic(auto, using(crate::proofs::SectionRecords::length_sections))]
+    pub fn at(&self, index: usize) -> SectionTable
+        requires { index < length (section_records self.now) }
+        ensures { slice_get (section_records self.now) index ≡ Some result }
+    {
+        section_in(self.records, index)
+    }
+}
