@@ -6,9 +6,9 @@ use Rattle.std.proofs.lemmas.Bool.{lt-leb}
 use Rattle.std.proofs.Math.Bool.{and-false}
 use Rattle.goblin_base.specs.declared.error.CauseOf.TheVariants.{StrippedSize}
 use Rattle.goblin_base.specs.declared.error.ErrorOf.{ErrorOf}
-use Rattle.goblin_base.specs.Reading.{Reading, ReadsOrMemory}
+use Rattle.goblin_base.specs.Reading.{Reading, Reads, ReadsOrMemory}
 use Rattle.goblin_base.proofs.Steps.{all_at-none}
-use Rattle.readings.specs.Reads.{◌>>=◌, needs}
+use Rattle.readings.specs.Reads.{◌>>=◌, mapped, needs}
 use Rattle.goblin_pe_sect.specs.SectionReadings.{section_at}
 use Rattle.goblin_pe_sect.specs.SectionTable.{Section}
 use Rattle.goblin_pe_head.specs.declared.header.te.TeHeader.{TeHeader}
@@ -82,6 +82,13 @@ pub in_room : {X A : Type 0} (view : X → A) (r : Result X ErrorOf) (n : ℕ) (
     → ReadsOrMemory view r (with_room n reading) bytes
 in_room view (Ok x) n reading bytes room made = made
 in_room view (Err e) n reading bytes room made = λ no. ((made no).0, inr (room, (made no).1))
+
+-- the same of what is made of them, where no memory is taken
+pub in_room_made : {X A B : Type 0} (view : X → B) (r : Result X ErrorOf) (n : ℕ) (f : A → B)
+    (reading : Reading A) (bytes : List ℕ) → n ≤ length bytes / 40
+    → Reads view r (mapped f reading) bytes → Reads view r (mapped f (with_room n reading)) bytes
+in_room_made view (Ok x) n f reading bytes room made = made
+in_room_made view (Err e) n f reading bytes room made = (made.0, inr (room, made.1))
 
 -- where something was stripped, the sections are moved by that
 pub by_displacement : {X : Type 0} (view : X → List Section) (r : Result X ErrorOf)

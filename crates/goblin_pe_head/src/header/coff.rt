@@ -2,25 +2,26 @@
 //! string table.
 
 ghost use Rattle.std.specs.Prelude.{◌≡◌, ◌+◌, ◌*◌, ◌/◌, ◌<◌, length, option_map, true, IfErr, OnOk};
-ghost use Rattle.std.specs.Prelude.{OnErr, IsErrAnd, IfOk};
+ghost use Rattle.std.specs.Prelude.{OnErr, IsErrAnd, IfOk, map};
 ghost use Rattle.goblin_base.specs.Reading.{Reads, ReadsOrMemory};
 ghost use Rattle.goblin_base.specs.Answers.{IsMemory, IsSliceFault, Writes};
 ghost use Rattle.goblin_base.specs.Record.{ReadsBack, WritesBack, encoding, record_over};
-ghost use Rattle.readings.specs.Reads.{record_at};
+ghost use Rattle.readings.specs.Reads.{mapped, record_at};
 ghost use Rattle.goblin_pe_sect.specs.Options.{is_strict};
+ghost use Rattle.goblin_pe_sect.specs.SectionTable.{section_records, unnamed};
 ghost use Rattle.goblin_pe_symbol.specs.Symbols.{table_bytes};
 ghost use Rattle.goblin_pe_head.specs.declared.header.coff.CoffHeader.{CoffHeader};
 ghost use Rattle.goblin_pe_head.specs.CoffHeader.{IsTooManySections, coff_fields, coff_header};
 ghost use Rattle.goblin_pe_head.specs.CoffHeader.{string_table_offset, symbols_end};
 ghost use Rattle.goblin_pe_head.specs.CoffReadings as reading;
 
-use crate::header::sections::read_sections;
+use crate::header::sections::{read_sections, section_records};
 use goblin_base::{
     Cause, Endian, Error, Field, Record, Result, Strtab, field_u16, field_u32, gread_slice,
     pread_u32, put_fields,
 };
 use goblin_pe_sect::options::ParseOptions;
-use goblin_pe_sect::section_table::{SIZEOF_SECTION_TABLE, SectionTable};
+use goblin_pe_sect::section_table::{SIZEOF_SECTION_TABLE, SectionRecords, SectionTable};
 use goblin_pe_symbol::symbol::{COFF_SYMBOL_SIZE, SymbolTable};
 use std::alloc::Global;
 
@@ -175,6 +176,36 @@ impl CoffHeader {
         }
         let table = self.symbols_end();
         read_sections(alloc, bytes, offset, count, table, opts, None)
+    }
+
+    /// The records of the section table, which follow one another from the file offset `offset` on,
+    /// and moves `offset` past it, as [`CoffHeader::sections_with_opts`] does. Their sections have no
+    /// names from the string table, and take no memory.
+    ///
+    /// # Errors
+    /// As [`CoffHeader::sections_with_opts`], but for [`Error::Memory`].
+    #[inline(always)]
+    pub fn section_records_with_opts<'a>(
+        &self,
+        bytes: &'a [u8],
+        offset: &mut usize,
+        opts: &ParseOptions,
+    ) -> Result<SectionRecords<'a>>
+        ensures value { let strict = is_strict opts.now.parse_mode in
+            let table = symbols_end self.now in
+            let count = self.now.number_of_sections in
+            Reads section_records result
+            (mapped (map unnamed) (reading.sections_at strict table count offset.old)) bytes.now }
+        ensures first { length bytes.now / 40 < self.now.number_of_sections
+            → IsErrAnd result (IsTooManySections self.now.number_of_sections bytes.now) }
+        ensures ok { OnOk result (offset.new ≡ offset.old + 40 * self.now.number_of_sections) }
+        ensures err { OnErr result (offset.new ≡ offset.old) }
+    {
+        let count = self.number_of_sections as usize;
+        if bytes.len() / SIZEOF_SECTION_TABLE < count {
+            return Err(Error::BufferTooShort(count, "sections"));
+        }
+        section_records(bytes, offset, count, opts)
     }
 
     /// The symbol table; `None` if the pointer to it is 0.

@@ -1,15 +1,18 @@
-//! The loop that reads section tables.
+//! The loops that read section tables.
 
-ghost use Rattle.std.specs.Prelude.{◌≡◌, ◌+◌, ◌*◌, ◌<◌, IfErr, OnErr, OnOk};
+ghost use Rattle.std.specs.Prelude.{◌≡◌, ◌+◌, ◌*◌, ◌<◌, ℕ, map, IfErr, OnErr, OnOk};
 ghost use Rattle.goblin_base.specs.Answers.{IsMemory};
-ghost use Rattle.goblin_base.specs.Reading.{ReadsOrMemory};
+ghost use Rattle.goblin_base.specs.Reading.{Reads, ReadsOrMemory};
+ghost use Rattle.readings.specs.Reads.{each, mapped};
 ghost use Rattle.goblin_pe_sect.specs.Options.{is_strict};
+ghost use Rattle.goblin_pe_sect.specs.SectionReadings.{section_at};
+ghost use Rattle.goblin_pe_sect.specs.SectionTable.{section_records, unnamed};
 ghost use Rattle.goblin_pe_head.specs.TeReadings as reading;
 
 use crate::header::te::adjust;
 use goblin_base::Result;
 use goblin_pe_sect::options::ParseOptions;
-use goblin_pe_sect::section_table::SectionTable;
+use goblin_pe_sect::section_table::{SectionRecords, SectionTable};
 use std::alloc::Global;
 
 // Reads `count` sections, whose records follow one another from `offset` on, and moves `offset`
@@ -46,4 +49,30 @@ pub(super) fn read_sections(
     }
     *offset = end;
     Ok(sections)
+}
+
+// The records of `count` sections, which follow one another from `offset` on, and moves `offset` past
+// them. Each record and its name are tested; the sections are read from them later.
+#[inline(always)]
+pub(super) fn section_records<'a>(
+    bytes: &'a [u8],
+    offset: &mut usize,
+    count: usize,
+    opts: &ParseOptions,
+) -> Result<SectionRecords<'a>>
+    ensures value { let strict = is_strict opts.now.parse_mode in
+        (table : ℕ) → Reads section_records result
+        (mapped (map unnamed) (each (λ i. section_at strict table (offset.old + 40 * i)) count))
+        bytes.now }
+    ensures ok { OnOk result (offset.new ≡ offset.old + 40 * count) }
+    ensures err { OnErr result (offset.new ≡ offset.old) }
+{
+    let mut end = *offset;
+    'records: for _ in 0..count {
+        SectionTable::parse_unnamed(bytes, &mut end, opts)?;
+    }
+    // Without sections `offset` may lie past the end.
+    let records = SectionRecords::of(bytes.get(*offset..end).unwrap_or(&[]));
+    *offset = end;
+    Ok(records)
 }
