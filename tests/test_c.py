@@ -12,7 +12,9 @@ from tests.programs import BY_NAME, CALLERS, CC, FLAGS, IMAGES, OBJECTS, SAMPLES
 STRICT = ["-pedantic", "-Wcast-qual", "-Wconversion"]
 VALGRIND = ["valgrind", "-q", "--error-exitcode=9", "--leak-check=full"]
 SANITIZED = ("-std=c11", "-g", "-fsanitize=address,undefined", "-fno-sanitize-recover=all")
-OF_IMAGES = ("open", "damage", "footprint", "imports", "exports")
+# The calls for an image: those that fill the caller's records alone, and all.
+IN_PLACE = ("damage", "imports", "exports")
+OF_IMAGES = ("open", "footprint", *IN_PLACE)
 # What stands around the program of the README.
 README = b"""#include "goblin_pe.h"
 void map_sections(const struct goblin_pe_section *sections, size_t count);
@@ -66,10 +68,17 @@ class Programs(Case):
         succeed([built("threads", "-std=c11", "-pthread", "-fsanitize=thread"), "256", "1", BY_NAME])
 
     def test_each_growth_is_refused(self):
-        for call, samples in (*((call, IMAGES) for call in OF_IMAGES), ("object", OBJECTS), ("te", TERSE)):
+        for call, samples in (("open", IMAGES), ("footprint", IMAGES), ("object", OBJECTS), ("te", TERSE)):
             for sample in samples:
                 with self.subTest(call=call, sample=sample.name):
                     self.assertGreater(refused(call, sample), 0)
+
+    def test_memory_for_an_index_is_taken_of_more_than_16_sections(self):
+        for count in (16, 17):
+            file = self.written("some.dll", images.image_headers(0x1000, count, 0x1000, ()))
+            for call in IN_PLACE:
+                with self.subTest(call=call, sections=count):
+                    self.assertEqual(refused(call, file) > 0, count > 16)
 
     def test_a_file_without_a_table_leaves_no_block_behind(self):
         for index, table in ((0, "exports"), (1, "imports"), (5, "base relocations")):

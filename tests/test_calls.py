@@ -34,8 +34,6 @@ TAKE_MEMORY = [
     (MODES, "footprint_exports", "8"),
     (MODES, "footprint_whole", "40"),
     (MODES, "whole", "22"),
-    (MODES, "layout", "1"),
-    (MODES, "damage", "0"),
     (MODES, "twin_lookup", "2 1"),
     (("strict",), "twin_imports", "1 refused"),
     (("permissive",), "twin_imports", "1 0"),
@@ -59,6 +57,8 @@ TAKE_NONE = [
     (DEFAULT, "no_te_sections", "0"),
     (MODES, "index_of_no_alignment", "0"),
     (MODES, "index_of_offsets", "0"),
+    (MODES, "layout", "1"),
+    (MODES, "damage", "0"),
     (DEFAULT, "no_imports", "0"),
     (EACH, "exports_of_no_bytes", "0"),
 ]

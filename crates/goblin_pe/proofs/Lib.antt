@@ -7,6 +7,7 @@ pub mod ListedImports
 pub mod NumberedExports
 pub mod Parts
 pub mod PermissiveReads
+pub mod SectionNames
 pub mod SectionRoom
 pub mod SoundFiles
 pub mod TableRuns

@@ -63,9 +63,3 @@ counted (suc n) read bytes s found some = omega arith
 pub sections_counted : (strict : Bool) (h : PeHeader) (bytes : List ℕ) (s : List Section) → (sections_after strict h).value bytes ≡ Some s → 0 < length s → 0 < h.coff_header.number_of_sections
 unfolding sections_after sections_at
 sections_counted strict h bytes s found some = counted h.coff_header.number_of_sections (λ i. section_at strict (symbols_end h.coff_header) (section_table_offset h + 40 * i)) bytes s found some
-
--- sections that were read fit their file
-pub sections_fit : (n : ℕ) (bytes : List ℕ) → (length bytes / 40 < n → ⊥) → 0 < n → TakesSections n bytes
-sections_fit n bytes fit some =
-    let enough : ¬ (length bytes / 40 < n) = fit in
-    (some, omega arith)

@@ -19,7 +19,10 @@ use Rattle.goblin_pe.specs.declared.whole.imports.FileImports.{FileImports}
 use Rattle.goblin_pe.specs.declared.whole.imports.FileImports.TheVariants.{Narrow, Wide}
 use Rattle.goblin_pe.specs.declared.whole.layout.Layout.{Layout}
 use Rattle.goblin_pe_import.specs.declared.import.imports.WalkedImport.{WalkedImport}
-use Rattle.goblin_pe.specs.Whole.{TablePlaces, places_in, table_places}
+use Rattle.goblin_pe_sect.specs.Options.{is_strict}
+use Rattle.goblin_pe_sect.specs.SectionTable.{Section}
+use Rattle.goblin_pe_head.specs.PeHeader.{header_value}
+use Rattle.goblin_pe.specs.Whole.{TablePlaces, places_in, sections_after, table_places}
 
 -- ---- what all tables are read by
 
@@ -37,9 +40,12 @@ pub record IsLayoutOf (opts : ParseOptions) (bytes : List ℕ) (header : Header)
   where
     pub over : l.bytes.now ≡ bytes
     pub after : l.header.now ≡ header
+    pub by : (layout_map l).opts ≡ opts
     pub placed : layout_places l ≡ places_in header.optional_header
-    pub mapped : layout_map l
-        ≡ map_by opts l.sections.items (places_in header.optional_header).file_alignment
+    pub mapped : (sections : List Section)
+        → (sections_after (is_strict opts.parse_mode) (header_value header)).value bytes
+        ≡ Some sections
+        → layout_map l ≡ map_by opts sections (places_in header.optional_header).file_alignment
 
 -- ---- tables as walks
 

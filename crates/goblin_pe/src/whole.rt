@@ -114,12 +114,12 @@ impl<'a> Whole<'a> {
     {
         let header = Header::parse_with_opts(bytes, opts)?;
         let layout = Layout::of(alloc, bytes, &header, opts)?;
+        let sections = layout.sections(alloc)?;
         let ListedTables {
             imports,
             exports,
             relocations,
-        } = layout.listed(alloc)?;
-        let Layout { sections, .. } = layout;
+        } = layout.listed(alloc, &sections)?;
         let (import_data, imports) = imports;
         let (export_data, exports) = export_parts(exports);
         Ok(Whole {

@@ -7,7 +7,7 @@ ghost use Rattle.goblin_pe.specs.Whole.{layout, whole_file};
 ghost use Rattle.goblin_pe_calls.specs.Batches.{ExportBatch, GivesBatch, GivesExports, GivesImports};
 ghost use Rattle.goblin_pe_calls.specs.Batches.{ImportBatch, IsExportsFault, IsImportsFault};
 ghost use Rattle.goblin_pe_records.specs.Calls.{ReadsInto, Reported};
-ghost use Rattle.goblin_pe_calls.specs.Damages.{TakesSectionsBy, TellsDamage};
+ghost use Rattle.goblin_pe_calls.specs.Damages.{TakesIndexBy, TellsDamage};
 ghost use Rattle.goblin_pe_calls.specs.Footprints.{Lists};
 ghost use Rattle.goblin_pe_calls.specs.Growth.{TakesRecords};
 ghost use Rattle.goblin_pe_records.specs.Kinds.{kind_number, kind_of};
@@ -91,8 +91,8 @@ pub extern "C" fn goblin_pe_raw_open<'a>(
 /// an import directory whose address has no offset, if the position is the first; and in strict
 /// mode the very next import, if there is room for it. Imports that come before a refusal are
 /// given, and the next call is refused. Memory (the status 5) is refused only of a file that has
-/// sections, and room for as many as its header says: it is taken for these and the map of
-/// addresses, and given back before the call returns.
+/// more than 16 sections, and room for as many as its header says: it is taken for an index of them,
+/// and given back before the call returns.
 #[unsafe(no_mangle)]
 pub extern "C" fn goblin_pe_raw_next_imports<'a>(
     alloc: Global,
@@ -156,10 +156,10 @@ pub extern "C" fn goblin_pe_raw_next_exports<'a>(
 /// its sections are read as the options say. Each part is read for itself: damage of one says
 /// nothing of the others. A file without damage is one that strict mode reads.
 ///
-/// No table is listed: memory is taken for the sections and for what maps the addresses, and given
-/// back before the call returns. Refused are a header or sections that these options refuse, and
-/// memory (the status 5), this only of a file that has sections, and room for as many as its header
-/// says. After a refusal nothing is changed.
+/// No table is listed: memory is taken only for an index of more than 16 sections, and given back
+/// before the call returns. Refused are a header or sections that these options refuse, and memory
+/// (the status 5), this only of a file that has more than 16 sections, and room for as many as its
+/// header says. After a refusal nothing is changed.
 #[unsafe(no_mangle)]
 pub extern "C" fn goblin_pe_raw_damage(
     alloc: Global,
@@ -169,7 +169,7 @@ pub extern "C" fn goblin_pe_raw_damage(
 ) -> PeFault
     ensures { let opts = options_of options.now in
         Reported result
-        (ReadsInto (pe_header (is_strict opts.parse_mode)) (TakesSectionsBy bytes.now) (layout opts)
+        (ReadsInto (pe_header (is_strict opts.parse_mode)) (TakesIndexBy bytes.now) (layout opts)
         bytes.now
         (λ l. TellsDamage opts l.0 l.1 bytes.now damage.new) (damage.new ≡ damage.old)) }
 {

@@ -205,18 +205,18 @@ module _ (opts : ParseOptions) (bytes : List ℕ) (h : PeHeader)
 
 -- what is read by a layout is read of its file
 pub layout-kept : (opts : ParseOptions) (bytes : List ℕ) (h : Header)
-    → (pe_header (is_strict opts.parse_mode)).value bytes ≡ Some (header_value h) → (l : Layout)
-    → (sections_after (is_strict opts.parse_mode) (header_value h)).value bytes ≡ Some l.sections.items
+    → (pe_header (is_strict opts.parse_mode)).value bytes ≡ Some (header_value h) → (l : Layout) (s : List Section)
+    → (sections_after (is_strict opts.parse_mode) (header_value h)).value bytes ≡ Some s
     → IsLayoutOf opts bytes h l
     → IfSome ((table_parts (layout_map l).opts (offset_of (layout_map l)) (layout_places l)).value l.bytes.now) HasTables
     → IfSome ((whole_file opts).value bytes) HasRecords
-layout-kept opts bytes h header l sections of some =
+layout-kept opts bytes h header l s sections of some =
     let places = places_in h.optional_header in
-    let m = map_by opts l.sections.items places.file_alignment in
-    tables-kept opts bytes (header_value h) header l.sections.items sections
+    let m = map_by opts s places.file_alignment in
+    tables-kept opts bytes (header_value h) header s sections
     (subst (λ (file : List ℕ). IfSome ((table_parts m.opts (offset_of m) places).value file) HasTables) of.over
     (subst (λ (at : TablePlaces). IfSome ((table_parts m.opts (offset_of m) at).value l.bytes.now) HasTables) of.placed
-    (subst (λ (m : MapOfAddresses). IfSome ((table_parts m.opts (offset_of m) (layout_places l)).value l.bytes.now) HasTables) of.mapped some)))
+    (subst (λ (m : MapOfAddresses). IfSome ((table_parts m.opts (offset_of m) (layout_places l)).value l.bytes.now) HasTables) (of.mapped s sections) some)))
 
 by-counts : (count sections others : ℕ) → (0 < sections → 0 < count) → 0 < sections + others
     → 0 < count + others
@@ -251,20 +251,20 @@ no-sections [] none = refl
 no-sections (s ∷ sections) none = absurd (none (omega arith))
 
 -- what begins by a layout begins in its file
-pub layout-begins : (opts : ParseOptions) (bytes : List ℕ) (h : Header) (l : Layout)
-    → (sections_after (is_strict opts.parse_mode) (header_value h)).value bytes ≡ Some l.sections.items
+pub layout-begins : (opts : ParseOptions) (bytes : List ℕ) (h : Header) (l : Layout) (s : List Section)
+    → (sections_after (is_strict opts.parse_mode) (header_value h)).value bytes ≡ Some s
     → IsLayoutOf opts bytes h l → TablesBegin (layout_map l) (layout_places l) l.bytes.now
     → FileBegins opts bytes (header_value h)
-layout-begins opts bytes h l sections of begun =
+layout-begins opts bytes h l s sections of begun =
     let count = (header_value h).coff_header.number_of_sections in
     let places = places_in h.optional_header in
-    let counted = sections_counted (is_strict opts.parse_mode) (header_value h) bytes l.sections.items sections in
+    let counted = sections_counted (is_strict opts.parse_mode) (header_value h) bytes s sections in
     elim count as (λ n. count ≡ n → FileBegins opts bytes (header_value h)) [
       | zero ↦ λ none.
-          let empty : l.sections.items ≡ [] = no-sections l.sections.items (λ some. omega (arith, none, counted some)) in
+          let empty : s ≡ [] = no-sections s (λ some. omega (arith, none, counted some)) in
           inr
           (subst (λ (s : List Section). TablesBegin (map_by opts s places.file_alignment) places bytes) empty
-          (subst (λ (m : MapOfAddresses). TablesBegin m places bytes) of.mapped
+          (subst (λ (m : MapOfAddresses). TablesBegin m places bytes) (of.mapped s sections)
           (subst (λ (at : TablePlaces). TablesBegin (layout_map l) at bytes) of.placed
           (subst (λ (file : List ℕ). TablesBegin (layout_map l) (layout_places l) file) of.over begun))))
       | suc n ↦ λ some. inl (omega (arith, some))

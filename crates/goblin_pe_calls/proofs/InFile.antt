@@ -1,31 +1,14 @@
 -- What is read of a file after its header and its sections.
-use Rattle.std.proofs.Common.{◌≡◌, ℕ, List, None, Some, subst}
+use Rattle.std.proofs.Common.{◌≡◌, ℕ, List, None, Some}
 use Rattle.std.specs.Prelude.{IsSomeAnd}
 use Rattle.goblin_base.specs.declared.error.ErrorOf.{ErrorOf}
 use Rattle.goblin_base.specs.Answers.{FirstFault}
 use Rattle.goblin_pe_sect.specs.declared.options.ParseOptions.{ParseOptions}
 use Rattle.goblin_pe_sect.specs.Options.{is_strict}
 use Rattle.goblin_pe_sect.specs.SectionTable.{Section}
-use Rattle.goblin_pe_head.specs.declared.header.pe_header.Header.{Header}
-use Rattle.goblin_pe.specs.Addresses.{MapOfAddresses}
 use Rattle.goblin_pe.specs.HeaderReadings.{pe_header}
-use Rattle.goblin_pe.specs.Layouts.{IsLayoutOf, layout_map, layout_places}
-use Rattle.goblin_pe.specs.PeHeader.{PeHeader, header_value}
-use Rattle.goblin_pe.specs.Whole.{TablePlaces, layout, places_in, sections_after}
-use Rattle.goblin_pe.specs.declared.whole.layout.Layout.{Layout}
-use Rattle.goblin_pe_calls.specs.Batches.{map_in}
-
--- what holds of the map, the places and the bytes of a layout holds of its file's
-pub layout-in : (opts : ParseOptions) (bytes : List ℕ) (header : Header) (l : Layout) → IsLayoutOf opts bytes header l → (P : MapOfAddresses → TablePlaces → List ℕ → Type 0)
-    → P (layout_map l) (layout_places l) l.bytes.now → P (map_in opts (header_value header, l.sections.items)) (places_in (header_value header).optional_header) bytes
-layout-in opts bytes header l is P holds =
-    subst (λ (m : MapOfAddresses). P m (places_in header.optional_header) bytes) is.mapped
-    (subst (λ (places : TablePlaces). P (layout_map l) places bytes) is.placed
-    (subst (λ (b : List ℕ). P (layout_map l) (layout_places l) b) is.over holds))
-
-pub layout-fault : (opts : ParseOptions) (bytes : List ℕ) (header : Header) (l : Layout) → IsLayoutOf opts bytes header l → (IsFault : MapOfAddresses → TablePlaces → List ℕ → ErrorOf → Type 0) (e : ErrorOf)
-    → IsFault (layout_map l) (layout_places l) l.bytes.now e → IsFault (map_in opts (header_value header, l.sections.items)) (places_in (header_value header).optional_header) bytes e
-layout-fault opts bytes header l is IsFault e fault = layout-in opts bytes header l is (λ m places b. IsFault m places b e) fault
+use Rattle.goblin_pe.specs.PeHeader.{PeHeader}
+use Rattle.goblin_pe.specs.Whole.{layout, sections_after}
 
 -- what is given of a file that has a header and sections
 pub given-in : (opts : ParseOptions) (bytes : List ℕ) (Gives : PeHeader × List Section → Type 0) (h : PeHeader) (sections : List Section)

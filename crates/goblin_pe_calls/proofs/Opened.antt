@@ -11,7 +11,7 @@ use Rattle.readings.specs.Reads.{mapped}
 use Rattle.goblin_pe_sect.specs.declared.options.ParseOptions.{ParseOptions}
 use Rattle.goblin_pe_sect.specs.BaseRelocations.{relocation_bytes}
 use Rattle.goblin_pe_sect.specs.Options.{is_strict}
-use Rattle.goblin_pe_sect.specs.SectionTable.{Section}
+use Rattle.goblin_pe_sect.specs.SectionTable.{Section, section_records, unnamed}
 use Rattle.goblin_pe_head.specs.declared.header.pe_header.Header.{Header}
 use Rattle.goblin_pe_head.specs.HeaderReadings.{pe_header}
 use Rattle.goblin_pe_head.specs.PeHeader.{PeHeader, header_value}
@@ -80,7 +80,7 @@ pub record IsOf (opts : ParseOptions) (bytes : List ℕ) (v : RecordsOfFile) : T
   pub whole : WholeFile
   pub read : (whole_file opts).value bytes ≡ Some whole
   pub header : whole.header ≡ v.header
-  pub sections : whole.sections ≡ v.sections
+  pub sections : map unnamed whole.sections ≡ v.sections
   pub relocations : whole.relocations ≡ v.relocations
   pub imports : map import_said (entries_of whole.imports) ≡ entries_of v.imports
   pub exports : file_exports opts bytes whole ≡ v.exports
@@ -114,19 +114,24 @@ file-of-records opts bytes v is =
 
 -- ---- the records of a file's tables
 
+abbrev without_names : RecordsOfFile → RecordsOfFile
+without_names x = record x { sections = map unnamed x.sections }
+
 -- what is collected of a file with these sections
 collected-whole : (opts : ParseOptions) (bytes : List ℕ) (h : PeHeader) (s : List Section)
     (tables : Option TableParts)
     → option_map (records_of_file opts bytes) (option_map (whole_of h s) tables)
-    ≡ option_map (collected_file import_said (exports_said (offset_by opts s (places_in h.optional_header)) bytes))
-    (option_map (whole_of h s) tables)
+    ≡ option_map without_names
+    (option_map (collected_file import_said (exports_said (offset_by opts s (places_in h.optional_header)) bytes))
+    (option_map (whole_of h s) tables))
 collected-whole opts bytes h s None = refl
 collected-whole opts bytes h s (Some tables) = refl
 
 module _ (opts : ParseOptions) (bytes : List ℕ) (h : Header)
     (header : (pe_header (is_strict opts.parse_mode)).value bytes ≡ Some (header_value h))
-    (l : Layout) (sections : (sections_after (is_strict opts.parse_mode) (header_value h)).value bytes
-    ≡ Some l.sections.items) (of : IsLayoutOf opts bytes h l) where
+    (l : Layout) (s : List Section)
+    (sections : (sections_after (is_strict opts.parse_mode) (header_value h)).value bytes ≡ Some s)
+    (of : IsLayoutOf opts bytes h l) where
   abbrev places : TablePlaces
   places = places_in h.optional_header
 
@@ -138,30 +143,31 @@ module _ (opts : ParseOptions) (bytes : List ℕ) (h : Header)
 
   makes : (result : Result FileRecords ErrorOf)
       → MakesTables result (layout_map l) (layout_places l) l.bytes.now
-      → MakesTables result (map_by opts l.sections.items places.file_alignment) places bytes
+      → MakesTables result (map_by opts s places.file_alignment) places bytes
   makes result made =
-      let m = map_by opts l.sections.items places.file_alignment in
+      let m = map_by opts s places.file_alignment in
       subst (λ (file : List ℕ). MakesTables result m places file) of.over
       (subst (λ (at : TablePlaces). MakesTables result m at l.bytes.now) of.placed
-      (subst (λ (m : MapOfAddresses). MakesTables result m (layout_places l) l.bytes.now) of.mapped made))
+      (subst (λ (m : MapOfAddresses). MakesTables result m (layout_places l) l.bytes.now) (of.mapped s sections) made))
 
   -- they are those of the file
-  pub records-read : (r : FileRecords)
+  pub records-read : map unnamed s ≡ section_records l.records → (r : FileRecords)
       → MakesTables (Ok r) (layout_map l) (layout_places l) l.bytes.now
       → option_map (records_of_file opts bytes) ((whole_file opts).value bytes)
       ≡ Some (records_view l r)
   unfolding whole_with
-  records-read r made =
-      ap (option_map (records_of_file opts bytes)) (tables-value opts bytes (header_value h) header l.sections.items sections)
-      ∙ collected-whole opts bytes (header_value h) l.sections.items _
-      ∙ file_read import_said (exports_said (offset_by opts l.sections.items places) bytes) opts (header_value h) l.sections.items bytes (tables_view r) (makes (Ok r) made)
+  records-read names r made =
+      ap (option_map (records_of_file opts bytes)) (tables-value opts bytes (header_value h) header s sections)
+      ∙ collected-whole opts bytes (header_value h) s _
+      ∙ ap (option_map without_names) (file_read import_said (exports_said (offset_by opts s places) bytes) opts (header_value h) s bytes (tables_view r) (makes (Ok r) made))
       ∙ ap (λ (x : Header). Some (record {
         header = header_value x;
-        sections = l.sections.items;
+        sections = map unnamed s;
         imports = part_map import_views r.imports;
         exports = exports_view r.exports;
         relocations = part_map relocation_bytes r.relocations;
       })) (sym of.after)
+      ∙ ap (λ (x : List Section). Some (record (records_view l r) { sections = x })) names
 
   -- and a file is refused as they are
   pub records-refused : (e : ErrorOf)
@@ -170,7 +176,7 @@ module _ (opts : ParseOptions) (bytes : List ℕ) (h : Header)
   unfolding whole_with
   records-refused e made other =
       let none = makes (Err e) made other in (
-        tables-value opts bytes (header_value h) header l.sections.items sections
-            ∙ ap (option_map (whole_of (header_value h) l.sections.items)) (unmapped _ _ none.0),
-        tables-cause opts bytes (header_value h) header l.sections.items sections e none.1,
+        tables-value opts bytes (header_value h) header s sections
+            ∙ ap (option_map (whole_of (header_value h) s)) (unmapped _ _ none.0),
+        tables-cause opts bytes (header_value h) header s sections e none.1,
       )

@@ -34,7 +34,7 @@ use Rattle.goblin_pe.specs.declared.whole.imports.FileImports.TheVariants.{Narro
 use Rattle.goblin_pe_calls.specs.declared.export.PeExport.{PeExport}
 use Rattle.goblin_pe_calls.specs.declared.import.PeImport.{PeImport}
 use Rattle.goblin_pe_calls.specs.declared.next.PeImportPosition.{PeImportPosition}
-use Rattle.goblin_pe_calls.specs.Damages.{TakesSectionsBy}
+use Rattle.goblin_pe_calls.specs.Damages.{TakesIndexBy}
 use Rattle.goblin_pe_calls.specs.Exports.{export_said, export_view}
 use Rattle.goblin_pe_records.specs.Filled.{Filled}
 use Rattle.goblin_pe_calls.specs.Imports.{import_said, import_view}
@@ -216,7 +216,7 @@ IsExportsFault m places bytes e =
 -- ---- a call
 
 -- A call has given what comes next in a file; or its header or sections are refused, or what comes
--- next, or memory for the sections, and everything is unchanged.
+-- next, or memory for an index of many sections, and everything is unchanged.
 abbrev pub GivesBatch : ParseOptions → List ℕ → (MapOfAddresses → TablePlaces → Type 0)
     → (MapOfAddresses → TablePlaces → ErrorOf → Type 0) → Type 0 → Result Unit ErrorOf → Type 0
 GivesBatch opts bytes Gives IsFault Left (Ok x) =
@@ -226,5 +226,5 @@ GivesBatch opts bytes Gives IsFault Left (Err e) =
     (¬ IsMemory e → FirstFault ((layout opts).value bytes) ((layout opts).IsCause bytes)
     (λ l. IsFault (map_in opts l) (places_in l.0.optional_header)) e)
     × (IsMemory e → IsSomeAnd ((pe_header (is_strict opts.parse_mode)).value bytes)
-    (TakesSectionsBy bytes))
+    (TakesIndexBy bytes))
     × Left

@@ -55,22 +55,31 @@ forwarder_said (Some (ByName name lib)) =
 forwarder_said (Some (ByOrdinal ordinal lib)) =
     record { kind = forwards_number forwards.Ordinal; lib = lib; name = []; ordinal = ordinal }
 
--- the record of an export; what the export does not have is nothing, or 0
-abbrev pub export_said : NumberedExport → ExportSaid
-export_said x = record {
+-- the record of an export, with this said of a forwarder; what the export does not have is nothing,
+-- or 0
+abbrev pub said_with : NumberedExport → ForwarderSaid → ExportSaid
+said_with x forwarder = record {
   name = unwrap_or x.row.name [];
-  forward_lib = (forwarder_said x.row.reexport).lib;
-  forward_name = (forwarder_said x.row.reexport).name;
-  forward_ordinal = (forwarder_said x.row.reexport).ordinal;
+  forward_lib = forwarder.lib;
+  forward_name = forwarder.name;
+  forward_ordinal = forwarder.ordinal;
   ordinal = x.ordinal;
   hint = x.hint;
   offset = unwrap_or x.row.offset 0;
   rva = x.row.rva;
   has_name = is_some x.row.name;
   has_offset = is_some x.row.offset;
-  forwards = (forwarder_said x.row.reexport).kind;
+  forwards = forwarder.kind;
   reserved = (0, 0);
 }
+
+-- the record of an export
+abbrev pub export_said : NumberedExport → ExportSaid
+export_said x = said_with x (forwarder_said x.row.reexport)
+
+-- the same as if it were no forwarder
+abbrev pub said_without_forwarder : NumberedExport → ExportSaid
+said_without_forwarder x = said_with x (forwarder_said None)
 
 -- what a record holds
 abbrev pub export_view : PeExport → ExportSaid

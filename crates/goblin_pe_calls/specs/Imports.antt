@@ -1,6 +1,11 @@
 -- The records of imports, as definitions.
-use Rattle.std.specs.Prelude.{ℕ, Bool, List, [], Vec, if◌then◌else◌, map}
+use Rattle.std.specs.Prelude.{◌≡◌, ℕ, Bool, List, [], ◌++◌, Some, Vec, if◌then◌else◌, map}
 use Rattle.std.specs.Global.{Global}
+use Rattle.goblin_base.specs.declared.error.ErrorOf.{ErrorOf}
+use Rattle.goblin_base.specs.Tables.{Format}
+use Rattle.goblin_pe_import.specs.ImportEntries.{EntryValue}
+use Rattle.goblin_pe_import.specs.ImportWalks.{IsImportsCause, imports_left}
+use Rattle.goblin_pe_import.specs.declared.import.imports.Imports.{Imports}
 use Rattle.goblin_pe.specs.Imports.{ImportValue}
 use Rattle.goblin_pe_calls.specs.declared.import.PeImport.{PeImport}
 
@@ -44,3 +49,11 @@ import_view x = record {
 -- what a list of records holds
 abbrev pub import_views : Vec PeImport Global → List ImportSaid
 import_views records = map import_view records.items
+
+-- A walk has given some imports and goes on after them, and what is said of them was added.
+pub record PushesHere {T : Type 0} (format : Format EntryValue) (s t : Imports T)
+    (old new : List ImportSaid) : Type 0 where
+  pub values : List ImportValue
+  pub pushed : new ≡ old ++ map import_said values
+  pub yielded : imports_left format s ≡ map (λ x. Some x) values ++ imports_left format t
+  pub cause : (e : ErrorOf) → IsImportsCause format t e → IsImportsCause format s e

@@ -1,6 +1,7 @@
 -- The tables of a whole file, which are in memory of their own.
 use Rattle.std.specs.Prelude.{◌≡◌, ℕ, List, map}
 use Rattle.goblin_pe_sect.specs.declared.options.ParseOptions.{ParseOptions}
+use Rattle.goblin_pe_sect.specs.SectionTable.{section_records, unnamed}
 use Rattle.goblin_pe.specs.Whole.{CollectedFileValue, CollectedParts, WholeFile, collected_file}
 use Rattle.goblin_pe.specs.Whole.{offset_by, part_map, places_in}
 use Rattle.goblin_pe.specs.declared.whole.layout.Layout.{Layout}
@@ -51,14 +52,15 @@ Opens opts bytes w old new =
 
 -- ---- the records while they are made
 
--- A file whose imports and exports are records.
+-- A file whose imports and exports are records, and whose sections have no names from the string table.
 abbrev pub RecordsOfFile : Type 0
 RecordsOfFile = CollectedFileValue ImportSaid ExportsSaid
 
 abbrev pub records_of_file : ParseOptions → List ℕ → WholeFile → RecordsOfFile
 records_of_file opts bytes w =
     let offset_of = offset_by opts w.sections (places_in w.header.optional_header) in
-    collected_file import_said (exports_said offset_of bytes) w
+    record (collected_file import_said (exports_said offset_of bytes) w)
+    { sections = map unnamed w.sections }
 
 -- the tables as records
 abbrev pub tables_view : FileRecords → CollectedParts ImportSaid ExportsSaid
@@ -71,7 +73,7 @@ tables_view x = (
 abbrev pub records_view : Layout → FileRecords → RecordsOfFile
 records_view l x = record {
   header = header_value l.header.now;
-  sections = l.sections.items;
+  sections = section_records l.records;
   imports = part_map import_views x.imports;
   exports = exports_view x.exports;
   relocations = part_map relocation_bytes x.relocations;

@@ -1,7 +1,7 @@
 //! The records of exports.
 
 ghost use Rattle.std.specs.Prelude.{◌≡◌, ◌≤◌, ◌<◌, ◌+◌, ◌++◌, ◌∷◌, [], IfErr, IfOk, IfSome, OnErr, OnOk};
-ghost use Rattle.std.specs.Prelude.{IsSomeAnd, length, map};
+ghost use Rattle.std.specs.Prelude.{IsSomeAnd, Some, length, map, vec_capacity, vec_len};
 ghost use Rattle.std.specs.Iterator.{YieldsFirstBy};
 ghost use Rattle.goblin_base.specs.Answers.{GivesOrMemory, IsMemory};
 ghost use Rattle.goblin_base.specs.Reading.{ReadsOrMemory};
@@ -9,12 +9,14 @@ ghost use Rattle.goblin_pe.specs.Reads.{mapped};
 ghost use Rattle.goblin_pe_sect.specs.Addresses.{offset_of};
 ghost use Rattle.goblin_pe_export.specs.ExportWalks.{KeepsOver, exports_left, walked_export};
 ghost use Rattle.goblin_pe_export.specs.ExportWalks.{walked_tables};
+ghost use Rattle.goblin_pe_export.specs.Forwarders.{forwarder_value};
 ghost use Rattle.goblin_pe.specs.Layouts.{layout_map, layout_places};
 ghost use Rattle.goblin_pe.specs.Whole.{collected_exports, export_part, part_map};
 ghost use Rattle.goblin_pe_records.specs.Blocked.{HasLittleRoom};
 ghost use Rattle.goblin_pe_calls.specs.Blocked.{HasLittleRoomIn, HaveLittleRoom};
 ghost use Rattle.goblin_pe_calls.specs.Exports.{export_said, export_view, export_views, exports_said};
-ghost use Rattle.goblin_pe_calls.specs.Exports.{exports_view, read_said, unread_said};
+ghost use Rattle.goblin_pe_calls.specs.Exports.{exports_view, read_said, said_without_forwarder};
+ghost use Rattle.goblin_pe_calls.specs.Exports.{unread_said};
 ghost use Rattle.goblin_pe_calls.specs.Growth.{HasExports};
 
 use crate::export_directory::{
@@ -69,40 +71,69 @@ pub struct PeExport<'a> {
     pub reserved2: u32,
 }
 
-/// The record of an export of these bytes.
+// The record of an export that is no forwarder.
 #[inline(always)]
-pub fn export_record<'a>(bytes: &'a [u8], walked: &WalkedExport<'a>) -> PeExport<'a>
-    ensures { export_view result ≡ export_said (walked_export walked.now) }
+fn plain_record<'a>(bytes: &'a [u8], walked: &WalkedExport<'a>) -> PeExport<'a>
+    ensures { export_view result ≡ said_without_forwarder (walked_export walked.now) }
 {
     let none = &bytes[..0];
     let export = &walked.export;
-    let (forwards, lib, name, ordinal): (Forwards, &'a [u8], &'a [u8], usize) =
-        match &export.reexport {
-            None => (Forwards::None, none, none, 0),
-            Some(Reexport::DLLName { export, lib }) => {
-                (Forwards::Name, lib.as_bytes(), export.as_bytes(), 0)
-            }
-            Some(Reexport::DLLOrdinal { ordinal, lib }) => {
-                (Forwards::Ordinal, lib.as_bytes(), none, *ordinal)
-            }
-        };
     PeExport {
         name: match export.name {
             Some(name) => name.as_bytes(),
             None => none,
         },
-        forward_lib: lib,
-        forward_name: name,
-        forward_ordinal: ordinal,
+        forward_lib: none,
+        forward_name: none,
+        forward_ordinal: 0,
         ordinal: walked.ordinal,
         hint: walked.hint,
         offset: export.offset.unwrap_or(0),
         rva: export.rva,
         has_name: export.name.is_some(),
         has_offset: export.offset.is_some(),
-        forwards: forwards as u8,
+        forwards: Forwards::None as u8,
         reserved: 0,
         reserved2: 0,
+    }
+}
+
+// The record of an export that is this forwarder.
+#[inline(always)]
+fn forwarder_record<'a>(
+    bytes: &'a [u8],
+    walked: &WalkedExport<'a>,
+    reexport: &Reexport<'a>,
+) -> PeExport<'a>
+    requires { (walked_export walked.now).row.reexport ≡ Some (forwarder_value reexport.now) }
+    ensures { export_view result ≡ export_said (walked_export walked.now) }
+{
+    let plain = plain_record(bytes, walked);
+    match reexport {
+        Reexport::DLLName { export, lib } => PeExport {
+            forward_lib: lib.as_bytes(),
+            forward_name: export.as_bytes(),
+            forwards: Forwards::Name as u8,
+            ..plain
+        },
+        Reexport::DLLOrdinal { ordinal, lib } => PeExport {
+            forward_lib: lib.as_bytes(),
+            forward_ordinal: *ordinal,
+            forwards: Forwards::Ordinal as u8,
+            ..plain
+        },
+    }
+}
+
+/// Puts the record of an export of these bytes into its place. (A record that is the same for both
+/// kinds costs each export that is no forwarder zeros.)
+#[inline(always)]
+pub fn put_export<'a>(place: &mut PeExport<'a>, bytes: &'a [u8], walked: &WalkedExport<'a>)
+    ensures { export_view place.new ≡ export_said (walked_export walked.now) }
+{
+    match &walked.export.reexport {
+        None => *place = plain_record(bytes, walked),
+        Some(reexport) => *place = forwarder_record(bytes, walked, reexport),
     }
 }
 
@@ -120,6 +151,22 @@ pub struct ExportRecords<'a> {
 // For at most so many records room is made first.
 const MOST_FIRST: usize = 32;
 
+// Adds the record of an export, for which there is room.
+#[inline(always)]
+fn push_within<'a>(records: &mut Vec<PeExport<'a>>, bytes: &'a [u8], walked: &WalkedExport<'a>)
+    requires { vec_len records.old < vec_capacity records.old }
+    ensures value { map export_view records.new.items
+        ≡ map export_view records.old.items ++ export_said (walked_export walked.now) ∷ [] }
+    ensures room { HasLittleRoom records.old → HasLittleRoom records.new }
+    ensures counted { vec_len records.new ≡ vec_len records.old + 1 }
+    ensures same { vec_capacity records.new ≡ vec_capacity records.old }
+{
+    match &walked.export.reexport {
+        None => records.push_reserved(plain_record(bytes, walked)),
+        Some(reexport) => records.push_reserved(forwarder_record(bytes, walked, reexport)),
+    }
+}
+
 // Adds the record of an export. Room for so many more is made at first.
 fn push_export<'a>(
     records: &mut Vec<PeExport<'a>>,
@@ -135,7 +182,7 @@ fn push_export<'a>(
     ensures room { OnOk result (HasLittleRoom records.old → HasLittleRoom records.new) }
 {
     make_room(records, expected)?;
-    records.push_reserved(export_record(bytes, export));
+    push_within(records, bytes, export);
     Ok(())
 }
 
@@ -149,7 +196,8 @@ pub fn next_export<'a, 'm>(exports: &mut Exports<'a, 'm>) -> Option<WalkedExport
     exports.next()
 }
 
-// The records of the exports that a walk gives.
+// The records of the exports that a walk gives. Those for which there is room come by a loop of their
+// own, in which nothing can be refused.
 fn records_of<'a, 'm>(
     alloc: Global,
     bytes: &'a [u8],
@@ -168,6 +216,12 @@ fn records_of<'a, 'm>(
     let mut records = Vec::new(alloc);
     'exports: while let Some(export) = next_export(&mut exports) {
         push_export(&mut records, bytes, &export, expected)?;
+        'room: while records.len() < records.capacity() {
+            let Some(export) = next_export(&mut exports) else {
+                break;
+            };
+            push_within(&mut records, bytes, &export);
+        }
     }
     Ok(records)
 }

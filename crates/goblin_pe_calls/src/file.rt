@@ -51,7 +51,7 @@ pub(crate) fn fill_file<'a>(
     let header = layout.header();
     fill_optional(&mut file.optional_header, &header.optional_header);
     file.directories = directories_of(&header.optional_header).len();
-    file.sections = layout.sections().len();
+    file.sections = layout.section_records().len();
     fill_table(&mut file.imports, &records.imports);
     fill_table(&mut file.exports, &records.exports.exports);
     file.relocations = relocations;

@@ -15,7 +15,7 @@ ghost use Rattle.goblin_pe.specs.Whole.{part_map};
 ghost use Rattle.goblin_pe_records.specs.Blocked.{HasLittleRoom};
 ghost use Rattle.goblin_pe_calls.specs.Blocked.{HasLittleRoomIn};
 ghost use Rattle.goblin_pe_calls.specs.Growth.{HasEntries, ImportsBegin, IsBegun};
-ghost use Rattle.goblin_pe_calls.specs.Imports.{import_said, import_view, import_views};
+ghost use Rattle.goblin_pe_calls.specs.Imports.{PushesHere, import_said, import_view, import_views};
 
 use goblin_pe::import::{Bitfield, Imports, SyntheticImportLookupTableEntry, WalkedImport};
 use goblin_pe::{FileImports, Layout, Part, Result, ResultOf};
@@ -110,6 +110,26 @@ fn push_import<'a, 'e>(
     Ok(())
 }
 
+// Adds the records of the imports that the library of the walk still has, as far as there is room. It
+// is not inlined, so that its loop shares nothing with another way to the next import.
+#[inline(never)]
+fn push_here<'a, 'm, 'e, T: Bitfield<'a>>(
+    records: &mut Vec<PeImport<'a>>,
+    bytes: &'a [u8],
+    imports: &mut Imports<'a, 'm, 'e, T>,
+)
+    ensures pushed { PushesHere T.format imports.old imports.new
+        (map import_view records.old.items) (map import_view records.new.items) }
+    ensures room { HasLittleRoom records.old → HasLittleRoom records.new }
+{
+    'library: while records.len() < records.capacity() {
+        let Some(import) = imports.next_here() else {
+            return;
+        };
+        push_within(records, bytes, &import);
+    }
+}
+
 // The records of the imports that a walk gives. Those of a library after its first, as far as there is
 // room, come by a loop of their own, in which nothing can be refused.
 #[inline(never)]
@@ -129,12 +149,7 @@ fn records_of<'a, 'm, 'e, T: Bitfield<'a>>(
     let mut records = Vec::new(alloc);
     'libraries: while let Some(import) = imports.next() {
         push_import(&mut records, bytes, &import?)?;
-        'library: while records.len() < records.capacity() {
-            let Some(import) = imports.next_here() else {
-                break;
-            };
-            push_within(&mut records, bytes, &import);
-        }
+        push_here(&mut records, bytes, &mut imports);
     }
     Ok(records)
 }

@@ -1,4 +1,4 @@
-//! Imports and exports in batches, without memory for them.
+//! Imports and exports in batches.
 
 ghost use Rattle.std.specs.Prelude.{◌≡◌, ◌<◌, ◌≤◌, IfErr, MatchResult, Some, drop, length};
 ghost use Rattle.goblin_base.specs.Answers.{IsMemory};
@@ -16,7 +16,7 @@ ghost use Rattle.goblin_pe_calls.specs.Batches.{position_numbers, position_said,
 ghost use Rattle.goblin_pe_calls.specs.Exports.{export_said, export_view};
 ghost use Rattle.goblin_pe_calls.specs.Imports.{import_said, import_view};
 
-use crate::export::{PeExport, export_record, next_export};
+use crate::export::{PeExport, next_export, put_export};
 use crate::import::{PeImport, import_record};
 use goblin_pe::export::Exports;
 use goblin_pe::header::Header;
@@ -206,9 +206,9 @@ fn next_imports<'a>(
 /// in `count` how many, and leaves in `position` where the next call goes on.
 ///
 /// # Errors
-/// What these options refuse of the header or the sections, and memory for these; in strict mode the
-/// import directory, at the first position, and the very next import, if there is room for it.
-/// Nothing is then changed.
+/// What these options refuse of the header or the sections, and memory for an index of more than 16
+/// sections; in strict mode the import directory, at the first position, and the very next import, if
+/// there is room for it. Nothing is then changed.
 pub fn give_imports<'a>(
     alloc: Global,
     bytes: &'a [u8],
@@ -247,7 +247,7 @@ fn fill_exports<'a, 'm>(
         let Some(export) = next_export(exports) else {
             return count;
         };
-        records[count] = export_record(bytes, &export);
+        put_export(&mut records[count], bytes, &export);
         count += 1;
     }
     count
@@ -294,8 +294,8 @@ fn next_exports<'a>(
 /// in `count` how many, and leaves in `position` where the next call goes on.
 ///
 /// # Errors
-/// What these options refuse of the header or the sections, and memory for these; in strict mode the
-/// export directory. Nothing is then changed.
+/// What these options refuse of the header or the sections, and memory for an index of more than 16
+/// sections; in strict mode the export directory. Nothing is then changed.
 pub fn give_exports<'a>(
     alloc: Global,
     bytes: &'a [u8],

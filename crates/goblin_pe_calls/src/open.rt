@@ -6,7 +6,7 @@ ghost use Rattle.goblin_base.specs.Answers.{IsMemory};
 ghost use Rattle.goblin_pe_sect.specs.Options.{is_strict};
 ghost use Rattle.goblin_pe_head.specs.HeaderReadings.{pe_header};
 ghost use Rattle.goblin_pe_head.specs.PeHeader.{header_value};
-ghost use Rattle.goblin_pe.specs.Whole.{part_map, whole_file};
+ghost use Rattle.goblin_pe.specs.Whole.{WholeFile, part_map, whole_file};
 ghost use Rattle.goblin_pe_records.specs.Blocks.{block_view};
 ghost use Rattle.goblin_pe_calls.specs.Blocks.{blocks_in, relocations_of};
 ghost use Rattle.goblin_pe_records.specs.Blocked.{HasLittleRoom, HasNoSpareRoom};
@@ -89,8 +89,8 @@ fn made_of<'a>(
         IfOk result (λ m. m.relocations ≡ relocations_of v.relocations) }
     ensures rich_entries { let v = records_view layout.now records.now in
         IfOk result (λ m. m.rich_entries.items ≡ entries_in v.header.rich_header) }
-    ensures sections { let v = records_view layout.now records.now in
-        IfOk result (λ m. map section_said m.sections.items ≡ map alone v.sections) }
+    ensures sections { (w : WholeFile) → (whole_file opts.now).value bytes.now ≡ Some w
+        → IfOk result (λ m. map section_said m.sections.items ≡ map alone w.sections) }
     ensures blocks { let v = records_view layout.now records.now in
         IfOk result (λ m. map block_view m.blocks.items ≡ blocks_in v.relocations) }
     ensures none { IfOk result
@@ -101,7 +101,7 @@ fn made_of<'a>(
 {
     let header = layout.header();
     let table = header.coff_header.symbols_end();
-    let sections = section_records(alloc, bytes, layout.sections(), table, opts)?;
+    let sections = section_records(alloc, bytes, layout.section_records(), table, opts)?;
     let (rich_entries, rich_header) = entry_records(alloc, &header.rich_header)?;
     let (blocks, relocations) = block_records(alloc, &records.relocations)?;
     Ok(Made {

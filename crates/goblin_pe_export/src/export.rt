@@ -55,6 +55,16 @@ fn forwarder_at(bytes: &[u8], offset: Option<usize>) -> Option<Reexport<'_>>
     Reexport::parse(bytes, offset?).ok()
 }
 
+// The same, as its caller gives it: a loop then clears no room for what is seldom there.
+#[inline(never)]
+fn forwarded_at(bytes: &[u8], offset: Option<usize>) -> Option<Option<Reexport<'_>>>
+    ensures { option_map (option_map forwarder_value) result
+        ≡ option_map (λ f. Some f) (option_and_then (λ p. (forwarder_at p).value bytes.now) offset) }
+{
+    let forwarder = forwarder_at(bytes, offset)?;
+    Some(Some(forwarder))
+}
+
 // The address that an entry of the address table holds.
 fn rva_of(address: ExportAddressTableEntry) -> u32
     ensures { result ≡ rva_of address }
@@ -78,10 +88,7 @@ fn reexport_of<'a>(
 {
     match address {
         ExportAddressTableEntry::ExportRVA(_) => Some(None),
-        ExportAddressTableEntry::ForwarderRVA(_) => {
-            let forwarder = forwarder_at(bytes, offset)?;
-            Some(Some(forwarder))
-        }
+        ExportAddressTableEntry::ForwarderRVA(_) => forwarded_at(bytes, offset),
     }
 }
 

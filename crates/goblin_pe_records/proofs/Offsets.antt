@@ -5,9 +5,9 @@ use Rattle.std.specs.Int.{is_power_of_two}
 use Rattle.std.proofs.lemmas.List.{drop_more}
 use Rattle.goblin_pe_sect.specs.declared.options.ParseOptions.{ParseOptions}
 use Rattle.goblin_pe_sect.specs.Mapping.{file_offset, is_in_window, offset_in, read_size}
-use Rattle.goblin_pe_sect.specs.SectionTable.{Section}
+use Rattle.goblin_pe_sect.specs.SectionTable.{Section, unnamed}
 use Rattle.goblin_pe_records.specs.declared.section.PeSection.{PeSection}
-use Rattle.goblin_pe_records.specs.Sections.{section_view, unnamed}
+use Rattle.goblin_pe_records.specs.Sections.{section_view}
 
 -- the one that maps it alone maps it before the others
 found : (mapped power here : Bool) (f : Section → ℕ) (s t : Section) (others : Option Section) (rva p : ℕ) → f t ≡ f s

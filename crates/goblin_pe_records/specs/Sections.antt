@@ -33,7 +33,3 @@ section_view s = record {
 -- a section as its record has it, and what replaces its name if it has none from the string table
 abbrev pub section_said : PeSection → Section × List ℕ
 section_said s = (section_view s, if s.has_real_name then [] else s.real_name.now)
-
--- a section without its name from the string table
-abbrev pub unnamed : Section → Section
-unnamed s = record s { real_name = None }

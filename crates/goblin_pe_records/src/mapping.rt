@@ -2,7 +2,8 @@
 
 ghost use Rattle.std.specs.Prelude.{◌≡◌, map};
 ghost use Rattle.goblin_pe_sect.specs.Mapping.{file_offset};
-ghost use Rattle.goblin_pe_records.specs.Sections.{section_view, unnamed};
+ghost use Rattle.goblin_pe_sect.specs.SectionTable.{unnamed};
+ghost use Rattle.goblin_pe_records.specs.Sections.{section_view};
 
 use crate::section::PeSection;
 use goblin_pe_sect::options::ParseOptions;

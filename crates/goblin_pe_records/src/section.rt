@@ -2,15 +2,16 @@
 
 ghost use Rattle.std.specs.Prelude.{◌≡◌, ◌<◌, IfOk, OnErr, length, map, option_map};
 ghost use Rattle.goblin_pe_sect.specs.Options.{is_strict};
+ghost use Rattle.goblin_pe_sect.specs.SectionTable.{section_records, unnamed};
 ghost use Rattle.goblin_base.specs.Answers.{GivesOrMemory};
 ghost use Rattle.goblin_pe_records.specs.Blocked.{HasNoSpareRoom};
 ghost use Rattle.goblin_pe_records.specs.Filled.{Filled, alone};
-ghost use Rattle.goblin_pe_records.specs.Sections.{named_in, real_name_in, section_said, unnamed};
+ghost use Rattle.goblin_pe_records.specs.Sections.{named_in, real_name_in, section_said};
 
 use goblin_base::Result;
 use goblin_base::read::pread_str;
 use goblin_pe_sect::options::ParseOptions;
-use goblin_pe_sect::section_table::SectionTable;
+use goblin_pe_sect::section_table::{SectionRecords, SectionTable};
 use std::alloc::Global;
 
 /// A section, as its record describes it.
@@ -140,26 +141,26 @@ pub fn fill_sections<'a>(
     }
 }
 
-/// The records of sections, in memory of their own.
+/// The records of the sections of a section table, in memory of their own.
 pub fn section_records<'a>(
     alloc: Global,
     bytes: &'a [u8],
-    sections: &[SectionTable],
+    sections: SectionRecords,
     table: usize,
     opts: &ParseOptions,
 ) -> Result<Vec<PeSection<'a>>>
     ensures made { GivesOrMemory (λ v. map section_said v.items) result
         (map (λ s. alone (named_in (is_strict opts.now.parse_mode) bytes.now table s))
-        sections.now) }
-    ensures grown { OnErr result (0 < length sections.now) }
+        (section_records sections.entry)) }
+    ensures grown { OnErr result (0 < length (section_records sections.entry)) }
     ensures none { IfOk result HasNoSpareRoom }
 {
     let count = sections.len();
     let mut records = Vec::with_capacity(alloc, count)?;
     'records: for i in 0..count {
-        let section = &sections[i];
-        records.push_reserved(section_record(bytes, section));
-        name_record(&mut records[i], bytes, section, table, opts);
+        let section = sections.at(i);
+        records.push_reserved(section_record(bytes, &section));
+        name_record(&mut records[i], bytes, &section, table, opts);
     }
     Ok(records)
 }

@@ -163,7 +163,7 @@ impl Amount for Whole<'_> {
 
 impl Amount for Layout<'_, '_> {
     fn amount(&self) -> Result<usize, Refusal> {
-        Ok(self.sections().len())
+        Ok(self.section_records().len())
     }
 }
 

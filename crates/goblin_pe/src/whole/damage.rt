@@ -11,11 +11,11 @@ ghost use Rattle.goblin_pe.specs.Damages.{AreDamaged, IsDamage, IsDamageOf, IsRe
 ghost use Rattle.goblin_pe.specs.Damages.{TellsDamage};
 ghost use Rattle.goblin_pe.specs.Layouts.{IsFileImportsCause, file_imports_left, layout_map};
 ghost use Rattle.goblin_pe.specs.Layouts.{layout_places};
-ghost use Rattle.goblin_pe.specs.SectionRoom.{TakesSections};
+ghost use Rattle.goblin_pe.specs.SectionRoom.{TakesIndex};
 ghost use Rattle.goblin_pe.specs.Whole.{import_list, sections_after};
 
 use crate::import::{Bitfield, Imports, LeftOut};
-use crate::whole::layout::sections_of;
+use crate::whole::layout::section_records;
 use crate::whole::{FileImports, Layout, Part, Whole};
 use goblin_base::{Error, ErrorOf, Result, ResultOf};
 use goblin_pe_head::header::{DosStub, Header};
@@ -81,18 +81,11 @@ fn import_damage(layout: &Layout) -> Option<Error>
 }
 
 // What strict mode refuses of the names of sections after this header.
-fn name_damage(alloc: Global, bytes: &[u8], header: &Header) -> Result<Option<Error>>
-    ensures value { IfOk result (IsDamage (sections_after true (header_value header.now)) bytes.now) }
-    ensures refused { IfErr result IsMemory }
-    ensures grown { IfErr result
-        (λ e. TakesSections header.now.coff_header.number_of_sections bytes.now) }
+#[tactic(auto, using(crate::proofs::SectionNames::damage_made))]
+fn name_damage(bytes: &[u8], header: &Header) -> Option<Error>
+    ensures { IsDamage (sections_after true (header_value header.now)) bytes.now result }
 {
-    let opts = ParseOptions::default();
-    match sections_of(alloc, bytes, header, &opts) {
-        Ok(_) => Ok(None),
-        Err(Error::Memory(error)) => Err(Error::Memory(error)),
-        Err(error) => Ok(Some(error)),
-    }
+    section_records(bytes, header, &ParseOptions::default()).err()
 }
 
 // What strict mode refuses of the imports, the exports and the base relocations, and how much
@@ -117,15 +110,14 @@ fn file_damage(alloc: Global, bytes: &[u8], opts: &ParseOptions) -> Result<Damag
     ensures grown { IfErr result
         (λ e.
         IsMemory e → IsSomeAnd ((pe_header (is_strict opts.now.parse_mode)).value bytes.now)
-        (λ h. TakesSections h.coff_header.number_of_sections bytes.now)) }
+        (λ h. TakesIndex h.coff_header.number_of_sections bytes.now)) }
 {
     let header = Header::parse_with_opts(bytes, opts)?;
     let layout = Layout::of(alloc, bytes, &header, opts)?;
-    let section_names = name_damage(alloc, bytes, &header)?;
     let (imports, exports, relocations, left_out) = table_damage(layout);
     Ok(Damage {
         dos_stub: DosStub::parse(bytes, header.dos_header.pe_pointer).err(),
-        section_names,
+        section_names: name_damage(bytes, &header),
         imports,
         exports,
         relocations,
@@ -137,7 +129,7 @@ impl Whole<'_> {
     /// Tells what strict mode would refuse of a file, part by part, where its header and its
     /// sections are read as `opts` say. In permissive mode a stub and names of sections can be
     /// damaged; in strict mode these refuse the file as ever. No table is listed: memory is taken
-    /// for the sections, in each mode, and for what maps the file's addresses. A file can list very
+    /// only for what maps the addresses of a file of more than 16 sections. A file can list very
     /// many imports; each is looked at.
     ///
     /// A file without damage is one that strict mode reads, and permissive mode reads the same, but
@@ -146,8 +138,8 @@ impl Whole<'_> {
     /// # Errors
     /// As [`Header::parse_with_opts`]; as
     /// [`CoffHeader::sections_with_opts`](goblin_pe_head::CoffHeader::sections_with_opts);
-    /// [`Error::Memory`] if memory is refused, and only of a file that has sections, and room for as
-    /// many as its header says.
+    /// [`Error::Memory`] if memory is refused, and only of a file that has more than 16 sections, and
+    /// room for as many as its header says.
     #[tactic(auto, using(crate::proofs::SoundFiles::sound_told))]
     pub fn damage(alloc: Global, bytes: &[u8], opts: &ParseOptions) -> Result<Damage>
         ensures tells { TellsDamage opts.now bytes.now result }
@@ -155,7 +147,7 @@ impl Whole<'_> {
         ensures grown { IfErr result
             (λ e.
             IsMemory e → IsSomeAnd ((pe_header (is_strict opts.now.parse_mode)).value bytes.now)
-            (λ h. TakesSections h.coff_header.number_of_sections bytes.now)) }
+            (λ h. TakesIndex h.coff_header.number_of_sections bytes.now)) }
     {
         file_damage(alloc, bytes, opts)
     }

@@ -1,19 +1,21 @@
 //! What all tables of a file are read by.
 
-ghost use Rattle.std.specs.Prelude.{◌+◌, ◌≡◌, ◌<◌, ◌/◌, IfErr, IfOk, IsErrAnd, None, Ok, Some, length};
+ghost use Rattle.std.specs.Prelude.{◌+◌, ◌≡◌, ◌<◌, ◌/◌, IfErr, IfOk, IsErrAnd, None, Ok, Some, length, map};
 ghost use Rattle.goblin_base.specs.Answers.{IsMemory};
 ghost use Rattle.goblin_base.specs.Reading.{Reads, ReadsOrMemory};
+ghost use Rattle.readings.specs.Reads.{mapped};
 ghost use Rattle.goblin_pe_sect.specs.BaseRelocations.{relocation_bytes};
 ghost use Rattle.goblin_pe_sect.specs.Options.{is_strict};
 ghost use Rattle.goblin_pe_head.specs.PeHeader.{header_value};
 ghost use Rattle.goblin_pe_head.specs.CoffHeader.{IsTooManySections};
 ghost use Rattle.goblin_pe_sect.specs.Addresses.{offset_of, strict_map};
+ghost use Rattle.goblin_pe_sect.specs.SectionTable.{section_records, unnamed};
 ghost use Rattle.goblin_pe.specs.Damages.{left_out_of};
 ghost use Rattle.goblin_pe.specs.LayoutPositions.{StartsAt, import_start};
 ghost use Rattle.goblin_pe.specs.Layouts.{IsExportWalk, IsFileImportsCause, IsLayoutOf, PartWalks};
 ghost use Rattle.goblin_pe.specs.Layouts.{file_imports_left, layout_map, layout_places};
 ghost use Rattle.goblin_pe.specs.Layouts.{walked_exports};
-ghost use Rattle.goblin_pe.specs.SectionRoom.{TakesSections};
+ghost use Rattle.goblin_pe.specs.SectionRoom.{TakesIndex, TakesSections};
 ghost use Rattle.goblin_pe.specs.Whole.{AreListed, IfRead, export_part, import_list, listed_view};
 ghost use Rattle.goblin_pe.specs.Whole.{part_map, relocation_part, sections_after, table_parts};
 
@@ -26,12 +28,13 @@ use goblin_base::{Result, ResultOf};
 use goblin_pe_head::header::{Header, SIZEOF_COFF_HEADER, SIZEOF_PE_MAGIC};
 use goblin_pe_sect::address_map::AddressMap;
 use goblin_pe_sect::relocation::RelocationData;
+use goblin_pe_sect::section_table::SectionRecords;
 use goblin_pe_sect::{ParseOptions, SectionTable};
 use std::alloc::Global;
 
-/// What all tables of a file are read by: its header, its sections, and where its addresses lie in
-/// the file. Each table is read when it is asked for: imports and exports one by one, without
-/// memory.
+/// What all tables of a file are read by: its header, the records of its sections, and where its
+/// addresses lie in the file. Each table is read when it is asked for: imports and exports one by
+/// one, without memory.
 ///
 /// Source: PE Format, "Overview".
 #[derive(Drop)]
@@ -39,8 +42,8 @@ pub struct Layout<'a, 'h> {
     bytes: &'a [u8],
     header: &'h Header<'a>,
     places: Places,
-    pub(super) sections: Vec<SectionTable>,
-    address_map: AddressMap,
+    records: SectionRecords<'a>,
+    address_map: AddressMap<'a>,
 }
 
 // The file offset at which an optional header of this size ends.
@@ -48,6 +51,28 @@ fn after_optional_header(pe_pointer: u32, size_of_optional_header: u16) -> usize
     ensures { result ≡ pe_pointer + 24 + size_of_optional_header }
 {
     pe_pointer as usize + SIZEOF_PE_MAGIC + SIZEOF_COFF_HEADER + size_of_optional_header as usize
+}
+
+// The records of the sections of a file with this header, which follow the optional header.
+#[inline(always)]
+#[tactic(auto, unfolding(crate::specs::Whole::sections_after))]
+pub(super) fn section_records<'a>(
+    bytes: &'a [u8],
+    header: &Header,
+    opts: &ParseOptions,
+) -> Result<SectionRecords<'a>>
+    ensures value { let strict = is_strict opts.now.parse_mode in
+        Reads section_records result
+        (mapped (map unnamed) (sections_after strict (header_value header.now))) bytes.now }
+    ensures first { let count = header.now.coff_header.number_of_sections in
+        length bytes.now / 40 < count → IsErrAnd result (IsTooManySections count bytes.now) }
+{
+    let coff_header = &header.coff_header;
+    let mut offset = after_optional_header(
+        header.dos_header.pe_pointer,
+        coff_header.size_of_optional_header,
+    );
+    coff_header.section_records_with_opts(bytes, &mut offset, opts)
 }
 
 // The sections of a file with this header, whose records follow the optional header.
@@ -76,14 +101,14 @@ pub(super) fn sections_of(
 }
 
 impl<'a, 'h> Layout<'a, 'h> {
-    /// Reads the sections of a file with this header, as [`Whole::read`](crate::Whole::read) does,
-    /// and prepares what maps its addresses. Memory is taken for the sections and the map.
+    /// Tests the sections of a file with this header, as [`Whole::read`](crate::Whole::read) does,
+    /// and prepares what maps its addresses. Memory is taken only for an index of more than 16
+    /// sections.
     ///
     /// # Errors
-    /// As [`CoffHeader::sections_with_opts`](goblin_pe_head::CoffHeader::sections_with_opts); no
-    /// memory is asked for where there are no sections.
+    /// As [`CoffHeader::sections_with_opts`](goblin_pe_head::CoffHeader::sections_with_opts).
     #[inline(always)]
-    #[tactic(auto, using(crate::proofs::SectionRoom::sections_counted, crate::proofs::SectionRoom::sections_fit))]
+    #[tactic(auto, using(crate::proofs::SectionNames::mapped_by_names, crate::proofs::SectionNames::takes_index))]
     pub fn of(
         alloc: Global,
         bytes: &'a [u8],
@@ -91,22 +116,22 @@ impl<'a, 'h> Layout<'a, 'h> {
         opts: &ParseOptions,
     ) -> Result<Layout<'a, 'h>>
         ensures value { let strict = is_strict opts.now.parse_mode in
-            ReadsOrMemory (λ l. l.sections.items) result
-            (sections_after strict (header_value header.now)) bytes.now }
+            ReadsOrMemory (λ l. section_records l.records) result
+            (mapped (map unnamed) (sections_after strict (header_value header.now))) bytes.now }
         ensures over { IfOk result (IsLayoutOf opts.now bytes.now header.now) }
         ensures first { let count = header.now.coff_header.number_of_sections in
             length bytes.now / 40 < count → IsErrAnd result (IsTooManySections count bytes.now) }
         ensures grown { IfErr result
-            (λ e. IsMemory e → TakesSections header.now.coff_header.number_of_sections bytes.now) }
+            (λ e. IsMemory e → TakesIndex header.now.coff_header.number_of_sections bytes.now) }
     {
-        let sections = sections_of(alloc, bytes, header, opts)?;
+        let records = section_records(bytes, header, opts)?;
         let places = Places::of(&header.optional_header);
-        let address_map = AddressMap::prepare(alloc, &sections, places.file_alignment, opts)?;
+        let address_map = AddressMap::of_records(alloc, records, places.file_alignment, opts)?;
         Ok(Layout {
             bytes,
             header,
             places,
-            sections,
+            records,
             address_map,
         })
     }
@@ -121,7 +146,7 @@ impl<'a, 'h> Layout<'a, 'h> {
             bytes: self.bytes,
             header: self.header,
             places: self.places,
-            sections: self.sections,
+            records: self.records,
             address_map: self.address_map.strictly(),
         }
     }
@@ -140,11 +165,28 @@ impl<'a, 'h> Layout<'a, 'h> {
         self.header
     }
 
-    /// The sections, in the order of their records; they map the addresses.
-    pub fn sections(&self) -> &[SectionTable]
-        ensures { result.now ≡ self.now.sections.items }
+    /// The records of the sections, by which the addresses are mapped. Their sections have no names
+    /// from the string table.
+    pub fn section_records(&self) -> SectionRecords<'a>
+        ensures { section_records result ≡ section_records self.now.records }
     {
-        &self.sections
+        self.records
+    }
+
+    /// The sections, in the order of their records, with their names from the string table, in memory
+    /// of their own.
+    ///
+    /// # Errors
+    /// As [`CoffHeader::sections_with_opts`](goblin_pe_head::CoffHeader::sections_with_opts), so of a
+    /// layout that was read only [`Error::Memory`](goblin_base::Error::Memory).
+    pub fn sections(&self, alloc: Global) -> Result<Vec<SectionTable>>
+        ensures value { let strict = is_strict (layout_map self.now).opts.parse_mode in
+            ReadsOrMemory (λ v. v.items) result
+            (sections_after strict (header_value self.now.header.now)) self.now.bytes.now }
+        ensures grown { let count = self.now.header.now.coff_header.number_of_sections in
+            IfErr result (λ e. IsMemory e → TakesSections count self.now.bytes.now) }
+    {
+        sections_of(alloc, self.bytes, self.header, self.address_map.opts())
     }
 
     /// The imports that the import directory leads to, one by one, where they are asked for.
@@ -218,12 +260,16 @@ impl<'a, 'h> Layout<'a, 'h> {
     }
 
     // The lists of all tables.
-    pub(super) fn listed(&self, alloc: Global) -> Result<ListedTables<'a>>
+    pub(super) fn listed(
+        &self,
+        alloc: Global,
+        sections: &[SectionTable],
+    ) -> Result<ListedTables<'a>>
         ensures { let m = layout_map self.now in
             ReadsOrMemory listed_view result
             (table_parts m.opts (offset_of m) (layout_places self.now)) self.now.bytes.now }
     {
         self.places
-            .listed(alloc, self.bytes, &self.address_map, &self.sections)
+            .listed(alloc, self.bytes, &self.address_map, sections)
     }
 }

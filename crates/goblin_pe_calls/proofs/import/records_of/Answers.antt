@@ -1,9 +1,10 @@
-use Rattle.std.proofs.Common.{Ok, ap, arith, length, refl, sym}
+use Rattle.std.proofs.Common.{sym}
 use Rattle.std.proofs.lemmas.Result.{err_from_is_err_and}
 use Rattle.goblin_pe_import.specs.ImportWalks.{IsImportsCause, imports_left, walked_value}
 use Rattle.goblin_pe_calls.specs.Imports.{import_said}
 use Rattle.goblin_pe.proofs.Walked.{made-all, made-fault, made-more}
 use Rattle.goblin_pe_calls.proofs.Growth.{walk-begins, wherever}
+use Rattle.goblin_pe_calls.proofs.Pushed.{made-pushed}
 use Rattle.goblin_pe_calls.proofs.import.records_of.Goals as goal
 
 pub returns-in_err-import-clause-value : goal.returns-in_err-import-clause-value
@@ -16,14 +17,11 @@ pub returns-in_err-push_import-clause-begun : goal.returns-in_err-push_import-cl
 returns-in_err-push_import-clause-begun g c =
     wherever _ _ (walk-begins (imports_left g.T.Bitfield.format) (IsImportsCause g.T.Bitfield.format) import_said c.args.imports _ _ c.libraries.invariant.0 walked_value _ _ c.in-Some.ensures.steps.0 _ c.in_ok-import.was)
 
-pub library-init : goal.library-init
-library-init g c =
-    (made-more (imports_left g.T.Bitfield.format) (IsImportsCause g.T.Bitfield.format) import_said c.args.imports _ _ c.libraries.invariant.0 walked_value _ _ c.in-Some.ensures.steps.0 _ c.in_ok-import.was _ (sym c.in_ok-push_import.ensures.value), c.in_ok-push_import.ensures.room c.libraries.invariant.1, omega arith)
-
-pub library-preserved : goal.library-preserved
-library-preserved g c =
-    let given = c.in-Some-next_here.ensures.0.0 in
-    (made-more (imports_left g.T.Bitfield.format) (IsImportsCause g.T.Bitfield.format) import_said c.args.imports _ _ c.library.invariant.0 walked_value _ (Ok c.in-Some-next_here.import) given _ refl _ c.push_within.ensures.value, c.push_within.ensures.room c.library.invariant.1, omega (arith, ap length given.0, c.library.invariant.2))
+pub libraries-preserved : goal.libraries-preserved
+libraries-preserved g c =
+    let one = made-more (imports_left g.T.Bitfield.format) (IsImportsCause g.T.Bitfield.format) import_said c.args.imports _ _ c.libraries.invariant.0 walked_value _ _ c.in-Some.ensures.steps.0 _ c.in_ok-import.was _ (sym c.in_ok-push_import.ensures.value) in
+    let pushed = c.push_here.ensures.pushed in
+    (made-pushed g.T.Bitfield.format _ _ _ _ _ one pushed, c.push_here.ensures.room (c.in_ok-push_import.ensures.room c.libraries.invariant.1))
 
 pub returns-clause-value : goal.returns-clause-value
 returns-clause-value g c =

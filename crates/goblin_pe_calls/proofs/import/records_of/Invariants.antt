@@ -1,4 +1,4 @@
-use Rattle.std.proofs.Common.{◌≤◌, length, map}
+use Rattle.std.proofs.Common.{length, map}
 use Rattle.goblin_pe_import.specs.ImportWalks.{IsImportsCause, imports_left}
 use Rattle.goblin_pe_records.specs.Blocked.{HasLittleRoom}
 use Rattle.goblin_pe_calls.specs.Imports.{import_said, import_view}
@@ -12,12 +12,3 @@ invariant-libraries g l =
 
 abbrev pub decreases-libraries : goal.decreases-libraries
 decreases-libraries g l = length (imports_left g.T.Bitfield.format l.imports)
-
-abbrev pub invariant-library : goal.invariant-library
-invariant-library g l =
-    AtMade (imports_left g.T.Bitfield.format) (IsImportsCause g.T.Bitfield.format) import_said l.fn.imports l.imports (map import_view l.records.items)
-    × HasLittleRoom l.records
-    × (length (imports_left g.T.Bitfield.format l.imports) ≤ length (imports_left g.T.Bitfield.format l.initial.imports))
-
-abbrev pub decreases-library : goal.decreases-library
-decreases-library g l = length (imports_left g.T.Bitfield.format l.imports)

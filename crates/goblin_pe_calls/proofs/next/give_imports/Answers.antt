@@ -1,11 +1,14 @@
 use Rattle.std.proofs.Common.{refl}
 use Rattle.std.proofs.lemmas.Result.{err_from_is_err_and}
+use Rattle.goblin_base.proofs.Steps.{mapped}
 use Rattle.goblin_pe_sect.specs.Options.{is_strict}
+use Rattle.goblin_pe.proofs.Collected.{unmapped}
+use Rattle.goblin_pe.proofs.SectionNames.{of_file}
 use Rattle.goblin_pe.specs.HeaderReadings.{pe_header}
 use Rattle.goblin_pe.specs.PeHeader.{header_value}
 use Rattle.goblin_pe.specs.Whole.{places_in}
 use Rattle.goblin_pe_calls.specs.Batches.{ImportBatch, GivesImports, IsImportsFault, map_in}
-use Rattle.goblin_pe_calls.proofs.InFile.{fault-in, given-in, layout-fault, layout-in, no-header, no-sections}
+use Rattle.goblin_pe_calls.proofs.InFile.{fault-in, given-in, no-header, no-sections}
 use Rattle.goblin_pe_calls.proofs.next.give_imports.Goals as goal
 
 pub returns-in_err-read_with_opts : goal.returns-in_err-read_with_opts
@@ -27,7 +30,7 @@ returns-in_err-layout c =
     let found = c.in_ok-read_with_opts.ensures.value in
     let e = err_from_is_err_and c.from_residual-in_err-layout.result c.from_residual-in_err-layout.ensures.1 in
     rw (e.1, e.2) (
-      λ other. (let refused = c.in_err-layout.ensures.value other in no-sections opts bytes _ (header_value c.read_with_opts.new.self) found _ refused.0 refused.1),
+      λ other. (let refused = c.in_err-layout.ensures.value other in no-sections opts bytes _ (header_value c.read_with_opts.new.self) found _ (unmapped _ _ refused.0) refused.1),
       λ memory. rw found (c.in_err-layout.ensures.grown memory),
       (refl, refl),
     )
@@ -38,11 +41,12 @@ returns-in_err-count c =
     let bytes = c.args.bytes.now in
     let h = header_value c.read_with_opts.new.self in
     let l = c.in_ok-layout.layout in
+    let read = mapped _ _ _ c.in_ok-layout.ensures.value in
     let old : ImportBatch = record { position = c.args.position.now; records = c.args.records.now } in
     let e = err_from_is_err_and c.from_residual-in_err-count.result c.from_residual-in_err-count.ensures.1 in
     rw (e.1, e.2) (
-      λ other. fault-in opts bytes (λ l e. IsImportsFault (map_in opts l) (places_in l.0.optional_header) bytes old e) h c.in_ok-read_with_opts.ensures.value l.sections.items c.in_ok-layout.ensures.value _
-          (layout-fault opts bytes c.read_with_opts.new.self l c.in_ok-layout.ensures.over (λ m places b e. IsImportsFault m places b old e) _ c.in_err-count.ensures.filled.0),
+      λ other. fault-in opts bytes (λ l e. IsImportsFault (map_in opts l) (places_in l.0.optional_header) bytes old e) h c.in_ok-read_with_opts.ensures.value read.value read.is _
+          (of_file opts bytes c.read_with_opts.new.self l c.in_ok-layout.ensures.over read.value read.is (λ m places b. IsImportsFault m places b old c.in_err-count.field-0.0) c.in_err-count.ensures.filled.0),
       λ memory. absurd (c.in_err-count.ensures.refused memory),
       (c.in_err-count.ensures.filled.1, refl),
     )
@@ -53,8 +57,9 @@ returns c =
     let bytes = c.args.bytes.now in
     let h = header_value c.read_with_opts.new.self in
     let l = c.in_ok-layout.layout in
+    let read = mapped _ _ _ c.in_ok-layout.ensures.value in
     let old : ImportBatch = record { position = c.args.position.now; records = c.args.records.now } in
     let new : ImportBatch = record { position = c.next_imports.new.position; records = c.next_imports.new.records } in
     let count = c.in_ok-count.field-0 in
-    given-in opts bytes (λ l. GivesImports (map_in opts l) (places_in l.0.optional_header) bytes old new count) h l.sections.items c.in_ok-read_with_opts.ensures.value c.in_ok-layout.ensures.value
-    (layout-in opts bytes c.read_with_opts.new.self l c.in_ok-layout.ensures.over (λ m places b. GivesImports m places b old new count) c.in_ok-count.ensures.filled)
+    given-in opts bytes (λ l. GivesImports (map_in opts l) (places_in l.0.optional_header) bytes old new count) h read.value c.in_ok-read_with_opts.ensures.value read.is
+    (of_file opts bytes c.read_with_opts.new.self l c.in_ok-layout.ensures.over read.value read.is (λ m places b. GivesImports m places b old new count) c.in_ok-count.ensures.filled)

@@ -1,7 +1,12 @@
-use Rattle.std.proofs.Common.{◌≡◌, ◌<◌, Some, ap, inl, length, refl, rules, subst, sym}
+use Rattle.std.proofs.Common.{◌≡◌, ◌<◌, ◌∙◌, Some, ap, arith, inl, length, refl, rules, subst, sym}
 use Rattle.std.proofs.lemmas.Result.{err_from_is_err_and}
+use Rattle.std.proofs.lemmas.List.{length-map}
+use Rattle.goblin_base.proofs.Steps.{mapped}
 use Rattle.goblin_pe_sect.specs.Options.{is_strict}
+use Rattle.goblin_pe_sect.specs.SectionTable.{unnamed}
 use Rattle.goblin_pe_head.specs.PeHeader.{PeHeader, header_value}
+use Rattle.goblin_base.specs.Answers.{IsMemory}
+use Rattle.goblin_pe.proofs.Collected.{unmapped}
 use Rattle.goblin_pe.proofs.Layouts.{sections-refused}
 use Rattle.goblin_pe.proofs.SectionRoom.{has_room, sections_counted}
 use Rattle.goblin_pe.specs.Whole.{whole_file}
@@ -19,13 +24,14 @@ returns-in_err-layout c =
     let h = header_value c.args.header.now in
     let found = c.requires in
     let error = err_from_is_err_and c.from_residual.result c.from_residual.ensures.1 in
+    let counted_some : IsMemory c.in_err-layout.field-0.0 → 0 < h.coff_header.number_of_sections = λ memory. omega (arith, (c.in_err-layout.ensures.grown memory).0) in
     rw (error.1, error.2) (
-      λ other. sections-refused opts bytes h found _ (c.in_err-layout.ensures.value other),
+      λ other. (let refused = c.in_err-layout.ensures.value other in sections-refused opts bytes h found _ (unmapped _ _ refused.0, refused.1)),
       λ memory. takes-records opts bytes h found
           (has_room h.coff_header.number_of_sections bytes _ c.in_err-layout.ensures.first memory)
           (either-way ((whole_file opts).value bytes) HasRecords (FileBegins opts bytes h)
-          (sections-kept opts bytes h found (c.in_err-layout.ensures.grown memory).0)
-          (inl (c.in_err-layout.ensures.grown memory).0)),
+          (sections-kept opts bytes h found (counted_some memory))
+          (inl (counted_some memory))),
       refl,
     )
 
@@ -34,20 +40,22 @@ returns-in_err-records c =
     let opts = c.args.opts.now in
     let bytes = c.args.bytes.now in
     let found = c.requires in
+    let read = mapped _ _ _ c.in_ok-layout.ensures.value in
     let error = err_from_is_err_and c.from_residual-in_err-records.result c.from_residual-in_err-records.ensures.1 in
     rw (error.1, error.2) (
-      λ other. records-refused opts bytes c.args.header.now found c.in_ok-layout.layout c.in_ok-layout.ensures.value c.in_ok-layout.ensures.over _ c.in_err-records.ensures.value other,
+      λ other. records-refused opts bytes c.args.header.now found c.in_ok-layout.layout read.value read.is c.in_ok-layout.ensures.over _ c.in_err-records.ensures.value other,
       λ memory. takes-records opts bytes (header_value c.args.header.now) found
           (room-there (Some (header_value c.args.header.now)) bytes c.in_ok-layout.ensures.first refl)
           (either-way ((whole_file opts).value bytes) HasRecords (FileBegins opts bytes (header_value c.args.header.now))
-          (layout-kept opts bytes c.args.header.now found c.in_ok-layout.layout c.in_ok-layout.ensures.value c.in_ok-layout.ensures.over c.in_err-records.ensures.grown)
-          (layout-begins opts bytes c.args.header.now c.in_ok-layout.layout c.in_ok-layout.ensures.value c.in_ok-layout.ensures.over (c.in_err-records.ensures.begun memory))),
+          (layout-kept opts bytes c.args.header.now found c.in_ok-layout.layout read.value read.is c.in_ok-layout.ensures.over c.in_err-records.ensures.grown)
+          (layout-begins opts bytes c.args.header.now c.in_ok-layout.layout read.value read.is c.in_ok-layout.ensures.over (c.in_err-records.ensures.begun memory))),
       refl,
     )
 
 pub made_of-requires : goal.made_of-requires
 made_of-requires c =
-    records-read c.args.opts.now c.args.bytes.now c.args.header.now c.requires c.in_ok-layout.layout c.in_ok-layout.ensures.value c.in_ok-layout.ensures.over c.in_ok-records.records c.in_ok-records.ensures.value
+    let read = mapped _ _ _ c.in_ok-layout.ensures.value in
+    records-read c.args.opts.now c.args.bytes.now c.args.header.now c.requires c.in_ok-layout.layout read.value read.is c.in_ok-layout.ensures.over read.made c.in_ok-records.records c.in_ok-records.ensures.value
 
 pub returns-in_err-made : goal.returns-in_err-made
 returns-in_err-made c =
@@ -56,10 +64,11 @@ returns-in_err-made c =
     let h = header_value c.args.header.now in
     let found = c.requires in
     let v = records_view c.in_ok-layout.layout c.in_ok-records.records in
-    let read = records-read opts bytes c.args.header.now found c.in_ok-layout.layout c.in_ok-layout.ensures.value c.in_ok-layout.ensures.over c.in_ok-records.records c.in_ok-records.ensures.value in
+    let from = mapped _ _ _ c.in_ok-layout.ensures.value in
+    let read = records-read opts bytes c.args.header.now found c.in_ok-layout.layout from.value from.is c.in_ok-layout.ensures.over from.made c.in_ok-records.records c.in_ok-records.ensures.value in
     let of = file-of-records opts bytes v read in
     let after : v.header ≡ h = ap header_value c.in_ok-layout.ensures.over.after in
-    let counted = λ (some : 0 < length v.sections). subst (λ (x : PeHeader). 0 < x.coff_header.number_of_sections) (sym after) (sections_counted (is_strict opts.parse_mode) h bytes v.sections c.in_ok-layout.ensures.value some) in
+    let counted = λ (some : 0 < length v.sections). subst (λ (x : PeHeader). 0 < x.coff_header.number_of_sections) (sym after) (sections_counted (is_strict opts.parse_mode) h bytes from.value from.is (omega (arith, some, ap length from.made, length-map from.value unnamed))) in
     let error = err_from_is_err_and c.from_residual-in_err-made.result c.from_residual-in_err-made.ensures.1 in
     rw (error.1, error.2) (
       λ other. absurd (other c.in_err-made.ensures.refused),
@@ -74,6 +83,8 @@ returns c =
     let opts = c.args.opts.now in
     let bytes = c.args.bytes.now in
     let v = records_view c.in_ok-layout.layout c.in_ok-records.records in
-    let read = records-read opts bytes c.args.header.now c.requires c.in_ok-layout.layout c.in_ok-layout.ensures.value c.in_ok-layout.ensures.over c.in_ok-records.records c.in_ok-records.ensures.value in
+    let from = mapped _ _ _ c.in_ok-layout.ensures.value in
+    let read = records-read opts bytes c.args.header.now c.requires c.in_ok-layout.layout from.value from.is c.in_ok-layout.ensures.over from.made c.in_ok-records.records c.in_ok-records.ensures.value in
     let of = file-of-records opts bytes v read in
-    rw (of.read, of.exports, of.header, of.sections, of.relocations, of.imports, of.imports_table, of.exports_table) (search rules)
+    let counted = sym (length-map of.whole.sections unnamed) ∙ ap length of.sections in
+    rw (of.read, of.exports, of.header, counted, of.relocations, of.imports, of.imports_table, of.exports_table) (search rules)

@@ -1,0 +1,125 @@
+-- What the records of sections tell without the names from the string table, and what it says of the sections.
+use Rattle.std.proofs.Common.{◌≡◌, ℕ, ◌+◌, ◌*◌, ◌/◌, ◌<◌, ◌∷◌, [], List, Bool, length, map, refl, sym, ap, subst, ◌∙◌, arith}
+use Rattle.std.specs.Prelude.{IsSome, None, Ok, Err, Option, Result, Some, option_map}
+use Rattle.std.specs.Result.{result_err}
+use Rattle.std.specs.List.{range_with_len}
+use Rattle.std.proofs.lemmas.List.FromFn.{length-map-range_with_len}
+use Rattle.std.proofs.lemmas.List.{length-map}
+use Rattle.goblin_base.specs.declared.error.ErrorOf.{ErrorOf}
+use Rattle.goblin_base.specs.Answers.{◌>>=◌, all_at, all_of}
+use Rattle.goblin_base.specs.Reading.{Reading, Reads}
+use Rattle.goblin_base.proofs.Steps as steps
+use Rattle.readings.specs.Reads.{each, mapped}
+use Rattle.goblin_pe_sect.specs.declared.options.ParseOptions.{ParseOptions}
+use Rattle.goblin_pe_sect.specs.Addresses.{MapOfAddresses, map_by}
+use Rattle.goblin_pe_sect.specs.Options.{is_strict}
+use Rattle.goblin_pe_sect.specs.SectionReadings.{section_at}
+use Rattle.goblin_pe_sect.specs.SectionTable.{Section, unnamed}
+use Rattle.goblin_pe_sect.proofs.AddressMaps.{unnamed_map}
+use Rattle.goblin_pe_head.specs.declared.header.pe_header.Header.{Header}
+use Rattle.goblin_pe_head.specs.CoffHeader.{symbols_end}
+use Rattle.goblin_pe_head.specs.CoffReadings.{sections_at, with_room}
+use Rattle.goblin_pe_head.specs.HeaderReadings.{pe_header}
+use Rattle.goblin_pe_head.specs.PeHeader.{PeHeader, header_value}
+use Rattle.goblin_pe.specs.declared.whole.damage.Damage.{Damage}
+use Rattle.goblin_pe.specs.declared.whole.layout.Layout.{Layout}
+use Rattle.goblin_pe.specs.Damages.{IsDamage, IsDamaged, TellsDamage}
+use Rattle.goblin_pe.specs.Layouts.{IsLayoutOf, layout_map, layout_places}
+use Rattle.goblin_pe.specs.SectionRoom.{TakesIndex}
+use Rattle.goblin_pe.specs.Whole.{TablePlaces, layout, places_in, section_table_offset, sections_after}
+
+-- ---- what is made of a value
+
+-- where none is made, there is none
+pub none_made : {A B : Type 0} (f : A → B) (o : Option A) → option_map f o ≡ None → o ≡ None
+none_made f None none = refl
+none_made f (Some a) none = absurd cc
+
+some_made : {A B : Type 0} (f : A → B) (o : Option A) (b : B) → option_map f o ≡ Some b → IsSome o
+some_made f None b made = absurd cc
+some_made f (Some a) b made = refl
+
+-- what is refused is refused whatever would be made of it
+pub refused_made : {A B : Type 0} (f : A → B) (reading : Reading A) (bytes : List ℕ) (e : ErrorOf)
+    → ((mapped f reading).value bytes ≡ None) × reading.IsCause bytes e
+    → (reading.value bytes ≡ None) × reading.IsCause bytes e
+refused_made f reading bytes e refused = (none_made f (reading.value bytes) refused.0, refused.1)
+
+-- a refusal tells the damage
+pub damage_read : {X A : Type 0} (view : X → A) (result : Result X ErrorOf) (reading : Reading A) (bytes : List ℕ)
+    → Reads view result reading bytes → IsDamage reading bytes (result_err result)
+damage_read view (Ok x) reading bytes read = some_made (λ x. x) (reading.value bytes) (view x) (ap (option_map (λ x. x)) read)
+damage_read view (Err e) reading bytes refused = refused
+
+pub damage_made : {X A B : Type 0} (view : X → B) (result : Result X ErrorOf) (f : A → B) (reading : Reading A) (bytes : List ℕ)
+    → Reads view result (mapped f reading) bytes → IsDamage reading bytes (result_err result)
+damage_made view (Ok x) f reading bytes read = some_made f (reading.value bytes) (view x) read
+damage_made view (Err e) f reading bytes refused = refused_made f reading bytes e refused
+
+-- ---- how many sections there are
+
+all_of-length : {A : Type 0} (values : List (Option A)) (xs : List A) → all_of values ≡ Some xs → length xs ≡ length values
+unfolding all_of
+all_of-length [] xs e = sym (ap length (steps.same_value [] xs e))
+all_of-length {A} (value ∷ values) xs e =
+    let s1 = steps.step value (λ x. all_of values >>= (λ rest. Some (x ∷ rest))) xs e in
+    let s2 = steps.step (all_of values) (λ rest. Some (s1.value ∷ rest)) xs s1.then in
+    omega (arith, all_of-length values s2.value s2.is, ap length (steps.same_value (s1.value ∷ s2.value) xs s2.then))
+
+as_many : (n : ℕ) (read : ℕ → Reading Section) (bytes : List ℕ) (records : List Section)
+    → option_map (map unnamed) ((with_room n (each read n)).value bytes) ≡ Some records → length records ≡ n
+as_many n read bytes records made =
+    let value : ℕ → Option Section = λ (i : ℕ). (read i).value bytes in
+    let all = steps.mapped (all_at value n) (map unnamed) records made in
+    omega (arith, ap length (sym all.made), length-map all.value unnamed, all_of-length (map value (range_with_len 0 n)) all.value all.is, length-map-range_with_len value 0 n)
+
+-- sections that were read without their names are as many as the header says
+pub records_counted : (strict : Bool) (h : PeHeader) (bytes : List ℕ) (records : List Section)
+    → option_map (map unnamed) ((sections_after strict h).value bytes) ≡ Some records
+    → length records ≡ h.coff_header.number_of_sections
+unfolding sections_after sections_at
+records_counted strict h bytes records made =
+    as_many h.coff_header.number_of_sections (λ i. section_at strict (symbols_end h.coff_header) (section_table_offset h + 40 * i)) bytes records made
+
+-- where they fit their file and are many, an index of them takes memory
+pub takes_index : (strict : Bool) (h : PeHeader) (bytes : List ℕ) (records : List Section)
+    → option_map (map unnamed) ((sections_after strict h).value bytes) ≡ Some records
+    → (length bytes / 40 < h.coff_header.number_of_sections → ⊥) → 16 < length records
+    → TakesIndex h.coff_header.number_of_sections bytes
+takes_index strict h bytes records made fit many =
+    let enough : ¬ (length bytes / 40 < h.coff_header.number_of_sections) = fit in
+    (omega (arith, many, records_counted strict h bytes records made), omega arith)
+
+-- ---- the map of addresses
+
+-- names change no address
+pub mapped_by_names : (opts : ParseOptions) (read : Option (List Section)) (records : List Section) (alignment : ℕ) (m : MapOfAddresses)
+    → option_map (map unnamed) read ≡ Some records → m ≡ map_by opts records alignment
+    → (sections : List Section) → read ≡ Some sections → m ≡ map_by opts sections alignment
+mapped_by_names opts None records alignment m made by sections is = absurd cc
+mapped_by_names opts (Some sections) records alignment m made by own is =
+    let same : map unnamed sections ≡ records = steps.same_value (map unnamed sections) records made in
+    let own_is : sections ≡ own = steps.same_value sections own is in
+    by ∙ ap (λ (xs : List Section). map_by opts xs alignment) (sym same) ∙ unnamed_map opts sections alignment
+    ∙ ap (λ (xs : List Section). map_by opts xs alignment) own_is
+
+-- what holds of the map, the places and the bytes of a layout holds of its file's
+pub of_file : (opts : ParseOptions) (bytes : List ℕ) (header : Header) (l : Layout) → IsLayoutOf opts bytes header l
+    → (sections : List Section) → (sections_after (is_strict opts.parse_mode) (header_value header)).value bytes ≡ Some sections
+    → (P : MapOfAddresses → TablePlaces → List ℕ → Type 0) → P (layout_map l) (layout_places l) l.bytes.now
+    → P (map_by opts sections (places_in header.optional_header).file_alignment) (places_in header.optional_header) bytes
+of_file opts bytes header l is sections read P holds =
+    subst (λ (m : MapOfAddresses). P m (places_in header.optional_header) bytes) (is.mapped sections read)
+    (subst (λ (places : TablePlaces). P (layout_map l) places bytes) is.placed
+    (subst (λ (b : List ℕ). P (layout_map l) (layout_places l) b) is.over holds))
+
+-- ---- the header and the sections
+
+module _ (opts : ParseOptions) (bytes : List ℕ) (h : PeHeader) (there : (pe_header (is_strict opts.parse_mode)).value bytes ≡ Some h) where
+  pub tells_damage : (read : Option (List Section)) (records : List Section) (d : Damage)
+      → (sections_after (is_strict opts.parse_mode) h).value bytes ≡ read → option_map (map unnamed) read ≡ Some records
+      → ((sections : List Section) → (sections_after (is_strict opts.parse_mode) h).value bytes ≡ Some sections → IsDamaged opts h sections bytes d)
+      → TellsDamage opts bytes (Ok d)
+  unfolding layout
+  tells_damage None records d is made damaged = absurd cc
+  tells_damage (Some sections) records d is made damaged = rw (there, is) (damaged sections is)
