@@ -1,0 +1,71 @@
+/* Does the same so often: repeat open|imports|exports FILE TIMES opens an image and frees its tables, or walks
+   over its imports or its exports in batches of 64. It prints how many imports and exports one pass has. */
+#include "goblin_pe.h"
+
+#include <stdio.h>
+#include <stdlib.h>
+#include <string.h>
+
+enum { BATCH = 64 };
+
+static uint8_t *bytes;
+static size_t length;
+
+static bool read_file(const char *name)
+{
+    FILE *from = fopen(name, "rb");
+    if (!from || fseek(from, 0, SEEK_END))
+        return false;
+    length = (size_t)ftell(from);
+    rewind(from);
+    bytes = malloc(length);
+    return bytes && fread(bytes, 1, length, from) == length;
+}
+
+static bool is_opened(size_t *imports, size_t *exports)
+{
+    struct goblin_pe_file file;
+    struct goblin_pe_directory directories[16];
+    struct goblin_pe_tables tables = { 0 };
+    if (goblin_pe_open(bytes, length, NULL, &file, directories, 16, &tables).status != GOBLIN_PE_OK)
+        return false;
+    *imports = tables.import_count;
+    *exports = tables.export_count;
+    goblin_pe_free(&tables);
+    return true;
+}
+
+static bool are_imports_walked_over(size_t *imports)
+{
+    struct goblin_pe_import_position position = { 0 };
+    struct goblin_pe_import records[BATCH];
+    size_t count = 1;
+    for (*imports = 0; count; *imports += count)
+        if (goblin_pe_next_imports(bytes, length, NULL, &position, records, BATCH, &count).status != GOBLIN_PE_OK)
+            return false;
+    return true;
+}
+
+static bool are_exports_walked_over(size_t *exports)
+{
+    struct goblin_pe_export records[BATCH];
+    size_t position = 0, count = 1;
+    for (*exports = 0; count; *exports += count)
+        if (goblin_pe_next_exports(bytes, length, NULL, &position, records, BATCH, &count).status != GOBLIN_PE_OK)
+            return false;
+    return true;
+}
+
+int main(int argc, char **argv)
+{
+    size_t imports = 0, exports = 0;
+    if (argc != 4 || !read_file(argv[2]))
+        return 2;
+    for (long times = strtol(argv[3], NULL, 10); times > 0; times--)
+        if (!(!strcmp(argv[1], "imports")   ? are_imports_walked_over(&imports)
+              : !strcmp(argv[1], "exports") ? are_exports_walked_over(&exports)
+                                            : is_opened(&imports, &exports)))
+            return 1;
+    printf("%zu\n", imports + exports);
+    return 0;
+}
