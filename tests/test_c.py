@@ -73,12 +73,12 @@ class Programs(Case):
                 with self.subTest(call=call, sample=sample.name):
                     self.assertGreater(refused(call, sample), 0)
 
-    def test_memory_for_an_index_is_taken_of_more_than_16_sections(self):
-        for count in (16, 17):
-            file = self.written("some.dll", images.image_headers(0x1000, count, 0x1000, ()))
+    def test_memory_for_an_index_is_taken_of_more_than_96_sections(self):
+        for count in (96, 97):
+            file = self.written("some.dll", images.image_headers(0x2000, count, 0x2000, ()))
             for call in IN_PLACE:
                 with self.subTest(call=call, sections=count):
-                    self.assertEqual(refused(call, file) > 0, count > 16)
+                    self.assertEqual(refused(call, file) > 0, count > 96)
 
     def test_a_file_without_a_table_leaves_no_block_behind(self):
         for index, table in ((0, "exports"), (1, "imports"), (5, "base relocations")):

@@ -123,7 +123,7 @@ IN_BOTH = [
 NARROW = (0x1200, 0x200, 0x400, True)
 WIDE = (0x1000, 0x800, 0x800, True)
 APART = (0x1C00, 0x200, 0x200, False)
-ABOVE = [(0x2000 + 0x1000 * index, 0x200, 0x200, False) for index in range(18)]
+ABOVE = [(0x2000 + 0x1000 * index, 0x200, 0x200, False) for index in range(98)]
 # What is found in each: where its part of the overlap begins in the file, the library's name, its first address, the import's
 # hint and name, and the export's address.
 IN_NARROW = (0x400, b"narrow", 0x0B, 5, b"f", 0x1290)
@@ -133,7 +133,7 @@ ORDERS = [
     ("the narrow one first", [NARROW, WIDE], IN_NARROW), ("the wide one first", [WIDE, NARROW], IN_WIDE),
     ("one apart after it", [WIDE, APART], IN_WIDE), ("one apart before it", [APART, WIDE], IN_WIDE),
 ]
-# The sections that stand before these two, and after them.
+# The sections that stand before these two, and after them: none, or so many that there is an index.
 OTHERS = [("none", [], []), ("after", [], ABOVE), ("before", ABOVE[::-1], [])]
 
 

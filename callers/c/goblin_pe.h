@@ -32,7 +32,7 @@
    How much memory a file may take is for the caller to limit, as a small file may list much: its
    libraries may share one table of imports. 32 KiB can list a million imports, and 256 KiB 104 million,
    7 GB of records. Where no limit can be set, open with parse_imports false, and walk over the imports by
-   goblin_pe_next_imports, with parse_imports true: it takes memory only for an index of more than 16
+   goblin_pe_next_imports, with parse_imports true: it takes memory only for an index of more than 96
    sections, and gives it back; stop when it is enough.
 
    The fields are those of the proved records, in the same order, and so are the numbers; callers/layout.py
@@ -1059,7 +1059,7 @@ static inline void goblin_pe_free(struct goblin_pe_tables *tables)
 
 /* Tells what strict mode would refuse of an image, part by part, each for itself, where its header and its
    sections are read as the options say; a file without damage is one that strict mode reads. Refused are a
-   header or sections that these options refuse, and memory, which is taken only for an index of more than 16
+   header or sections that these options refuse, and memory, which is taken only for an index of more than 96
    sections, and given back. */
 static inline struct goblin_pe_fault goblin_pe_damage(
     const uint8_t *bytes, size_t length, const struct goblin_pe_options *options, struct goblin_pe_damage *damage)
@@ -1091,7 +1091,7 @@ static inline void goblin_pe_free_ranges(struct goblin_pe_ranges *ranges)
    asked for, and where permissive mode passes over a refused directory. In strict mode the walk ends with a
    refusal where goblin_pe_open has one for its imports; what comes before it is given first. Each call reads the
    header and the sections anew, so room for some hundreds is better than for one. Memory is taken only for an index
-   of more than 16 sections, and given back. */
+   of more than 96 sections, which Windows does not load, and given back. */
 static inline struct goblin_pe_fault goblin_pe_next_imports(
     const uint8_t *bytes, size_t length, const struct goblin_pe_options *options,
     struct goblin_pe_import_position *position, struct goblin_pe_import *imports, size_t room, size_t *count)

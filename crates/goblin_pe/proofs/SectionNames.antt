@@ -84,7 +84,7 @@ records_counted strict h bytes records made =
 -- where they fit their file and are many, an index of them takes memory
 pub takes_index : (strict : Bool) (h : PeHeader) (bytes : List ℕ) (records : List Section)
     → option_map (map unnamed) ((sections_after strict h).value bytes) ≡ Some records
-    → (length bytes / 40 < h.coff_header.number_of_sections → ⊥) → 16 < length records
+    → (length bytes / 40 < h.coff_header.number_of_sections → ⊥) → 96 < length records
     → TakesIndex h.coff_header.number_of_sections bytes
 takes_index strict h bytes records made fit many =
     let enough : ¬ (length bytes / 40 < h.coff_header.number_of_sections) = fit in

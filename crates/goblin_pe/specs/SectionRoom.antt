@@ -14,7 +14,7 @@ TakesSections count bytes = (0 < count) × HasRoomFor count bytes
 abbrev pub HasRoom : List ℕ → PeHeader → Type 0
 HasRoom bytes h = HasRoomFor h.coff_header.number_of_sections bytes
 
--- memory is taken for an index of so many sections: they are more than 16, and the file has room for
+-- memory is taken for an index of so many sections: they are more than 96, and the file has room for
 -- all
 abbrev pub TakesIndex : ℕ → List ℕ → Type 0
-TakesIndex count bytes = (16 < count) × HasRoomFor count bytes
+TakesIndex count bytes = (96 < count) × HasRoomFor count bytes

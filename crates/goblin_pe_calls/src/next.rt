@@ -206,7 +206,7 @@ fn next_imports<'a>(
 /// in `count` how many, and leaves in `position` where the next call goes on.
 ///
 /// # Errors
-/// What these options refuse of the header or the sections, and memory for an index of more than 16
+/// What these options refuse of the header or the sections, and memory for an index of more than 96
 /// sections; in strict mode the import directory, at the first position, and the very next import, if
 /// there is room for it. Nothing is then changed.
 pub fn give_imports<'a>(
@@ -294,7 +294,7 @@ fn next_exports<'a>(
 /// in `count` how many, and leaves in `position` where the next call goes on.
 ///
 /// # Errors
-/// What these options refuse of the header or the sections, and memory for an index of more than 16
+/// What these options refuse of the header or the sections, and memory for an index of more than 96
 /// sections; in strict mode the export directory. Nothing is then changed.
 pub fn give_exports<'a>(
     alloc: Global,

@@ -22,9 +22,9 @@ mod walk;
 pub use finder::Finder;
 use walk::find_in_records;
 
-// The windows of at most this many sections are walked over for each address; of more there is an
-// index.
-const FEW: usize = 16;
+// The Windows loader takes at most this many sections (PE Format, "COFF File Header (Object and
+// Image)"): the windows of so many are walked over for each address, and of more there is an index.
+const FEW: usize = 96;
 
 // What addresses are mapped by.
 #[derive(Drop)]
@@ -117,8 +117,8 @@ impl<'s> AddressMap<'s> {
         AddressMap::prepare(alloc, &sections, file_alignment, opts)
     }
 
-    /// By the sections of these records. Up to 16 take no memory: they are walked over for each
-    /// address.
+    /// By the sections of these records. Up to 96, which is as many as Windows loads, take no
+    /// memory: they are walked over for each address.
     ///
     /// # Errors
     /// Only [`Error::Memory`](goblin_base::Error::Memory).
@@ -131,7 +131,7 @@ impl<'s> AddressMap<'s> {
     ) -> ResultOf<'e, AddressMap<'s>>
         ensures made { GivesOrMemory map_of result
             (map_by opts.now (section_records records.entry) file_alignment) }
-        ensures grown { IfErr result (λ e. 16 < length (section_records records.entry)) }
+        ensures grown { IfErr result (λ e. 96 < length (section_records records.entry)) }
     {
         if FEW < records.len() {
             return AddressMap::of_many(alloc, records, file_alignment, opts);

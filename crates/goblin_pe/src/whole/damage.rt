@@ -129,7 +129,7 @@ impl Whole<'_> {
     /// Tells what strict mode would refuse of a file, part by part, where its header and its
     /// sections are read as `opts` say. In permissive mode a stub and names of sections can be
     /// damaged; in strict mode these refuse the file as ever. No table is listed: memory is taken
-    /// only for what maps the addresses of a file of more than 16 sections. A file can list very
+    /// only for what maps the addresses of a file of more than 96 sections. A file can list very
     /// many imports; each is looked at.
     ///
     /// A file without damage is one that strict mode reads, and permissive mode reads the same, but
@@ -138,7 +138,7 @@ impl Whole<'_> {
     /// # Errors
     /// As [`Header::parse_with_opts`]; as
     /// [`CoffHeader::sections_with_opts`](goblin_pe_head::CoffHeader::sections_with_opts);
-    /// [`Error::Memory`] if memory is refused, and only of a file that has more than 16 sections, and
+    /// [`Error::Memory`] if memory is refused, and only of a file that has more than 96 sections, and
     /// room for as many as its header says.
     #[tactic(auto, using(crate::proofs::SoundFiles::sound_told))]
     pub fn damage(alloc: Global, bytes: &[u8], opts: &ParseOptions) -> Result<Damage>

@@ -102,7 +102,7 @@ pub(super) fn sections_of(
 
 impl<'a, 'h> Layout<'a, 'h> {
     /// Tests the sections of a file with this header, as [`Whole::read`](crate::Whole::read) does,
-    /// and prepares what maps its addresses. Memory is taken only for an index of more than 16
+    /// and prepares what maps its addresses. Memory is taken only for an index of more than 96
     /// sections.
     ///
     /// # Errors
