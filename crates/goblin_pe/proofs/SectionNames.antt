@@ -1,17 +1,17 @@
 -- What the records of sections tell without the names from the string table, and what it says of the sections.
-use Rattle.std.proofs.Common.{◌≡◌, ℕ, ◌+◌, ◌*◌, ◌/◌, ◌<◌, ◌∷◌, [], List, Bool, length, map, refl, sym, ap, subst, ◌∙◌, arith}
+use Rattle.std.proofs.Common.{◌≡◌, ℕ, ◌+◌, ◌*◌, ◌/◌, ◌<◌, List, Bool, length, map, refl, sym, ap, subst, ◌∙◌, arith}
 use Rattle.std.specs.Prelude.{IsSome, None, Ok, Err, Option, Result, Some, option_map}
 use Rattle.std.specs.Result.{result_err}
 use Rattle.std.specs.List.{range_with_len}
 use Rattle.std.proofs.lemmas.List.FromFn.{length-map-range_with_len}
 use Rattle.std.proofs.lemmas.List.{length-map}
 use Rattle.goblin_base.specs.declared.error.ErrorOf.{ErrorOf}
-use Rattle.goblin_base.specs.Answers.{◌>>=◌, all_at, all_of}
+use Rattle.goblin_base.specs.Answers.{all_at}
 use Rattle.goblin_base.specs.Reading.{Reading, Reads}
 use Rattle.goblin_base.proofs.Steps as steps
 use Rattle.readings.specs.Reads.{each, mapped}
 use Rattle.goblin_pe_sect.specs.declared.options.ParseOptions.{ParseOptions}
-use Rattle.goblin_pe_sect.specs.Addresses.{MapOfAddresses, map_by}
+use Rattle.goblin_pe_sect.specs.Addresses.{AreMany, MapOfAddresses, map_by}
 use Rattle.goblin_pe_sect.specs.Options.{is_strict}
 use Rattle.goblin_pe_sect.specs.SectionReadings.{section_at}
 use Rattle.goblin_pe_sect.specs.SectionTable.{Section, unnamed}
@@ -23,17 +23,14 @@ use Rattle.goblin_pe_head.specs.HeaderReadings.{pe_header}
 use Rattle.goblin_pe_head.specs.PeHeader.{PeHeader, header_value}
 use Rattle.goblin_pe.specs.declared.whole.damage.Damage.{Damage}
 use Rattle.goblin_pe.specs.declared.whole.layout.Layout.{Layout}
+use Rattle.goblin_pe_import.proofs.ImportBound.{all_of-length}
+use Rattle.goblin_pe.proofs.Collected.{unmapped}
 use Rattle.goblin_pe.specs.Damages.{IsDamage, IsDamaged, TellsDamage}
 use Rattle.goblin_pe.specs.Layouts.{IsLayoutOf, layout_map, layout_places}
 use Rattle.goblin_pe.specs.SectionRoom.{TakesIndex}
 use Rattle.goblin_pe.specs.Whole.{TablePlaces, layout, places_in, section_table_offset, sections_after}
 
 -- ---- what is made of a value
-
--- where none is made, there is none
-pub none_made : {A B : Type 0} (f : A → B) (o : Option A) → option_map f o ≡ None → o ≡ None
-none_made f None none = refl
-none_made f (Some a) none = absurd cc
 
 some_made : {A B : Type 0} (f : A → B) (o : Option A) (b : B) → option_map f o ≡ Some b → IsSome o
 some_made f None b made = absurd cc
@@ -43,7 +40,7 @@ some_made f (Some a) b made = refl
 pub refused_made : {A B : Type 0} (f : A → B) (reading : Reading A) (bytes : List ℕ) (e : ErrorOf)
     → ((mapped f reading).value bytes ≡ None) × reading.IsCause bytes e
     → (reading.value bytes ≡ None) × reading.IsCause bytes e
-refused_made f reading bytes e refused = (none_made f (reading.value bytes) refused.0, refused.1)
+refused_made f reading bytes e refused = (unmapped f (reading.value bytes) refused.0, refused.1)
 
 -- a refusal tells the damage
 pub damage_read : {X A : Type 0} (view : X → A) (result : Result X ErrorOf) (reading : Reading A) (bytes : List ℕ)
@@ -57,14 +54,6 @@ damage_made view (Ok x) f reading bytes read = some_made f (reading.value bytes)
 damage_made view (Err e) f reading bytes refused = refused_made f reading bytes e refused
 
 -- ---- how many sections there are
-
-all_of-length : {A : Type 0} (values : List (Option A)) (xs : List A) → all_of values ≡ Some xs → length xs ≡ length values
-unfolding all_of
-all_of-length [] xs e = sym (ap length (steps.same_value [] xs e))
-all_of-length {A} (value ∷ values) xs e =
-    let s1 = steps.step value (λ x. all_of values >>= (λ rest. Some (x ∷ rest))) xs e in
-    let s2 = steps.step (all_of values) (λ rest. Some (s1.value ∷ rest)) xs s1.then in
-    omega (arith, all_of-length values s2.value s2.is, ap length (steps.same_value (s1.value ∷ s2.value) xs s2.then))
 
 as_many : (n : ℕ) (read : ℕ → Reading Section) (bytes : List ℕ) (records : List Section)
     → option_map (map unnamed) ((with_room n (each read n)).value bytes) ≡ Some records → length records ≡ n
@@ -84,7 +73,7 @@ records_counted strict h bytes records made =
 -- where they fit their file and are many, an index of them takes memory
 pub takes_index : (strict : Bool) (h : PeHeader) (bytes : List ℕ) (records : List Section)
     → option_map (map unnamed) ((sections_after strict h).value bytes) ≡ Some records
-    → (length bytes / 40 < h.coff_header.number_of_sections → ⊥) → 96 < length records
+    → (length bytes / 40 < h.coff_header.number_of_sections → ⊥) → AreMany (length records)
     → TakesIndex h.coff_header.number_of_sections bytes
 takes_index strict h bytes records made fit many =
     let enough : ¬ (length bytes / 40 < h.coff_header.number_of_sections) = fit in

@@ -1,5 +1,6 @@
 -- Whether a file has room for its sections; otherwise no memory is asked for.
 use Rattle.std.specs.Prelude.{ℕ, ◌/◌, ◌<◌, ◌≤◌, List, length}
+use Rattle.goblin_pe_sect.specs.Addresses.{AreMany}
 use Rattle.goblin_pe_head.specs.PeHeader.{PeHeader}
 
 -- the file has room for so many sections
@@ -14,7 +15,6 @@ TakesSections count bytes = (0 < count) × HasRoomFor count bytes
 abbrev pub HasRoom : List ℕ → PeHeader → Type 0
 HasRoom bytes h = HasRoomFor h.coff_header.number_of_sections bytes
 
--- memory is taken for an index of so many sections: they are more than 96, and the file has room for
--- all
+-- memory is taken for an index of so many sections: they are many, and the file has room for all
 abbrev pub TakesIndex : ℕ → List ℕ → Type 0
-TakesIndex count bytes = (96 < count) × HasRoomFor count bytes
+TakesIndex count bytes = AreMany count × HasRoomFor count bytes

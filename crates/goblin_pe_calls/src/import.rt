@@ -111,7 +111,7 @@ fn push_import<'a, 'e>(
 }
 
 // Adds the records of the imports that the library of the walk still has, as far as there is room. It
-// is not inlined, so that its loop shares nothing with another way to the next import.
+// is not inlined, so that the compiler keeps this loop apart from its caller's call of `next`.
 #[inline(never)]
 fn push_here<'a, 'm, 'e, T: Bitfield<'a>>(
     records: &mut Vec<PeImport<'a>>,

@@ -55,7 +55,8 @@ fn forwarder_at(bytes: &[u8], offset: Option<usize>) -> Option<Reexport<'_>>
     Reexport::parse(bytes, offset?).ok()
 }
 
-// The same, as its caller gives it: a loop then clears no room for what is seldom there.
+// The same as `reexport_of` returns it. It is not inlined, so that a loop clears no room for a
+// forwarder, which few exports are.
 #[inline(never)]
 fn forwarded_at(bytes: &[u8], offset: Option<usize>) -> Option<Option<Reexport<'_>>>
     ensures { option_map (option_map forwarder_value) result

@@ -206,7 +206,8 @@ module _ (strict : Bool) (format : Format EntryValue) (offset_of : ℕ → Optio
 
 -- ---- the imports
 
-all_of-length : {A : Type 0} (values : List (Option A)) (xs : List A) → all_of values ≡ Some xs → length xs ≡ length values
+-- as many values come as there are, where each is there
+pub all_of-length : {A : Type 0} (values : List (Option A)) (xs : List A) → all_of values ≡ Some xs → length xs ≡ length values
 unfolding all_of
 all_of-length [] xs e = sym (ap length (same_value [] xs e))
 all_of-length {A} (value ∷ values) xs e =

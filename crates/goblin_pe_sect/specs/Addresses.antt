@@ -1,5 +1,5 @@
 -- What maps the addresses of a file to its offsets.
-use Rattle.std.specs.Prelude.{ℕ, ◌≡◌, ◌<◌, Bool, List, Option, length}
+use Rattle.std.specs.Prelude.{⊤, ℕ, ◌≡◌, ◌<◌, Bool, List, Option, length}
 use Rattle.goblin_base.specs.declared.permissive.ParseMode.TheVariants.{Strict}
 use Rattle.goblin_pe_sect.specs.declared.options.ParseOptions.{ParseOptions}
 use Rattle.goblin_pe_sect.specs.Mapping.{file_offset}
@@ -30,6 +30,16 @@ abbrev pub offset_by_windows : ParseOptions → Windows → ℕ → Option ℕ
 offset_by_windows opts (Walked records file_alignment) =
     file_offset opts (section_records records) file_alignment
 offset_by_windows opts (Indexed index) = located index
+
+-- sections are so many that they get an index: more than the Windows loader takes
+abbrev pub AreMany : ℕ → Type 0
+AreMany count = 96 < count
+
+-- so many sections are not walked over
+abbrev pub WalksFew : ParseOptions → Windows → Type 0
+WalksFew opts (Walked records file_alignment) =
+    HasPieces opts file_alignment → ¬ AreMany (length (section_records records))
+WalksFew opts (Indexed index) = ⊤
 
 -- the map that a reader was given
 abbrev pub map_of : AddressMap → MapOfAddresses

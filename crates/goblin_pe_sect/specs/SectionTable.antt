@@ -58,17 +58,17 @@ section_fields s =
     ∷ uint 2 s.number_of_relocations ∷ uint 2 s.number_of_linenumbers
     ∷ uint 4 s.characteristics ∷ []
 
+-- the section without its name from the string table
+abbrev pub unnamed : Section → Section
+unnamed s = record s { real_name = None }
+
 -- A section that is written, whatever its fields are, reads back from what was written, in the same
 -- byte order, without its real name, which is not part of the record.
 unfoldable pub SectionReadsBack : Section → Type 0
 SectionReadsBack s =
     (endian : Endian)
     → record_at 40 (section_record endian) (encoding endian (section_fields s)) 0
-    ≡ Some (record s { real_name = None })
-
--- the section without its name from the string table
-abbrev pub unnamed : Section → Section
-unnamed s = record s { real_name = None }
+    ≡ Some (unnamed s)
 
 -- the sections of the records in these bytes, without their names from the string table
 abbrev pub sections_in : List ℕ → List Section
@@ -77,6 +77,10 @@ sections_in bytes = records_in 40 (section_record Little) bytes
 -- the sections of the records as a reader gives them
 abbrev pub section_records : SectionRecords → List Section
 section_records r = sections_in r.records.now
+
+-- such records are nothing but their bytes
+abbrev pub AreBytesAlone : Type 0
+AreBytesAlone = (r s : SectionRecords) → r.records ≡ s.records → r ≡ s
 
 -- the name to use: that of the string table, else the text of the eight bytes
 abbrev pub name_of : Option (List ℕ) → List ℕ → Option (List ℕ)

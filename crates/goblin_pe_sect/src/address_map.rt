@@ -4,8 +4,8 @@ ghost use Rattle.std.specs.Prelude.{◌≡◌, ◌↔◌, ◌<◌, ℕ, IfErr, I
 ghost use Rattle.goblin_base.specs.Answers.{GivesOrMemory, IsMemory};
 ghost use Rattle.goblin_pe_sect.specs.Mapping.{file_offset};
 ghost use Rattle.goblin_base.specs.declared.permissive.ParseMode.TheVariants.{Permissive};
-ghost use Rattle.goblin_pe_sect.specs.Addresses.{KeepsWindowsAlone, TakesMap, map_by, map_of};
-ghost use Rattle.goblin_pe_sect.specs.Addresses.{offset_of, strict_map};
+ghost use Rattle.goblin_pe_sect.specs.Addresses.{AreMany, KeepsWindowsAlone, TakesMap, WalksFew};
+ghost use Rattle.goblin_pe_sect.specs.Addresses.{map_by, map_of, offset_of, strict_map};
 ghost use Rattle.goblin_pe_sect.specs.Runs.{IsRun};
 ghost use Rattle.goblin_pe_sect.specs.SectionTable.{section_records};
 ghost use Rattle.goblin_pe_sect.specs.WindowIndex.{HasPieces, located};
@@ -36,8 +36,8 @@ pub(crate) enum Windows<'s> {
 }
 
 /// How addresses are mapped to file offsets, and how the bytes there are read: the options, and what
-/// the windows of the sections are found by. That is an index, which keeps nothing of the sections;
-/// or, where they are few and stand in a file, their records.
+/// the windows of the sections are found by. That is an index, beside which the sections may be
+/// dropped; or, where they are few and stand in a file, their records.
 #[derive(Drop)]
 pub struct AddressMap<'s> {
     opts: ParseOptions,
@@ -93,6 +93,7 @@ impl<'s> AddressMap<'s> {
         ensures made { GivesOrMemory map_of result
             (map_by opts.now sections.now file_alignment) }
         ensures grown { IfErr result (λ e. TakesMap opts.now sections.now file_alignment) }
+        ensures few { IfOk result (λ m. WalksFew m.opts m.windows) }
         ensures whole { KeepsWindowsAlone }
     {
         let index = index_of(alloc, sections, file_alignment, opts)?;
@@ -110,15 +111,18 @@ impl<'s> AddressMap<'s> {
         file_alignment: u32,
         opts: &ParseOptions,
     ) -> ResultOf<'e, AddressMap<'s>>
-        ensures { GivesOrMemory map_of result
+        ensures made { GivesOrMemory map_of result
             (map_by opts.now (section_records records.entry) file_alignment) }
+        ensures few { IfOk result (λ m. WalksFew m.opts m.windows) }
     {
         let sections = listed(alloc, records)?;
         AddressMap::prepare(alloc, &sections, file_alignment, opts)
     }
 
-    /// By the sections of these records. Up to 96, which is as many as Windows loads, take no
-    /// memory: they are walked over for each address.
+    /// Prepares the map by the sections of these records. At most 96, which is as many as Windows
+    /// loads, take no memory: their windows are walked over for each address. More are listed, and get
+    /// an index, but where `opts` says that addresses are offsets or `file_alignment` is not a power
+    /// of two.
     ///
     /// # Errors
     /// Only [`Error::Memory`](goblin_base::Error::Memory).
@@ -131,9 +135,11 @@ impl<'s> AddressMap<'s> {
     ) -> ResultOf<'e, AddressMap<'s>>
         ensures made { GivesOrMemory map_of result
             (map_by opts.now (section_records records.entry) file_alignment) }
-        ensures grown { IfErr result (λ e. 96 < length (section_records records.entry)) }
+        ensures few { IfOk result (λ m. WalksFew m.opts m.windows) }
+        ensures grown { let count = length (section_records records.entry) in
+            IfErr result (λ e. HasPieces opts.now file_alignment × AreMany count) }
     {
-        if FEW < records.len() {
+        if FEW < records.len() && opts.resolve_rva && file_alignment.is_power_of_two() {
             return AddressMap::of_many(alloc, records, file_alignment, opts);
         }
         Ok(AddressMap {
@@ -175,8 +181,8 @@ impl<'s> AddressMap<'s> {
     }
 
     // The file offset of an address. `run` becomes addresses about it that have their offsets
-    // without another search; it may stay where the address has none. (A result of that size would
-    // cost loops that seldom search more than an argument does.)
+    // without another search; it may stay as it was where no section owns the address. (It is an
+    // argument, as in `WindowIndex::find_run`.)
     #[inline(never)]
     pub(crate) fn find_run(&self, rva: u32, run: &mut Run) -> Option<usize>
         requires { IsRun (offset_of (map_of self.now)) run.old }

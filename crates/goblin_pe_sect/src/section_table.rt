@@ -231,7 +231,7 @@ impl SectionTable {
 
     /// Reads the record at the file offset `offset` and moves `offset` past it, as
     /// [`SectionTable::parse_with_opts`], but without its name from the string table: its name is
-    /// tested alone, and no memory is taken.
+    /// only tested, and no memory is taken.
     ///
     /// # Errors
     /// [`Error::Read`] if the 40 bytes run past the end of the file; as

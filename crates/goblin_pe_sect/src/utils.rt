@@ -269,7 +269,7 @@ pub fn safe_try_name<'a>(
 }
 
 /// The text at `offset`, the file offset of the address `rva`, as [`safe_try_name`] returns it; for
-/// callers that map addresses with an index. `None` as an offset means that the address has none,
+/// callers that have mapped the address before. `None` as an offset means that the address has none,
 /// and therefore no text.
 ///
 /// # Errors

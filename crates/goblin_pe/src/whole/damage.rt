@@ -17,9 +17,9 @@ ghost use Rattle.goblin_pe.specs.Whole.{import_list, sections_after};
 use crate::import::{Bitfield, Imports, LeftOut};
 use crate::whole::layout::section_records;
 use crate::whole::{FileImports, Layout, Part, Whole};
-use goblin_base::{Error, ErrorOf, Result, ResultOf};
+use goblin_base::{Error, ErrorOf, Result};
 use goblin_pe_head::header::{DosStub, Header};
-use goblin_pe_sect::options::{ParseMode, ParseOptions};
+use goblin_pe_sect::options::ParseOptions;
 use std::alloc::Global;
 
 /// What strict mode would refuse of a file, part by part: `None` where it would read the part, or

@@ -101,12 +101,13 @@ pub(super) fn sections_of(
 }
 
 impl<'a, 'h> Layout<'a, 'h> {
-    /// Tests the sections of a file with this header, as [`Whole::read`](crate::Whole::read) does,
-    /// and prepares what maps its addresses. Memory is taken only for an index of more than 96
+    /// Refuses the sections of a file with this header where [`Whole::read`](crate::Whole::read)
+    /// does, and prepares what maps its addresses. Memory is taken only for an index of more than 96
     /// sections.
     ///
     /// # Errors
-    /// As [`CoffHeader::sections_with_opts`](goblin_pe_head::CoffHeader::sections_with_opts).
+    /// As [`CoffHeader::sections_with_opts`](goblin_pe_head::CoffHeader::sections_with_opts), but
+    /// [`Error::Memory`](goblin_base::Error::Memory) only of more than 96 sections.
     #[inline(always)]
     #[tactic(auto, using(crate::proofs::SectionNames::mapped_by_names, crate::proofs::SectionNames::takes_index))]
     pub fn of(

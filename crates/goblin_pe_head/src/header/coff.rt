@@ -178,9 +178,11 @@ impl CoffHeader {
         read_sections(alloc, bytes, offset, count, table, opts, None)
     }
 
-    /// The records of the section table, which follow one another from the file offset `offset` on,
-    /// and moves `offset` past it, as [`CoffHeader::sections_with_opts`] does. Their sections have no
-    /// names from the string table, and take no memory.
+    /// Tests the section table, whose records follow one another from the file offset `offset` on,
+    /// moves `offset` past it, as [`CoffHeader::sections_with_opts`] does, and returns the records.
+    /// They take no memory, and their sections have no names from the string table.
+    ///
+    /// Source: PE Format, "Section Table (Section Headers)".
     ///
     /// # Errors
     /// As [`CoffHeader::sections_with_opts`], but for [`Error::Memory`].

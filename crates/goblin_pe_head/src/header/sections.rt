@@ -51,8 +51,8 @@ pub(super) fn read_sections(
     Ok(sections)
 }
 
-// The records of `count` sections, which follow one another from `offset` on, and moves `offset` past
-// them. Each record and its name are tested; the sections are read from them later.
+// Tests the records of `count` sections, which follow one another from `offset` on, and moves
+// `offset` past them. The sections are read from them later.
 #[inline(always)]
 pub(super) fn section_records<'a>(
     bytes: &'a [u8],

@@ -13,13 +13,13 @@ use crate::windows::Run;
 use goblin_base::ResultOf;
 use std::marker::Model;
 
-/// A map of addresses that keeps the addresses of the same piece as the last one asked for, with
-/// their offsets: one that lies among them takes no search. What it answers does not depend on what
+/// A map of addresses that keeps addresses about the last one asked for, with their offsets: one that
+/// lies among them takes no search. What it answers does not depend on what
 /// was asked before.
 #[derive(Drop)]
 pub struct Finder<'m> {
     address_map: &'m AddressMap<'m>,
-    // The addresses of the last one's piece, and of the last name's.
+    // Addresses about the last one, and about the last name's.
     run: Run,
     names: Run,
 }
@@ -105,7 +105,7 @@ impl<'m> Finder<'m> {
     }
 
     /// The file offset of the address of a name, as [`AddressMap::offset_of`]. The finder keeps the
-    /// piece of names apart, since names often lie in another section than what they name.
+    /// addresses about names apart, since names often lie in another section than what they name.
     #[inline(always)]
     pub fn offset_of_name(&mut self, rva: u32) -> Option<usize>
         ensures value { result ≡ offset_of (map_of self.old) rva }

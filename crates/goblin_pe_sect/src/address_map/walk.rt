@@ -1,9 +1,9 @@
 //! The walk over the windows of few sections.
 
-ghost use Rattle.std.specs.Prelude.{◌≡◌, ◌<◌, IsTrue};
+ghost use Rattle.std.specs.Prelude.{◌≡◌, ◌<◌, IfSome, IsTrue, Some};
 ghost use Rattle.std.specs.Int.{is_power_of_two};
 ghost use Rattle.goblin_pe_sect.specs.Mapping.{file_offset};
-ghost use Rattle.goblin_pe_sect.specs.Runs.{IsRun};
+ghost use Rattle.goblin_pe_sect.specs.Runs.{IsRun, offset_in_run};
 ghost use Rattle.goblin_pe_sect.specs.SectionTable.{section_records};
 
 use crate::options::ParseOptions;
@@ -26,6 +26,7 @@ fn find_window(
     ensures value { result ≡ file_offset opts.now (section_records records.entry) file_alignment rva }
     ensures is { let offset_of = file_offset opts.now (section_records records.entry) file_alignment in
         IsRun offset_of run.old → IsRun offset_of run.new }
+    ensures about { IfSome result (λ p. offset_in_run run.new rva ≡ Some p) }
 {
     let rva = rva as usize;
     let mut low = 0;

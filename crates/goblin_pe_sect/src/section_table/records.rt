@@ -1,7 +1,7 @@
 //! The records of a section table, as they stand in the file.
 
 ghost use Rattle.std.specs.Prelude.{◌≡◌, ◌<◌, ◌/◌, Some, length, slice_get};
-ghost use Rattle.goblin_pe_sect.specs.SectionTable.{section_records, sections_in};
+ghost use Rattle.goblin_pe_sect.specs.SectionTable.{AreBytesAlone, section_records, sections_in};
 
 use crate::section_table::{SIZEOF_SECTION_TABLE, SectionTable};
 
@@ -28,7 +28,8 @@ fn section_in(records: &[u8], index: usize) -> SectionTable
 impl<'a> SectionRecords<'a> {
     /// The records in these bytes, one after the other. Fewer than 40 bytes at the end are left out.
     pub fn of(records: &'a [u8]) -> SectionRecords<'a>
-        ensures { section_records result ≡ sections_in records.now }
+        ensures value { section_records result ≡ sections_in records.now }
+        ensures whole { AreBytesAlone }
     {
         SectionRecords { records }
     }

@@ -55,7 +55,7 @@ returns-clause-value c =
     let got = ap (λ (x : Bor (List ℕ)). sections_in x.now) c.unwrap_or.ensures ∙ sections_of_got bytes offset c.records.end n _ c.get.result before.end before.within refl c.get.ensures.lookup in
     λ table.
     subst (λ (k : ℕ). unnamed_from strict table bytes offset k ≡ Some (sections_from bytes offset n)) all (before.read table)
-    ∙ ap (λ (xs : List Section). Some xs) (sym (c.of-records.ensures ∙ got))
+    ∙ ap (λ (xs : List Section). Some xs) (sym (c.of-records.ensures.value ∙ got))
 
 pub returns-clause-ok : goal.returns-clause-ok
 returns-clause-ok c = omega (arith, c.records.invariant.end, c.records-test.false, c.records.auto.counter-end)
