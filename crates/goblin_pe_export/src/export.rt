@@ -328,9 +328,10 @@ impl<'a> Export<'a> {
     {
         let rva = rva_of(address);
         let offset = finder.offset_of(rva);
+        let name = text_at(bytes, finder.offset_of_name(pointer));
         let reexport = reexport_of(bytes, address, offset)?;
         Some(Export {
-            name: text_at(bytes, finder.offset_of_name(pointer)),
+            name,
             offset,
             rva: rva as usize,
             size: 0,

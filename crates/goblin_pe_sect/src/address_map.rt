@@ -9,6 +9,7 @@ ghost use Rattle.goblin_pe_sect.specs.Addresses.{map_by, map_of, offset_of, stri
 ghost use Rattle.goblin_pe_sect.specs.Runs.{IsRun};
 ghost use Rattle.goblin_pe_sect.specs.SectionTable.{section_records};
 ghost use Rattle.goblin_pe_sect.specs.WindowIndex.{HasPieces, located};
+ghost use Rattle.goblin_pe_sect.specs.declared.address_map.Windows.TheVariants.{Walked};
 
 use crate::options::{ParseMode, ParseOptions};
 use crate::section_table::{SectionRecords, SectionTable};
@@ -103,18 +104,38 @@ impl<'s> AddressMap<'s> {
         })
     }
 
-    // By an index of the windows of these records.
+    // By a walk over these records.
+    #[inline(always)]
+    fn walked(
+        records: SectionRecords<'s>,
+        file_alignment: u32,
+        opts: &ParseOptions,
+    ) -> AddressMap<'s>
+        ensures options { result.opts ≡ opts.now }
+        ensures windows { result.windows ≡ Walked records.entry file_alignment }
+    {
+        AddressMap {
+            opts: *opts,
+            windows: Windows::Walked(records, file_alignment),
+        }
+    }
+
+    // By an index of the windows of these records, if they have any.
     #[inline(never)]
     fn of_many<'e>(
         alloc: Global,
-        records: SectionRecords,
+        records: SectionRecords<'s>,
         file_alignment: u32,
         opts: &ParseOptions,
     ) -> ResultOf<'e, AddressMap<'s>>
         ensures made { GivesOrMemory map_of result
             (map_by opts.now (section_records records.entry) file_alignment) }
         ensures few { IfOk result (λ m. WalksFew m.opts m.windows) }
+        ensures grown { IfErr result (λ e. HasPieces opts.now file_alignment) }
     {
+        if !opts.resolve_rva || !file_alignment.is_power_of_two() {
+            return Ok(AddressMap::walked(records, file_alignment, opts));
+        }
         let sections = listed(alloc, records)?;
         AddressMap::prepare(alloc, &sections, file_alignment, opts)
     }
@@ -139,13 +160,10 @@ impl<'s> AddressMap<'s> {
         ensures grown { let count = length (section_records records.entry) in
             IfErr result (λ e. HasPieces opts.now file_alignment × AreMany count) }
     {
-        if FEW < records.len() && opts.resolve_rva && file_alignment.is_power_of_two() {
+        if FEW < records.len() {
             return AddressMap::of_many(alloc, records, file_alignment, opts);
         }
-        Ok(AddressMap {
-            opts: *opts,
-            windows: Windows::Walked(records, file_alignment),
-        })
+        Ok(AddressMap::walked(records, file_alignment, opts))
     }
 
     /// The same map, by which damaged parts are refused and not passed over.

@@ -17,7 +17,8 @@ ghost use Rattle.goblin_pe.specs.Layouts.{file_imports_left, layout_map, layout_
 ghost use Rattle.goblin_pe.specs.Layouts.{walked_exports};
 ghost use Rattle.goblin_pe.specs.SectionRoom.{TakesIndex, TakesSections};
 ghost use Rattle.goblin_pe.specs.Whole.{AreListed, IfRead, export_part, import_list, listed_view};
-ghost use Rattle.goblin_pe.specs.Whole.{part_map, relocation_part, sections_after, table_parts};
+ghost use Rattle.goblin_pe.specs.Whole.{part_map, relocation_part, section_table_offset};
+ghost use Rattle.goblin_pe.specs.Whole.{sections_after, table_parts};
 
 use crate::export::Exports;
 use crate::import::{ImportPosition, LeftOut};
@@ -53,7 +54,16 @@ fn after_optional_header(pe_pointer: u32, size_of_optional_header: u16) -> usize
     pe_pointer as usize + SIZEOF_PE_MAGIC + SIZEOF_COFF_HEADER + size_of_optional_header as usize
 }
 
-// The records of the sections of a file with this header, which follow the optional header.
+// The file offset of the section table, which follows the optional header.
+#[inline(always)]
+fn section_table_offset(header: &Header) -> usize
+    ensures { result ≡ section_table_offset (header_value header.now) }
+{
+    let size = header.coff_header.size_of_optional_header;
+    after_optional_header(header.dos_header.pe_pointer, size)
+}
+
+// The records of the sections of a file with this header.
 #[inline(always)]
 #[tactic(auto, unfolding(crate::specs::Whole::sections_after))]
 pub(super) fn section_records<'a>(
@@ -67,15 +77,13 @@ pub(super) fn section_records<'a>(
     ensures first { let count = header.now.coff_header.number_of_sections in
         length bytes.now / 40 < count → IsErrAnd result (IsTooManySections count bytes.now) }
 {
-    let coff_header = &header.coff_header;
-    let mut offset = after_optional_header(
-        header.dos_header.pe_pointer,
-        coff_header.size_of_optional_header,
-    );
-    coff_header.section_records_with_opts(bytes, &mut offset, opts)
+    let mut offset = section_table_offset(header);
+    header
+        .coff_header
+        .section_records_with_opts(bytes, &mut offset, opts)
 }
 
-// The sections of a file with this header, whose records follow the optional header.
+// The sections of a file with this header.
 #[inline(always)]
 #[tactic(auto, unfolding(crate::specs::Whole::sections_after), using(crate::proofs::SectionRoom::sections_answer_takes))]
 pub(super) fn sections_of(
@@ -92,12 +100,10 @@ pub(super) fn sections_of(
     ensures grown { IfErr result
         (λ e. IsMemory e → TakesSections header.now.coff_header.number_of_sections bytes.now) }
 {
-    let coff_header = &header.coff_header;
-    let mut offset = after_optional_header(
-        header.dos_header.pe_pointer,
-        coff_header.size_of_optional_header,
-    );
-    coff_header.sections_with_opts(alloc, bytes, &mut offset, opts)
+    let mut offset = section_table_offset(header);
+    header
+        .coff_header
+        .sections_with_opts(alloc, bytes, &mut offset, opts)
 }
 
 impl<'a, 'h> Layout<'a, 'h> {
