@@ -1,6 +1,6 @@
 //! Runs of ASCII, found sixteen bytes at a time.
 
-ghost use Rattle.std.specs.Prelude.{◌≡◌, ◌⊎◌, ◌<◌, ◌≤◌, ℕ, IfSome, IsTrue, None, length};
+ghost use Rattle.std.specs.Prelude.{◌≡◌, ◌⊎◌, ◌<◌, ◌≤◌, ◌*◌, ◌/◌, ℕ, IfSome, IsTrue, None, length};
 ghost use Rattle.std.specs.Prelude.{slice_index};
 
 use std::simd::prelude::*;
@@ -35,6 +35,41 @@ fn is_plain(byte: u8) -> bool
     0 < byte && byte < 128
 }
 
+// How many bytes precede the first that is a NUL or not ASCII, where it lies in a whole lane of 16
+// bytes, counted from the front.
+#[inline(always)]
+fn first_stop(bytes: &[u8]) -> Option<usize>
+    ensures none { result ≡ None → (k : ℕ) → k < length bytes.now / 16 * 16
+        → (0 < slice_index bytes.now k) × (slice_index bytes.now k < 128) }
+    ensures within { IfSome result (λ run. run < length bytes.now) }
+    ensures plain { IfSome result (λ run. (k : ℕ) → k < run
+        → (0 < slice_index bytes.now k) × (slice_index bytes.now k < 128)) }
+{
+    let mut at = 0;
+    'lanes: while 16 <= bytes.len() - at {
+        if let Some(run) = stop_in_lanes(&bytes[at..]) {
+            return Some(at + run);
+        }
+        at += 16;
+    }
+    None
+}
+
+// How many bytes precede the first NUL, if they are all ASCII and it lies in a whole lane. `None`
+// leaves it to a slower way.
+#[inline(always)]
+pub(crate) fn run_in_lanes(bytes: &[u8]) -> Option<usize>
+    ensures within { IfSome result (λ run. run < length bytes.now) }
+    ensures plain { IfSome result (λ run. (k : ℕ) → k < run
+        → (0 < slice_index bytes.now k) × (slice_index bytes.now k < 128)) }
+    ensures stops { IfSome result (λ run. slice_index bytes.now run ≡ 0) }
+{
+    match first_stop(bytes) {
+        Some(run) if bytes[run] == 0 => Some(run),
+        _ => None,
+    }
+}
+
 // How many bytes precede the first NUL, or the end where there is none, if they are all ASCII. `None`
 // leaves it to a slower way.
 #[inline(always)]
@@ -44,17 +79,11 @@ pub(crate) fn plain_run(bytes: &[u8]) -> Option<usize>
         → (0 < slice_index bytes.now k) × (slice_index bytes.now k < 128)) }
     ensures stops { IfSome result (λ run. run < length bytes.now → slice_index bytes.now run ≡ 0) }
 {
-    let mut at = 0;
-    'lanes: while 16 <= bytes.len() - at {
-        if let Some(run) = stop_in_lanes(&bytes[at..]) {
-            let end = at + run;
-            if bytes[end] != 0 {
-                return None;
-            }
-            return Some(end);
-        }
-        at += 16;
-    }
+    let mut at = match first_stop(bytes) {
+        Some(run) if bytes[run] == 0 => return Some(run),
+        Some(_) => return None,
+        None => bytes.len() / 16 * 16,
+    };
     'bytes: while at < bytes.len() && is_plain(bytes[at]) {
         at += 1;
     }

@@ -2,12 +2,6 @@ use Rattle.std.proofs.Common.{length, ◌-◌, ◌≤◌}
 use Rattle.goblin_base.proofs.AsciiRuns.{ArePlain}
 use Rattle.goblin_base.proofs.ascii.plain_run.Given as goal
 
-abbrev pub invariant-lanes : goal.invariant-lanes
-invariant-lanes l = (l.at ≤ length l.bytes) × ArePlain l.bytes l.at
-
-abbrev pub decreases-lanes : goal.decreases-lanes
-decreases-lanes l = length l.bytes - l.at
-
 abbrev pub invariant-bytes : goal.invariant-bytes
 invariant-bytes l = (l.at ≤ length l.bytes) × ArePlain l.bytes l.at
 

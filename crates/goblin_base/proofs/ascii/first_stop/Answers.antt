@@ -1,6 +1,6 @@
 use Rattle.std.proofs.Common.{arith}
 use Rattle.goblin_base.proofs.AsciiRuns.{run_after}
-use Rattle.goblin_base.proofs.ascii.plain_run.Goals as goal
+use Rattle.goblin_base.proofs.ascii.first_stop.Goals as goal
 
 pub returns-in-Some-clause-plain : goal.returns-in-Some-clause-plain
 returns-in-Some-clause-plain c =
@@ -8,4 +8,4 @@ returns-in-Some-clause-plain c =
 
 pub lanes-preserved : goal.lanes-preserved
 lanes-preserved c =
-    (omega (arith, c.lanes-test.true), run_after c.args.bytes.now c.lanes.at 16 c.lanes.invariant.1 (c.stop_in_lanes.ensures.none c.in_default.is))
+    (omega (arith, c.lanes-test.true), run_after c.args.bytes.now c.lanes.at 16 c.lanes.invariant.1 (c.stop_in_lanes.ensures.none c.in_default.is), omega (arith, c.lanes.invariant.2))
