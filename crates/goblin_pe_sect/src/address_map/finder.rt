@@ -1,6 +1,6 @@
 //! Where addresses lie in the file, for callers that ask for many.
 
-ghost use Rattle.std.specs.Prelude.{◌≡◌, ◌↔◌, IsTrue, option_map};
+ghost use Rattle.std.specs.Prelude.{◌≡◌, ◌↔◌, IfSome, IsTrue, Some, option_map};
 ghost use Rattle.goblin_base.specs.Reading.{Reads};
 ghost use Rattle.goblin_base.specs.declared.permissive.ParseMode.TheVariants.{Permissive};
 ghost use Rattle.goblin_pe_sect.specs.AddressReadings.{name_or_none};
@@ -122,6 +122,24 @@ impl<'m> Finder<'m> {
         let offset = self.address_map.find_run(rva, &mut names);
         self.names = names;
         offset
+    }
+
+    /// The file offset of an address, where it lies among the addresses that the finder keeps; else
+    /// `None`, which says nothing of it. It takes no search.
+    #[inline(always)]
+    pub fn near_offset(&self, rva: u32) -> Option<usize>
+        ensures { IfSome result (λ offset. offset_of (map_of self.now) rva ≡ Some offset) }
+    {
+        self.run.offset_of(rva as usize)
+    }
+
+    /// The file offset of the address of a name, where it lies among those about names that the
+    /// finder keeps; else `None`, which says nothing of it. It takes no search.
+    #[inline(always)]
+    pub fn near_name_offset(&self, rva: u32) -> Option<usize>
+        ensures { IfSome result (λ offset. offset_of (map_of self.now) rva ≡ Some offset) }
+    {
+        self.names.offset_of(rva as usize)
     }
 
     /// The text at an address: in permissive mode `None` if there is none.
