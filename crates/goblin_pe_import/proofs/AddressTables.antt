@@ -1,5 +1,5 @@
 -- The entries of an address table.
-use Rattle.std.proofs.Common.{◌≡◌, ◌+◌, ◌-◌, ◌<◌, ◌≤◌, ℕ, List, length, Some, None, true, false, sym, ap, ◌∙◌, arith, refl}
+use Rattle.std.proofs.Common.{◌≡◌, ◌+◌, ◌-◌, ◌≤◌, ℕ, List, length, Some, None, true, false, sym, ap, ◌∙◌, arith, refl}
 use Rattle.std.specs.Prelude.{nat_le, nat_lt, slice_range}
 use Rattle.std.proofs.lemmas.Bool.{le-leb, le-ltb, lt-ltb}
 use Rattle.goblin_base.specs.Record.{record_at}

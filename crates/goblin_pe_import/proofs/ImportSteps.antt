@@ -14,7 +14,7 @@ use Rattle.goblin_pe_import.specs.ImportEntries.{EntryValue}
 use Rattle.goblin_pe_import.specs.Imports.{ImportValue}
 use Rattle.goblin_pe_import.specs.ImportWalks.{GivesLibrary, IsEntriesCause, IsInLibrary, IsLaterCause}
 use Rattle.goblin_pe_import.specs.ImportWalks.{IsPlaced, IsWalkCause, KeptValue, bound_at}
-use Rattle.goblin_pe_import.specs.ImportWalks.{entries_from, imports_at, kept_import, kept_value, later_items}
+use Rattle.goblin_pe_import.specs.ImportWalks.{entries_from, imports_at, kept_import, kept_value, later_items, moved}
 use Rattle.goblin_pe_import.specs.ImportWalks.{place_after, walk_bound, walk_left}
 
 one_before : {A : Type 0} (x : A) (o : Option (List A)) (IsNow IsNext IsLater : ErrorOf → Type 0)
@@ -41,19 +41,6 @@ GivesBy format s map r =
     (λ e. (reads_strictly m ≡ true)
     × IsLaterCause (reads_strictly m) format (offset_of m) s.bytes.now s.untested s.next e)
     r
-
--- the walk at another place
-abbrev pub moved : Walk → ℕ → Walk
-moved s place = record {
-  bytes = s.bytes;
-  finder = s.finder;
-  dll = s.dll;
-  rva = s.rva;
-  offset = s.offset;
-  place = Some place;
-  untested = s.untested;
-  next = s.next;
-}
 
 pub imports-start : (format : Format EntryValue) (start : Walk) → AtImports format start start
 imports-start format start = record {

@@ -15,4 +15,5 @@ pub mod LookupSlots
 pub mod LookupWalk
 pub mod Modes
 pub mod PermissiveReads
+pub mod PlainEntries
 mod SlotSums

@@ -1,5 +1,5 @@
 -- The walk over all imports: what is still to come.
-use Rattle.std.specs.Prelude.{◌≡◌, ◌⊎◌, ℕ, ◌+◌, ◌-◌, ◌*◌, ◌/◌, ◌≤◌, ◌<◌, Bool, ◌&&◌, not, true, false}
+use Rattle.std.specs.Prelude.{◌≡◌, ℕ, ◌+◌, ◌-◌, ◌*◌, ◌/◌, ◌≤◌, ◌<◌, Bool, ◌&&◌, not, true, false}
 use Rattle.std.specs.Prelude.{if◌then◌else◌, List, [], ◌∷◌, ◌++◌, map, length, Option, Some, None}
 use Rattle.std.specs.Prelude.{option_map, unwrap_or, is_none, Result, Ok, Err, IfErr, IfOk, IfSome}
 use Rattle.std.specs.Prelude.{IsSomeAnd}
@@ -23,6 +23,7 @@ use Rattle.goblin_pe_import.specs.declared.import.directory_entry.ImportDirector
 use Rattle.goblin_pe_import.specs.declared.import.kept.KeptEntry.{KeptEntry}
 use Rattle.goblin_pe_import.specs.declared.import.imports.ImportPosition.{ImportPosition}
 use Rattle.goblin_pe_import.specs.declared.import.imports.Imports.{Imports}
+use Rattle.goblin_pe_import.specs.declared.import.imports.PlainImports.{PlainImports}
 use Rattle.goblin_pe_import.specs.declared.import.imports.Walk.{Walk}
 use Rattle.goblin_pe_import.specs.declared.import.imports.WalkedImport.{WalkedImport}
 
@@ -370,16 +371,17 @@ GivesImport format s result t =
     × IfSome result (λ r. IfErr r (IsWalkFault s.walk))
     × IsOver s.walk.bytes.now (map_of s.walk.finder) t
 
--- the library that a walk is in has no more imports, or the next of them is refused
-abbrev pub IsHereOver : Format EntryValue → Walk → Type 0
-IsHereOver format w =
-    let m = map_of w.finder in
-    let here = entries_from (reads_strictly m) format (offset_of m) w.bytes.now w.offset w.place in
-    (here ≡ []) ⊎ (here ≡ None ∷ [])
+-- the walk at another place of the library that it is in
+abbrev pub moved : Walk → ℕ → Walk
+moved w place = record w { place = Some place }
 
--- A call gives the next import as `next` does, if the library that the walk is in has it; else the
--- walk stays.
-abbrev pub GivesHere : {T : Type 0} → Format EntryValue → Imports T → Option WalkedImport → Imports T
-    → Type 0
-GivesHere format s None t = (t ≡ s) × IsHereOver format s.walk
-GivesHere format s (Some x) t = GivesImport format s (Some (Ok x)) t × ¬ IsHereOver format s.walk
+-- the walk of which plain imports came, after them
+abbrev pub plain_at : {T : Type 0} → PlainImports T → Imports T
+plain_at plain = record plain.imports { walk = moved plain.imports.walk plain.place }
+
+-- A call gives what comes next of the walk as `next` does, or nothing, and all stays.
+abbrev pub GivesPlain : {T : Type 0} → Format EntryValue → PlainImports T → Option WalkedImport
+    → PlainImports T → Type 0
+GivesPlain format s None t = t ≡ s
+GivesPlain format s (Some x) t =
+    GivesImport format (plain_at s) (Some (Ok x)) (plain_at t) × (t.imports ≡ s.imports)

@@ -38,7 +38,7 @@ pub use bitfield::{
     Bitfield, IMPORT_BY_ORDINAL_32, IMPORT_BY_ORDINAL_64, IMPORT_RVA_MASK_32, IMPORT_RVA_MASK_64,
 };
 pub use directory_entry::{ImportDirectoryEntry, SIZEOF_IMPORT_DIRECTORY_ENTRY};
-pub use imports::{ImportPosition, Imports, WalkedImport};
+pub use imports::{ImportPosition, Imports, PlainImports, WalkedImport};
 pub use left_out::LeftOut;
 pub use library::SyntheticImportDirectoryEntry;
 use library::directory_offset;

@@ -1,7 +1,7 @@
 //! A walk over all imports of an image.
 
 ghost use Rattle.std.specs.Prelude.{◌≡◌, ◌&&◌, ◌+◌, ◌-◌, ◌<◌, ◌≤◌, ◌^◌, ◌∷◌, ◌++◌, [], IfErr, IfOk, IfSome};
-ghost use Rattle.std.specs.Prelude.{MatchResult, None, Some, false, is_none, not, true};
+ghost use Rattle.std.specs.Prelude.{MatchResult, None, Some, false, is_none, length, not, true};
 ghost use Rattle.std.specs.Prelude.{if◌then◌else◌, IsSomeAnd, IsOk, Ok};
 ghost use Rattle.std.specs.Iterator.{UpTo, at_most};
 ghost use Rattle.std.specs.Iterator.SizeHint.{IsWithinCount};
@@ -16,8 +16,8 @@ ghost use Rattle.goblin_pe_import.specs.ImportPositions.{BeginsAt, GoesOnAt, fir
 ghost use Rattle.goblin_pe_import.specs.ImportReadings.{import_data, libraries_at, record_here};
 ghost use Rattle.goblin_pe_import.specs.ImportRecords.{is_last_record};
 ghost use Rattle.goblin_pe_import.specs.Imports.{kept_imports};
-ghost use Rattle.goblin_pe_import.specs.ImportWalks.{GivesHere, GivesImport, GivesLibrary, HasPosition};
-ghost use Rattle.goblin_pe_import.specs.ImportWalks.{IsCauseAt, IsHereOver};
+ghost use Rattle.goblin_pe_import.specs.ImportWalks.{GivesImport, GivesLibrary, GivesPlain, HasPosition};
+ghost use Rattle.goblin_pe_import.specs.ImportWalks.{IsCauseAt, moved, plain_at};
 ghost use Rattle.goblin_pe_import.specs.ImportWalks.{IsImportsCause, IsInLibrary, IsOver, imports_at, position_by, position_of};
 ghost use Rattle.goblin_pe_import.specs.ImportWalks.{slots_bound};
 ghost use Rattle.goblin_pe_import.specs.ImportWalks.{IsLaterCause, IsNamedCause, IsPlaced};
@@ -32,7 +32,7 @@ ghost use Rattle.goblin_pe_import.specs.ImportWalks.{walked_value};
 use crate::import::address_table::{test_address_table, test_numbers};
 use crate::import::bitfield::Bitfield;
 use crate::import::directory_entry::{ImportDirectoryEntry, SIZEOF_IMPORT_DIRECTORY_ENTRY};
-use crate::import::kept::{KeptEntry, next_kept};
+use crate::import::kept::{KeptEntry, next_kept, plain_kept};
 use crate::import::library::{address_table_rva, directory_offset, library_name, lookup_offset};
 use crate::import::lookup_table::SyntheticImportLookupTableEntry;
 use goblin_base::{Cause, Endian, Error, Record, ResultOf};
@@ -347,27 +347,35 @@ impl<'a, 'm> Walk<'a, 'm> {
         slots.checked_add(bound_at(self.bytes, self.next)?)
     }
 
-    // The next import of the library that the walk is in.
+    // The import in the slot at a place of the library that the walk is in, where it is plain; `None`
+    // says nothing of the slot.
     #[inline(always)]
-    fn next_here<T: Bitfield<'a>>(&mut self) -> Option<WalkedImport<'a>>
+    fn plain_import<T: Bitfield<'a>>(&self, place: usize) -> Option<WalkedImport<'a>>
         ensures steps { IfSome result (λ import. GivesNext walked_value (walk_left T.format)
-            (IsWalkCause T.format) self.old (Some (Ok import)) self.new) }
-        ensures some { IfSome result (λ _. ¬ IsHereOver T.format self.old) }
-        ensures none { result ≡ None → IsHereOver T.format self.old }
-        ensures stays { result ≡ None → self.new ≡ self.old }
-        ensures placed { IsPlaced T.format self.old → IsPlaced T.format self.new }
-        ensures inside { IfSome result (λ _. IsSomeAnd self.new.place (λ place. 0 < place)) }
-        ensures bytes { self.new.bytes.now ≡ self.old.bytes.now }
-        ensures finder { self.new.finder ≡ self.old.finder }
+            (IsWalkCause T.format) (moved self.now place) (Some (Ok import))
+            (moved self.now (place + T.format.width))) }
+        ensures inside { IfSome result (λ _. place + T.format.width ≤ length self.now.bytes.now) }
+        ensures short { IfSome result (λ _. place + T.format.width < 2 ^ 63) }
     {
-        match next_kept::<T>(self.bytes, self.offset, self.place, &mut self.finder) {
-            Some(Ok(kept)) => {
-                self.place = Some(kept.place + T::size_of());
-                let import = import_of::<T>(kept, self.dll, self.rva, self.offset);
-                Some(import)
-            }
-            Some(Err(_)) => None,
-            None => None,
+        let Some(kept) = plain_kept::<T>(self.bytes, self.offset, place, &self.finder) else {
+            return None;
+        };
+        Some(import_of::<T>(kept, self.dll, self.rva, self.offset))
+    }
+
+    // A copy of the walk.
+    fn again(&self) -> Walk<'a, 'm>
+        ensures { result ≡ self.now }
+    {
+        Walk {
+            bytes: self.bytes,
+            finder: self.finder.again(),
+            dll: self.dll,
+            rva: self.rva,
+            offset: self.offset,
+            place: self.place,
+            untested: self.untested,
+            next: self.next,
         }
     }
 
@@ -506,15 +514,31 @@ impl<'a, 'm, 'e, T: Bitfield<'a>> Imports<'a, 'm, 'e, T> {
         }
     }
 
-    /// The next import, where the library that the walk is in has it. `None` where it has no more, or
-    /// where the next is refused: the walk then stays as it is, and `next` goes on.
-    ///
-    /// A loop within one library keeps what it has of it at hand, so its imports take less time.
+    /// The imports that come next, as long as they are plain; `None` where the walk is in no library.
+    /// [`Imports::go_on`] goes on after those that came.
     #[inline(always)]
-    pub fn next_here(&mut self) -> Option<WalkedImport<'a>>
-        ensures { GivesHere T.format self.old result self.new }
+    pub fn plain(&self) -> Option<PlainImports<'a, 'm, 'e, T>>
+        ensures begins { IfSome result (λ plain. plain_at plain ≡ self.now) }
+        ensures same { IfSome result (λ plain. plain.imports ≡ self.now) }
+        ensures none { result ≡ None → self.now.walk.place ≡ None }
     {
-        self.walk.next_here::<T>()
+        let Some(place) = self.walk.place else {
+            return None;
+        };
+        let imports = Imports {
+            walk: self.walk.again(),
+            items: PhantomData,
+        };
+        Some(PlainImports { imports, place })
+    }
+
+    /// Goes on after the plain imports of this walk that have come.
+    #[inline(always)]
+    pub fn go_on(&mut self, plain: &PlainImports<'a, 'm, 'e, T>)
+        requires { plain.now.imports ≡ self.old }
+        ensures { self.new ≡ plain_at plain.now }
+    {
+        self.walk.place = Some(plain.place);
     }
 
     /// Where the walk is: what is still to come is what comes from this position on. `None` once
@@ -556,6 +580,33 @@ impl<'a, 'm, 'e, T: Bitfield<'a>> Iterator for Imports<'a, 'm, 'e, T> {
 }
 
 impl<'a, 'm, 'e, T: Bitfield<'a>> FusedIterator for Imports<'a, 'm, 'e, T> {}
+
+/// The imports that come next in a library, as long as they are plain: by ordinal, or by a name that
+/// is ASCII and lies near those before.
+///
+/// These are nearly all. A step calls no function, as what comes else is left to `next` of the walk:
+/// so a loop over them keeps all that it has at hand, and takes less time.
+#[derive(Drop)]
+pub struct PlainImports<'a, 'm, 'e, T> {
+    // The walk as it was.
+    imports: Imports<'a, 'm, 'e, T>,
+    // The slot that comes next.
+    place: usize,
+}
+
+impl<'a, 'm, 'e, T: Bitfield<'a>> PlainImports<'a, 'm, 'e, T> {
+    /// The next import, if it is plain. `None` says nothing of what comes: the walk's `next` tells it.
+    #[inline(always)]
+    pub fn next_import(&mut self) -> Option<WalkedImport<'a>>
+        ensures { GivesPlain T.format self.old result self.new }
+    {
+        let Some(import) = self.imports.walk.plain_import::<T>(self.place) else {
+            return None;
+        };
+        self.place += T::size_of();
+        Some(import)
+    }
+}
 
 impl<'a, 'm, 'e, T: Bitfield<'a>> fmt::Debug for Imports<'a, 'm, 'e, T> {
     fn fmt<W: fmt::Write>(&self, f: &mut fmt::Formatter<W>) -> fmt::Result {

@@ -1,6 +1,6 @@
 //! The entries that a lookup table keeps, one by one.
 
-ghost use Rattle.std.specs.Prelude.{◌≡◌, ◌+◌, ◌<◌, ◌≤◌, ◌^◌, IfErr, IfOk, IfSome, IsSome, length, true};
+ghost use Rattle.std.specs.Prelude.{◌≡◌, ◌+◌, ◌<◌, ◌≤◌, ◌^◌, IfErr, IfOk, IfSome, IsSome, Ok, Some, length, true};
 ghost use Rattle.goblin_pe_sect.specs.Addresses.{map_of, offset_of, reads_strictly};
 ghost use Rattle.goblin_pe_import.specs.ImportWalks.{IsEntriesCause, entries_from, kept_value};
 ghost use Rattle.goblin_pe_import.specs.ImportWalks.{place_after};
@@ -65,4 +65,36 @@ pub(super) fn next_kept<'a, 'e, T: Bitfield<'a>>(
             Err(error) => return Some(Err(error)),
         }
     }
+}
+
+// The entry that a lookup table at `offset` keeps in the slot at `place`, where it is plain: by
+// ordinal, or by a name that is ASCII and lies near the last one. `None` says nothing of the slot. It
+// calls no function, so a loop over such slots keeps all that it has at hand.
+#[inline(always)]
+pub(super) fn plain_kept<'a, T: Bitfield<'a>>(
+    bytes: &'a [u8],
+    offset: usize,
+    place: usize,
+    finder: &Finder<'_>,
+) -> Option<KeptEntry<'a>>
+    ensures steps { let m = map_of finder.now in
+        IfSome result (λ kept. GivesNext kept_value
+        (entries_from (reads_strictly m) T.format (offset_of m) bytes.now offset)
+        (IsEntriesCause (reads_strictly m) T.format (offset_of m) bytes.now)
+        (Some place) (Some (Ok kept)) (Some (kept.place + T.format.width))) }
+    ensures here { IfSome result (λ kept. kept.place ≡ place) }
+    ensures inside { IfSome result (λ kept. place + T.format.width ≤ length bytes.now) }
+    ensures short { IfSome result (λ kept. kept.place + T.format.width < 2 ^ 63) }
+{
+    let Ok(entry) = read_entry::<T>(bytes, place) else {
+        return None;
+    };
+    if entry.is_zero() {
+        return None;
+    }
+    let Some(entry) = SyntheticImportLookupTableEntry::plain(&entry, bytes, finder) else {
+        return None;
+    };
+    let slot = place.saturating_sub(offset) / T::size_of();
+    Some(KeptEntry { slot, place, entry })
 }

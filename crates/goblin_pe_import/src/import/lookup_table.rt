@@ -1,6 +1,6 @@
 //! Import lookup tables: what is imported from a library, by name or by ordinal.
 
-ghost use Rattle.std.specs.Prelude.{◌≡◌, ◌<◌, ◌++◌, ◌∷◌, [], ◌⊎◌, IfErr, IfOk, OnErr, OnOk, Some};
+ghost use Rattle.std.specs.Prelude.{◌≡◌, ◌<◌, ◌++◌, ◌∷◌, [], ◌⊎◌, Bool, IfErr, IfOk, IfSome, OnErr, OnOk, Some};
 ghost use Rattle.std.specs.Prelude.{if◌then◌else◌, length, map, option_to_list, true};
 ghost use Rattle.std.specs.List.{All};
 ghost use Rattle.std.specs.List.Sorted.{IsStrictlyIncreasing};
@@ -16,7 +16,9 @@ ghost use Rattle.goblin_pe_import.specs.ImportLookup.{entry_view, hint_name_view
 ghost use Rattle.goblin_pe_import.specs.LookupReadings as reading;
 
 use crate::import::bitfield::{Bitfield, read_entry};
-use goblin_base::{Cause, Endian, Error, Result, ResultOf, pread_str, pread_u16};
+use goblin_base::{
+    Cause, Endian, Error, Result, ResultOf, field_u16, pread_plain_str, pread_str, pread_u16,
+};
 use goblin_pe_sect::address_map::{AddressMap, Finder};
 use goblin_pe_sect::options::ParseOptions;
 use goblin_pe_sect::section_table::SectionTable;
@@ -32,6 +34,9 @@ pub(super) fn no_text(bytes: &[u8]) -> &str
         _ => "",
     }
 }
+
+// How many bytes there must be from a plain entry on: the hint, and a lane of 16 bytes for the name.
+const PLAIN_ROOM: usize = 18;
 
 /// A hint, and the name after it, by which a library exports what is imported.
 ///
@@ -84,6 +89,24 @@ impl<'a> HintNameTableEntry<'a> {
         };
         Ok(HintNameTableEntry { hint, name })
     }
+
+    // The hint and the name at an offset, where the name is ASCII and the file goes on well past it;
+    // `None` says nothing of them. Both modes give the same.
+    #[inline(always)]
+    fn plain(bytes: &'a [u8], offset: usize) -> Option<HintNameTableEntry<'a>>
+        ensures { IfSome result (λ named. (strict : Bool)
+            → (reading.hint_name strict offset).value bytes.now ≡ Some (hint_name_view named)) }
+    {
+        if bytes.len() < offset || bytes.len() - offset < PLAIN_ROOM {
+            return None;
+        }
+        let entry = &bytes[offset..];
+        let hint = field_u16(entry, 0, Endian::Little);
+        let Some(name) = pread_plain_str(entry, 2) else {
+            return None;
+        };
+        Some(HintNameTableEntry { hint, name })
+    }
 }
 
 /// An entry that a lookup table keeps.
@@ -124,6 +147,33 @@ impl<'a> SyntheticImportLookupTableEntry<'a> {
             Err(_) if finder.is_permissive() => Ok(None),
             Err(error) => Err(error),
         }
+    }
+
+    // What a table keeps of an entry that is plain: by ordinal, or by a name that is ASCII and whose
+    // address lies among those about names that the finder keeps. `None` says nothing of the entry.
+    #[inline(always)]
+    #[tactic(auto, unfolding(crate::specs::LookupReadings::kept_entry, crate::specs::LookupReadings::kept_name))]
+    pub(super) fn plain<T: Bitfield<'a>>(
+        entry: &T,
+        bytes: &'a [u8],
+        finder: &Finder<'_>,
+    ) -> Option<SyntheticImportLookupTableEntry<'a>>
+        ensures { let m = map_of finder.now in
+            let read = reading.kept_entry (reads_strictly m) (offset_of m) (T.value entry.now) in
+            IfSome result (λ kept. read.value bytes.now ≡ Some (kept_view (Some kept))) }
+    {
+        if entry.is_ordinal() {
+            let ordinal = entry.to_ordinal();
+            return Some(SyntheticImportLookupTableEntry::OrdinalNumber(ordinal));
+        }
+        let rva = entry.to_rva();
+        let Some(offset) = finder.near_name_offset(rva) else {
+            return None;
+        };
+        let Some(named) = HintNameTableEntry::plain(bytes, offset) else {
+            return None;
+        };
+        Some(SyntheticImportLookupTableEntry::HintNameTableRVA((rva, named)))
     }
 }
 
