@@ -11,7 +11,7 @@ use Rattle.goblin_pe_sect.specs.SectionTable.{Section}
 use Rattle.goblin_pe_sect.specs.Addresses.{map_of}
 use Rattle.goblin_pe_import.specs.ImportEntries.{EntryValue}
 use Rattle.goblin_pe_import.specs.ImportLookup.{entries_32, entries_64}
-use Rattle.goblin_pe_import.specs.ImportWalks.{HasPosition, IsHereOver, IsImportsCause, IsInTable}
+use Rattle.goblin_pe_import.specs.ImportWalks.{HasPosition, IsImportsCause, IsInTable}
 use Rattle.goblin_pe_import.specs.ImportWalks.{IsOver}
 use Rattle.goblin_pe_import.specs.ImportWalks.{imports_left, position_of}
 use Rattle.goblin_pe_import.specs.declared.import.imports.ImportPosition.{ImportPosition}
@@ -165,11 +165,6 @@ abbrev pub FillsLibrary : FileImports → FileImports → List PeImport → List
 FillsLibrary (Narrow s) (Narrow t) old new first last = FillsHere entries_32 s t old new first last
 FillsLibrary (Wide s) (Wide t) old new first last = FillsHere entries_64 s t old new first last
 FillsLibrary s t old new first last = ⊥
-
--- the library that a walk is in has no more imports, or the next of them is refused
-abbrev pub IsLibraryOver : FileImports → Type 0
-IsLibraryOver (Narrow imports) = IsHereOver entries_32 imports.walk
-IsLibraryOver (Wide imports) = IsHereOver entries_64 imports.walk
 
 -- a file has imports, and they are asked for
 abbrev pub HasImports : ParseOptions → TablePlaces → Type 0

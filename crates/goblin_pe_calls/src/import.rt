@@ -50,20 +50,27 @@ pub struct PeImport<'a> {
     pub reserved2: u32,
 }
 
-/// The record of an import of these bytes.
+// The record of an import, with what its entry says: its name, the address of this, its ordinal or its
+// hint, and whether it is by name.
 #[inline(always)]
-#[tactic(auto, unfolding(goblin_pe_import::specs::Imports::import_of))]
-pub fn import_record<'a>(bytes: &'a [u8], import: &WalkedImport<'a>) -> PeImport<'a>
-    ensures { import_view result ≡ import_said (walked_value import.now) }
+fn record_by<'a>(
+    import: &WalkedImport<'a>,
+    name: &'a [u8],
+    rva: usize,
+    ordinal: u16,
+    is_by_name: bool,
+) -> PeImport<'a>
+    ensures { import_view result ≡ record {
+      name = name.now;
+      dll = import.now.dll.now;
+      slot_rva = import.now.offset;
+      rva = rva;
+      slot = import.now.slot;
+      ordinal = ordinal;
+      is_by_name = is_by_name;
+      reserved = (0, 0);
+    } }
 {
-    let (name, rva, ordinal, is_by_name): (&'a [u8], usize, u16, bool) = match &import.entry {
-        SyntheticImportLookupTableEntry::OrdinalNumber(ordinal) => {
-            (&bytes[..0], 0, *ordinal, false)
-        }
-        SyntheticImportLookupTableEntry::HintNameTableRVA((rva, named)) => {
-            (named.name.as_bytes(), *rva as usize, named.hint, true)
-        }
-    };
     PeImport {
         name,
         dll: import.dll.as_bytes(),
@@ -77,11 +84,30 @@ pub fn import_record<'a>(bytes: &'a [u8], import: &WalkedImport<'a>) -> PeImport
     }
 }
 
+/// Puts the record of an import of these bytes into its place. (Each kind has a record of its own: one
+/// that is made for both would be put together by conditions for every import.)
+#[inline(always)]
+#[tactic(auto, unfolding(goblin_pe_import::specs::Imports::import_of))]
+pub fn put_import<'a>(place: &mut PeImport<'a>, bytes: &'a [u8], import: &WalkedImport<'a>)
+    ensures { import_view place.new ≡ import_said (walked_value import.now) }
+{
+    match &import.entry {
+        SyntheticImportLookupTableEntry::OrdinalNumber(ordinal) => {
+            *place = record_by(import, &bytes[..0], 0, *ordinal, false);
+        }
+        SyntheticImportLookupTableEntry::HintNameTableRVA((rva, named)) => {
+            let name = named.name.as_bytes();
+            *place = record_by(import, name, *rva as usize, named.hint, true);
+        }
+    }
+}
+
 // For how many records room is made first.
 const FIRST_ROOM: usize = 4;
 
 // Adds the record of an import, for which there is room.
 #[inline(always)]
+#[tactic(auto, unfolding(goblin_pe_import::specs::Imports::import_of))]
 fn push_within<'a>(records: &mut Vec<PeImport<'a>>, bytes: &'a [u8], import: &WalkedImport<'a>)
     requires { vec_len records.old < vec_capacity records.old }
     ensures value { map import_view records.new.items
@@ -90,7 +116,15 @@ fn push_within<'a>(records: &mut Vec<PeImport<'a>>, bytes: &'a [u8], import: &Wa
     ensures counted { vec_len records.new ≡ vec_len records.old + 1 }
     ensures same { vec_capacity records.new ≡ vec_capacity records.old }
 {
-    records.push_reserved(import_record(bytes, import));
+    match &import.entry {
+        SyntheticImportLookupTableEntry::OrdinalNumber(ordinal) => {
+            records.push_reserved(record_by(import, &bytes[..0], 0, *ordinal, false));
+        }
+        SyntheticImportLookupTableEntry::HintNameTableRVA((rva, named)) => {
+            let name = named.name.as_bytes();
+            records.push_reserved(record_by(import, name, *rva as usize, named.hint, true));
+        }
+    }
 }
 
 // Adds the record of an import.
@@ -110,8 +144,8 @@ fn push_import<'a, 'e>(
     Ok(())
 }
 
-// Adds the records of the imports that the library of the walk still has, as far as there is room. It
-// is not inlined, so that the compiler keeps this loop apart from its caller's call of `next`.
+// Adds the records of the plain imports that come next in the library of the walk, as far as there is
+// room. It is not inlined, so that its loop shares no registers with its caller's.
 #[inline(never)]
 fn push_here<'a, 'm, 'e, T: Bitfield<'a>>(
     records: &mut Vec<PeImport<'a>>,
@@ -122,17 +156,21 @@ fn push_here<'a, 'm, 'e, T: Bitfield<'a>>(
         (map import_view records.old.items) (map import_view records.new.items) }
     ensures room { HasLittleRoom records.old → HasLittleRoom records.new }
 {
-    'library: while records.len() < records.capacity() {
-        let Some(import) = imports.next_here() else {
-            return;
+    let Some(mut plain) = imports.plain() else {
+        return;
+    };
+    'plain: while records.len() < records.capacity() {
+        let Some(import) = plain.next_import() else {
+            break 'plain;
         };
         push_within(records, bytes, &import);
     }
+    imports.go_on(&plain);
 }
 
-// The records of the imports that a walk gives. Those of a library after its first, as far as there is
-// room, come by a loop of their own, in which nothing can be refused.
-#[inline(never)]
+// The records of the imports that a walk gives. Plain ones after the first of a library, as far as there
+// is room, come by a loop of their own, in which nothing can be refused.
+#[inline(always)]
 fn records_of<'a, 'm, 'e, T: Bitfield<'a>>(
     alloc: Global,
     bytes: &'a [u8],

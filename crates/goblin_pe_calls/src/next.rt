@@ -7,8 +7,7 @@ ghost use Rattle.goblin_pe_export.specs.ExportWalks.{KeepsOver, exports_at, expo
 ghost use Rattle.goblin_pe.specs.Layouts.{IsFileImportsCause, file_imports_left, layout_map};
 ghost use Rattle.goblin_pe.specs.Layouts.{layout_places};
 ghost use Rattle.goblin_pe.specs.LayoutPositions.{StartsAt, import_start};
-ghost use Rattle.goblin_pe_calls.specs.Batches.{FillsHere, FillsLibrary, IsLibraryOver};
-ghost use Rattle.goblin_pe_import.specs.ImportWalks.{IsHereOver};
+ghost use Rattle.goblin_pe_calls.specs.Batches.{FillsHere, FillsLibrary};
 ghost use Rattle.goblin_pe_calls.specs.Batches.{ExportBatch, GivesBatch, GivesExports, GivesImports};
 ghost use Rattle.goblin_pe_calls.specs.Batches.{GoesOn, ImportBatch, IsBatch, IsEnd, IsExportsFault};
 ghost use Rattle.goblin_pe_calls.specs.Batches.{IsImportsFault, IsRefusedNext, imports_from};
@@ -17,7 +16,7 @@ ghost use Rattle.goblin_pe_calls.specs.Exports.{export_said, export_view};
 ghost use Rattle.goblin_pe_calls.specs.Imports.{import_said, import_view};
 
 use crate::export::{PeExport, next_export, put_export};
-use crate::import::{PeImport, import_record};
+use crate::import::{PeImport, put_import};
 use goblin_pe::export::Exports;
 use goblin_pe::header::Header;
 use goblin_pe::import::{Bitfield, ImportPosition, Imports};
@@ -83,9 +82,10 @@ fn imports_at<'a, 'm, 'e>(
     }
 }
 
-// Fills records from `first` on with the imports that the library of the walk still has, as far as
-// there is room, and returns the index after the last one filled.
-#[inline(always)]
+// Fills records from `first` on with the plain imports that come next in the library of the walk, as far
+// as there is room, and returns the index after the last one filled. It is not inlined, so that its loop
+// shares no registers with its caller's.
+#[inline(never)]
 fn fill_here<'a, 'm, 'e, T: Bitfield<'a>>(
     bytes: &'a [u8],
     imports: &mut Imports<'a, 'm, 'e, T>,
@@ -94,16 +94,19 @@ fn fill_here<'a, 'm, 'e, T: Bitfield<'a>>(
 ) -> usize
     ensures filled { FillsHere T.format imports.old imports.new records.old records.new first result }
     ensures further { first ≤ result }
-    ensures all { result < length records.new → IsHereOver T.format imports.new.walk }
 {
+    let Some(mut plain) = imports.plain() else {
+        return first;
+    };
     let mut count = first;
-    'library: while count < records.len() {
-        let Some(import) = imports.next_here() else {
-            return count;
+    'plain: while count < records.len() {
+        let Some(import) = plain.next_import() else {
+            break 'plain;
         };
-        records[count] = import_record(bytes, &import);
+        put_import(&mut records[count], bytes, &import);
         count += 1;
     }
+    imports.go_on(&plain);
     count
 }
 
@@ -116,7 +119,6 @@ fn fill_library<'a, 'm, 'e>(
 ) -> usize
     ensures filled { FillsLibrary imports.old imports.new records.old records.new first result }
     ensures further { first ≤ result }
-    ensures all { result < length records.new → IsLibraryOver imports.new }
 {
     match imports {
         FileImports::Narrow(imports) => fill_here(bytes, imports, records, first),
@@ -151,7 +153,7 @@ fn fill_imports<'a, 'm, 'e>(
     'imports: while count < records.len() {
         match imports.next() {
             Some(Ok(import)) => {
-                records[count] = import_record(layout.bytes(), &import);
+                put_import(&mut records[count], layout.bytes(), &import);
                 count = fill_library(layout.bytes(), &mut imports, records, count + 1);
                 *position = position_record(imports.position());
             }

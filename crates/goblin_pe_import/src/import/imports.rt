@@ -282,7 +282,7 @@ impl<'a, 'm> Walk<'a, 'm> {
     }
 
     // The walk from the next library on, once the entries of this one have come.
-    #[inline(never)]
+    #[inline(always)]
     fn next_library<'e, T: Bitfield<'a>>(
         bytes: &'a [u8],
         untested: Option<u32>,

@@ -1,14 +1,15 @@
--- Some imports have come so far, and the records of these were added.
-use Rattle.std.proofs.Common.{length, map}
-use Rattle.goblin_pe_import.specs.ImportWalks.{imports_left}
+-- Plain imports have come so far, and the records of these were added.
+use Rattle.std.proofs.Common.{◌≡◌, length, map}
+use Rattle.goblin_pe_import.specs.ImportWalks.{imports_left, plain_at}
 use Rattle.goblin_pe_records.specs.Blocked.{HasLittleRoom}
 use Rattle.goblin_pe_calls.specs.Imports.{PushesHere, import_view}
 use Rattle.goblin_pe_calls.proofs.import.push_here.Given as goal
 
-abbrev pub invariant-library : goal.invariant-library
-invariant-library g l =
-    PushesHere g.T.Bitfield.format l.initial.imports l.imports (map import_view l.initial.records.items) (map import_view l.records.items)
+abbrev pub invariant-plain : goal.invariant-plain
+invariant-plain g l =
+    PushesHere g.T.Bitfield.format l.initial.imports (plain_at l.plain) (map import_view l.initial.records.items) (map import_view l.records.items)
     × (HasLittleRoom l.initial.records → HasLittleRoom l.records)
+    × (l.plain.imports ≡ l.initial.imports)
 
-abbrev pub decreases-library : goal.decreases-library
-decreases-library g l = length (imports_left g.T.Bitfield.format l.imports)
+abbrev pub decreases-plain : goal.decreases-plain
+decreases-plain g l = length (imports_left g.T.Bitfield.format (plain_at l.plain))

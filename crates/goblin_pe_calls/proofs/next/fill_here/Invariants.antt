@@ -1,12 +1,14 @@
--- The records hold the imports of the library that have come so far.
-use Rattle.std.proofs.Common.{◌-◌, ◌≤◌, length}
+-- The records hold the plain imports that have come so far.
+use Rattle.std.proofs.Common.{◌≡◌, ◌-◌, ◌≤◌, length}
+use Rattle.goblin_pe_import.specs.ImportWalks.{plain_at}
 use Rattle.goblin_pe_calls.specs.Batches.{FillsHere}
 use Rattle.goblin_pe_calls.proofs.next.fill_here.Given as goal
 
-abbrev pub invariant-library : goal.invariant-library
-invariant-library g l =
-    FillsHere g.T.Bitfield.format l.initial.imports l.imports l.initial.records l.records l.first l.count
+abbrev pub invariant-plain : goal.invariant-plain
+invariant-plain g l =
+    FillsHere g.T.Bitfield.format l.initial.imports (plain_at l.plain) l.initial.records l.records l.first l.count
     × (l.first ≤ l.count)
+    × (l.plain.imports ≡ l.initial.imports)
 
-abbrev pub decreases-library : goal.decreases-library
-decreases-library g l = length l.records - l.count
+abbrev pub decreases-plain : goal.decreases-plain
+decreases-plain g l = length l.records - l.count

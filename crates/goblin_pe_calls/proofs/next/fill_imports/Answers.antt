@@ -20,11 +20,11 @@ imports-preserved c =
     let is = subst (λ (r : Result WalkedImport ErrorOf). GivesFileImport now (Some r) next) c.in-Some-Ok.field-0-is c.in-Some-Ok.ensures.steps in
     let kept = file-kept m places.magic bytes now (Some (Ok x)) next is c.imports.invariant.goes.walk in
     let fills = c.fill_library-count.ensures.filled in
-    let there = library-kept m places.magic bytes next last (set c.imports.records c.imports.count c.import_record.result) c.fill_library-count.new.records (c.imports.count + 1) c.fill_library-count.result fills kept.0 kept.1 in
+    let there = library-kept m places.magic bytes next last (set c.imports.records c.imports.count c.put_import.new.place) c.fill_library-count.new.records (c.imports.count + 1) c.fill_library-count.result fills kept.0 kept.1 in
     let fits = c.bytes.type_inv in
     let most : length bytes < 2 ^ 63 = rw (← c.bytes.ensures) (omega (arith, fits)) in
     let goes = goes-after m places bytes c.position_record.result c.position.result last most there.0 c.imports.invariant.goes.asked c.position.ensures.is there.1 (c.position.ensures.left m places.magic bytes there.0) c.position_record.ensures in
-    library-more m places bytes c.args.imports c.args.position.now c.args.records.now now c.imports.position c.imports.records c.imports.count c.imports.invariant x next last c.position_record.result c.import_record.result c.fill_library-count.new.records c.fill_library-count.result is c.imports-test.true c.import_record.ensures fills goes
+    library-more m places bytes c.args.imports c.args.position.now c.args.records.now now c.imports.position c.imports.records c.imports.count c.imports.invariant x next last c.position_record.result c.put_import.new.place c.fill_library-count.new.records c.fill_library-count.result is c.imports-test.true c.put_import.ensures fills goes
 
 pub returns-in-Some-Err-2-clause-filled : goal.returns-in-Some-Err-2-clause-filled
 returns-in-Some-Err-2-clause-filled c =
