@@ -78,10 +78,11 @@ file_offset_first opts sections alignment rva on even =
     subst Says (sym (file_offset-mapped opts sections alignment rva on' even')) (said_by opts sections alignment rva (find (is_in_window alignment rva) sections) refl)
 
 -- an address that is in a window by its words passes the test
-window_test : (alignment rva : ℕ) (s : Section) → InWindow alignment rva s → is_in_window alignment rva s ≡ true
+pub window_test : (alignment rva : ℕ) (s : Section) → InWindow alignment rva s → is_in_window alignment rva s ≡ true
 window_test alignment rva s holds = grind (arith, nat_tests)
 
-window_test_fails : (alignment rva : ℕ) (s : Section) → ¬ InWindow alignment rva s → is_in_window alignment rva s ≡ false
+-- and one that is not fails it
+pub window_test_fails : (alignment rva : ℕ) (s : Section) → ¬ InWindow alignment rva s → is_in_window alignment rva s ≡ false
 window_test_fails alignment rva s out = grind (arith, nat_tests)
 
 -- the first section whose window holds the address is found

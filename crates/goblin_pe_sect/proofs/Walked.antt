@@ -1,52 +1,64 @@
 -- A walk over the windows of sections, and the addresses that the section where it ends owns.
-use Rattle.std.proofs.Common.{◌≡◌, ℕ, ◌<◌, ◌≤◌, ◌⊎◌, true, IsTrue, List, Option, Some, None, find, length, refl, ap, ◌∙◌, inl, inr, arith, rules, tests}
-use Rattle.std.specs.Prelude.{slice_get}
+use Rattle.std.proofs.Common.{◌≡◌, ℕ, ◌<◌, ◌≤◌, Bool, true, cond, max, min, IsTrue, List, [], ◌∷◌, Some, None, find, ap, ◌∙◌, sym, arith, rules, tests}
 use Rattle.std.specs.Int.{is_power_of_two}
-use Rattle.std.specs.List.{position_or_len}
 use Rattle.std.specs.Option.{option_map}
-use Rattle.std.proofs.lemmas.Option.{slice_get_within}
-use Rattle.goblin_pe_sect.specs.Mapping.{InWindow, IsFirstWindow, file_offset, is_in_window, offset_in, window_end}
+use Rattle.goblin_pe_sect.specs.Mapping.{InWindow, file_offset, is_in_window, offset_in, window_end}
 use Rattle.goblin_pe_sect.specs.SectionTable.{Section}
 use Rattle.goblin_pe_sect.specs.declared.options.ParseOptions.{ParseOptions}
-use Rattle.goblin_pe_sect.proofs.First.{found_at_first}
-use Rattle.goblin_pe_sect.proofs.Mapped.{file_offset-mapped, first_window-find, found_in_window}
+use Rattle.goblin_pe_sect.proofs.Mapped.{file_offset-mapped, window_test, window_test_fails}
 
--- the windows of the first n sections end up to `low`, or begin from `high` on
-abbrev pub AreApart : List Section → ℕ → ℕ → ℕ → ℕ → Type 0
-AreApart sections alignment n low high =
-    (k : ℕ) (s : Section) → k < n → slice_get sections k ≡ Some s → (window_end s alignment ≤ low) ⊎ (high ≤ s.virtual_address)
+-- the address is among those from `low` up to `high`, whose offsets are those by the sections that are left
+pub record IsLeft (opts : ParseOptions) (alignment : ℕ) (sections left : List Section) (rva low high : ℕ) : Type 0 where
+  pub from : low ≤ rva
+  pub to : rva < high
+  pub same : (other : ℕ) → low ≤ other → other < high → file_offset opts sections alignment other ≡ file_offset opts left alignment other
 
-outside : (alignment low high rva : ℕ) (s : Section) → low ≤ rva → rva < high → (window_end s alignment ≤ low) ⊎ (high ≤ s.virtual_address) → InWindow alignment rva s → ⊥
-outside alignment low high rva s from to (inl before) holds = omega (arith, from, before, holds.1)
-outside alignment low high rva s from to (inr after) holds = omega (arith, to, after, holds.0)
-
--- an address between them in the next window has the offset that its section says
-pub owned : (opts : ParseOptions) (sections : List Section) (alignment n low high : ℕ) (s : Section) (rva : ℕ)
-    → IsTrue opts.resolve_rva → IsTrue (is_power_of_two alignment) → AreApart sections alignment n low high → slice_get sections n ≡ Some s
-    → low ≤ rva → rva < high → s.virtual_address ≤ rva → rva < window_end s alignment
-    → file_offset opts sections alignment rva ≡ Some (offset_in opts s rva)
-owned opts sections alignment n low high s rva on even apart at from to begin end =
-    let on' : opts.resolve_rva ≡ true = search (rules, tests) in
-    let even' : is_power_of_two alignment ≡ true = search (rules, tests) in
-    let first : IsFirstWindow sections alignment rva n = record {
-      section = s;
-      is = at;
-      holds = (begin, end);
-      least = λ k t lt there. outside alignment low high rva t from to (apart k t lt there);
-    } in
-    file_offset-mapped opts sections alignment rva on' even' ∙ ap (option_map (λ s. offset_in opts s rva)) (first_window-find sections alignment rva n first)
-
-module _ (opts : ParseOptions) (sections : List Section) (alignment low high rva : ℕ) (apart : AreApart sections alignment (length sections) low high) (from : low ≤ rva) (to : rva < high) where
-  none_by : (found : Option Section) → find (is_in_window alignment rva) sections ≡ found → option_map (λ s. offset_in opts s rva) found ≡ None
-  none_by None e = refl
-  none_by (Some s) e =
-      let at = found_at_first (is_in_window alignment rva) sections s e in
-      let k : ℕ = position_or_len (is_in_window alignment rva) sections in
-      absurd (outside alignment low high rva s from to (apart k s (slice_get_within sections k s at) at) (found_in_window alignment rva sections s e))
-
-  -- an address between the windows of all sections has no offset
-  pub owned_by_none : IsTrue opts.resolve_rva → IsTrue (is_power_of_two alignment) → file_offset opts sections alignment rva ≡ None
-  owned_by_none on even =
+module _ (opts : ParseOptions) (alignment : ℕ) (on : IsTrue opts.resolve_rva) (even : IsTrue (is_power_of_two alignment)) where
+  by_windows : (sections : List Section) (rva : ℕ) → file_offset opts sections alignment rva ≡ option_map (λ s. offset_in opts s rva) (find (is_in_window alignment rva) sections)
+  by_windows sections rva =
       let on' : opts.resolve_rva ≡ true = search (rules, tests) in
       let even' : is_power_of_two alignment ≡ true = search (rules, tests) in
-      file_offset-mapped opts sections alignment rva on' even' ∙ none_by (find (is_in_window alignment rva) sections) refl
+      file_offset-mapped opts sections alignment rva on' even'
+
+  -- a section whose window does not hold an address has no part in its offset
+  not_first : (s : Section) (later : List Section) (rva : ℕ) → ¬ InWindow alignment rva s → file_offset opts (s ∷ later) alignment rva ≡ file_offset opts later alignment rva
+  not_first s later rva out =
+      by_windows (s ∷ later) rva
+      ∙ ap (λ (b : Bool). option_map (λ s. offset_in opts s rva) (cond b (Some s) (find (is_in_window alignment rva) later))) (window_test_fails alignment rva s out)
+      ∙ sym (by_windows later rva)
+
+  -- and one whose window holds it, before the others, says it
+  first : (s : Section) (later : List Section) (rva : ℕ) → InWindow alignment rva s → file_offset opts (s ∷ later) alignment rva ≡ Some (offset_in opts s rva)
+  first s later rva holds =
+      by_windows (s ∷ later) rva
+      ∙ ap (λ (b : Bool). option_map (λ s. offset_in opts s rva) (cond b (Some s) (find (is_in_window alignment rva) later))) (window_test alignment rva s holds)
+
+  module _ (sections left : List Section) (rva low high : ℕ) (is : IsLeft opts alignment sections left rva low high) where
+    module _ (s : Section) (later : List Section) (next : left ≡ s ∷ later) where
+      same_offsets : (other : ℕ) → low ≤ other → other < high → file_offset opts sections alignment other ≡ file_offset opts (s ∷ later) alignment other
+      same_offsets other from to = is.same other from to ∙ ap (λ (left : List Section). file_offset opts left alignment other) next
+
+      -- a section is passed whose window ends before the address
+      pub passed_before : (low' high' end : ℕ) → low' ≡ max low end → high' ≡ high → window_end s alignment ≤ end → end ≤ rva → IsLeft opts alignment sections later rva low' high'
+      passed_before low' high' end up same before from = record {
+        from = omega (arith, is.from, up, from);
+        to = omega (arith, is.to, same);
+        same = λ other begin to. same_offsets other (omega (arith, up, begin)) (omega (arith, same, to)) ∙ not_first s later other (λ holds. omega (arith, up, begin, before, holds.1));
+      }
+
+      -- and one whose window begins after it
+      pub passed_after : (low' high' begin : ℕ) → low' ≡ low → high' ≡ min high begin → begin ≡ s.virtual_address → rva < begin → IsLeft opts alignment sections later rva low' high'
+      passed_after low' high' begin same down after to = record {
+        from = omega (arith, is.from, same);
+        to = omega (arith, is.to, down, to);
+        same = λ other from end. same_offsets other (omega (arith, same, from)) (omega (arith, down, end)) ∙ not_first s later other (λ holds. omega (arith, down, end, after, holds.0));
+      }
+
+      -- an address between them in the next window has the offset that its section says
+      pub owned : (other : ℕ) → low ≤ other → other < high → s.virtual_address ≤ other → other < window_end s alignment → file_offset opts sections alignment other ≡ Some (offset_in opts s other)
+      owned other from to begin end = same_offsets other from to ∙ first s later other (begin, end)
+
+    -- the address has no offset where no section is left
+    pub owned_by_none : left ≡ [] → file_offset opts sections alignment rva ≡ None
+    owned_by_none none =
+        is.same rva is.from is.to ∙ ap (λ (left : List Section). file_offset opts left alignment rva) none ∙ by_windows [] rva

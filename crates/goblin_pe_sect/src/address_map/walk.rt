@@ -31,8 +31,9 @@ fn find_window(
     let rva = rva as usize;
     let mut low = 0;
     let mut high = usize::MAX;
-    'records: for i in 0..records.len() {
-        let section = records.at(i);
+    let mut rest = records;
+    'records: while let Some((section, later)) = rest.split_first() {
+        rest = later;
         let past = past_window(&section);
         if past <= rva {
             low = low.max(past);

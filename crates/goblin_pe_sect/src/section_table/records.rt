@@ -1,6 +1,6 @@
 //! The records of a section table, as they stand in the file.
 
-ghost use Rattle.std.specs.Prelude.{◌≡◌, ◌<◌, ◌/◌, Some, length, slice_get};
+ghost use Rattle.std.specs.Prelude.{◌≡◌, ◌<◌, ◌/◌, [], ◌∷◌, MatchOption, Some, length, slice_get};
 ghost use Rattle.goblin_pe_sect.specs.SectionTable.{AreBytesAlone, section_records, sections_in};
 
 use crate::section_table::{SIZEOF_SECTION_TABLE, SectionTable};
@@ -32,6 +32,24 @@ impl<'a> SectionRecords<'a> {
         ensures whole { AreBytesAlone }
     {
         SectionRecords { records }
+    }
+
+    /// The first section, without its name from the string table, and the records after it; `None`
+    /// where there is none. A walk by it takes fewer steps than one by indexes.
+    #[inline(always)]
+    #[tactic(auto, using(crate::proofs::SectionRecords::sections_more, crate::proofs::SectionRecords::sections_none), unfolding(crate::specs::SectionTable::section_record))]
+    pub fn split_first(&self) -> Option<(SectionTable, SectionRecords<'a>)>
+        ensures { MatchOption result (section_records self.now ≡ [])
+            (λ both. section_records self.now ≡ both.0 ∷ section_records both.1) }
+    {
+        if self.records.len() < SIZEOF_SECTION_TABLE {
+            return None;
+        }
+        let section = SectionTable::in_record(&self.records[..SIZEOF_SECTION_TABLE], None);
+        let later = SectionRecords {
+            records: &self.records[SIZEOF_SECTION_TABLE..],
+        };
+        Some((section, later))
     }
 
     /// How many sections there are.
