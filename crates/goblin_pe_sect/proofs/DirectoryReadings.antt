@@ -1,7 +1,7 @@
 -- The data directories by the room in the file: what they are, and which cause is true of them.
 use Rattle.std.proofs.Common.{◌≡◌, ◌≢◌, ◌/◌, ◌%◌, ◌+◌, ◌-◌, ◌*◌, ◌<◌, ◌≤◌, ◌&&◌, ◌||◌, ℕ, zero, suc, Bool, true}
 use Rattle.std.proofs.Common.{false, cond, get_or, nat_eq, nat_le, nat_lt, List, length, map}
-use Rattle.std.proofs.Common.{Option, Some, None, refl, set, sym, ap, ◌∙◌, inl, inr, arith}
+use Rattle.std.proofs.Common.{Option, Some, None, refl, replicate, set, subst, sym, ap, ◌∙◌, inl, inr, arith}
 use Rattle.std.specs.Prelude.{option_and_then, option_map, slice_range}
 use Rattle.std.specs.List.{range_with_len, slice_get}
 use Rattle.std.proofs.Math.Bool.{and-false}
@@ -18,6 +18,7 @@ use Rattle.goblin_base.specs.Answers.{IsFirstMissing, IsSliceFault, all_at, all_
 use Rattle.goblin_base.specs.Bytes.{slice_at}
 use Rattle.goblin_base.specs.Record.{record_at}
 use Rattle.goblin_base.proofs.Footprints.{same-all_at, same_map}
+use Rattle.goblin_base.proofs.Numbers.{slice-of_slice}
 use Rattle.goblin_base.proofs.Steps.{all_at-none}
 use Rattle.goblin_pe_sect.specs.declared.data_directories.DataDirectory.{DataDirectory}
 use Rattle.goblin_pe_sect.specs.DataDirectories.{directory_record, entry_ending}
@@ -211,14 +212,25 @@ pub many_cause : (count : ℕ) (bytes : List ℕ) (p : ℕ) → 16 < count
 unfolding directories_at
 many_cause count bytes p many = rw (lt-leb count 16 many) refl
 
--- a record that is there
-pub record_there : (bytes : List ℕ) (at : ℕ) (d : DataDirectory) → at + 8 ≤ length bytes
-    → d ≡ directory_record Little (slice_range bytes at (at + 8))
-    → record_at 8 (directory_record Little) bytes at ≡ Some d
-record_there bytes at d room is =
-    let begins : nat_lt at (length bytes) ≡ true = lt-ltb _ _ (omega (arith, room)) in
-    let ends : nat_le (at + 8) (length bytes) ≡ true = le-leb _ _ room in
-    rw (begins, ends, is) refl
+-- no entries are read at any offset
+pub no_entries : (count : ℕ) (bytes : List ℕ) (p : ℕ) (entries : List (Option (ℕ × DataDirectory)))
+    → count ≡ 0 → entries ≡ replicate 16 None → (directories_at count p).value bytes ≡ Some entries
+unfolding directories_at all_of
+no_entries count bytes p entries none empty = rw (none, empty) refl
+
+-- a record that is there, in the bytes from p on
+pub record_there : (bytes : List ℕ) (p k : ℕ) (d : DataDirectory) → p + k + 8 ≤ length bytes
+    → d ≡ directory_record Little (slice_range (slice_range bytes p (length bytes)) k (k + 8))
+    → record_at 8 (directory_record Little) bytes (p + k) ≡ Some d
+record_there bytes p k d room is =
+    let begins : nat_lt (p + k) (length bytes) ≡ true = lt-ltb _ _ (omega (arith, room)) in
+    let ends : nat_le (p + k + 8) (length bytes) ≡ true = le-leb _ _ room in
+    let all : p + (length bytes - p) ≡ length bytes = omega (arith, room) in
+    let same : slice_range (slice_range bytes p (length bytes)) k (k + 8)
+    ≡ slice_range bytes (p + k) (p + k + 8) =
+    subst (λ (end : ℕ). slice_range (slice_range bytes p end) k (k + 8) ≡ slice_range bytes (p + k) (p + k + 8))
+    all (slice-of_slice bytes p (length bytes - p) k 8 (omega (arith, room))) in
+    rw (begins, ends) (ap (λ (own : List ℕ). Some (directory_record Little own)) (sym same) ∙ ap (λ (d : DataDirectory). Some d) (sym is))
 
 -- an entry that was not read is none
 pub none_so_far : (i : ℕ) (bytes : List ℕ) (p : ℕ) (entries : List (Option (ℕ × DataDirectory)))

@@ -1,7 +1,7 @@
 //! The data directories of an optional header: where the tables of an image lie.
 
 ghost use Rattle.std.specs.Prelude.{◌≡◌, ◌+◌, ◌-◌, ◌*◌, ◌<◌, ◌≤◌, Some, length, slice_get};
-ghost use Rattle.std.specs.Prelude.{None, option_map, IfErr, IfOk, IfSome, OnOk, OnErr};
+ghost use Rattle.std.specs.Prelude.{None, option_map, replicate, IfErr, IfOk, IfSome, OnOk, OnErr};
 ghost use Rattle.std.specs.Iterator.{UpTo, YieldsFirst, at_most};
 ghost use Rattle.std.specs.Iterator.SizeHint.{IsWithinCount};
 ghost use Rattle.goblin_base.specs.Reading.{Reads};
@@ -235,6 +235,34 @@ fn fill_entry(entry: &mut Option<(usize, DataDirectory)>, end: usize, directory:
     }
 }
 
+// Fills entries that are all `None` with the `count` directories that follow one another from
+// `offset` on.
+#[inline(always)]
+#[tactic(auto, using(crate::proofs::DirectoryReadings::no_entries, crate::proofs::DirectoryReadings::none_so_far))]
+fn fill(
+    entries: &mut [Option<(usize, DataDirectory)>; 16],
+    bytes: &[u8],
+    count: usize,
+    offset: usize,
+)
+    requires few { count ≤ 16 }
+    requires room { offset + 8 * count ≤ length bytes.now }
+    requires empty { entries.old ≡ replicate 16 None }
+    ensures { (directories_at count offset).value bytes.now ≡ Some entries.new }
+{
+    let table = &bytes[offset..];
+    'entries: for i in 0..count {
+        let at = SIZEOF_DATA_DIRECTORY * i;
+        let record = &table[at..at + SIZEOF_DATA_DIRECTORY];
+        let directory = DataDirectory::in_record(record, Endian::Little);
+        fill_entry(
+            &mut entries[i],
+            offset + at + SIZEOF_DATA_DIRECTORY,
+            directory,
+        );
+    }
+}
+
 // The directory of an entry, zeros where there is none.
 fn directory(entry: Option<(usize, DataDirectory)>) -> DataDirectory
     ensures { result ≡ directory_or_zeros entry }
@@ -288,18 +316,27 @@ impl DataDirectories {
     /// the entries, which are large, are not moved. There must be at most sixteen, all inside
     /// `bytes`: [`DataDirectories::test`] tests that.
     #[inline(always)]
+    #[tactic(auto, using(crate::proofs::DirectoryReadings::no_entries))]
     pub fn read(&mut self, bytes: &[u8], count: usize, offset: usize)
         requires few { count ≤ 16 }
         requires room { 0 < count → offset + 8 * count ≤ length bytes.now }
         ensures { (directories_at count offset).value bytes.now ≡ Some self.new.data_directories }
     {
         self.data_directories = [None; NUM_DATA_DIRECTORIES];
-        let mut end = offset;
-        'entries: for i in 0..count {
-            let record = &bytes[end..end + SIZEOF_DATA_DIRECTORY];
-            end += SIZEOF_DATA_DIRECTORY;
-            let directory = DataDirectory::in_record(record, Endian::Little);
-            fill_entry(&mut self.data_directories[i], end, directory);
+        match count {
+            // Where there are none, `offset` may lie past the end.
+            0 => {}
+            // Most files have sixteen entries, and a loop over a constant count is unrolled, which
+            // takes fewer steps.
+            NUM_DATA_DIRECTORIES => {
+                fill(
+                    &mut self.data_directories,
+                    bytes,
+                    NUM_DATA_DIRECTORIES,
+                    offset,
+                )
+            }
+            _ => fill(&mut self.data_directories, bytes, count, offset),
         }
     }
 

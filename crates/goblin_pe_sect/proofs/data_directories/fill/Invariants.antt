@@ -1,0 +1,8 @@
+-- The entries so far are those that stand there.
+use Rattle.std.proofs.Common.{◌≡◌}
+use Rattle.std.specs.Prelude.{Some}
+use Rattle.goblin_pe_sect.specs.DirectoryReadings.{directories_at}
+use Rattle.goblin_pe_sect.proofs.data_directories.fill.Given as goal
+
+abbrev pub invariant-entries : goal.invariant-entries
+invariant-entries l = (directories_at l.i l.offset).value l.bytes ≡ Some l.entries
