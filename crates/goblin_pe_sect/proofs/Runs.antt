@@ -10,9 +10,13 @@ use Rattle.goblin_pe_sect.specs.declared.windows.bounds.Piece.{Piece}
 use Rattle.goblin_pe_sect.proofs.Halving.{reached_before, rising_to}
 use Rattle.goblin_pe_sect.proofs.WindowPieces.{begin_read, begins-length, last_owner_some, length-owners, located-piece, owner_read}
 
+-- the offsets of a run and its addresses do not pass 64 bits
+abbrev pub Fits : Run → Type 0
+Fits r = (r.offset + r.size < 2 ^ 64) × (r.first + r.size < 2 ^ 64)
+
 -- no address is one of an empty run
 pub empty_run : (offset_of : ℕ → Option ℕ) → IsRun offset_of no_run
-empty_run offset_of = record { fits = omega arith; answers = λ rva low within. absurd (omega (arith, within)) }
+empty_run offset_of = record { offsets_fit = omega arith; addresses_fit = omega arith; answers = λ rva low within. absurd (omega (arith, within)) }
 
 -- the run of a piece: its begin, that of the next, and its owner
 module _ (resolves : Bool) (begins : List ℕ) (owners : List (Option Owner)) (h : IsIndex resolves begins owners) (n : ℕ) (some : 0 < n) where
@@ -30,12 +34,13 @@ module _ (resolves : Bool) (begins : List ℕ) (owners : List (Option Owner)) (h
       let is : n ≡ reached begins rva = sym next ∙ reached_before begins rva (n - 1) h.rising low (omega (arith, within)) after in
       sym (located-piece resolves begins owners at_index refl rva n is h (λ none. absurd (omega (arith, none, some)))) ∙ ap (option_map (owner_offset rva)) owned
 
-  piece_run_by : n < length begins → (o : Option Owner) → last_owner owners n ≡ o → (run_between (slice_index begins (n - 1)) (slice_index begins n) o).offset + (run_between (slice_index begins (n - 1)) (slice_index begins n) o).size < 2 ^ 64 → IsRun (located at_index) (run_between (slice_index begins (n - 1)) (slice_index begins n) o)
+  piece_run_by : n < length begins → (o : Option Owner) → last_owner owners n ≡ o → Fits (run_between (slice_index begins (n - 1)) (slice_index begins n) o) → IsRun (located at_index) (run_between (slice_index begins (n - 1)) (slice_index begins n) o)
   piece_run_by within None owned fits = empty_run (located at_index)
   piece_run_by within (Some o) owned fits =
       let low : o.address ≤ slice_index begins (n - 1) = h.low (n - 1) o (sym last_is ∙ owned) in
       record {
-        fits = fits;
+        offsets_fit = fits.0;
+        addresses_fit = fits.1;
         answers = λ rva from to.
             let high : rva < slice_index begins n = omega (arith, from, to) in
             let same : owner_offset rva o ≡ owner_offset (slice_index begins (n - 1)) o + (rva - slice_index begins (n - 1)) = omega (arith, low, from) in
@@ -73,8 +78,8 @@ module _ (resolves : Bool) (pieces : List Piece) (w : Pieces) (seen : record { r
   pub piece_run_read : run_between p.begin q.begin p.owner ≡ run_of_piece w n
   piece_run_read = run_is ∙ ap (λ (v : Pieces). run_of_piece v n) seen
 
-  pub piece_is_run : (run_between p.begin q.begin p.owner).offset + (run_between p.begin q.begin p.owner).size < 2 ^ 64 → IsRun (located w) (run_between p.begin q.begin p.owner)
+  pub piece_is_run : Fits (run_between p.begin q.begin p.owner) → IsRun (located w) (run_between p.begin q.begin p.owner)
   piece_is_run fits =
       subst (λ (v : Pieces). IsRun (located v) (run_between p.begin q.begin p.owner)) seen
       (subst (λ (r : Run). IsRun (located (record { resolves = resolves; begins = begins_of pieces; owners = owners_of pieces })) r) (sym run_is)
-      (piece_run_by resolves (begins_of pieces) (owners_of pieces) h n some (omega (arith, begins-length pieces)) _ refl (subst (λ (r : Run). r.offset + r.size < 2 ^ 64) run_is fits)))
+      (piece_run_by resolves (begins_of pieces) (owners_of pieces) h n some (omega (arith, begins-length pieces)) _ refl (subst Fits run_is fits)))

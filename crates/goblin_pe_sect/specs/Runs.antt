@@ -23,8 +23,9 @@ abbrev pub run_of_piece : Pieces → ℕ → Run
 run_of_piece w n =
     run_between (slice_index w.begins (n - 1)) (slice_index w.begins n) (last_owner w.owners n)
 
--- each address of a run has the offset that the run says, and none of them passes 64 bits
+-- each address of a run has the offset that the run says, and neither passes 64 bits
 pub record IsRun (offset_of : ℕ → Option ℕ) (r : Run) : Type 0 where
-  pub fits : r.offset + r.size < 2 ^ 64
+  pub offsets_fit : r.offset + r.size < 2 ^ 64
+  pub addresses_fit : r.first + r.size < 2 ^ 64
   pub answers : (rva : ℕ) → r.first ≤ rva → rva - r.first < r.size
       → offset_of rva ≡ Some (r.offset + (rva - r.first))

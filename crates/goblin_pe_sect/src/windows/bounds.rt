@@ -33,7 +33,8 @@ impl Piece {
         requires near { IfSome self.now.owner (λ o.
             (o.address ≤ self.now.begin) × (next.now.begin ≤ o.address + 2 ^ 33)) }
         ensures run { result ≡ run_between self.now.begin next.now.begin self.now.owner }
-        ensures fits { result.offset + result.size < 2 ^ 64 }
+        ensures offsets_fit { result.offset + result.size < 2 ^ 64 }
+        ensures addresses_fit { result.first + result.size < 2 ^ 64 }
     {
         match self.owner {
             Some(owner) => Run {

@@ -18,13 +18,13 @@ impl Run {
     /// The file offset of an address of the run.
     #[inline(always)]
     pub fn offset_of(&self, rva: usize) -> Option<usize>
-        requires { self.now.offset + self.now.size < 2 ^ 64 }
+        requires offsets { self.now.offset + self.now.size < 2 ^ 64 }
+        requires addresses { self.now.first + self.now.size < 2 ^ 64 }
         ensures { result ≡ offset_in_run self.now rva }
     {
-        if rva < self.first {
-            return None;
-        }
-        let past = rva - self.first;
+        // The distance of an address before the first wraps to more than the size, so one comparison
+        // tests both ends.
+        let past = rva.wrapping_sub(self.first);
         if self.size <= past {
             return None;
         }

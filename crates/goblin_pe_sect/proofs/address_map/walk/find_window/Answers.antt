@@ -60,7 +60,8 @@ returns-else-end-rva-clause-is c =
     let w = c.section_window-begin.ensures in
     let first = c.max-first.result in
     λ before. record {
-      fits = omega (arith, w.begin, w.end, w.near, c.max-first.ensures, c.min.ensures);
+      offsets_fit = omega (arith, w.begin, w.end, w.near, c.max-first.ensures, c.min.ensures);
+      addresses_fit = omega (arith, w.begin, w.end, w.near, c.max-first.ensures, c.min.ensures);
       answers = λ rva from to.
           let has = owned _ _ c.requires.maps c.requires.aligned _ _ _ _ _ c.records.invariant.is s _ c.in-Some.ensures rva
           (omega (arith, from, c.max-first.ensures)) (omega (arith, from, to, c.min.ensures)) (omega (arith, from, c.max-first.ensures, w.begin)) (omega (arith, from, to, c.min.ensures, w.end)) in
