@@ -1,11 +1,14 @@
 //! The records of data directories.
 
-ghost use Rattle.std.specs.Prelude.{◌≡◌, map};
+ghost use Rattle.std.specs.Prelude.{◌≡◌, length, map, min};
 ghost use Rattle.goblin_pe_records.specs.Filled.{Filled};
 ghost use Rattle.goblin_pe_records.specs.Directories.{directories_of, directory_record};
 
 use goblin_pe_head::optional_header::OptionalHeader;
 use goblin_pe_sect::data_directories::DataDirectory;
+
+// How many entries the table of an optional header has.
+const NUM_DATA_DIRECTORIES: usize = 16;
 
 /// An entry of the table of data directories.
 #[repr(C)]
@@ -49,12 +52,27 @@ pub fn directories_of(header: &Option<OptionalHeader>) -> &[Option<(usize, DataD
     }
 }
 
+// Fills as many records as there are entries and room.
+#[inline(always)]
+fn fill(records: &mut [PeDirectory], directories: &[Option<(usize, DataDirectory)>], count: usize)
+    requires { count ≡ min (length directories.now) (length records.old) }
+    ensures { Filled (λ d. d) (map directory_record directories.now) records.old records.new }
+{
+    'records: for i in 0..count {
+        fill_directory(&mut records[i], &directories[i]);
+    }
+}
+
 /// Fills the records of data directories, as far as there is room.
 pub fn fill_directories(records: &mut [PeDirectory], directories: &[Option<(usize, DataDirectory)>])
     ensures { Filled (λ d. d) (map directory_record directories.now) records.old records.new }
 {
     let count = directories.len().min(records.len());
-    'records: for i in 0..count {
-        fill_directory(&mut records[i], &directories[i]);
+    // A header has sixteen entries, and a loop over a constant count is unrolled, which takes fewer
+    // steps.
+    if count == NUM_DATA_DIRECTORIES {
+        fill(records, directories, NUM_DATA_DIRECTORIES);
+    } else {
+        fill(records, directories, count);
     }
 }
