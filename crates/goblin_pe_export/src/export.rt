@@ -5,9 +5,9 @@
 //! the index of its address. An address inside the directory is that of a forwarder's text.
 
 ghost use Rattle.std.specs.Prelude.{◌<◌, ◌≤◌, ◌≡◌, ◌+◌, ◌/◌, ◌++◌, ◌∷◌, ◌⊎◌, ℕ, [], IfErr, IfOk};
-ghost use Rattle.std.specs.Prelude.{IsOk, IsSomeAnd, MatchOption, None, OnErr, OnOk, Option, Some};
-ghost use Rattle.std.specs.Prelude.{length, max, option_and_then, option_map, slice_get};
-ghost use Rattle.std.specs.Prelude.{vec_capacity, vec_len};
+ghost use Rattle.std.specs.Prelude.{IfSome, IsOk, IsSomeAnd, MatchOption, None, OnErr, OnOk};
+ghost use Rattle.std.specs.Prelude.{Option, Some, length, max, option_and_then, option_map};
+ghost use Rattle.std.specs.Prelude.{slice_get, vec_capacity, vec_len};
 ghost use Rattle.goblin_base.specs.Answers.{GivesOrMemory, IsMemory};
 ghost use Rattle.goblin_base.specs.Bytes.{text_at};
 ghost use Rattle.goblin_base.specs.Reading.{ReadsOrMemory};
@@ -18,7 +18,7 @@ ghost use Rattle.goblin_pe_export.specs.Exports.{HasEntries, HasExports, export_
 ghost use Rattle.goblin_pe_export.specs.Exports.{TakesRoomFor, exports, own_exports, rva_of};
 ghost use Rattle.goblin_pe_export.specs.Forwarders.{forwarder_at, forwarder_value};
 
-use goblin_base::{Result, pread_str};
+use goblin_base::{Result, pread_plain_str, pread_str};
 use goblin_pe_sect::address_map::{AddressMap, Finder};
 use goblin_pe_sect::{DataDirectory, ParseOptions, SectionTable};
 use std::alloc::Global;
@@ -336,6 +336,42 @@ impl<'a> Export<'a> {
             rva: rva as usize,
             size: 0,
             reexport,
+        })
+    }
+
+    // The same, where the export is plain: no forwarder, with an address and a name that lie among
+    // those that the finder keeps, the name ASCII. Else `None`, which says nothing of it.
+    #[inline(always)]
+    #[tactic(auto, unfolding(crate::specs::ExportReadings::row_of, crate::specs::ExportReadings::reexport_of, goblin_pe_sect::specs::AddressReadings::name_at))]
+    fn plain_of_address(
+        bytes: &'a [u8],
+        pointer: u32,
+        address: ExportAddressTableEntry,
+        finder: &Finder<'_>,
+    ) -> Option<Export<'a>>
+        ensures value { let m = map_of finder.now in
+            IfSome result
+            (λ x. (reading.row_of (offset_of m) pointer address).value bytes.now ≡ Some x) }
+        ensures plain { IfSome result (λ x. x.reexport ≡ None) }
+    {
+        let ExportAddressTableEntry::ExportRVA(rva) = address else {
+            return None;
+        };
+        let Some(offset) = finder.near_offset(rva) else {
+            return None;
+        };
+        let Some(place) = finder.near_name_offset(pointer) else {
+            return None;
+        };
+        let Some(name) = pread_plain_str(bytes, place) else {
+            return None;
+        };
+        Some(Export {
+            name: Some(name),
+            offset: Some(offset),
+            rva: rva as usize,
+            size: 0,
+            reexport: None,
         })
     }
 

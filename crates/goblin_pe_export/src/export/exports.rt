@@ -1,7 +1,7 @@
 //! A walk over the exports of an image.
 
-ghost use Rattle.std.specs.Prelude.{◌≡◌, ◌≤◌, ⊤, IfOk, IfSome, Some, length, map, option_map};
-ghost use Rattle.std.specs.Prelude.{slice_get};
+ghost use Rattle.std.specs.Prelude.{◌≡◌, ◌≤◌, ◌+◌, ⊤, IfOk, IfSome, MatchOption, None, Some, length};
+ghost use Rattle.std.specs.Prelude.{map, option_map, slice_get};
 ghost use Rattle.std.specs.Iterator.{MakesProgress, UpTo, YieldsFirstBy, at_most};
 ghost use Rattle.std.specs.Iterator.SizeHint.{IsWithinCount};
 ghost use Rattle.goblin_base.specs.Reading.{Reads};
@@ -9,8 +9,8 @@ ghost use Rattle.goblin_pe_sect.specs.Addresses.{map_of, offset_of};
 ghost use Rattle.goblin_pe_export.specs.ExportReadings.{export_read};
 ghost use Rattle.goblin_pe_export.specs.ExportRecords.{tables_in};
 ghost use Rattle.goblin_pe_export.specs.ExportWalks.{IsOver, KeepsOver, exports_at, exports_bound};
-ghost use Rattle.goblin_pe_export.specs.ExportWalks.{exports_left, numbered_export, numbered_from};
-ghost use Rattle.goblin_pe_export.specs.ExportWalks.{walked_export, walked_tables};
+ghost use Rattle.goblin_pe_export.specs.ExportWalks.{NumberedExport, exports_left, numbered_export};
+ghost use Rattle.goblin_pe_export.specs.ExportWalks.{numbered_from, walked_export, walked_tables};
 
 use crate::export::Export;
 use crate::export::entries::{Entries, TablesInFile};
@@ -129,6 +129,28 @@ impl<'a, 'm> Exports<'a, 'm> {
         self.tables.address(index)
     }
 
+    // An export with its numbers: the index of its name pointer, and its entry of the ordinal table
+    // with the base added.
+    #[inline(always)]
+    fn numbered(
+        tables: &TablesInFile<'a>,
+        index: usize,
+        ordinal: u16,
+        export: Export<'a>,
+    ) -> WalkedExport<'a>
+        ensures { let base = (tables_in tables.now).export_directory_table.ordinal_base in
+            let made : NumberedExport =
+            record { hint = index; ordinal = base + ordinal; row = export.entry } in
+            walked_export result ≡ made }
+    {
+        let base = tables.export_directory_table.ordinal_base;
+        WalkedExport {
+            hint: index,
+            ordinal: base as usize + usize::from(ordinal),
+            export,
+        }
+    }
+
     // The export of the name pointer at an index, where that has one.
     #[inline(always)]
     #[tactic(auto, unfolding(crate::specs::ExportWalks::numbered_export))]
@@ -144,12 +166,54 @@ impl<'a, 'm> Exports<'a, 'm> {
         ensures same { finder.new ≡ finder.old }
     {
         let (ordinal, export) = Export::of_pointer(bytes, tables, index, finder)?;
-        let base = tables.export_directory_table.ordinal_base;
-        Some(WalkedExport {
-            hint: index,
-            ordinal: base as usize + usize::from(ordinal),
-            export,
-        })
+        Some(Exports::numbered(tables, index, ordinal, export))
+    }
+
+    // The same, where it is plain, as `Export::plain_of_address` says; else `None`, which says
+    // nothing of it.
+    #[inline(always)]
+    #[tactic(auto, unfolding(crate::specs::ExportReadings::export_row, crate::specs::ExportWalks::numbered_export))]
+    fn plain_at(
+        bytes: &'a [u8],
+        tables: &TablesInFile<'a>,
+        index: usize,
+        finder: &Finder<'_>,
+    ) -> Option<WalkedExport<'a>>
+        ensures value { let m = map_of finder.now in
+            let export = numbered_export (offset_of m) bytes.now (tables_in tables.now) index in
+            IfSome result (λ x. export ≡ Some (walked_export x)) }
+        ensures plain { IfSome result (λ x. (walked_export x).row.reexport ≡ None) }
+    {
+        let pointer = tables.pointer(index)?;
+        let ordinal = tables.ordinal(index)?;
+        let address = tables.address(usize::from(ordinal))?;
+        let Some(export) = Export::plain_of_address(bytes, pointer, address, finder) else {
+            return None;
+        };
+        Some(Exports::numbered(tables, index, ordinal, export))
+    }
+
+    /// The next export, where it is plain: no forwarder, with an address and a name that lie among
+    /// those that the walk keeps, the name ASCII. Else `None`, which says nothing: the walk stays,
+    /// and `next` goes on. It calls no function, so a loop of such steps keeps all that it has at
+    /// hand: the rare cases, which call some, are for `next`.
+    #[inline(always)]
+    #[tactic(auto, using(crate::proofs::ExportWalk::from_export))]
+    pub fn next_plain(&mut self) -> Option<WalkedExport<'a>>
+        ensures steps { MatchOption result (self.new ≡ self.old)
+            (λ x. YieldsFirstBy walked_export exports_left self.old (Some x) self.new) }
+        ensures plain { IfSome result (λ x. (walked_export x).row.reexport ≡ None) }
+        ensures over { KeepsOver self.old self.new }
+    {
+        let index = self.next;
+        if self.tables.pointers() <= index {
+            return None;
+        }
+        let Some(export) = Exports::plain_at(self.bytes, &self.tables, index, &self.finder) else {
+            return None;
+        };
+        self.next = index + 1;
+        Some(export)
     }
 }
 
