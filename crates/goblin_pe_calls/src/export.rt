@@ -1,7 +1,7 @@
 //! The records of exports.
 
 ghost use Rattle.std.specs.Prelude.{◌≡◌, ◌≤◌, ◌<◌, ◌+◌, ◌++◌, ◌∷◌, [], IfErr, IfOk, IfSome, OnErr, OnOk};
-ghost use Rattle.std.specs.Prelude.{IsSomeAnd, Some, length, map, vec_capacity, vec_len};
+ghost use Rattle.std.specs.Prelude.{IsSomeAnd, None, Some, length, map, vec_capacity, vec_len};
 ghost use Rattle.std.specs.Iterator.{YieldsFirstBy};
 ghost use Rattle.goblin_base.specs.Answers.{GivesOrMemory, IsMemory};
 ghost use Rattle.goblin_base.specs.Reading.{ReadsOrMemory};
@@ -73,8 +73,10 @@ pub struct PeExport<'a> {
 
 // The record of an export that is no forwarder.
 #[inline(always)]
-fn plain_record<'a>(bytes: &'a [u8], walked: &WalkedExport<'a>) -> PeExport<'a>
-    ensures { export_view result ≡ said_without_forwarder (walked_export walked.now) }
+pub(crate) fn plain_record<'a>(bytes: &'a [u8], walked: &WalkedExport<'a>) -> PeExport<'a>
+    ensures value { export_view result ≡ said_without_forwarder (walked_export walked.now) }
+    ensures plain { (walked_export walked.now).row.reexport ≡ None
+        → export_view result ≡ export_said (walked_export walked.now) }
 {
     let none = &bytes[..0];
     let export = &walked.export;
@@ -151,6 +153,20 @@ pub struct ExportRecords<'a> {
 // For at most so many records room is made first.
 const MOST_FIRST: usize = 32;
 
+// Adds the record of an export that is no forwarder, for which there is room.
+#[inline(always)]
+fn push_plain<'a>(records: &mut Vec<PeExport<'a>>, bytes: &'a [u8], walked: &WalkedExport<'a>)
+    requires fits { vec_len records.old < vec_capacity records.old }
+    requires plain { (walked_export walked.now).row.reexport ≡ None }
+    ensures value { map export_view records.new.items
+        ≡ map export_view records.old.items ++ export_said (walked_export walked.now) ∷ [] }
+    ensures room { HasLittleRoom records.old → HasLittleRoom records.new }
+    ensures counted { vec_len records.new ≡ vec_len records.old + 1 }
+    ensures same { vec_capacity records.new ≡ vec_capacity records.old }
+{
+    records.push_reserved(plain_record(bytes, walked));
+}
+
 // Adds the record of an export, for which there is room.
 #[inline(always)]
 fn push_within<'a>(records: &mut Vec<PeExport<'a>>, bytes: &'a [u8], walked: &WalkedExport<'a>)
@@ -162,7 +178,7 @@ fn push_within<'a>(records: &mut Vec<PeExport<'a>>, bytes: &'a [u8], walked: &Wa
     ensures same { vec_capacity records.new ≡ vec_capacity records.old }
 {
     match &walked.export.reexport {
-        None => records.push_reserved(plain_record(bytes, walked)),
+        None => push_plain(records, bytes, walked),
         Some(reexport) => records.push_reserved(forwarder_record(bytes, walked, reexport)),
     }
 }
@@ -196,8 +212,8 @@ pub fn next_export<'a, 'm>(exports: &mut Exports<'a, 'm>) -> Option<WalkedExport
     exports.next()
 }
 
-// The records of the exports that a walk gives. Those for which there is room come by a loop of their
-// own, in which nothing can be refused.
+// The records of the exports that a walk gives. Those that are plain, and for which there is room,
+// come by a loop of their own, in which nothing can be refused and nothing is called.
 fn records_of<'a, 'm>(
     alloc: Global,
     bytes: &'a [u8],
@@ -217,10 +233,10 @@ fn records_of<'a, 'm>(
     'exports: while let Some(export) = next_export(&mut exports) {
         push_export(&mut records, bytes, &export, expected)?;
         'room: while records.len() < records.capacity() {
-            let Some(export) = next_export(&mut exports) else {
+            let Some(export) = exports.next_plain() else {
                 break;
             };
-            push_within(&mut records, bytes, &export);
+            push_plain(&mut records, bytes, &export);
         }
     }
     Ok(records)

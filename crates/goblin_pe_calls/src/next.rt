@@ -15,7 +15,7 @@ ghost use Rattle.goblin_pe_calls.specs.Batches.{position_numbers, position_said,
 ghost use Rattle.goblin_pe_calls.specs.Exports.{export_said, export_view};
 ghost use Rattle.goblin_pe_calls.specs.Imports.{import_said, import_view};
 
-use crate::export::{PeExport, next_export, put_export};
+use crate::export::{PeExport, next_export, plain_record, put_export};
 use crate::import::{PeImport, put_import};
 use goblin_pe::export::Exports;
 use goblin_pe::header::Header;
@@ -233,7 +233,8 @@ pub fn give_imports<'a>(
     Ok(())
 }
 
-// Fills records with the exports that come next, as far as there is room, and answers how many.
+// Fills records with the exports that come next, as far as there is room, and answers how many. Those
+// that are plain come by a loop of their own, in which nothing is called.
 fn fill_exports<'a, 'm>(
     bytes: &'a [u8],
     exports: &mut Exports<'a, 'm>,
@@ -251,6 +252,13 @@ fn fill_exports<'a, 'm>(
         };
         put_export(&mut records[count], bytes, &export);
         count += 1;
+        'plain: while count < records.len() {
+            let Some(export) = exports.next_plain() else {
+                break;
+            };
+            records[count] = plain_record(bytes, &export);
+            count += 1;
+        }
     }
     count
 }
