@@ -26,7 +26,7 @@ static bool is_opened(size_t *imports, size_t *exports)
 {
     struct goblin_pe_file file;
     struct goblin_pe_directory directories[16];
-    struct goblin_pe_tables tables = { 0 };
+    struct goblin_pe_tables tables;
     if (goblin_pe_open(bytes, length, NULL, &file, directories, 16, &tables).status != GOBLIN_PE_OK)
         return false;
     *imports = tables.import_count;
@@ -61,10 +61,11 @@ int main(int argc, char **argv)
     size_t imports = 0, exports = 0;
     if (argc != 4 || !read_file(argv[2]))
         return 2;
+    const bool of_imports = !strcmp(argv[1], "imports"), of_exports = !strcmp(argv[1], "exports");
     for (long times = strtol(argv[3], NULL, 10); times > 0; times--)
-        if (!(!strcmp(argv[1], "imports")   ? are_imports_walked_over(&imports)
-              : !strcmp(argv[1], "exports") ? are_exports_walked_over(&exports)
-                                            : is_opened(&imports, &exports)))
+        if (!(of_imports   ? are_imports_walked_over(&imports)
+              : of_exports ? are_exports_walked_over(&exports)
+                           : is_opened(&imports, &exports)))
             return 1;
     printf("%zu\n", imports + exports);
     return 0;

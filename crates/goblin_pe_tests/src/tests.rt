@@ -9,5 +9,6 @@ mod exports;
 mod footprints;
 mod imports;
 mod modes;
+mod plain;
 mod rows;
 mod sample;
