@@ -532,6 +532,14 @@ impl<'a, 'm, 'e, T: Bitfield<'a>> Imports<'a, 'm, 'e, T> {
         Some(PlainImports { imports, place })
     }
 
+    /// A finder by the map that the walk goes by, with what the walk has at hand.
+    #[inline(always)]
+    pub fn finder(&self) -> Finder<'m>
+        ensures { result ≡ self.now.walk.finder }
+    {
+        self.walk.finder.again()
+    }
+
     /// Goes on after the plain imports of this walk that have come.
     #[inline(always)]
     pub fn go_on(&mut self, plain: &PlainImports<'a, 'm, 'e, T>)
