@@ -14,7 +14,7 @@ use Rattle.goblin_pe_import.specs.ImportEntries.{EntryValue}
 use Rattle.goblin_pe_import.specs.Imports.{ImportValue}
 use Rattle.goblin_pe_import.specs.ImportWalks.{GivesLibrary, IsEntriesCause, IsInLibrary, IsLaterCause}
 use Rattle.goblin_pe_import.specs.ImportWalks.{IsPlaced, IsWalkCause, KeptValue, bound_at}
-use Rattle.goblin_pe_import.specs.ImportWalks.{entries_from, imports_at, kept_import, kept_value, later_items, moved}
+use Rattle.goblin_pe_import.specs.ImportWalks.{entries_from, imports_at, kept_import, kept_value, later_items, led, moved}
 use Rattle.goblin_pe_import.specs.ImportWalks.{place_after, walk_bound, walk_left}
 
 one_before : {A : Type 0} (x : A) (o : Option (List A)) (IsNow IsNext IsLater : ErrorOf → Type 0)
@@ -41,6 +41,11 @@ GivesBy format s map r =
     (λ e. (reads_strictly m ≡ true)
     × IsLaterCause (reads_strictly m) format (offset_of m) s.bytes.now s.untested s.next e)
     r
+
+-- what holds of the walk that a call has led to
+pub led-ok : (P : Walk → Type 0) (t : Walk) (r : Result Unit ErrorOf) → P t → IfOk (led t r) P
+led-ok P t (Ok x) holds = holds
+led-ok P t (Err e) holds = tt
 
 pub imports-start : (format : Format EntryValue) (start : Walk) → AtImports format start start
 imports-start format start = record {

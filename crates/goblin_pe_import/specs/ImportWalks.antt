@@ -321,6 +321,11 @@ GivesLibrary left IsLeftCause later IsCause (Some (Ok t)) =
 GivesLibrary left IsLeftCause later IsCause (Some (Err e)) =
     (until_refused later ≡ None ∷ []) × IsCause e
 
+-- what a call answers, with the walk that it has led to
+abbrev pub led : Walk → Result Unit ErrorOf → Result Walk ErrorOf
+led t (Ok x) = Ok t
+led t (Err e) = Err e
+
 -- ---- the walk as callers see it
 
 -- what is still to come

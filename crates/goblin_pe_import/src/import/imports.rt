@@ -1,7 +1,7 @@
 //! A walk over all imports of an image.
 
 ghost use Rattle.std.specs.Prelude.{◌≡◌, ◌&&◌, ◌+◌, ◌-◌, ◌<◌, ◌≤◌, ◌^◌, ◌∷◌, ◌++◌, [], IfErr, IfOk, IfSome};
-ghost use Rattle.std.specs.Prelude.{MatchResult, None, Some, false, is_none, length, not, true};
+ghost use Rattle.std.specs.Prelude.{MatchResult, None, Some, false, is_none, length, not, option_map, true};
 ghost use Rattle.std.specs.Prelude.{if◌then◌else◌, IsSomeAnd, IsOk, Ok};
 ghost use Rattle.std.specs.Iterator.{UpTo, at_most};
 ghost use Rattle.std.specs.Iterator.SizeHint.{IsWithinCount};
@@ -17,7 +17,7 @@ ghost use Rattle.goblin_pe_import.specs.ImportReadings.{import_data, libraries_a
 ghost use Rattle.goblin_pe_import.specs.ImportRecords.{is_last_record};
 ghost use Rattle.goblin_pe_import.specs.Imports.{kept_imports};
 ghost use Rattle.goblin_pe_import.specs.ImportWalks.{GivesImport, GivesLibrary, GivesPlain, HasPosition};
-ghost use Rattle.goblin_pe_import.specs.ImportWalks.{IsCauseAt, moved, plain_at};
+ghost use Rattle.goblin_pe_import.specs.ImportWalks.{IsCauseAt, led, moved, plain_at};
 ghost use Rattle.goblin_pe_import.specs.ImportWalks.{IsImportsCause, IsInLibrary, IsOver, imports_at, position_by, position_of};
 ghost use Rattle.goblin_pe_import.specs.ImportWalks.{slots_bound};
 ghost use Rattle.goblin_pe_import.specs.ImportWalks.{IsLaterCause, IsNamedCause, IsPlaced};
@@ -224,95 +224,91 @@ impl<'a, 'm> Walk<'a, 'm> {
         self.next = None;
     }
 
-    // A walk over the library of a record from a slot on, and then over those whose records are in
+    // Leads the walk to the library of a record, from a slot on, and then to those whose records are in
     // the directory from the offset `next` on.
-    fn in_library<'e, T: Bitfield<'a>>(
-        bytes: &'a [u8],
+    #[inline(always)]
+    fn enter<'e, T: Bitfield<'a>>(
+        &mut self,
         entry: &ImportDirectoryEntry,
         slot: Option<usize>,
         next: usize,
-        mut finder: Finder<'m>,
-    ) -> ResultOf<'e, Walk<'a, 'm>>
-        ensures gives { let m = map_of finder.entry in
+    ) -> ResultOf<'e, ()>
+        ensures gives { let m = map_of self.old.finder in
             let strict = reads_strictly m in
+            let bytes = self.old.bytes.now in
             let name = library_name strict (offset_of m) entry.now in
-            MatchResult result
+            MatchResult (led self.new result)
             (λ t.
             (walk_left T.format t
             ≡ until_refused
-            (library_items strict T.format (offset_of m) bytes.now slot entry.now
-            ++ imports_from strict T.format (offset_of m) bytes.now next))
+            (library_items strict T.format (offset_of m) bytes slot entry.now
+            ++ imports_from strict T.format (offset_of m) bytes next))
             × ((e : ErrorOf) → IsWalkCause T.format t e
             → (strict ≡ true)
-            × FirstFault (name.value bytes.now) (name.IsCause bytes.now)
-            (λ _. IsNamedCause strict T.format (offset_of m) bytes.now slot entry.now
-            (IsRecordsCause strict T.format (offset_of m) bytes.now next)) e))
+            × FirstFault (name.value bytes) (name.IsCause bytes)
+            (λ _. IsNamedCause strict T.format (offset_of m) bytes slot entry.now
+            (IsRecordsCause strict T.format (offset_of m) bytes next)) e))
             (λ e.
-            (library_items strict T.format (offset_of m) bytes.now slot entry.now ≡ None ∷ [])
-            × (strict ≡ true) × (name.value bytes.now ≡ None) × name.IsCause bytes.now e) }
-        ensures placed { IfOk result (λ t.
-            20 ≤ next → (record_here (next - 20)).value bytes.now ≡ Some entry.now
+            (library_items strict T.format (offset_of m) bytes slot entry.now ≡ None ∷ [])
+            × (strict ≡ true) × (name.value bytes ≡ None) × name.IsCause bytes e) }
+        ensures placed { IfOk (led self.new result) (λ t.
+            20 ≤ next → (record_here (next - 20)).value self.old.bytes.now ≡ Some entry.now
             → is_last_record entry.now ≡ false → IsInLibrary T.format t) }
-        ensures bytes { IfOk result (λ t. t.bytes.now ≡ bytes.now) }
-        ensures finder { IfOk result (λ t. t.finder ≡ finder.entry) }
-        ensures next { IfOk result (λ t.
+        ensures bytes { self.new.bytes.now ≡ self.old.bytes.now }
+        ensures finder { self.new.finder ≡ self.old.finder }
+        ensures next { IfOk (led self.new result) (λ t.
             t.next ≡ Some (record { «record» = next; slot = None })) }
-        ensures place { IfOk result (λ t. IfSome t.place (λ place. IfSome slot (λ slot.
+        ensures place { IfOk (led self.new result) (λ t. IfSome t.place (λ place. IfSome slot (λ slot.
             place ≡ slot))) }
     {
-        let after = ImportPosition {
+        self.next = Some(ImportPosition {
             record: next,
             slot: None,
-        };
-        if is_left_out::<T>(bytes, entry, finder.address_map()) {
-            return Ok(Walk::from(bytes, Some(after), finder));
+        });
+        if is_left_out::<T>(self.bytes, entry, self.finder.address_map()) {
+            self.place = None;
+            self.untested = None;
+            return Ok(());
         }
-        let dll = library_name(bytes, entry.name_rva, &mut finder)?;
-        let table = lookup_offset(entry, &mut finder);
-        Ok(Walk {
-            bytes,
-            finder,
-            dll,
-            rva: entry.import_address_table_rva,
-            offset: table.unwrap_or(0),
-            place: begin_at(slot, table),
-            untested: Some(address_table_rva(entry)),
-            next: Some(after),
-        })
+        self.dll = library_name(self.bytes, entry.name_rva, &mut self.finder)?;
+        let table = lookup_offset(entry, &mut self.finder);
+        self.rva = entry.import_address_table_rva;
+        self.offset = table.unwrap_or(0);
+        self.place = begin_at(slot, table);
+        self.untested = Some(address_table_rva(entry));
+        Ok(())
     }
 
-    // The walk from the next library on, once the entries of this one have come.
+    // Leads the walk to the next library, once the entries of this one have come.
     #[inline(always)]
-    fn next_library<'e, T: Bitfield<'a>>(
-        bytes: &'a [u8],
-        untested: Option<u32>,
-        next: Option<ImportPosition>,
-        mut finder: Finder<'m>,
-    ) -> Option<ResultOf<'e, Walk<'a, 'm>>>
-        ensures gives { let m = map_of finder.entry in
+    fn next_library<'e, T: Bitfield<'a>>(&mut self) -> Option<ResultOf<'e, ()>>
+        ensures gives { let m = map_of self.old.finder in
+            let bytes = self.old.bytes.now in
             GivesLibrary (walk_left T.format) (IsWalkCause T.format)
-            (later_items (reads_strictly m) T.format (offset_of m) bytes.now
-            untested next)
+            (later_items (reads_strictly m) T.format (offset_of m) bytes self.old.untested
+            self.old.next)
             (λ e. (reads_strictly m ≡ true)
-            × IsLaterCause (reads_strictly m) T.format (offset_of m) bytes.now
-            untested next e) result }
-        ensures placed { IfSome result (λ r. IfOk r (λ t. IsInLibrary T.format t)) }
-        ensures bytes { IfSome result (λ r. IfOk r (λ t. t.bytes.now ≡ bytes.now)) }
-        ensures finder { IfSome result (λ r. IfOk r (λ t. t.finder ≡ finder.entry)) }
-        ensures nearer { IfSome result (λ r. IfOk r (λ t.
-            records_left bytes.now t.next < records_left bytes.now next)) }
-        ensures bound { IfSome result (λ r. IfOk r (λ t. walk_bound t ≤ bound_at bytes.now next)) }
+            × IsLaterCause (reads_strictly m) T.format (offset_of m) bytes
+            self.old.untested self.old.next e) (option_map (led self.new) result) }
+        ensures placed { IfSome (option_map (led self.new) result) (λ r. IfOk r (λ t.
+            IsInLibrary T.format t)) }
+        ensures bytes { self.new.bytes.now ≡ self.old.bytes.now }
+        ensures finder { self.new.finder ≡ self.old.finder }
+        ensures nearer { IfSome (option_map (led self.new) result) (λ r. IfOk r (λ t.
+            records_left self.old.bytes.now t.next < records_left self.old.bytes.now self.old.next)) }
+        ensures bound { IfSome (option_map (led self.new) result) (λ r. IfOk r (λ t.
+            walk_bound t ≤ bound_at self.old.bytes.now self.old.next)) }
         ensures there { IfSome result (λ r. IfErr r (λ e.
-            1 ≤ one_if untested + bound_at bytes.now next)) }
+            1 ≤ one_if self.old.untested + bound_at self.old.bytes.now self.old.next)) }
     {
-        if let Err(error) = test_untested::<T>(bytes, untested, &mut finder) {
+        if let Err(error) = test_untested::<T>(self.bytes, self.untested, &mut self.finder) {
             return Some(Err(error));
         }
-        let Some(at) = next else {
+        let Some(at) = self.next else {
             return None;
         };
-        let Ok(record) = ImportDirectoryEntry::read_at(bytes, at.record, Endian::Little) else {
-            if finder.is_permissive() {
+        let Ok(record) = ImportDirectoryEntry::read_at(self.bytes, at.record, Endian::Little) else {
+            if self.finder.is_permissive() {
                 return None;
             }
             return Some(Err(Error::Malformed(Cause::ImportRecordEnd(at.record))));
@@ -321,7 +317,7 @@ impl<'a, 'm> Walk<'a, 'm> {
             return None;
         }
         let after = at.record + SIZEOF_IMPORT_DIRECTORY_ENTRY;
-        Some(Walk::in_library::<T>(bytes, &record, at.slot, after, finder))
+        Some(self.enter::<T>(&record, at.slot, after))
     }
 
     // Where the walk is.
@@ -403,13 +399,8 @@ impl<'a, 'm> Walk<'a, 'm> {
                 }
                 None => {}
             }
-            match Walk::next_library::<T>(
-                self.bytes,
-                self.untested,
-                self.next,
-                self.finder.again(),
-            ) {
-                Some(Ok(walk)) => *self = walk,
+            match self.next_library::<T>() {
+                Some(Ok(())) => {}
                 Some(Err(error)) => {
                     self.end();
                     return Some(Err(error));

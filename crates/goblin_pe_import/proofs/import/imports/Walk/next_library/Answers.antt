@@ -3,22 +3,24 @@ use Rattle.goblin_base.specs.declared.error.ErrorOf.TheVariants.{Malformed}
 use Rattle.goblin_base.specs.declared.error.CauseOf.TheVariants.{ImportRecordEnd}
 use Rattle.goblin_pe_import.specs.declared.import.imports.ImportPosition.{ImportPosition}
 use Rattle.goblin_pe_sect.specs.Addresses.{map_of, offset_of, reads_strictly}
-use Rattle.goblin_pe_import.specs.ImportWalks.{GivesLibrary, IsLaterCause, IsWalkCause, later_items, walk_left}
+use Rattle.goblin_pe_import.specs.ImportWalks.{GivesLibrary, IsLaterCause, IsWalkCause, later_items, led, walk_left}
 use Rattle.goblin_pe_import.proofs.Imports.{opposite}
 use Rattle.goblin_base.proofs.Records.{record_at-some}
 use Rattle.goblin_pe_import.proofs.ImportsWalk.{bound-given, later-end, later-given, later-last, later-missing, later-none, later-refused}
+use Rattle.goblin_pe_import.proofs.ImportSteps.{led-ok}
 use Rattle.goblin_pe_import.proofs.Modes.{strict, permissive}
+use Rattle.goblin_pe_import.specs.declared.import.imports.Walk.{Walk}
 use Rattle.goblin_pe_import.proofs.import.imports.Walk.next_library.Goals as goal
 
 pub returns-in-Err-clause-gives : goal.returns-in-Err-clause-gives
 returns-in-Err-clause-gives g c =
-    let both = later-refused _ g.T.Bitfield.format _ _ c.args.untested c.args.next c.in-Err.error c.in-Err.ensures.value in
+    let both = later-refused _ g.T.Bitfield.format _ _ c.args.self.now.untested c.args.self.now.next c.in-Err.error c.in-Err.ensures.value in
     (both.0, (c.in-Err.ensures.strictly, both.1))
 
 pub returns-in_default-next-clause-gives : goal.returns-in_default-next-clause-gives
 returns-in_default-next-clause-gives g c =
-    let m = map_of c.args.finder in
-    rw c.in_default-next.is (later-none (reads_strictly m) g.T.Bitfield.format (offset_of m) c.args.bytes.now c.args.untested c.in_default.ensures.value)
+    let m = map_of c.args.self.now.finder in
+    rw c.in_default-next.is (later-none (reads_strictly m) g.T.Bitfield.format (offset_of m) c.args.self.now.bytes.now c.args.self.now.untested c.in_default.ensures.value)
 
 pub returns-then-is_permissive-clause-gives : goal.returns-then-is_permissive-clause-gives
 returns-then-is_permissive-clause-gives g c =
@@ -31,21 +33,23 @@ returns-in_default-read_at-clause-gives g c =
 
 pub returns-then-not-is_possibly_valid-clause-gives : goal.returns-then-not-is_possibly_valid-clause-gives
 returns-then-not-is_possibly_valid-clause-gives g c =
-    let m = map_of c.args.finder in
-    rw c.in-Some.is (later-last (reads_strictly m) g.T.Bitfield.format (offset_of m) c.args.bytes.now c.args.untested c.in_default.ensures.value c.test_untested.ensures.wide c.in-Some.at _ c.in-Ok.ensures (opposite _ _ true c.is_possibly_valid.ensures c.if-not-is_possibly_valid.true))
+    let m = map_of c.args.self.now.finder in
+    rw c.in-Some.is (later-last (reads_strictly m) g.T.Bitfield.format (offset_of m) c.args.self.now.bytes.now c.args.self.now.untested c.in_default.ensures.value c.test_untested.ensures.wide c.in-Some.at _ c.in-Ok.ensures (opposite _ _ true c.is_possibly_valid.ensures c.if-not-is_possibly_valid.true))
 
 pub returns-clause-gives : goal.returns-clause-gives
 returns-clause-gives g c =
-    let m = map_of c.args.finder in
+    let m = map_of c.args.self.now.finder in
     let s = reads_strictly m in
     let f = g.T.Bitfield.format in
     let o = offset_of m in
-    let b = c.args.bytes.now in
+    let b = c.args.self.now.bytes.now in
     subst
-    (λ (at : Option ImportPosition). GivesLibrary (walk_left f) (IsWalkCause f) (later_items s f o b c.args.untested at)
-    (λ e. (s ≡ true) × IsLaterCause s f o b c.args.untested at e) (Some c.in_library.result))
+    (λ (at : Option ImportPosition). GivesLibrary (walk_left f) (IsWalkCause f) (later_items s f o b c.args.self.now.untested at)
+    (λ e. (s ≡ true) × IsLaterCause s f o b c.args.self.now.untested at e) (Some (led c.enter.new.self c.enter.result)))
     (sym c.in-Some.is)
-    (later-given s f o b c.args.untested c.in_default.ensures.value c.test_untested.ensures.wide c.in-Some.at c.in-Ok.«record» c.in-Ok.ensures (opposite _ _ false c.is_possibly_valid.ensures c.if-not-is_possibly_valid.false) (walk_left f) (IsWalkCause f) c.in_library.result (rw c.test_untested.ensures.same at c.in_library.ensures.gives))
+    (later-given s f o b c.args.self.now.untested c.in_default.ensures.value c.test_untested.ensures.wide c.in-Some.at c.in-Ok.«record» c.in-Ok.ensures (opposite _ _ false c.is_possibly_valid.ensures c.if-not-is_possibly_valid.false) (walk_left f) (IsWalkCause f) (led c.enter.new.self c.enter.result) (rw c.test_untested.ensures.same at c.enter.ensures.gives))
 
 pub returns-clause-bound : goal.returns-clause-bound
-returns-clause-bound g c = rw c.in-Some.is (bound-given _ _ (record_at-some 20 _ _ _ _ c.in-Ok.ensures).end _ c.in_library.ensures.bytes c.in_library.ensures.next c.in_library.ensures.place)
+returns-clause-bound g c =
+    let bytes = led-ok (λ (t : Walk). t.bytes.now ≡ c.args.self.now.bytes.now) c.enter.new.self c.enter.result c.enter.ensures.bytes in
+    rw c.in-Some.is (bound-given _ _ (record_at-some 20 _ _ _ _ c.in-Ok.ensures).end (led c.enter.new.self c.enter.result) bytes c.enter.ensures.next c.enter.ensures.place)
