@@ -13,13 +13,18 @@ IsPlain byte = (0 < byte) × (byte < 128)
 abbrev pub ArePlain : List ℕ → ℕ → Type 0
 ArePlain bytes n = (k : ℕ) → k < n → IsPlain (slice_index bytes k)
 
+-- a byte of what is left stands so far after those before it
+pub byte_after : (bytes : List ℕ) (at run : ℕ) → slice_index (slice_range bytes at (length bytes)) run ≡ slice_index bytes (at + run)
+byte_after bytes at run =
+    let all : slice_range bytes at (length bytes) ≡ drop at bytes = ap (λ (n : ℕ). take n (drop at bytes)) (sym (length-drop at bytes)) ∙ take-length (drop at bytes) in
+    ap (λ (s : List ℕ). slice_index s run) all ∙ get_or-drop at bytes run 0
+
 -- a run at the front of what is left extends the run before it
 pub run_after : (bytes : List ℕ) (at run : ℕ) → ArePlain bytes at → ArePlain (slice_range bytes at (length bytes)) run → ArePlain bytes (at + run)
 run_after bytes at run before plain k lt = elim (cases_lt k at) [
   | inl low ↦ before k low
   | inr high ↦
       let place : at + (k - at) ≡ k = omega (arith, high) in
-      let all : slice_range bytes at (length bytes) ≡ drop at bytes = ap (λ (n : ℕ). take n (drop at bytes)) (sym (length-drop at bytes)) ∙ take-length (drop at bytes) in
-      let same : slice_index (slice_range bytes at (length bytes)) (k - at) ≡ slice_index bytes k = ap (λ (s : List ℕ). slice_index s (k - at)) all ∙ get_or-drop at bytes (k - at) 0 ∙ ap (slice_index bytes) place in
+      let same : slice_index (slice_range bytes at (length bytes)) (k - at) ≡ slice_index bytes k = byte_after bytes at (k - at) ∙ ap (slice_index bytes) place in
       rw (sym same) (plain (k - at) (omega (arith, high, lt)))
 ]

@@ -44,6 +44,8 @@ fn first_stop(bytes: &[u8]) -> Option<usize>
     ensures within { IfSome result (λ run. run < length bytes.now) }
     ensures plain { IfSome result (λ run. (k : ℕ) → k < run
         → (0 < slice_index bytes.now k) × (slice_index bytes.now k < 128)) }
+    ensures stops { IfSome result (λ run. (slice_index bytes.now run ≡ 0)
+        ⊎ (128 ≤ slice_index bytes.now run)) }
 {
     let mut at = 0;
     'lanes: while 16 <= bytes.len() - at {

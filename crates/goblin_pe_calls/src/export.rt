@@ -213,7 +213,7 @@ pub fn next_export<'a, 'm>(exports: &mut Exports<'a, 'm>) -> Option<WalkedExport
 }
 
 // The records of the exports that a walk gives. Those that are plain, and for which there is room,
-// come by a loop of their own, in which nothing can be refused and nothing is called.
+// come by a loop of their own, in which nothing can be refused and all goes in line.
 fn records_of<'a, 'm>(
     alloc: Global,
     bytes: &'a [u8],

@@ -234,7 +234,7 @@ pub fn give_imports<'a>(
 }
 
 // Fills records with the exports that come next, as far as there is room, and answers how many. Those
-// that are plain come by a loop of their own, in which nothing is called.
+// that are plain come by a loop of their own, in which all goes in line.
 fn fill_exports<'a, 'm>(
     bytes: &'a [u8],
     exports: &mut Exports<'a, 'm>,

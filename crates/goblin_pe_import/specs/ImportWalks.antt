@@ -380,11 +380,11 @@ GivesImport format s result t =
 abbrev pub moved : Walk → ℕ → Walk
 moved w place = record w { place = Some place }
 
--- the walk of which plain imports came, after them
+-- the walk after the plain imports that have come of it
 abbrev pub plain_at : {T : Type 0} → PlainImports T → Imports T
 plain_at plain = record plain.imports { walk = moved plain.imports.walk plain.place }
 
--- A call gives what comes next of the walk as `next` does, or nothing, and all stays.
+-- A call gives what comes next of the walk as `next` does; or it gives nothing, and then all stays.
 abbrev pub GivesPlain : {T : Type 0} → Format EntryValue → PlainImports T → Option WalkedImport
     → PlainImports T → Type 0
 GivesPlain format s None t = t ≡ s

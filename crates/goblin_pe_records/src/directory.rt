@@ -5,10 +5,7 @@ ghost use Rattle.goblin_pe_records.specs.Filled.{Filled};
 ghost use Rattle.goblin_pe_records.specs.Directories.{directories_of, directory_record};
 
 use goblin_pe_head::optional_header::OptionalHeader;
-use goblin_pe_sect::data_directories::DataDirectory;
-
-// How many entries the table of an optional header has.
-const NUM_DATA_DIRECTORIES: usize = 16;
+use goblin_pe_sect::data_directories::{DataDirectory, NUM_DATA_DIRECTORIES};
 
 /// An entry of the table of data directories.
 #[repr(C)]

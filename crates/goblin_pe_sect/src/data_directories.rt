@@ -27,8 +27,8 @@ pub const SIZEOF_DATA_DIRECTORY: usize = 8;
 
 const _: () = prove!(SIZEOF_DATA_DIRECTORY == 8);
 
-// How many entries the table has.
-pub(crate) const NUM_DATA_DIRECTORIES: usize = 16;
+/// How many entries the table has.
+pub const NUM_DATA_DIRECTORIES: usize = 16;
 
 // The kinds of directories, each at its index.
 const KINDS: [DataDirectoryType; 15] = [

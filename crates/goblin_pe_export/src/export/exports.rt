@@ -195,8 +195,8 @@ impl<'a, 'm> Exports<'a, 'm> {
 
     /// The next export, where it is plain: no forwarder, with an address and a name that lie among
     /// those that the walk keeps, the name ASCII. Else `None`, which says nothing: the walk stays,
-    /// and `next` goes on. It calls no function, so a loop of such steps keeps all that it has at
-    /// hand: the rare cases, which call some, are for `next`.
+    /// and `next` goes on. All that it calls goes in line, so a loop of such steps keeps its values
+    /// in registers: the rare cases are for `next`.
     #[inline(always)]
     #[tactic(auto, using(crate::proofs::ExportWalk::from_export))]
     pub fn next_plain(&mut self) -> Option<WalkedExport<'a>>

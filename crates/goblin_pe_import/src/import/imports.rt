@@ -531,7 +531,7 @@ impl<'a, 'm, 'e, T: Bitfield<'a>> Imports<'a, 'm, 'e, T> {
         self.walk.finder.again()
     }
 
-    /// Goes on after the plain imports of this walk that have come.
+    /// Goes on after the plain imports that have come; `plain` must be of this walk, as it is now.
     #[inline(always)]
     pub fn go_on(&mut self, plain: &PlainImports<'a, 'm, 'e, T>)
         requires { plain.now.imports ≡ self.old }
@@ -583,8 +583,8 @@ impl<'a, 'm, 'e, T: Bitfield<'a>> FusedIterator for Imports<'a, 'm, 'e, T> {}
 /// The imports that come next in a library, as long as they are plain: by ordinal, or by a name that
 /// is ASCII and lies near those before.
 ///
-/// These are nearly all. A step calls no function, as what comes else is left to `next` of the walk:
-/// so a loop over them keeps all that it has at hand, and takes less time.
+/// These are nearly all. All else is left to `next` of the walk, and what a step calls goes in line: so
+/// a loop over them keeps its values in registers, and takes less time.
 #[derive(Drop)]
 pub struct PlainImports<'a, 'm, 'e, T> {
     // The walk as it was.

@@ -68,8 +68,8 @@ pub(super) fn next_kept<'a, 'e, T: Bitfield<'a>>(
 }
 
 // The entry that a lookup table at `offset` keeps in the slot at `place`, where it is plain: by
-// ordinal, or by a name that is ASCII and lies near the last one. `None` says nothing of the slot. It
-// calls no function, so a loop over such slots keeps all that it has at hand.
+// ordinal, or by a name that is ASCII and lies near the last one. `None` says nothing of the slot. All
+// that it calls goes in line, so a loop over such slots keeps its values in registers.
 #[inline(always)]
 pub(super) fn plain_kept<'a, T: Bitfield<'a>>(
     bytes: &'a [u8],

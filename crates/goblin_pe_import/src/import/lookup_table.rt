@@ -90,8 +90,8 @@ impl<'a> HintNameTableEntry<'a> {
         Ok(HintNameTableEntry { hint, name })
     }
 
-    // The hint and the name at an offset, where the name is ASCII and the file goes on well past it;
-    // `None` says nothing of them. Both modes give the same.
+    // The hint and the name at an offset, where the name is ASCII and its NUL none of the file's last
+    // bytes; `None` says nothing of them. Both modes give the same.
     #[inline(always)]
     fn plain(bytes: &'a [u8], offset: usize) -> Option<HintNameTableEntry<'a>>
         ensures { IfSome result (λ named. (strict : Bool)

@@ -11,6 +11,13 @@ use crate::section_table::SectionRecords;
 use crate::utils::{past_window, raw_begin, section_window};
 use crate::windows::Run;
 
+// All addresses, each of which is its own offset.
+const ALL_ADDRESSES: Run = Run {
+    first: 0,
+    size: 1 << 32,
+    offset: 0,
+};
+
 // The file offset of an address, by the first section whose window holds it. `run` becomes the
 // addresses about it that this section owns, up to the windows of the sections before it.
 #[inline(always)]
@@ -59,7 +66,8 @@ fn find_window(
 }
 
 /// The file offset of an address by the sections of these records. `run` becomes addresses about it
-/// that have their offsets without another walk, where a section owns it.
+/// that have their offsets without another walk, where a section owns it; all addresses, where the
+/// options say that these are offsets.
 #[tactic(auto, unfolding(crate::specs::Mapping::file_offset))]
 pub(super) fn find_in_records(
     records: SectionRecords,
@@ -73,6 +81,7 @@ pub(super) fn find_in_records(
         IsRun offset_of run.old → IsRun offset_of run.new }
 {
     if !opts.resolve_rva {
+        *run = ALL_ADDRESSES;
         return Some(rva as usize);
     }
     if !file_alignment.is_power_of_two() {

@@ -8,29 +8,31 @@ use goblin_pe::options::ParseOptions;
 use goblin_pe::{FileImports, Layout, Part};
 use std::alloc::Global;
 
-/// Whether an import is by the ordinal 7.
-fn is_seventh(import: &WalkedImport) -> bool {
-    matches!(
-        &import.entry,
-        SyntheticImportLookupTableEntry::OrdinalNumber(7)
-    )
+/// Whether an import is by the name `Go`, where `is_named`; else by the ordinal 7.
+fn is_wanted(import: &WalkedImport, is_named: bool) -> bool {
+    match &import.entry {
+        SyntheticImportLookupTableEntry::OrdinalNumber(ordinal) => !is_named && *ordinal == 7,
+        SyntheticImportLookupTableEntry::HintNameTableRVA((_, named)) => {
+            is_named && named.name == "Go"
+        }
+    }
 }
 
-/// Whether the second import of a walk is plain, and by that ordinal.
-fn is_second_plain(mut imports: Imports<u32>) -> bool {
+/// Whether the second import of a walk is plain, and this.
+fn is_second_plain(mut imports: Imports<u32>, is_named: bool) -> bool {
     if imports.next().is_none() {
         return false;
     }
     let Some(mut plain) = imports.plain() else {
         return false;
     };
-    matches!(&plain.next_import(), Some(import) if is_seventh(import))
+    matches!(&plain.next_import(), Some(import) if is_wanted(import, is_named))
 }
 
-/// Whether a file has a plain second import.
-fn has_plain_import(layout: &Layout) -> bool {
+/// Whether a file has a plain second import, and this.
+fn has_plain_import(layout: &Layout, is_named: bool) -> bool {
     match layout.imports() {
-        Ok(Part::Read(FileImports::Narrow(imports))) => is_second_plain(imports),
+        Ok(Part::Read(FileImports::Narrow(imports))) => is_second_plain(imports, is_named),
         _ => false,
     }
 }
@@ -51,13 +53,19 @@ fn has_plain_export(layout: &Layout, name: &str) -> bool {
     }
 }
 
-fn has_both(layout: &Layout) -> bool {
-    has_plain_import(layout) && has_plain_export(layout, "a.dll")
+fn has_both(layout: &Layout, is_named: bool) -> bool {
+    has_plain_import(layout, is_named) && has_plain_export(layout, "a.dll")
 }
 
-fn has_both_by(alloc: Global, file: &[u8], header: &Header) -> bool {
+fn has_both_by(alloc: Global, file: &[u8], header: &Header, is_named: bool) -> bool {
     let opts = ParseOptions::default();
-    matches!(&Layout::of(alloc, file, header, &opts), Ok(layout) if has_both(layout))
+    matches!(&Layout::of(alloc, file, header, &opts), Ok(layout) if has_both(layout, is_named))
+}
+
+/// Whether a file has a plain second import, by name or by ordinal, and a plain second export.
+fn has_plain(alloc: Global, file: &[u8], is_named: bool) -> bool {
+    let header = Header::parse(file);
+    matches!(&header, Ok(header) if has_both_by(alloc, file, header, is_named))
 }
 
 #[test]
@@ -65,6 +73,8 @@ fn plain_imports_and_exports_come_by_the_plain_steps(rt: HostRuntime) {
     let mut file = sample();
     // The second export has the address of the first, so it is no forwarder.
     put(&mut file, 0x2DA, b"\0");
-    let header = Header::parse(&file);
-    assert!(rt; matches!(&header, Ok(header) if has_both_by(rt.alloc(), &file, header)));
+    assert!(rt; has_plain(rt.alloc(), &file, false));
+    // The second import is by the name of the first.
+    put(&mut file, 0x244, b"\x90\x10\0\0");
+    assert!(rt; has_plain(rt.alloc(), &file, true));
 }
