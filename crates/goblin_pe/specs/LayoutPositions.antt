@@ -7,7 +7,7 @@ use Rattle.readings.specs.Reads.{given, mapped, pick}
 use Rattle.goblin_pe_sect.specs.declared.data_directories.DataDirectory.{DataDirectory}
 use Rattle.goblin_pe_sect.specs.declared.options.ParseOptions.{ParseOptions}
 use Rattle.goblin_pe_sect.specs.Options.{is_strict}
-use Rattle.goblin_pe_sect.specs.Addresses.{MapOfAddresses, offset_of, reads_strictly}
+use Rattle.goblin_pe_sect.specs.Addresses.{MapOfAddresses, map_of, offset_of, reads_strictly}
 use Rattle.goblin_pe_import.specs.ImportLookup.{entries_32, entries_64}
 use Rattle.goblin_pe_import.specs.ImportPositions.{IsFaultAt, first_import}
 use Rattle.goblin_pe_import.specs.Imports.{ImportValue}
@@ -40,6 +40,11 @@ IsFileFaultAt m magic bytes position e = IsFaultAt m (entry_format magic) bytes 
 abbrev pub file_position : FileImports → Option ImportPosition
 file_position (Narrow imports) = position_of imports
 file_position (Wide imports) = position_of imports
+
+-- the map that a walk goes by
+abbrev pub file_map : FileImports → MapOfAddresses
+file_map (Narrow imports) = map_of imports.walk.finder
+file_map (Wide imports) = map_of imports.walk.finder
 
 -- the walk is over these bytes, by this magic and this map of addresses, and what is still to come
 -- follows from its position

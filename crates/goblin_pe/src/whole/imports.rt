@@ -4,14 +4,15 @@ ghost use Rattle.std.specs.Prelude.{◌≡◌, ℕ, IfSome, List};
 ghost use Rattle.std.specs.Iterator.{UpTo, at_most};
 ghost use Rattle.std.specs.Iterator.SizeHint.{IsWithinCount};
 ghost use Rattle.goblin_base.specs.declared.error.ErrorOf.{ErrorOf};
-ghost use Rattle.goblin_pe_sect.specs.Addresses.{MapOfAddresses};
+ghost use Rattle.goblin_pe_sect.specs.Addresses.{MapOfAddresses, map_of};
 ghost use Rattle.goblin_pe.specs.LayoutPositions.{IsFileFaultAt, IsImportWalk, file_imports_at};
-ghost use Rattle.goblin_pe.specs.LayoutPositions.{file_position};
+ghost use Rattle.goblin_pe.specs.LayoutPositions.{file_map, file_position};
 ghost use Rattle.goblin_pe.specs.Layouts.{GivesFileImport, IsFileImportsCause, file_imports_bound};
 ghost use Rattle.goblin_pe.specs.Layouts.{file_imports_left};
 
 use crate::import::{ImportPosition, Imports, WalkedImport};
 use goblin_base::ResultOf;
+use goblin_pe_sect::address_map::Finder;
 use std::iter::FusedIterator;
 
 /// The imports of a file, in the order of the libraries and of their entries, without memory: by the
@@ -43,6 +44,17 @@ impl<'a, 'm, 'e> FileImports<'a, 'm, 'e> {
         match self {
             FileImports::Narrow(imports) => imports.position(),
             FileImports::Wide(imports) => imports.position(),
+        }
+    }
+
+    /// A finder by the map that the walk goes by, with what the walk has at hand.
+    #[inline(always)]
+    pub fn finder(&self) -> Finder<'m>
+        ensures { map_of result ≡ file_map self.now }
+    {
+        match self {
+            FileImports::Narrow(imports) => imports.finder(),
+            FileImports::Wide(imports) => imports.finder(),
         }
     }
 }

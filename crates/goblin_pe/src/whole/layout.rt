@@ -8,10 +8,10 @@ ghost use Rattle.goblin_pe_sect.specs.BaseRelocations.{relocation_bytes};
 ghost use Rattle.goblin_pe_sect.specs.Options.{is_strict};
 ghost use Rattle.goblin_pe_head.specs.PeHeader.{header_value};
 ghost use Rattle.goblin_pe_head.specs.CoffHeader.{IsTooManySections};
-ghost use Rattle.goblin_pe_sect.specs.Addresses.{offset_of, strict_map};
+ghost use Rattle.goblin_pe_sect.specs.Addresses.{map_of, offset_of, strict_map};
 ghost use Rattle.goblin_pe_sect.specs.SectionTable.{section_records, unnamed};
 ghost use Rattle.goblin_pe.specs.Damages.{left_out_of};
-ghost use Rattle.goblin_pe.specs.LayoutPositions.{StartsAt, import_start};
+ghost use Rattle.goblin_pe.specs.LayoutPositions.{StartsAt, file_map, import_start};
 ghost use Rattle.goblin_pe.specs.Layouts.{IsExportWalk, IsFileImportsCause, IsLayoutOf, PartWalks};
 ghost use Rattle.goblin_pe.specs.Layouts.{file_imports_left, layout_map, layout_places};
 ghost use Rattle.goblin_pe.specs.Layouts.{walked_exports};
@@ -27,7 +27,7 @@ use crate::whole::places::Places;
 use crate::whole::{FileImports, Part};
 use goblin_base::{Result, ResultOf};
 use goblin_pe_head::header::{Header, SIZEOF_COFF_HEADER, SIZEOF_PE_MAGIC};
-use goblin_pe_sect::address_map::AddressMap;
+use goblin_pe_sect::address_map::{AddressMap, Finder};
 use goblin_pe_sect::relocation::RelocationData;
 use goblin_pe_sect::section_table::SectionRecords;
 use goblin_pe_sect::{ParseOptions, SectionTable};
@@ -211,6 +211,7 @@ impl<'a, 'h> Layout<'a, 'h> {
             let places = layout_places self.now in
             StartsAt m places.magic self.now.bytes.now
             (import_start m.opts (offset_of m) places None) result }
+        ensures over { IfOk result (IfRead (λ walk. file_map walk ≡ layout_map self.now)) }
     {
         self.places.import_walk(self.bytes, &self.address_map)
     }
@@ -243,7 +244,32 @@ impl<'a, 'h> Layout<'a, 'h> {
         ensures walk { IfOk result
             (IfRead (IsExportWalk (layout_map self.now) self.now.bytes.now)) }
     {
-        self.places.export_walk(self.bytes, &self.address_map)
+        self.exports_by(self.finder())
+    }
+
+    /// The exports, as [`Layout::exports`], by a finder of this layout: what it has at hand takes no
+    /// search.
+    ///
+    /// # Errors
+    /// As [`Layout::exports`].
+    #[inline(always)]
+    pub fn exports_by<'m>(&self, finder: Finder<'m>) -> Result<Part<Exports<'a, 'm>>>
+        requires { map_of finder ≡ layout_map self.now }
+        ensures value { let m = layout_map self.now in
+            Reads (part_map walked_exports) result
+            (export_part m.opts (offset_of m) (layout_places self.now)) self.now.bytes.now }
+        ensures walk { IfOk result
+            (IfRead (IsExportWalk (layout_map self.now) self.now.bytes.now)) }
+    {
+        self.places.export_walk(self.bytes, finder)
+    }
+
+    /// A finder by the map of the file's addresses.
+    #[inline(always)]
+    pub fn finder<'m>(&'m self) -> Finder<'m>
+        ensures { map_of result ≡ layout_map self.now }
+    {
+        Finder::of(&self.address_map)
     }
 
     /// The base relocations: the bytes of their directory, whose blocks are read one by one.

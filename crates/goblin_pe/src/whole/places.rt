@@ -12,7 +12,8 @@ ghost use Rattle.goblin_pe_import.specs.ImportPositions.{first_import};
 ghost use Rattle.goblin_pe_import.specs.ImportReadings.{import_data};
 ghost use Rattle.goblin_pe_import.specs.Imports.{kept_imports};
 ghost use Rattle.goblin_pe.specs.Damages.{left_out_at, left_out_of};
-ghost use Rattle.goblin_pe.specs.LayoutPositions.{GivesFirst, GivesFrom, StartsAt, import_start};
+ghost use Rattle.goblin_pe.specs.LayoutPositions.{GivesFirst, GivesFrom, StartsAt, file_map};
+ghost use Rattle.goblin_pe.specs.LayoutPositions.{import_start};
 ghost use Rattle.goblin_pe.specs.Layouts.{IsExportWalk, IsFileImportsCause, PartWalks};
 ghost use Rattle.goblin_pe.specs.Layouts.{file_imports_left, walked_exports};
 ghost use Rattle.goblin_pe.specs.Whole.{AreListed, BecomesPart, IfRead, entry_format, export_part};
@@ -103,6 +104,7 @@ impl Places {
             let rva = directory.virtual_address in
             GivesFirst m self.now.magic bytes.now
             (first_import (reads_strictly m) (offset_of m) rva) result }
+        ensures over { IfOk result (λ walk. file_map walk ≡ map_of address_map.now) }
     {
         if self.has_narrow_entries() {
             let imports = Imports::<u32>::of(bytes, directory, address_map)?;
@@ -130,6 +132,7 @@ impl Places {
         ensures starts { let m = map_of address_map.now in
             StartsAt m self.now.magic bytes.now
             (import_start m.opts (offset_of m) (table_places self.now) None) result }
+        ensures over { IfOk result (IfRead (λ walk. file_map walk ≡ map_of address_map.now)) }
     {
         let opts = address_map.opts();
         match self.imports {
@@ -213,27 +216,25 @@ impl Places {
         }
     }
 
-    // The exports as a walk.
+    // The exports as a walk, by a finder.
     #[inline(always)]
     #[tactic(auto, unfolding(crate::specs::Whole::export_part, crate::specs::Whole::part_map))]
     pub(super) fn export_walk<'a, 'm>(
         &self,
         bytes: &'a [u8],
-        address_map: &'m AddressMap,
+        finder: Finder<'m>,
     ) -> Result<Part<Exports<'a, 'm>>>
-        ensures value { let m = map_of address_map.now in
+        ensures value { let m = map_of finder.entry in
             let places = table_places self.now in
             Reads (part_map walked_exports) result (export_part m.opts (offset_of m) places)
             bytes.now }
-        ensures walk { IfOk result (IfRead (IsExportWalk (map_of address_map.now) bytes.now)) }
+        ensures walk { IfOk result (IfRead (IsExportWalk (map_of finder.entry) bytes.now)) }
     {
         let Some(directory) = self.exports else {
             return Ok(Part::Absent);
         };
-        part_of(
-            Exports::of(bytes, directory, address_map),
-            address_map.opts(),
-        )
+        let opts = *finder.opts();
+        part_of(Exports::by(bytes, directory, finder), &opts)
     }
 
     // The base relocations.

@@ -54,7 +54,6 @@ impl<'a, 'm> Exports<'a, 'm> {
     /// As [`ExportData::parse_by`](crate::export::ExportData::parse_by), but never
     /// [`Error::Memory`](goblin_base::Error::Memory).
     #[inline(always)]
-    #[tactic(auto, unfolding(crate::specs::ExportReadings::export_read), using(crate::proofs::ExportWalk::read_walked))]
     pub fn of(
         bytes: &'a [u8],
         directory: DataDirectory,
@@ -68,7 +67,29 @@ impl<'a, 'm> Exports<'a, 'm> {
             ≡ numbered_from (offset_of m) bytes.now (walked_tables walk) 0) }
         ensures over { IfOk result (IsOver bytes.now (map_of address_map.now)) }
     {
-        let mut finder = Finder::of(address_map);
+        Exports::by(bytes, directory, Finder::of(address_map))
+    }
+
+    /// The exports of an export directory, as [`Exports::of`], by a finder: what it has at hand takes
+    /// no search.
+    ///
+    /// # Errors
+    /// As [`Exports::of`].
+    #[inline(always)]
+    #[tactic(auto, unfolding(crate::specs::ExportReadings::export_read), using(crate::proofs::ExportWalk::read_walked))]
+    pub fn by(
+        bytes: &'a [u8],
+        directory: DataDirectory,
+        mut finder: Finder<'m>,
+    ) -> Result<Exports<'a, 'm>>
+        ensures value { let m = map_of finder.entry in
+            Reads (λ walk. (walked_tables walk, map (λ x. x.row) (exports_left walk))) result
+            (export_read (offset_of m) directory) bytes.now }
+        ensures left { let m = map_of finder.entry in
+            IfOk result (λ walk. exports_left walk
+            ≡ numbered_from (offset_of m) bytes.now (walked_tables walk) 0) }
+        ensures over { IfOk result (IsOver bytes.now (map_of finder.entry)) }
+    {
         let tables = TablesInFile::find(bytes, directory, &mut finder)?;
         Ok(Exports {
             bytes,

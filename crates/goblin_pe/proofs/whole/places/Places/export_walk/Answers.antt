@@ -11,15 +11,15 @@ use Rattle.goblin_pe.proofs.whole.places.Places.export_walk.Goals as goal
 pub returns-clause-value : goal.returns-clause-value
 unfolding export_part
 returns-clause-value c =
-    let m = map_of c.args.address_map.now in
-    let made : BecomesPart (reads_strictly m) c.of.result c.part_of.result =
-    subst (λ (o : ParseOptions). BecomesPart (is_strict o.parse_mode) c.of.result c.part_of.result) c.opts.ensures c.part_of.ensures in
+    let m = map_of c.args.finder in
+    let made : BecomesPart (reads_strictly m) c.by.result c.part_of.result =
+    subst (λ (o : ParseOptions). BecomesPart (is_strict o.parse_mode) c.by.result c.part_of.result) c.opts.ensures c.part_of.ensures in
     rw c.in-Some.is
-    (becomes_read walked_exports (export_read (offset_of m) c.in-Some.directory) c.args.bytes.now (reads_strictly m) c.of.result c.part_of.result c.of.ensures.value made)
+    (becomes_read walked_exports (export_read (offset_of m) c.in-Some.directory) c.args.bytes.now (reads_strictly m) c.by.result c.part_of.result c.by.ensures.value made)
 
 pub returns-clause-walk : goal.returns-clause-walk
 returns-clause-walk c =
-    let m = map_of c.args.address_map.now in
-    let made : BecomesPart (reads_strictly m) c.of.result c.part_of.result =
-    subst (λ (o : ParseOptions). BecomesPart (is_strict o.parse_mode) c.of.result c.part_of.result) c.opts.ensures c.part_of.ensures in
-    becomes_kept (IsExportWalk m c.args.bytes.now) (reads_strictly m) c.of.result c.part_of.result (kept_both _ _ c.of.result c.of.ensures.over c.of.ensures.left) made
+    let m = map_of c.args.finder in
+    let made : BecomesPart (reads_strictly m) c.by.result c.part_of.result =
+    subst (λ (o : ParseOptions). BecomesPart (is_strict o.parse_mode) c.by.result c.part_of.result) c.opts.ensures c.part_of.ensures in
+    becomes_kept (IsExportWalk m c.args.bytes.now) (reads_strictly m) c.by.result c.part_of.result (kept_both _ _ c.by.result c.by.ensures.over c.by.ensures.left) made
