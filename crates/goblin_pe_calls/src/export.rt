@@ -6,7 +6,7 @@ ghost use Rattle.std.specs.Iterator.{YieldsFirstBy};
 ghost use Rattle.goblin_base.specs.Answers.{GivesOrMemory, IsMemory};
 ghost use Rattle.goblin_base.specs.Reading.{ReadsOrMemory};
 ghost use Rattle.goblin_pe.specs.Reads.{mapped};
-ghost use Rattle.goblin_pe_sect.specs.Addresses.{offset_of};
+ghost use Rattle.goblin_pe_sect.specs.Addresses.{map_of, offset_of};
 ghost use Rattle.goblin_pe_export.specs.ExportWalks.{KeepsOver, exports_left, walked_export};
 ghost use Rattle.goblin_pe_export.specs.ExportWalks.{walked_tables};
 ghost use Rattle.goblin_pe_export.specs.Forwarders.{forwarder_value};
@@ -25,6 +25,7 @@ use crate::export_directory::{
 use goblin_pe::export::{Exports, Reexport, WalkedExport};
 use goblin_pe::{Layout, Part, Result};
 use goblin_pe_records::room::make_room;
+use goblin_pe_sect::address_map::Finder;
 use std::alloc::Global;
 
 // How an export names what it stands for in another library.
@@ -282,9 +283,14 @@ fn unread_records<'a>(
 }
 
 /// The records of a file's exports, in the order of the name pointers, and of what the export
-/// directory leads to.
+/// directory leads to, by a finder of the layout.
 #[tactic(auto, unfolding(goblin_pe::specs::Whole::part_map))]
-pub fn export_records<'a>(alloc: Global, layout: &Layout<'a, '_>) -> Result<ExportRecords<'a>>
+pub fn export_records<'a, 'm>(
+    alloc: Global,
+    layout: &'m Layout<'a, '_>,
+    finder: Finder<'m>,
+) -> Result<ExportRecords<'a>>
+    requires { map_of finder ≡ layout_map layout.now }
     ensures value { let m = layout_map layout.now in
         ReadsOrMemory exports_view result
         (mapped (collected_exports (exports_said (offset_of m) layout.now.bytes.now))
@@ -299,7 +305,7 @@ pub fn export_records<'a>(alloc: Global, layout: &Layout<'a, '_>) -> Result<Expo
         IfErr result
         (λ e. IsMemory e → IsSomeAnd (read.value layout.now.bytes.now) HasExports) }
 {
-    match layout.exports()? {
+    match layout.exports_by(finder)? {
         Part::Absent => Ok(unread_records(alloc, layout.bytes(), Part::Absent)),
         Part::Read(exports) => read_records(alloc, layout.bytes(), exports),
         Part::Refused => Ok(unread_records(alloc, layout.bytes(), Part::Refused)),

@@ -6,10 +6,11 @@ ghost use Rattle.std.specs.Prelude.{option_map};
 ghost use Rattle.goblin_base.specs.Answers.{AnswersOrMemory, GivesOrMemory, IsMemory, all_of};
 ghost use Rattle.goblin_base.specs.Reading.{ReadsOrMemory};
 ghost use Rattle.goblin_pe.specs.Reads.{mapped};
-ghost use Rattle.goblin_pe_sect.specs.Addresses.{offset_of};
+ghost use Rattle.goblin_pe_sect.specs.Addresses.{map_of, offset_of};
 ghost use Rattle.goblin_pe_import.specs.ImportWalks.{IsImportsCause, imports_left, walked_value};
 ghost use Rattle.goblin_pe.specs.Layouts.{IsFileImportsCause, file_imports_left, layout_map};
 ghost use Rattle.goblin_pe.specs.Layouts.{layout_places};
+ghost use Rattle.goblin_pe.specs.LayoutPositions.{file_map};
 ghost use Rattle.goblin_pe.specs.Whole.{AreListed, collected_imports, import_list, import_parts};
 ghost use Rattle.goblin_pe.specs.Whole.{part_map};
 ghost use Rattle.goblin_pe_records.specs.Blocked.{HasLittleRoom};
@@ -20,6 +21,7 @@ ghost use Rattle.goblin_pe_calls.specs.Imports.{PushesHere, import_said, import_
 use goblin_pe::import::{Bitfield, Imports, SyntheticImportLookupTableEntry, WalkedImport};
 use goblin_pe::{FileImports, Layout, Part, Result, ResultOf};
 use goblin_pe_records::room::make_room;
+use goblin_pe_sect::address_map::Finder;
 use std::alloc::Global;
 
 /// An import.
@@ -145,8 +147,8 @@ fn push_import<'a, 'e>(
 }
 
 // Adds the records of the plain imports that come next in the library of the walk, as far as there is
-// room. It is not inlined, so that its loop shares no registers with its caller's.
-#[inline(never)]
+// room.
+#[inline(always)]
 fn push_here<'a, 'm, 'e, T: Bitfield<'a>>(
     records: &mut Vec<PeImport<'a>>,
     bytes: &'a [u8],
@@ -154,6 +156,7 @@ fn push_here<'a, 'm, 'e, T: Bitfield<'a>>(
 )
     ensures pushed { PushesHere T.format imports.old imports.new
         (map import_view records.old.items) (map import_view records.new.items) }
+    ensures kept { imports.new.walk.finder ≡ imports.old.walk.finder }
     ensures room { HasLittleRoom records.old → HasLittleRoom records.new }
 {
     let Some(mut plain) = imports.plain() else {
@@ -175,6 +178,7 @@ fn records_of<'a, 'm, 'e, T: Bitfield<'a>>(
     alloc: Global,
     bytes: &'a [u8],
     mut imports: Imports<'a, 'm, 'e, T>,
+    finder: &mut Finder<'m>,
 ) -> ResultOf<'e, Vec<PeImport<'a>>>
     ensures value { let items = all_of (imports_left T.format imports.entry) in
         AnswersOrMemory import_views result (option_map (map import_said) items)
@@ -183,20 +187,23 @@ fn records_of<'a, 'm, 'e, T: Bitfield<'a>>(
     ensures grown { OnErr result (0 < length (imports_left T.format imports.entry)) }
     ensures begun { IfErr result
         (λ e. IsMemory e → IsBegun (imports_left T.format imports.entry)) }
+    ensures left { OnOk result (map_of finder.new ≡ map_of imports.entry.walk.finder) }
 {
     let mut records = Vec::new(alloc);
     'libraries: while let Some(import) = imports.next() {
         push_import(&mut records, bytes, &import?)?;
         push_here(&mut records, bytes, &mut imports);
     }
+    *finder = imports.finder();
     Ok(records)
 }
 
-// The records of the imports of a file.
+// The records of the imports of a file; the finder is left where the imports end.
 fn file_records_of<'a, 'm, 'e>(
     alloc: Global,
     bytes: &'a [u8],
     imports: FileImports<'a, 'm, 'e>,
+    finder: &mut Finder<'m>,
 ) -> ResultOf<'e, Vec<PeImport<'a>>>
     ensures value { let items = all_of (file_imports_left imports.entry) in
         AnswersOrMemory import_views result (option_map (map import_said) items)
@@ -204,16 +211,22 @@ fn file_records_of<'a, 'm, 'e>(
     ensures none { IfOk result HasLittleRoom }
     ensures grown { OnErr result (0 < length (file_imports_left imports.entry)) }
     ensures begun { IfErr result (λ e. IsMemory e → IsBegun (file_imports_left imports.entry)) }
+    ensures left { OnOk result (map_of finder.new ≡ file_map imports.entry) }
 {
     match imports {
-        FileImports::Narrow(imports) => records_of(alloc, bytes, imports),
-        FileImports::Wide(imports) => records_of(alloc, bytes, imports),
+        FileImports::Narrow(imports) => records_of(alloc, bytes, imports, finder),
+        FileImports::Wide(imports) => records_of(alloc, bytes, imports, finder),
     }
 }
 
 // The records of a file's imports.
 #[tactic(auto, unfolding(goblin_pe::specs::Whole::part_map))]
-fn listed_records<'a>(alloc: Global, layout: &Layout<'a, '_>) -> Result<Part<Vec<PeImport<'a>>>>
+fn listed_records<'a, 'm>(
+    alloc: Global,
+    layout: &'m Layout<'a, '_>,
+    finder: &mut Finder<'m>,
+) -> Result<Part<Vec<PeImport<'a>>>>
+    requires { map_of finder.old ≡ layout_map layout.now }
     ensures value { let m = layout_map layout.now in
         ReadsOrMemory (part_map import_views) result
         (mapped (part_map (map import_said)) (import_list m.opts (offset_of m) (layout_places layout.now)))
@@ -227,20 +240,27 @@ fn listed_records<'a>(alloc: Global, layout: &Layout<'a, '_>) -> Result<Part<Vec
     ensures begun { let m = layout_map layout.now in
         IfErr result
         (λ e. IsMemory e → ImportsBegin m (layout_places layout.now) layout.now.bytes.now) }
+    ensures left { OnOk result (map_of finder.new ≡ layout_map layout.now) }
 {
     match layout.imports()? {
         Part::Absent => Ok(Part::Absent),
         Part::Read(imports) => {
-            let records = file_records_of(alloc, layout.bytes(), imports)?;
+            let records = file_records_of(alloc, layout.bytes(), imports, finder)?;
             Ok(Part::Read(records))
         }
         Part::Refused => Ok(Part::Refused),
     }
 }
 
-/// The records of a file's imports, in the order of the libraries and of their entries.
+/// The records of a file's imports, in the order of the libraries and of their entries. The finder is
+/// left where they end.
 #[tactic(auto, using(goblin_pe::proofs::ImportParts::list_collected, crate::proofs::Growth::parts_entries))]
-pub fn import_records<'a>(alloc: Global, layout: &Layout<'a, '_>) -> Result<Part<Vec<PeImport<'a>>>>
+pub fn import_records<'a, 'm>(
+    alloc: Global,
+    layout: &'m Layout<'a, '_>,
+    finder: &mut Finder<'m>,
+) -> Result<Part<Vec<PeImport<'a>>>>
+    requires { map_of finder.old ≡ layout_map layout.now }
     ensures value { let m = layout_map layout.now in
         ReadsOrMemory (part_map import_views) result
         (mapped (collected_imports import_said)
@@ -253,6 +273,7 @@ pub fn import_records<'a>(alloc: Global, layout: &Layout<'a, '_>) -> Result<Part
     ensures begun { let m = layout_map layout.now in
         IfErr result
         (λ e. IsMemory e → ImportsBegin m (layout_places layout.now) layout.now.bytes.now) }
+    ensures left { OnOk result (map_of finder.new ≡ layout_map layout.now) }
 {
-    listed_records(alloc, layout)
+    listed_records(alloc, layout, finder)
 }

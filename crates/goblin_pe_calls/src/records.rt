@@ -46,8 +46,10 @@ pub fn file_records<'a>(alloc: Global, layout: &Layout<'a, '_>) -> Result<FileRe
         IfErr result
         (λ e. IsMemory e → TablesBegin m (layout_places layout.now) layout.now.bytes.now) }
 {
-    let imports = import_records(alloc, layout)?;
-    let exports = export_records(alloc, layout)?;
+    // Exports often lie beside the imports; what the finder has of these takes no search.
+    let mut finder = layout.finder();
+    let imports = import_records(alloc, layout, &mut finder)?;
+    let exports = export_records(alloc, layout, finder)?;
     let relocations = layout.relocations()?;
     Ok(FileRecords {
         imports,

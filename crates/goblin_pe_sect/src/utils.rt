@@ -274,6 +274,7 @@ pub fn safe_try_name<'a>(
 ///
 /// # Errors
 /// As [`safe_try_name`].
+#[inline(always)]
 #[tactic(auto, unfolding(crate::specs::AddressReadings::name_or_none, crate::specs::AddressReadings::name_at))]
 pub fn safe_name_at<'a, 'e>(
     bytes: &'a [u8],

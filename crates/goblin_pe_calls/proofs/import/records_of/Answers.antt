@@ -1,4 +1,5 @@
-use Rattle.std.proofs.Common.{sym}
+use Rattle.std.proofs.Common.{◌∙◌, ap, sym}
+use Rattle.goblin_pe.specs.Addresses.{map_of}
 use Rattle.std.proofs.lemmas.Result.{err_from_is_err_and}
 use Rattle.goblin_pe_import.specs.ImportWalks.{IsImportsCause, imports_left, walked_value}
 use Rattle.goblin_pe_calls.specs.Imports.{import_said}
@@ -20,8 +21,11 @@ returns-in_err-push_import-clause-begun g c =
 pub libraries-preserved : goal.libraries-preserved
 libraries-preserved g c =
     let one = made-more (imports_left g.T.Bitfield.format) (IsImportsCause g.T.Bitfield.format) import_said c.args.imports _ _ c.libraries.invariant.0 walked_value _ _ c.in-Some.ensures.steps.0 _ c.in_ok-import.was _ (sym c.in_ok-push_import.ensures.value) in
-    let pushed = c.push_here.ensures.pushed in
-    (made-pushed g.T.Bitfield.format _ _ _ _ _ one pushed, c.push_here.ensures.room (c.in_ok-push_import.ensures.room c.libraries.invariant.1))
+    let pushed = c.push_here.ensures.pushed in (
+      made-pushed g.T.Bitfield.format _ _ _ _ _ one pushed,
+      c.push_here.ensures.room (c.in_ok-push_import.ensures.room c.libraries.invariant.1),
+      ap map_of c.push_here.ensures.kept ∙ c.in-Some.ensures.steps.3.1 ∙ c.libraries.invariant.2,
+    )
 
 pub returns-clause-value : goal.returns-clause-value
 returns-clause-value g c =
