@@ -26,7 +26,7 @@ static bool is_opened(size_t *imports, size_t *exports)
 {
     struct goblin_pe_file file;
     struct goblin_pe_directory directories[16];
-    struct goblin_pe_tables tables;
+    struct goblin_pe_tables tables = { 0 };
     if (goblin_pe_open(bytes, length, NULL, &file, directories, 16, &tables).status != GOBLIN_PE_OK)
         return false;
     *imports = tables.import_count;
