@@ -6,8 +6,9 @@ ghost use Rattle.goblin_pe_sect.specs.SectionTable.{section_records, unnamed};
 ghost use Rattle.goblin_base.specs.Answers.{GivesOrMemory};
 ghost use Rattle.goblin_pe_records.specs.Blocked.{HasNoSpareRoom};
 ghost use Rattle.goblin_pe_records.specs.Filled.{Filled, alone};
-ghost use Rattle.goblin_pe_records.specs.Sections.{named_in, real_name_in, section_said};
+ghost use Rattle.goblin_pe_records.specs.Sections.{named_in, real_name_in, section_said, section_view};
 
+use crate::mapping::section_of;
 use goblin_base::Result;
 use goblin_base::read::pread_str;
 use goblin_pe_sect::options::ParseOptions;
@@ -87,15 +88,14 @@ fn section_record<'a>(bytes: &'a [u8], section: &SectionTable) -> PeSection<'a>
 fn name_by_table<'a>(
     place: &mut PeSection<'a>,
     bytes: &'a [u8],
-    section: &SectionTable,
     table: usize,
     opts: &ParseOptions,
 )
-    requires { section_said place.old ≡ alone (unnamed section.now) }
+    requires { section_said place.old ≡ alone (unnamed (section_view place.old)) }
     ensures { section_said place.new
-        ≡ alone (named_in (is_strict opts.now.parse_mode) bytes.now table section.now) }
+        ≡ alone (named_in (is_strict opts.now.parse_mode) bytes.now table (section_view place.old)) }
 {
-    if let Some(name) = name_in_table(bytes, section, table, opts) {
+    if let Some(name) = name_in_table(bytes, &section_of(place), table, opts) {
         place.real_name = name.as_bytes();
         place.has_real_name = true;
     }
@@ -117,7 +117,7 @@ fn name_record<'a>(
         ≡ alone (named_in (is_strict opts.now.parse_mode) bytes.now table section.now) }
 {
     if section.name[0] == b'/' {
-        name_by_table(place, bytes, section, table, opts);
+        name_by_table(place, bytes, table, opts);
     }
 }
 

@@ -41,9 +41,13 @@ WalksFew opts (Walked records file_alignment) =
     HasPieces opts file_alignment → ¬ AreMany (length (section_records records))
 WalksFew opts (Indexed index) = ⊤
 
+-- the map of addresses by these options and windows
+abbrev pub map_with : ParseOptions → Windows → MapOfAddresses
+map_with opts windows = record { opts = opts; offset = offset_by_windows opts windows }
+
 -- the map that a reader was given
 abbrev pub map_of : AddressMap → MapOfAddresses
-map_of map = record { opts = map.opts; offset = offset_by_windows map.opts map.windows }
+map_of map = map_with map.opts map.windows
 
 -- such a map keeps nothing but its options and what finds the windows: maps that have the same are
 -- the same

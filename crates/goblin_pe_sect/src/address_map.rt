@@ -5,11 +5,10 @@ ghost use Rattle.goblin_base.specs.Answers.{GivesOrMemory, IsMemory};
 ghost use Rattle.goblin_pe_sect.specs.Mapping.{file_offset};
 ghost use Rattle.goblin_base.specs.declared.permissive.ParseMode.TheVariants.{Permissive};
 ghost use Rattle.goblin_pe_sect.specs.Addresses.{AreMany, KeepsWindowsAlone, TakesMap, WalksFew};
-ghost use Rattle.goblin_pe_sect.specs.Addresses.{map_by, map_of, offset_of, strict_map};
+ghost use Rattle.goblin_pe_sect.specs.Addresses.{map_by, map_of, map_with, offset_of, strict_map};
 ghost use Rattle.goblin_pe_sect.specs.Runs.{IsRun};
 ghost use Rattle.goblin_pe_sect.specs.SectionTable.{section_records};
 ghost use Rattle.goblin_pe_sect.specs.WindowIndex.{HasPieces, located};
-ghost use Rattle.goblin_pe_sect.specs.declared.address_map.Windows.TheVariants.{Walked};
 
 use crate::options::{ParseMode, ParseOptions};
 use crate::section_table::{SectionRecords, SectionTable};
@@ -30,7 +29,7 @@ const FEW: usize = 96;
 // What addresses are mapped by.
 #[derive(Drop)]
 pub(crate) enum Windows<'s> {
-    // The records of few sections, and the file alignment.
+    // The records of the sections, which are few or have no windows, and the file alignment.
     Walked(SectionRecords<'s>, u32),
     // The index of the sections' windows.
     Indexed(WindowIndex),
@@ -77,6 +76,31 @@ fn listed<'e>(alloc: Global, records: SectionRecords) -> ResultOf<'e, Vec<Sectio
     Ok(sections)
 }
 
+impl<'s> Windows<'s> {
+    // What finds the windows of many records: an index; where the options or the alignment leave none
+    // to be found, the records.
+    #[inline(never)]
+    #[tactic(auto, using(crate::proofs::AddressMaps::same_map))]
+    fn of_many<'e>(
+        alloc: Global,
+        records: SectionRecords<'s>,
+        file_alignment: u32,
+        opts: &ParseOptions,
+    ) -> ResultOf<'e, Windows<'s>>
+        ensures made { GivesOrMemory (map_with opts.now) result
+            (map_by opts.now (section_records records.entry) file_alignment) }
+        ensures few { IfOk result (WalksFew opts.now) }
+        ensures grown { IfErr result (λ e. HasPieces opts.now file_alignment) }
+    {
+        if !opts.resolve_rva || !file_alignment.is_power_of_two() {
+            return Ok(Windows::Walked(records, file_alignment));
+        }
+        let sections = listed(alloc, records)?;
+        let index = index_of(alloc, &sections, file_alignment, opts)?;
+        Ok(Windows::Indexed(index))
+    }
+}
+
 impl<'s> AddressMap<'s> {
     /// Prepares the index of the sections' windows. No memory is taken where there are no sections,
     /// `opts` says that addresses are offsets or `file_alignment` is not a power of two.
@@ -94,7 +118,6 @@ impl<'s> AddressMap<'s> {
         ensures made { GivesOrMemory map_of result
             (map_by opts.now sections.now file_alignment) }
         ensures grown { IfErr result (λ e. TakesMap opts.now sections.now file_alignment) }
-        ensures few { IfOk result (λ m. WalksFew m.opts m.windows) }
         ensures whole { KeepsWindowsAlone }
     {
         let index = index_of(alloc, sections, file_alignment, opts)?;
@@ -102,42 +125,6 @@ impl<'s> AddressMap<'s> {
             opts: *opts,
             windows: Windows::Indexed(index),
         })
-    }
-
-    // By a walk over these records.
-    #[inline(always)]
-    fn walked(
-        records: SectionRecords<'s>,
-        file_alignment: u32,
-        opts: &ParseOptions,
-    ) -> AddressMap<'s>
-        ensures options { result.opts ≡ opts.now }
-        ensures windows { result.windows ≡ Walked records.entry file_alignment }
-    {
-        AddressMap {
-            opts: *opts,
-            windows: Windows::Walked(records, file_alignment),
-        }
-    }
-
-    // By an index of the windows of these records, if they have any.
-    #[inline(never)]
-    fn of_many<'e>(
-        alloc: Global,
-        records: SectionRecords<'s>,
-        file_alignment: u32,
-        opts: &ParseOptions,
-    ) -> ResultOf<'e, AddressMap<'s>>
-        ensures made { GivesOrMemory map_of result
-            (map_by opts.now (section_records records.entry) file_alignment) }
-        ensures few { IfOk result (λ m. WalksFew m.opts m.windows) }
-        ensures grown { IfErr result (λ e. HasPieces opts.now file_alignment) }
-    {
-        if !opts.resolve_rva || !file_alignment.is_power_of_two() {
-            return Ok(AddressMap::walked(records, file_alignment, opts));
-        }
-        let sections = listed(alloc, records)?;
-        AddressMap::prepare(alloc, &sections, file_alignment, opts)
     }
 
     /// Prepares the map by the sections of these records. At most 96, which is as many as Windows
@@ -160,10 +147,15 @@ impl<'s> AddressMap<'s> {
         ensures grown { let count = length (section_records records.entry) in
             IfErr result (λ e. HasPieces opts.now file_alignment × AreMany count) }
     {
-        if FEW < records.len() {
-            return AddressMap::of_many(alloc, records, file_alignment, opts);
-        }
-        Ok(AddressMap::walked(records, file_alignment, opts))
+        let windows = if FEW < records.len() {
+            Windows::of_many(alloc, records, file_alignment, opts)?
+        } else {
+            Windows::Walked(records, file_alignment)
+        };
+        Ok(AddressMap {
+            opts: *opts,
+            windows,
+        })
     }
 
     /// The same map, by which damaged parts are refused and not passed over.

@@ -315,7 +315,8 @@ impl DataDirectories {
     /// Reads `count` entries, which follow one another from `offset` on, in place of these, so that
     /// the entries, which are large, are not moved. There must be at most sixteen, all inside
     /// `bytes`: [`DataDirectories::test`] tests that.
-    #[inline(always)]
+    // (Out of line its pointers stay in registers, which a caller has none left for.)
+    #[inline(never)]
     #[tactic(auto, using(crate::proofs::DirectoryReadings::no_entries))]
     pub fn read(&mut self, bytes: &[u8], count: usize, offset: usize)
         requires few { count ≤ 16 }
