@@ -21,12 +21,13 @@ static bool are_mapped(const struct goblin_pe_image *image, size_t rva)
     struct goblin_pe_text found = { bytes, 77 };
     size_t offset = 7;
     if (!goblin_pe_find_offset(image, rva, &offset))
-        return offset == 7 && !goblin_pe_bytes_at(image, rva, 0, &found) && found.length == 77;
+        return offset == 7 && goblin_pe_bytes_at(image, rva, 0, &found).cause == GOBLIN_PE_CAUSE_UNMAPPED &&
+               found.length == 77;
     if (offset >= length)
-        return !goblin_pe_bytes_at(image, rva, 1, &found) && found.length == 77;
-    return !goblin_pe_bytes_at(image, rva, length - offset + 1, &found) && found.length == 77 &&
-           goblin_pe_bytes_at(image, rva, length - offset, &found) && found.bytes == bytes + offset &&
-           found.length == length - offset;
+        return goblin_pe_bytes_at(image, rva, 1, &found).cause == GOBLIN_PE_READ_FAULT_BAD_OFFSET && found.length == 77;
+    return goblin_pe_bytes_at(image, rva, length - offset + 1, &found).cause == GOBLIN_PE_READ_FAULT_TOO_BIG &&
+           found.length == 77 && goblin_pe_bytes_at(image, rva, length - offset, &found).status == GOBLIN_PE_OK &&
+           found.bytes == bytes + offset && found.length == length - offset;
 }
 
 /* Whether the first auxiliary record of a symbol is one of any kind. */
@@ -78,13 +79,14 @@ static bool has_relocations(const struct goblin_pe_section *section)
 static bool is_object(void)
 {
     static struct goblin_pe_section sections[100];
+    const struct goblin_pe_image whole = { .bytes = { bytes, length } };
     struct goblin_pe_object object;
     struct goblin_pe_section_data data;
     if (goblin_pe_read_object(bytes, length, NULL, &object, sections, 100).status != GOBLIN_PE_OK)
         return false;
     for (size_t i = 0; i < object.sections && i < 100; i++)
         if (!has_relocations(&sections[i]) ||
-            goblin_pe_section_data(bytes, length, &sections[i], &data).status != GOBLIN_PE_OK ||
+            goblin_pe_section_data(&whole, &sections[i], &data).status != GOBLIN_PE_OK ||
             !is_in_file(data.bytes) || !is_in_file(sections[i].real_name))
             return false;
     return object.sections == object.coff_header.number_of_sections && has_symbols(&object.coff_header);
@@ -114,8 +116,8 @@ static bool is_image(void)
     for (size_t i = 0; i < tables.import_count; i++) {
         const struct goblin_pe_import *x = &tables.imports[i];
         struct goblin_pe_text name;
-        is_right &= !x->is_by_name || (goblin_pe_text_at(&image, x->rva + 2, &name) && name.bytes == x->name.bytes &&
-                                       name.length == x->name.length);
+        is_right &= !x->is_by_name || (goblin_pe_text_at(&image, x->rva + 2, &name).status == GOBLIN_PE_OK &&
+                                       name.bytes == x->name.bytes && name.length == x->name.length);
     }
     goblin_pe_free(&tables);
     return is_right;

@@ -970,11 +970,13 @@ bool goblin_pe_raw_aux_file(const uint8_t *bytes, size_t length, struct goblin_p
 struct goblin_pe_fault goblin_pe_raw_read_relocations(
     const uint8_t *bytes, size_t length, const struct goblin_pe_section *section,
     struct goblin_pe_relocation *relocations, size_t room, size_t *count);
-struct goblin_pe_fault goblin_pe_raw_section_data(
-    const uint8_t *bytes, size_t length, const struct goblin_pe_section *section, struct goblin_pe_section_data *data);
 bool goblin_pe_raw_find_offset(const struct goblin_pe_image *image, size_t rva, size_t *offset);
-bool goblin_pe_raw_text_at(const struct goblin_pe_image *image, size_t rva, struct goblin_pe_text *text);
-bool goblin_pe_raw_bytes_at(const struct goblin_pe_image *image, size_t rva, size_t size, struct goblin_pe_text *bytes);
+struct goblin_pe_fault goblin_pe_raw_text_at(
+    const struct goblin_pe_image *image, size_t rva, struct goblin_pe_text *text);
+struct goblin_pe_fault goblin_pe_raw_bytes_at(
+    const struct goblin_pe_image *image, size_t rva, size_t size, struct goblin_pe_text *bytes);
+struct goblin_pe_fault goblin_pe_raw_section_data(
+    const struct goblin_pe_image *image, const struct goblin_pe_section *section, struct goblin_pe_section_data *data);
 struct goblin_pe_fault goblin_pe_raw_write_header(
     const struct goblin_pe_file *file, const struct goblin_pe_directory *directories, size_t directory_count,
     const uint8_t *stub, size_t stub_length, uint8_t *out, size_t room, size_t *written);
@@ -1197,17 +1199,6 @@ static inline struct goblin_pe_fault goblin_pe_read_relocations(
         GOBLIN_PE_BYTES(bytes), length, &sound, GOBLIN_PE_SOME(struct goblin_pe_relocation, relocations), room, count);
 }
 
-/* The data of a section: its bytes in the file, from its raw pointer as stored, and how many zeros follow
-   them up to the size in memory; none where the file has at least as many bytes, which are not cut then.
-   Refused is a file that is too short for it, and one in which it begins past the end, even where it has no
-   bytes. No memory is taken. */
-static inline struct goblin_pe_fault goblin_pe_section_data(
-    const uint8_t *bytes, size_t length, const struct goblin_pe_section *section, struct goblin_pe_section_data *data)
-{
-    struct goblin_pe_section sound = goblin_pe_sound_section(section);
-    return goblin_pe_raw_section_data(GOBLIN_PE_BYTES(bytes), length, &sound, data);
-}
-
 /* What maps the addresses of an image that was opened. */
 static inline struct goblin_pe_image goblin_pe_image_of(
     const uint8_t *bytes, size_t length, const struct goblin_pe_options *options, const struct goblin_pe_file *file,
@@ -1232,21 +1223,37 @@ static inline bool goblin_pe_find_offset(const struct goblin_pe_image *image, si
     return goblin_pe_raw_find_offset(&sound, rva, offset);
 }
 
-/* The text at an address, up to its NUL or the end of the file, and whether there is one: the address has an
-   offset in the file, and UTF-8 stands there. */
-static inline bool goblin_pe_text_at(const struct goblin_pe_image *image, size_t rva, struct goblin_pe_text *text)
+/* The text at an address, up to its NUL or the end of the file. Refused are an address without an offset in
+   the file, an offset at or past the file's end, and bytes that are not UTF-8; `text` is unchanged then. No
+   memory is taken. */
+static inline struct goblin_pe_fault goblin_pe_text_at(
+    const struct goblin_pe_image *image, size_t rva, struct goblin_pe_text *text)
 {
     struct goblin_pe_image sound = goblin_pe_sound_image(image);
     return goblin_pe_raw_text_at(&sound, rva, text);
 }
 
-/* So many bytes at an address, and whether there are as many: the address has an offset in the file, and
-   none of them passes the file's end. The end of a section is not looked at. */
-static inline bool goblin_pe_bytes_at(
+/* So many bytes at an address. Refused are an address without an offset in the file, an offset at or past
+   the file's end, even if no bytes are asked for, and bytes that pass that end; `bytes` is unchanged then. The
+   end of a section is not looked at. No memory is taken. */
+static inline struct goblin_pe_fault goblin_pe_bytes_at(
     const struct goblin_pe_image *image, size_t rva, size_t size, struct goblin_pe_text *bytes)
 {
     struct goblin_pe_image sound = goblin_pe_sound_image(image);
     return goblin_pe_raw_bytes_at(&sound, rva, size, bytes);
+}
+
+/* The data of a section: its bytes in the file, from its raw pointer, as stored or rounded down to 512 as the
+   image's options say, and how many zeros follow them up to the size in memory; none where the file has at
+   least as many bytes, which are not cut then. Of the image only the bytes and the options are looked at, so
+   for an object one with its bytes and else zeros will do. Refused is a file that is too short for it, and one
+   in which it begins past the end, even where it has no bytes; `data` is unchanged then. No memory is taken. */
+static inline struct goblin_pe_fault goblin_pe_section_data(
+    const struct goblin_pe_image *image, const struct goblin_pe_section *section, struct goblin_pe_section_data *data)
+{
+    struct goblin_pe_image sound = goblin_pe_sound_image(image);
+    struct goblin_pe_section sound_section = goblin_pe_sound_section(section);
+    return goblin_pe_raw_section_data(&sound, &sound_section, data);
 }
 
 /* Writes the header of an image to the front of `out`, and says in `written` how many bytes it has: the DOS

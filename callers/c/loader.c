@@ -108,7 +108,7 @@ static int map(struct module *m)
     for (size_t i = 0; i < m->tables.section_count; i++) {
         const struct goblin_pe_section *s = &m->tables.sections[i];
         struct goblin_pe_section_data data;
-        struct goblin_pe_fault fault = goblin_pe_section_data(m->bytes, m->length, s, &data);
+        struct goblin_pe_fault fault = goblin_pe_section_data(&m->image, s, &data);
         if (fault.status != GOBLIN_PE_OK)
             return refused(m, fault);
         size_t end = m->size - (s->virtual_address < m->size ? s->virtual_address : m->size);
@@ -246,7 +246,8 @@ static bool find(struct wanted wanted, const struct module *libraries, size_t co
             *address = library->base + found->rva;
             return true;
         }
-        if (!goblin_pe_text_at(&library->image, found->rva, &text) || !forwarded_to(text, &wanted))
+        if (goblin_pe_text_at(&library->image, found->rva, &text).status != GOBLIN_PE_OK ||
+            !forwarded_to(text, &wanted))
             return puts(": its forwarder can't be read"), false;
         if (forwarders == MOST_FORWARDERS)
             return puts(": too many forwarders"), false;

@@ -23,9 +23,10 @@ static bool is_export_in_file(const struct goblin_pe_export *x)
 
 static bool is_section_in_file(const struct goblin_pe_section *s)
 {
+    const struct goblin_pe_image whole = { .bytes = { bytes, length } };
     struct goblin_pe_section_data data;
     return is_in_file(s->real_name) &&
-           (goblin_pe_section_data(bytes, length, s, &data).status != GOBLIN_PE_OK || is_in_file(data.bytes));
+           (goblin_pe_section_data(&whole, s, &data).status != GOBLIN_PE_OK || is_in_file(data.bytes));
 }
 
 static bool are_in_file(const struct goblin_pe_tables *tables)

@@ -51,7 +51,7 @@ from .numbers import Cause, Counted, DirectoryType, Kind, ReadFault, State, Stat
 from .records import (AuxBeginAndEndFunction, AuxFunctionDefinition, AuxSectionDefinition, AuxWeakExternal, CoffHeader, DataDirectory,
                       DosHeader, ExportDirectoryTable, OptionalHeader, Relocation, RichMetadata, StandardFields, TeHeader, WindowsFields)
 from .rows import (Block, Export, ExportAddress, ExportDirectory, Import, Range, RichHeader, Rows as _Rows, Section, SectionData,
-                   Symbol, record_of as _section_record, room as _room)
+                   Symbol, data_of as _data_of, record_of as _section_record, room as _room)
 
 __all__ = ["Pe", "ObjectFile", "Te", "Options", "Refused", "Damage", "Data", "kind", "DosHeader", "CoffHeader", "OptionalHeader",
            "StandardFields", "WindowsFields", "DataDirectory", "RichHeader", "RichMetadata", "TeHeader", "ExportDirectoryTable", "Section",
@@ -253,23 +253,21 @@ class Pe:
         there."""
         text = records.Text()
         with memoryview(self._bytes()) as view, _held(view) as (calls, address, length), view.cast("B") as in_bytes:
-            is_there = calls.goblin_pe_raw_text_at(c.byref(self._image(address, length)), _size(rva), c.byref(text))
-            return _Rows(in_bytes, address).text(text) if is_there else None
+            refused = calls.goblin_pe_raw_text_at(c.byref(self._image(address, length)), _size(rva), c.byref(text)).status
+            return None if refused else _Rows(in_bytes, address).text(text)
 
     def bytes_at(self, rva: int, size: int) -> Optional[bytes]:
         """So many bytes at an address: None where the address has no offset in the file, or the bytes pass its end."""
         text = records.Text()
         with memoryview(self._bytes()) as view, _held(view) as (calls, address, length), view.cast("B") as in_bytes:
             image = self._image(address, length)
-            is_there = calls.goblin_pe_raw_bytes_at(c.byref(image), _size(rva), _size(size), c.byref(text))
-            return _Rows(in_bytes, address).text(text) if is_there else None
+            refused = calls.goblin_pe_raw_bytes_at(c.byref(image), _size(rva), _size(size), c.byref(text)).status
+            return None if refused else _Rows(in_bytes, address).text(text)
 
     def section_data(self, section: Section) -> SectionData:
         """The data of one of its sections, and how many zeros follow it in memory. It begins where find_offset has the
         section's address: at the raw pointer, which the options may round down to 512."""
-        if self._options.rounds_raw_pointers:
-            section = section._replace(pointer_to_raw_data=section.pointer_to_raw_data & ~0x1FF)
-        return section.data(self._bytes())
+        return _data_of(section, self._bytes(), self._options)
 
     def walk_imports(self) -> Iterator[Import]:
         """The imports one by one, of which none is kept: also where the options left them out. In strict mode Refused is

@@ -49,10 +49,7 @@ class Section(NamedTuple):
     def data(self, file: Data) -> SectionData:
         """Its data in the file: the bytes from the raw pointer as stored, and how many zeros follow them in memory. Refused is
         raised where the bytes pass the file, and where they begin past its end, even if there are none."""
-        found = records.SectionData()
-        with memoryview(file) as view, held(view) as (calls, address, length), view.cast("B") as in_bytes:
-            test(calls.goblin_pe_raw_section_data(address, length, c.byref(record_of(self)), c.byref(found)))
-            return SectionData(Rows(in_bytes, address).text(found.bytes), found.zeros)
+        return data_of(self, file, records.Options())
 
     def relocations(self, file: Data) -> List[Relocation]:
         """Its relocations in the object. Refused is raised where the file is too short for them, and where they begin at or
@@ -171,6 +168,15 @@ def record_of(s: Section) -> records.Section:
     record = records.Section(_NO_TEXT, tuple(s.raw_name.ljust(8, b"\0")), *s[1:-1], False)
     records.test_widths(s[1:-1], _NUMBERS(record))
     return record
+
+
+def data_of(s: Section, file: Data, options: records.Options) -> SectionData:
+    """The data of a section in the file, from where the options have its raw pointer."""
+    found = records.SectionData()
+    with memoryview(file) as view, held(view) as (calls, address, length), view.cast("B") as in_bytes:
+        image = records.Image(records.Text(address, length), records.NOWHERE, 0, 0, options)
+        test(calls.goblin_pe_raw_section_data(c.byref(image), c.byref(record_of(s)), c.byref(found)))
+        return SectionData(Rows(in_bytes, address).text(found.bytes), found.zeros)
 
 
 def room(kind: Any, count: int) -> Any:

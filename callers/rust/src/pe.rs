@@ -238,11 +238,7 @@ impl<'a> Pe<'a> {
     /// # Ok::<(), goblin_pe::Error>(())
     /// ```
     pub fn section_data(&self, section: &Section) -> Result<(&'a [u8], usize), Error> {
-        let mut section = *section;
-        if self.options.rounds_raw_pointers {
-            section.pointer_to_raw_data &= !0x1FF;
-        }
-        section.data(self.bytes)
+        section.data_in(&self.image())
     }
 
     fn section_records(&self) -> &[raw::Section<'a>] {
@@ -363,7 +359,7 @@ impl<'a> Pe<'a> {
     /// # let bytes = [];
     /// let pe = Pe::read(&bytes, &Options::default())?;
     /// if let Some(found) = pe.find_export_by_ordinal(115).filter(|it| it.forwards) {
-    ///     println!("see {}", pe.text_at(found.rva as usize).unwrap_or_default());
+    ///     println!("see {}", pe.text_at(found.rva as usize)?);
     /// }
     /// # Ok::<(), goblin_pe::Error>(())
     /// ```
@@ -485,35 +481,45 @@ impl<'a> Pe<'a> {
         raw::find_offset(&self.image(), rva)
     }
 
-    /// The text at an address, up to its NUL; `None` where the address has no offset in the file, or no
-    /// UTF-8 stands there.
+    /// The text at an address, up to its NUL.
+    ///
+    /// # Errors
+    /// Where the address has no offset in the file, this lies past the file's end, or no UTF-8 stands
+    /// there.
     ///
     /// ```no_run
     /// # use goblin_pe::{Options, Pe};
     /// # let bytes = [];
     /// let pe = Pe::read(&bytes, &Options::default())?;
     /// for import in pe.imports().filter(|import| import.rva != 0) {
-    ///     assert_eq!(pe.text_at(import.rva + 2), import.name.name());
+    ///     assert_eq!(Some(pe.text_at(import.rva + 2)?), import.name.name());
     /// }
     /// # Ok::<(), goblin_pe::Error>(())
     /// ```
-    pub fn text_at(&self, rva: usize) -> Option<Text<'a>> {
-        raw::text_at(&self.image(), rva).map(Text)
+    pub fn text_at(&self, rva: usize) -> Result<Text<'a>, Error> {
+        let mut text = raw::Slice::EMPTY;
+        Error::test(raw::text_at(&self.image(), rva, &mut text))?;
+        Ok(Text(text.get()))
     }
 
-    /// So many bytes at an address; `None` where the address has no offset in the file, or the bytes pass
-    /// the file's end.
+    /// So many bytes at an address.
+    ///
+    /// # Errors
+    /// Where the address has no offset in the file, this lies past the file's end, or the bytes pass
+    /// it.
     ///
     /// ```no_run
     /// # use goblin_pe::{DirectoryType, Options, Pe};
     /// # let bytes = [];
     /// let pe = Pe::read(&bytes, &Options::default())?;
     /// let debug = pe.data_directory(DirectoryType::DebugTable);
-    /// let data = debug.and_then(|it| pe.bytes_at(it.virtual_address as usize, it.size as usize));
+    /// let data = debug.map(|it| pe.bytes_at(it.virtual_address as usize, it.size as usize)).transpose()?;
     /// # Ok::<(), goblin_pe::Error>(())
     /// ```
-    pub fn bytes_at(&self, rva: usize, size: usize) -> Option<&'a [u8]> {
-        raw::bytes_at(&self.image(), rva, size)
+    pub fn bytes_at(&self, rva: usize, size: usize) -> Result<&'a [u8], Error> {
+        let mut bytes = raw::Slice::EMPTY;
+        Error::test(raw::bytes_at(&self.image(), rva, size, &mut bytes))?;
+        Ok(bytes.get())
     }
 
     fn image(&self) -> raw::Image<'_, 'a> {

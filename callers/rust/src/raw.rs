@@ -1031,6 +1031,18 @@ pub struct Image<'p, 'a> {
     pub options: Options,
 }
 
+impl<'a> Image<'_, 'a> {
+    /// The file alone, by the default options.
+    pub fn of(bytes: &'a [u8]) -> Self {
+        Image {
+            bytes: Slice::from(bytes),
+            sections: Shared::from(&[][..]),
+            file_alignment: 0,
+            options: Options::default(),
+        }
+    }
+}
+
 unsafe extern "C" {
     fn malloc(size: usize) -> *mut std::ffi::c_void;
     fn free(block: *mut std::ffi::c_void);
@@ -1145,23 +1157,26 @@ unsafe extern "C" {
         count: &mut usize,
     ) -> Fault;
 
-    fn goblin_pe_raw_section_data<'a>(
-        bytes: *const u8,
-        length: usize,
-        section: &Section<'_>,
-        data: &mut SectionData<'a>,
-    ) -> Fault;
-
     fn goblin_pe_raw_find_offset(image: &Image<'_, '_>, rva: usize, offset: &mut usize) -> bool;
 
-    fn goblin_pe_raw_text_at<'a>(image: &Image<'_, 'a>, rva: usize, text: &mut Slice<'a>) -> bool;
+    fn goblin_pe_raw_text_at<'a>(
+        image: &Image<'_, 'a>,
+        rva: usize,
+        text: &mut Slice<'a>,
+    ) -> Fault;
 
     fn goblin_pe_raw_bytes_at<'a>(
         image: &Image<'_, 'a>,
         rva: usize,
         size: usize,
         bytes: &mut Slice<'a>,
-    ) -> bool;
+    ) -> Fault;
+
+    fn goblin_pe_raw_section_data<'a>(
+        image: &Image<'_, 'a>,
+        section: &Section<'_>,
+        data: &mut SectionData<'a>,
+    ) -> Fault;
 
     fn goblin_pe_raw_write_header(
         file: &File,
@@ -1412,17 +1427,6 @@ pub fn read_relocations(
     }
 }
 
-/// The data of a section.
-pub fn section_data<'a>(
-    bytes: &'a [u8],
-    section: &Section<'_>,
-    data: &mut SectionData<'a>,
-) -> Fault {
-    test_interface();
-    // SAFETY: as in `open`.
-    unsafe { goblin_pe_raw_section_data(bytes.as_ptr(), bytes.len(), section, data) }
-}
-
 /// The file offset of an address.
 pub fn find_offset(image: &Image<'_, '_>, rva: usize) -> Option<usize> {
     test_interface();
@@ -1433,21 +1437,33 @@ pub fn find_offset(image: &Image<'_, '_>, rva: usize) -> Option<usize> {
 }
 
 /// The text at an address.
-pub fn text_at<'a>(image: &Image<'_, 'a>, rva: usize) -> Option<&'a [u8]> {
+pub fn text_at<'a>(image: &Image<'_, 'a>, rva: usize, text: &mut Slice<'a>) -> Fault {
     test_interface();
-    let mut text = Slice::EMPTY;
     // SAFETY: as in `open`.
-    let is_there = unsafe { goblin_pe_raw_text_at(image, rva, &mut text) };
-    is_there.then(|| text.get())
+    unsafe { goblin_pe_raw_text_at(image, rva, text) }
 }
 
 /// So many bytes at an address.
-pub fn bytes_at<'a>(image: &Image<'_, 'a>, rva: usize, size: usize) -> Option<&'a [u8]> {
+pub fn bytes_at<'a>(
+    image: &Image<'_, 'a>,
+    rva: usize,
+    size: usize,
+    bytes: &mut Slice<'a>,
+) -> Fault {
     test_interface();
-    let mut bytes = Slice::EMPTY;
     // SAFETY: as in `open`.
-    let is_there = unsafe { goblin_pe_raw_bytes_at(image, rva, size, &mut bytes) };
-    is_there.then(|| bytes.get())
+    unsafe { goblin_pe_raw_bytes_at(image, rva, size, bytes) }
+}
+
+/// The data of a section.
+pub fn section_data<'a>(
+    image: &Image<'_, 'a>,
+    section: &Section<'_>,
+    data: &mut SectionData<'a>,
+) -> Fault {
+    test_interface();
+    // SAFETY: as in `open`.
+    unsafe { goblin_pe_raw_section_data(image, section, data) }
 }
 
 /// Writes a header, and says how many bytes it has.

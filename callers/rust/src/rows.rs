@@ -264,8 +264,13 @@ impl<'a> Section<'a> {
     /// # Ok::<(), goblin_pe::Error>(())
     /// ```
     pub fn data<'b>(&self, bytes: &'b [u8]) -> Result<(&'b [u8], usize), Error> {
+        self.data_in(&raw::Image::of(bytes))
+    }
+
+    /// The same in an image, from where its options say.
+    pub(crate) fn data_in<'b>(&self, image: &raw::Image<'_, 'b>) -> Result<(&'b [u8], usize), Error> {
         let mut data = raw::SectionData::EMPTY;
-        Error::test(raw::section_data(bytes, &self.record(), &mut data))?;
+        Error::test(raw::section_data(image, &self.record(), &mut data))?;
         Ok((data.bytes.get(), data.zeros))
     }
 

@@ -183,10 +183,13 @@ fn what_stands_at_an_address() {
     let bytes = sample("imports_by_name_x64.dll");
     let pe = Pe::read(&bytes, &Options::default()).unwrap();
     let import = pe.imports().next().unwrap();
-    assert_eq!(pe.text_at(import.rva + 2), Some(Text(b"GetTickCount")));
-    assert_eq!(pe.bytes_at(0x1020, 4), Some(&bytes[0x420..0x424]));
-    assert_eq!(pe.bytes_at(0x1020, bytes.len()), None);
-    assert_eq!((pe.text_at(0x9000), pe.bytes_at(0x9000, 1)), (None, None));
+    assert_eq!(pe.text_at(import.rva + 2), Ok(Text(b"GetTickCount")));
+    assert_eq!(pe.bytes_at(0x1020, 4), Ok(&bytes[0x420..0x424]));
+    let past = pe.bytes_at(0x1020, bytes.len()).unwrap_err();
+    assert_eq!(past.read_fault(), Some(ReadFault::TooBig));
+    let unmapped = pe.text_at(0x9000).unwrap_err();
+    assert_eq!(unmapped.named_cause(), Some(Cause::Unmapped));
+    assert_eq!(pe.bytes_at(0x9000, 1), Err(unmapped));
 }
 
 #[test]

@@ -2,19 +2,21 @@
 //! section.
 //!
 //! Addresses are relative to the image's base; offsets are file offsets. Both are in bytes. No call
-//! takes memory, and after one that answers that there is nothing, nothing is changed.
+//! takes memory, and after a refusal nothing is changed.
 
 ghost use Rattle.std.specs.Prelude.{◌≡◌};
+ghost use Rattle.goblin_pe_sect.specs.AddressReadings.{text_at_address};
 ghost use Rattle.goblin_pe_sect.specs.SectionReadings.{section_data};
 ghost use Rattle.goblin_pe_records.specs.Calls.{ReadsWithout, Reported};
 ghost use Rattle.goblin_pe_records.specs.Found.{Puts};
-ghost use Rattle.goblin_pe_records.specs.Images.{image_bytes, image_map, image_text, text_view};
-ghost use Rattle.goblin_pe_records.specs.SectionData.{SaysData};
+ghost use Rattle.goblin_pe_records.specs.Images.{bytes_at_address, image_map, text_view};
+ghost use Rattle.goblin_pe_records.specs.Options.{options_of};
+ghost use Rattle.goblin_pe_records.specs.SectionData.{SaysData, placed};
 ghost use Rattle.goblin_pe_records.specs.Sections.{section_view};
 
 use goblin_pe_records::fault::{PeFault, fault_of, no_fault};
 use goblin_pe_records::found::put_found;
-use goblin_pe_records::image::{PeImage, PeText, text_record};
+use goblin_pe_records::image::{PeImage, PeText};
 use goblin_pe_records::section::PeSection;
 use goblin_pe_records::section_data::{PeSectionData, read_data};
 
@@ -29,56 +31,71 @@ pub extern "C" fn goblin_pe_raw_find_offset(image: &PeImage, rva: usize, offset:
     put_found(offset, image.offset_of(rva))
 }
 
-/// Puts the text at the address `rva` into `text`, and answers whether there is one: the bytes at
-/// its file offset up to a NUL or the end of the file. There is none where the address has no file
-/// offset, this lies at or past the end of the file, or the bytes are not UTF-8.
+/// Reads the text at the address `rva` into `text`: the bytes at its file offset up to a NUL or the
+/// end of the file. It takes no memory.
+///
+/// Refused are an address without a file offset (the status 1, the cause 22, whose number is the
+/// address), and one where there is no text (the status 4): by the cause 1 if the offset lies at or
+/// past the end of the file, by 3 if the bytes are not UTF-8. `text` is then unchanged.
 #[unsafe(no_mangle)]
-#[tactic(auto, using(goblin_pe_records::proofs::Puts::puts_view))]
 pub extern "C" fn goblin_pe_raw_text_at<'a>(
     image: &PeImage<'a>,
     rva: usize,
     text: &mut PeText<'a>,
-) -> bool
-    ensures { Puts text_view result (image_text image.now rva) text.old text.new }
+) -> PeFault
+    ensures { Reported result
+        (ReadsWithout (text_at_address (image_map image.now) rva) image.now.bytes.now
+        (λ whole. text_view text.new ≡ whole) (text.new ≡ text.old)) }
 {
-    put_found(text, text_record(image.text_at(rva)))
+    match image.read_text(rva, text) {
+        Ok(()) => no_fault(),
+        Err(error) => fault_of(&error),
+    }
 }
 
-/// Puts the `size` bytes at the address `rva` into `text`, and answers whether they are there. They
-/// are not where the address has no file offset, this lies at or past the end of the file, or the
-/// file ends before they do. A section's end is not looked at.
+/// Reads the `size` bytes at the address `rva` into `text`. A section's end is not looked at. It
+/// takes no memory.
+///
+/// Refused are an address without a file offset (the status 1, the cause 22, whose number is the
+/// address), and one where the bytes are not there (the status 4): by the cause 1 if the offset lies
+/// at or past the end of the file, else by 2. `text` is then unchanged.
 #[unsafe(no_mangle)]
-#[tactic(auto, using(goblin_pe_records::proofs::Puts::puts_view))]
 pub extern "C" fn goblin_pe_raw_bytes_at<'a>(
     image: &PeImage<'a>,
     rva: usize,
     size: usize,
     text: &mut PeText<'a>,
-) -> bool
-    ensures { Puts text_view result (image_bytes image.now rva size) text.old text.new }
+) -> PeFault
+    ensures { Reported result
+        (ReadsWithout (bytes_at_address (image_map image.now) rva size) image.now.bytes.now
+        (λ whole. text_view text.new ≡ whole) (text.new ≡ text.old)) }
 {
-    put_found(text, image.bytes_at(rva, size))
+    match image.read_bytes(rva, size, text) {
+        Ok(()) => no_fault(),
+        Err(error) => fault_of(&error),
+    }
 }
 
 /// Reads the data of a section in memory: the bytes at its raw pointer, as many as its raw size
 /// says, and how many zeros follow them up to the virtual size. There are none where the raw size
-/// is at least that; the bytes are then not cut. It takes no memory.
+/// is at least that; the bytes are then not cut. The raw pointer is taken as the image's options say,
+/// as stored or rounded down to 512; its sections are not looked at. It takes no memory.
 ///
 /// A read is refused (the status 4) where the bytes run past the end of the file, or begin past it,
 /// even where there are none: by the cause 1 if they begin at or past it, else by 2. `contents` is
 /// then unchanged.
 #[unsafe(no_mangle)]
 pub extern "C" fn goblin_pe_raw_section_data<'a>(
-    bytes: &'a [u8],
+    image: &PeImage<'a>,
     section: &PeSection,
     contents: &mut PeSectionData<'a>,
 ) -> PeFault
-    ensures { let s = section_view section.now in
+    ensures { let s = placed (options_of image.now.options) (section_view section.now) in
         Reported result
-        (ReadsWithout (section_data s) bytes.now (λ whole. SaysData s whole contents.new)
-        (contents.new ≡ contents.old)) }
+        (ReadsWithout (section_data s) image.now.bytes.now
+        (λ whole. SaysData s whole contents.new) (contents.new ≡ contents.old)) }
 {
-    match read_data(bytes, section, contents) {
+    match read_data(image, section, contents) {
         Ok(()) => no_fault(),
         Err(error) => fault_of(&error),
     }

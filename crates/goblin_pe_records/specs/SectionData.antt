@@ -1,7 +1,14 @@
 -- The data of a section, without the zeros that memory has after it.
 use Rattle.std.specs.Prelude.{◌≡◌, ◌-◌, List, ℕ, ◌++◌, replicate}
+use Rattle.goblin_pe_sect.specs.declared.options.ParseOptions.{ParseOptions}
+use Rattle.goblin_pe_sect.specs.Mapping.{raw_begin}
 use Rattle.goblin_pe_sect.specs.SectionTable.{Section}
 use Rattle.goblin_pe_records.specs.declared.section_data.PeSectionData.{PeSectionData}
+
+-- a section whose data begins where its address is mapped to: at its raw pointer by the rule of the
+-- options
+abbrev pub placed : ParseOptions → Section → Section
+placed opts s = record s { pointer_to_raw_data = raw_begin opts s }
 
 -- the data that a record stands for: its bytes, then its zeros
 abbrev pub whole_data : PeSectionData → List ℕ

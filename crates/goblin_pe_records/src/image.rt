@@ -3,12 +3,18 @@
 //! Addresses are relative to the image's base; offsets are file offsets. Both are in bytes.
 
 ghost use Rattle.std.specs.Prelude.{◌≡◌, option_map};
-ghost use Rattle.goblin_pe_records.specs.Images.{image_bytes, image_map, image_text, text_view};
+ghost use Rattle.goblin_base.specs.declared.error.CauseOf.TheVariants.{Unmapped};
+ghost use Rattle.goblin_base.specs.declared.error.ErrorOf.TheVariants.{Malformed};
+ghost use Rattle.goblin_base.specs.Answers.{Answers};
+ghost use Rattle.goblin_pe_sect.specs.AddressReadings.{text_at_address};
+ghost use Rattle.goblin_pe_records.specs.Calls.{ReadsWithout};
+ghost use Rattle.goblin_pe_records.specs.Images.{bytes_at_address, image_map, text_view};
 
 use crate::mapping::offset_by;
 use crate::options::{PeOptions, options_of};
 use crate::section::PeSection;
 use goblin_base::read::{pread_slice, pread_str};
+use goblin_base::{Cause, Error, Result};
 
 /// An image, by what maps its addresses.
 #[repr(C)]
@@ -50,19 +56,43 @@ impl<'a> PeImage<'a> {
         offset_by(rva, self.sections, self.file_alignment, &opts)
     }
 
-    /// The text at an address.
-    #[tactic(auto, unfolding(goblin_pe_sect::specs::AddressReadings::text_at_address))]
-    pub fn text_at(&self, rva: usize) -> Option<&'a str>
-        ensures { option_map (λ s. s.now) result ≡ image_text self.now rva }
+    // The file offset of an address; it is refused where there is none.
+    fn mapped(&self, rva: usize) -> Result<usize>
+        ensures { Answers (λ p. p) result (image_map self.now rva) (λ e. e ≡ Malformed (Unmapped rva)) }
     {
-        pread_str(self.bytes, self.offset_of(rva)?).ok()
+        self.offset_of(rva)
+            .ok_or(Error::Malformed(Cause::Unmapped(rva)))
     }
 
-    /// So many bytes at an address.
-    pub fn bytes_at(&self, rva: usize, size: usize) -> Option<PeText<'a>>
-        ensures { option_map text_view result ≡ image_bytes self.now rva size }
+    /// Reads the text at an address, up to its first NUL or the end of the file.
+    ///
+    /// # Errors
+    /// [`Error::Malformed`] with [`Cause::Unmapped`] if the address has no file offset, and
+    /// [`Error::Read`] if there is no text; nothing is then changed.
+    #[tactic(auto, unfolding(goblin_pe_sect::specs::AddressReadings::text_at_address))]
+    pub fn read_text(&self, rva: usize, text: &mut PeText<'a>) -> Result<()>
+        ensures { ReadsWithout (text_at_address (image_map self.now) rva) self.now.bytes.now
+            (λ whole. text_view text.new ≡ whole) (text.new ≡ text.old) result }
     {
-        let bytes = pread_slice(self.bytes, self.offset_of(rva)?, size).ok()?;
-        Some(PeText { bytes })
+        let offset = self.mapped(rva)?;
+        let found = pread_str(self.bytes, offset)?;
+        *text = PeText {
+            bytes: found.as_bytes(),
+        };
+        Ok(())
+    }
+
+    /// Reads so many bytes at an address.
+    ///
+    /// # Errors
+    /// As [`PeImage::read_text`]; [`Error::Read`] if the file ends before the bytes do.
+    pub fn read_bytes(&self, rva: usize, size: usize, text: &mut PeText<'a>) -> Result<()>
+        ensures { ReadsWithout (bytes_at_address (image_map self.now) rva size) self.now.bytes.now
+            (λ whole. text_view text.new ≡ whole) (text.new ≡ text.old) result }
+    {
+        let offset = self.mapped(rva)?;
+        let bytes = pread_slice(self.bytes, offset, size)?;
+        *text = PeText { bytes };
+        Ok(())
     }
 }

@@ -10,8 +10,7 @@ ghost use Rattle.goblin_pe_records.specs.Relocations.{relocations_of};
 ghost use Rattle.goblin_pe_records.specs.Sections.{section_view};
 
 use crate::filled::put;
-use crate::mapping::section_of;
-use crate::section::PeSection;
+use crate::section::{PeSection, section_of};
 use goblin_base::Result;
 use goblin_pe_sect::relocation::{Relocation, Relocations};
 

@@ -8,7 +8,6 @@ ghost use Rattle.goblin_pe_records.specs.Blocked.{HasNoSpareRoom};
 ghost use Rattle.goblin_pe_records.specs.Filled.{Filled, alone};
 ghost use Rattle.goblin_pe_records.specs.Sections.{named_in, real_name_in, section_said, section_view};
 
-use crate::mapping::section_of;
 use goblin_base::Result;
 use goblin_base::read::pread_str;
 use goblin_pe_sect::options::ParseOptions;
@@ -48,6 +47,25 @@ pub struct PeSection<'a> {
     pub has_real_name: bool,
 }
 
+/// The section of a record, without its name from the string table, which lies in the file.
+pub fn section_of(section: &PeSection) -> SectionTable
+    ensures { result ≡ unnamed (section_view section.now) }
+{
+    SectionTable {
+        name: section.name,
+        real_name: None,
+        virtual_size: section.virtual_size,
+        virtual_address: section.virtual_address,
+        size_of_raw_data: section.size_of_raw_data,
+        pointer_to_raw_data: section.pointer_to_raw_data,
+        pointer_to_relocations: section.pointer_to_relocations,
+        pointer_to_linenumbers: section.pointer_to_linenumbers,
+        number_of_relocations: section.number_of_relocations,
+        number_of_linenumbers: section.number_of_linenumbers,
+        characteristics: section.characteristics,
+    }
+}
+
 // The name of a section from the string table at `table`, by the number in its eight bytes.
 #[tactic(auto, unfolding(crate::specs::Sections::real_name_in))]
 fn name_in_table<'a>(
@@ -83,7 +101,9 @@ fn section_record<'a>(bytes: &'a [u8], section: &SectionTable) -> PeSection<'a>
     }
 }
 
-// Gives the record of a section its name from the string table at `table`, where there is one.
+// Gives the record of a section its name from the string table at `table`, where there is one. (It
+// takes the record alone, since a section of which it took a reference would be stored for each call
+// of `name_record`.)
 #[inline(never)]
 fn name_by_table<'a>(
     place: &mut PeSection<'a>,

@@ -3,12 +3,15 @@
 ghost use Rattle.std.specs.Prelude.{◌≡◌};
 ghost use Rattle.goblin_pe_sect.specs.SectionReadings.{section_data};
 ghost use Rattle.goblin_pe_records.specs.Calls.{ReadsWithout};
-ghost use Rattle.goblin_pe_records.specs.SectionData.{SaysData};
+ghost use Rattle.goblin_pe_records.specs.Options.{options_of};
+ghost use Rattle.goblin_pe_records.specs.SectionData.{SaysData, placed};
 ghost use Rattle.goblin_pe_records.specs.Sections.{section_view};
 
-use crate::mapping::section_of;
-use crate::section::PeSection;
+use crate::image::PeImage;
+use crate::options::options_of;
+use crate::section::{PeSection, section_of};
 use goblin_base::Result;
+use goblin_pe_sect::utils::raw_begin;
 
 /// The data of a section, as it is in memory.
 #[repr(C)]
@@ -20,21 +23,25 @@ pub struct PeSectionData<'a> {
     pub zeros: usize,
 }
 
-/// Reads the data of a section in memory: the bytes that the file has of it, and how many zeros
-/// follow them.
+/// Reads the data of a section of an image in memory: the bytes that the file has of it, and how
+/// many zeros follow them. The bytes begin where the section's address is mapped to: at its raw
+/// pointer, by the rule of the image's options.
 ///
 /// # Errors
 /// Bytes that do not lie in the file; nothing is then changed.
 pub fn read_data<'a>(
-    bytes: &'a [u8],
+    image: &PeImage<'a>,
     section: &PeSection,
     contents: &mut PeSectionData<'a>,
 ) -> Result<()>
-    ensures { let s = section_view section.now in
-        ReadsWithout (section_data s) bytes.now (λ whole. SaysData s whole contents.new)
-        (contents.new ≡ contents.old) result }
+    ensures { let s = placed (options_of image.now.options) (section_view section.now) in
+        ReadsWithout (section_data s) image.now.bytes.now
+        (λ whole. SaysData s whole contents.new) (contents.new ≡ contents.old) result }
 {
-    let raw_data = section_of(section).raw_data(bytes)?;
+    let opts = options_of(&image.options);
+    let mut placed = section_of(section);
+    placed.pointer_to_raw_data = raw_begin(&placed, &opts);
+    let raw_data = placed.raw_data(image.bytes)?;
     let zeros = section
         .virtual_size
         .saturating_sub(section.size_of_raw_data);

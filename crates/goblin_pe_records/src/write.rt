@@ -14,8 +14,7 @@ ghost use Rattle.goblin_pe_records.specs.Written.{header_said, optional_said};
 
 use crate::directory::PeDirectory;
 use crate::file::PeFile;
-use crate::mapping::section_of;
-use crate::section::PeSection;
+use crate::section::{PeSection, section_of};
 use goblin_base::{Endian, Result};
 use goblin_pe_head::header::{DosStub, Header, PE_MAGIC};
 use goblin_pe_head::optional_header::OptionalHeader;

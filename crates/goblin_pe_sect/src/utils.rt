@@ -138,8 +138,11 @@ fn first_in_window(
         .find(|section| is_in_window(rva, section, file_alignment))
 }
 
-// Where the section's raw data begins for the mapping of addresses.
-pub(crate) fn raw_begin(section: &SectionTable, opts: &ParseOptions) -> u32
+/// The file offset at which the section's raw data begins for the mapping of addresses: its raw
+/// pointer, as stored or rounded down to 512 as `opts` says.
+///
+/// Source: none; the rounding is that of the Windows loader.
+pub fn raw_begin(section: &SectionTable, opts: &ParseOptions) -> u32
     ensures { result ≡ raw_begin opts.now section.now }
 {
     let pointer = section.pointer_to_raw_data;
