@@ -1,9 +1,9 @@
 -- Runs of bytes that are ASCII and no NUL.
-use Rattle.std.proofs.Common.{◌≡◌, ℕ, ◌+◌, ◌-◌, ◌<◌, List, length, take, drop, sym, ap, ◌∙◌, arith, inl, inr}
+use Rattle.std.proofs.Common.{◌≡◌, ℕ, ◌+◌, ◌-◌, ◌<◌, List, length, sym, ap, ◌∙◌, arith, inl, inr}
 use Rattle.std.specs.Prelude.{slice_index, slice_range}
 use Rattle.std.proofs.lemmas.Bool.{cases_lt}
-use Rattle.std.proofs.lemmas.List.{get_or-drop, length-drop}
-use Rattle.std.proofs.Math.Seq.{take-length}
+use Rattle.std.proofs.lemmas.List.{get_or-drop}
+use Rattle.goblin_base.proofs.Numbers.{rest_is_drop}
 
 -- the byte is ASCII and no NUL
 abbrev pub IsPlain : ℕ → Type 0
@@ -15,9 +15,7 @@ ArePlain bytes n = (k : ℕ) → k < n → IsPlain (slice_index bytes k)
 
 -- a byte of what is left stands so far after those before it
 pub byte_after : (bytes : List ℕ) (at run : ℕ) → slice_index (slice_range bytes at (length bytes)) run ≡ slice_index bytes (at + run)
-byte_after bytes at run =
-    let all : slice_range bytes at (length bytes) ≡ drop at bytes = ap (λ (n : ℕ). take n (drop at bytes)) (sym (length-drop at bytes)) ∙ take-length (drop at bytes) in
-    ap (λ (s : List ℕ). slice_index s run) all ∙ get_or-drop at bytes run 0
+byte_after bytes at run = ap (λ (s : List ℕ). slice_index s run) (rest_is_drop bytes at) ∙ get_or-drop at bytes run 0
 
 -- a run at the front of what is left extends the run before it
 pub run_after : (bytes : List ℕ) (at run : ℕ) → ArePlain bytes at → ArePlain (slice_range bytes at (length bytes)) run → ArePlain bytes (at + run)

@@ -5,13 +5,14 @@ use Rattle.std.proofs.Common.{Option, Some, None, List, [], ◌++◌, length, ta
 use Rattle.std.proofs.Common.{ap, sym, ◌∙◌, refl, arith, inl, inr}
 use Rattle.std.proofs.lemmas.Bool.{cases_Bool, cases_lt, le-leb, le-ltb, leb-false, leb-true}
 use Rattle.std.proofs.lemmas.Bool.{lt-ltb, ltb-false, ltb-true}
-use Rattle.std.proofs.lemmas.List.{length-drop, map-append, take_all}
+use Rattle.std.proofs.lemmas.List.{length-drop, map-append}
 use Rattle.goblin_base.specs.Bytes.{before_nul}
 use Rattle.goblin_base.specs.Footprints.{Range, led_to, positions, slice_footprint}
 use Rattle.goblin_base.specs.Footprints.{stretch_footprint}
 use Rattle.goblin_base.specs.Parts.{moved_by}
 use Rattle.goblin_base.specs.Tables.{concat_below}
 use Rattle.goblin_base.proofs.Below.{concat_below-next}
+use Rattle.goblin_base.proofs.Numbers.{rest_is_drop}
 use Rattle.goblin_base.proofs.SomeRanges.{some-left, some-right}
 
 -- the positions up to and with the byte after the text, where the file has one
@@ -21,10 +22,8 @@ pub stretch-is : (bytes : List ℕ) (p end : ℕ) (text : List ℕ)
     → positions p end ≡ stretch_footprint bytes p
 unfolding stretch_footprint
 stretch-is bytes p end text is ends =
-    let all : take (length bytes - p) (drop p bytes) ≡ drop p bytes =
-    take_all (length bytes - p) (drop p bytes) (omega (arith, length-drop p bytes)) in
     ap (positions p)
-    (ends ∙ ap (λ (t : List ℕ). min (length bytes) (p + length t + 1)) (is ∙ ap before_nul all))
+    (ends ∙ ap (λ (t : List ℕ). min (length bytes) (p + length t + 1)) (is ∙ ap before_nul (rest_is_drop bytes p)))
 
 -- ---- ranges of a part of the bytes
 

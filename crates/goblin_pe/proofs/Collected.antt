@@ -20,12 +20,6 @@ use Rattle.goblin_pe.specs.Whole.{collected_file, collected_tables}
 use Rattle.goblin_pe.specs.Whole.{offset_by, part_at, part_map, places_in}
 use Rattle.goblin_pe.specs.Whole.{table_parts, whole_of}
 
--- ---- values that something is made of
-
-pub unmapped : {A B : Type 0} (f : A → B) (o : Option A) → option_map f o ≡ None → o ≡ None
-unmapped f None e = refl
-unmapped f (Some x) e = absurd cc
-
 -- ---- parts
 
 -- the part of a table that is not asked for, or not there
@@ -51,13 +45,13 @@ module _ {A B C X Y : Type 0} (a : Reading A) (b : Reading B) (c : Reading C) (f
   all_made = mapped (λ all. ((f all.0.0, g all.0.1), all.1)) (a beside b beside c)
 
   pub first-refused : (e : ErrorOf) → IsRefused bytes (mapped f a) e → IsRefused bytes all_made e
-  first-refused e h = rw (unmapped f (a.value bytes) h.0) (refl, h.1)
+  first-refused e h = rw (steps.unmapped f (a.value bytes) h.0) (refl, h.1)
 
   pub second-refused : (x : X) (e : ErrorOf) → option_map f (a.value bytes) ≡ Some x
       → IsRefused bytes (mapped g b) e → IsRefused bytes all_made e
   second-refused x e made h =
       let m = steps.mapped (a.value bytes) f x made in
-      rw (m.is, unmapped g (b.value bytes) h.0) (refl, h.1)
+      rw (m.is, steps.unmapped g (b.value bytes) h.0) (refl, h.1)
 
   pub third-refused : (x : X) (y : Y) (e : ErrorOf) → option_map f (a.value bytes) ≡ Some x
       → option_map g (b.value bytes) ≡ Some y → IsRefused bytes c e → IsRefused bytes all_made e
@@ -116,4 +110,4 @@ module _ {X Y : Type 0} (import_of : ImportValue → X) (exports_of : Part Expor
         tables_of ≡ None
         → option_map (collected_file import_of exports_of) (option_map (whole_of h sections) tables_of)
         ≡ None
-    file_refused e = rw (unmapped _ tables_of e) refl
+    file_refused e = rw (steps.unmapped _ tables_of e) refl

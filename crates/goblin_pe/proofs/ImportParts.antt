@@ -10,6 +10,7 @@ use Rattle.goblin_base.specs.Reading.{Reading, ReadsOrMemory}
 use Rattle.goblin_base.specs.Tables as tables
 use Rattle.goblin_base.specs.Tables.{Format, ends_table, made_of, slot_at, slot_table, stop}
 use Rattle.goblin_base.proofs.Below.{each_below-there, least-before}
+use Rattle.goblin_base.proofs.Steps.{unmapped}
 use Rattle.readings.specs.Reads.{given, in_its_place, mapped}
 use Rattle.readings.specs.Walks.{IsWalkOf, Walks}
 use Rattle.goblin_pe_sect.specs.declared.data_directories.DataDirectory.{DataDirectory}
@@ -119,10 +120,6 @@ module _ (opts : ParseOptions) (offset_of : ℕ → Option ℕ) (places : TableP
 
 -- ---- the list of imports beside the libraries
 
-unmade : {A B : Type 0} (f : A → B) (o : Option A) → option_map f o ≡ None → o ≡ None
-unmade f None e = refl
-unmade f (Some x) e = absurd cc
-
 same-part : {A : Type 0} (p : Part (List A)) → part_map (map (λ x. x)) p ≡ p
 unfolding part_map
 same-part Absent = refl
@@ -143,7 +140,7 @@ module _ (opts : ParseOptions) (offset_of : ℕ → Option ℕ) (places : TableP
 
   pub list_cause : (e : ErrorOf) → (import_list opts offset_of places).value bytes ≡ None → (import_list opts offset_of places).IsCause bytes e → (import_parts opts offset_of places).IsCause bytes e
   unfolding import_list import_parts
-  list_cause e none fault = rw (unmade _ ((import_part opts offset_of places).value bytes) none) fault
+  list_cause e none fault = rw (unmapped _ ((import_part opts offset_of places).value bytes) none) fault
 
   pub are_listed : AreListed opts offset_of places bytes
   are_listed = record { value = list_value; cause = list_cause }
@@ -158,6 +155,6 @@ list_collected {R} {X} opts offset_of places bytes listed view item (Ok r) h =
     let parts = (import_parts opts offset_of places).value bytes in
     sym (ap (option_map (part_map (map item))) listed.value ∙ items-by item parts) ∙ h
 list_collected opts offset_of places bytes listed view item (Err e) h = λ other.
-    let none = unmade _ ((import_list opts offset_of places).value bytes) (h other).0 in
+    let none = unmapped _ ((import_list opts offset_of places).value bytes) (h other).0 in
     let parts = (import_parts opts offset_of places).value bytes in
     (sym (ap (option_map (part_map (map item))) listed.value ∙ items-by item parts) ∙ (h other).0, listed.cause e none (h other).1)

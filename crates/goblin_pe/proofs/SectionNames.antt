@@ -24,7 +24,6 @@ use Rattle.goblin_pe_head.specs.PeHeader.{PeHeader, header_value}
 use Rattle.goblin_pe.specs.declared.whole.damage.Damage.{Damage}
 use Rattle.goblin_pe.specs.declared.whole.layout.Layout.{Layout}
 use Rattle.goblin_pe_import.proofs.ImportBound.{all_of-length}
-use Rattle.goblin_pe.proofs.Collected.{unmapped}
 use Rattle.goblin_pe.specs.Damages.{IsDamage, IsDamaged, TellsDamage}
 use Rattle.goblin_pe.specs.Layouts.{IsLayoutOf, layout_map, layout_places}
 use Rattle.goblin_pe.specs.SectionRoom.{TakesIndex}
@@ -40,7 +39,7 @@ some_made f (Some a) b made = refl
 pub refused_made : {A B : Type 0} (f : A → B) (reading : Reading A) (bytes : List ℕ) (e : ErrorOf)
     → ((mapped f reading).value bytes ≡ None) × reading.IsCause bytes e
     → (reading.value bytes ≡ None) × reading.IsCause bytes e
-refused_made f reading bytes e refused = (unmapped f (reading.value bytes) refused.0, refused.1)
+refused_made f reading bytes e refused = (steps.unmapped f (reading.value bytes) refused.0, refused.1)
 
 -- a refusal tells the damage
 pub damage_read : {X A : Type 0} (view : X → A) (result : Result X ErrorOf) (reading : Reading A) (bytes : List ℕ)

@@ -6,6 +6,7 @@ use Rattle.std.proofs.lemmas.List.{map-append, map-id}
 use Rattle.goblin_base.specs.declared.error.ErrorOf.{ErrorOf}
 use Rattle.goblin_base.specs.Answers.{all_of}
 use Rattle.goblin_base.specs.Tables.{join}
+use Rattle.goblin_base.proofs.Steps.{unmapped}
 use Rattle.goblin_pe.specs.Walks.{GivesNext}
 use Rattle.readings.proofs.WalkValues.{all_of-append, all_of-made}
 use Rattle.readings.proofs.Walked.{AtWalk, walk-more, walk-start}
@@ -13,10 +14,6 @@ use Rattle.readings.proofs.Walked.{AtWalk, walk-more, walk-start}
 mapped-there : {A : Type 0} (o : Option (List A)) {xs : List A} → option_map (map (λ x. x)) o ≡ Some xs → IsSome o
 mapped-there None is = absurd cc
 mapped-there (Some xs) is = refl
-
-mapped-none : {A B : Type 0} (f : A → B) (o : Option A) → option_map f o ≡ None → o ≡ None
-mapped-none f None is = refl
-mapped-none f (Some x) is = absurd cc
 
 module _ {S A B : Type 0} (left : S → List (Option A)) (IsCause : S → ErrorOf → Type 0) (item : A → B) (start : S) where
   -- the walk that began at `start` is now at `now`, and this was made of the items so far
@@ -85,4 +82,4 @@ module _ {S A : Type 0} (left : S → List (Option A)) (IsCause : S → ErrorOf 
     pub walked-fault : (r : Result X ErrorOf) → GivesNext view left IsCause now (Some r) next → (e : ErrorOf) → r ≡ Err e → (all_of (left start) ≡ None) × IsCause start e
     walked-fault r given e is =
         let fault = made-fault left IsCause (λ x. x) start now h.items so_far view next r given e is in
-        (mapped-none (map (λ x. x)) (all_of (left start)) fault.0, fault.1)
+        (unmapped (map (λ x. x)) (all_of (left start)) fault.0, fault.1)

@@ -16,7 +16,7 @@ use Rattle.goblin_pe.specs.ImportWalks.{walked_value}
 use Rattle.goblin_pe.specs.Imports.{ImportValue, import_of}
 use Rattle.goblin_pe.specs.Layouts.{GivesFileImport, IsFileImportsCause, file_imports_left}
 use Rattle.goblin_pe.proofs.ImportStarts.{file-given}
-use Rattle.goblin_pe.proofs.Walked.{AtMade, made-all, made-fault, made-more, made-start}
+use Rattle.goblin_pe.proofs.Walked.{AtMade, made-all, made-more, made-start, walked-fault}
 use Rattle.goblin_pe_caller.specs.Counts.{count_from}
 
 dll-import_of : (dll : List ℕ) (slot offset size : ℕ) (entry : LookupEntry) → (import_of dll slot offset size entry).dll ≡ dll
@@ -24,13 +24,9 @@ unfolding import_of
 dll-import_of dll slot offset size (ByOrdinal ordinal) = refl
 dll-import_of dll slot offset size (ByName rva named) = refl
 
-unmapped : {A : Type 0} (o : Option (List A)) {xs : List A} → option_map (map (λ x. x)) o ≡ Some xs → o ≡ Some xs
-unmapped None is = absurd cc
-unmapped (Some ys) is = ap (λ (ys : List _). Some ys) (sym (map-id ys)) ∙ is
-
-unmapped-none : {A : Type 0} (o : Option (List A)) → option_map (map (λ x. x)) o ≡ None → o ≡ None
-unmapped-none None is = refl
-unmapped-none (Some ys) is = absurd cc
+mapped-same : {A : Type 0} (o : Option (List A)) {xs : List A} → option_map (map (λ x. x)) o ≡ Some xs → o ≡ Some xs
+mapped-same None is = absurd cc
+mapped-same (Some ys) is = ap (λ (ys : List _). Some ys) (sym (map-id ys)) ∙ is
 
 -- how many are counted of one item more, where no more than m are
 capped-more : (c d m : ℕ) → min (min c m + d) m ≡ min (c + d) m
@@ -82,11 +78,11 @@ module _ (library : List ℕ) (start : FileImports) where
     -- all imports have come
     pub count-all : GivesFileImport now None next → option_map (count_from library) (all_of (file_imports_left start)) ≡ Some count
     count-all given =
-        let all = unmapped (all_of (file_imports_left start)) (made-all file_imports_left IsFileImportsCause (λ x. x) start now h.items h.at walked_value next (file-given now None next given).0) in
+        let all = mapped-same (all_of (file_imports_left start)) (made-all file_imports_left IsFileImportsCause (λ x. x) start now h.items h.at walked_value next (file-given now None next given).0) in
         ap (option_map (count_from library)) all ∙ ap (λ (n : ℕ). Some n) (sym h.said)
 
     -- they end with a refusal
     pub count-fault : (r : Result WalkedImport ErrorOf) → GivesFileImport now (Some r) next → (e : ErrorOf) → r ≡ Err e → (option_map (count_from library) (all_of (file_imports_left start)) ≡ None) × IsFileImportsCause start e
     count-fault r given e is =
-        let fault = made-fault file_imports_left IsFileImportsCause (λ x. x) start now h.items h.at walked_value next r (file-given now (Some r) next given).0 e is in
-        (ap (option_map (count_from library)) (unmapped-none (all_of (file_imports_left start)) fault.0), fault.1)
+        let fault = walked-fault file_imports_left IsFileImportsCause start now (record { items = h.at.items; at = h.at.at }) walked_value next r (file-given now (Some r) next given).0 e is in
+        (ap (option_map (count_from library)) fault.0, fault.1)

@@ -98,11 +98,6 @@ walk-begins left IsCause item start now made h view next r given x is =
     subst IsBegun (sym h.at.yielded)
     (begun-more h.items (left now) (subst IsBegun (sym one.0) tt))
 
--- an error that ends a walk is no refused memory
-pub never-memory : {X : Type 0} (S : Type 0) (r : Result X ErrorOf) (e : ErrorOf) → r ≡ Err e
-    → IfErr r (λ e. S × ¬ IsMemory e) → ¬ IsMemory e
-never-memory S r e is fault = (subst (λ q. IfErr q (λ e. S × ¬ IsMemory e)) is fault).1
-
 -- what holds where memory is refused, if it holds anyway
 pub wherever : {A : Type 0} (P : Type 0) (result : Result A ErrorOf) → P
     → IfErr result (λ e. IsMemory e → P)

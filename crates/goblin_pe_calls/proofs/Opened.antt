@@ -27,7 +27,7 @@ use Rattle.goblin_pe.specs.Whole.{TableParts, TablePlaces, WholeFile, collected_
 use Rattle.goblin_pe.specs.Whole.{offset_by}
 use Rattle.goblin_pe.specs.Whole.{part_map, places_in, sections_after, table_parts, whole_file}
 use Rattle.goblin_pe.specs.Whole.{whole_of, whole_with}
-use Rattle.goblin_pe.proofs.Collected.{file_read, unmapped}
+use Rattle.goblin_pe.proofs.Collected.{file_read}
 use Rattle.goblin_pe.proofs.Layouts.{tables-cause, tables-value}
 use Rattle.goblin_pe.proofs.NumberedExports.{rows_of_file}
 use Rattle.goblin_pe_calls.specs.declared.records.FileRecords.{FileRecords}
@@ -177,6 +177,6 @@ module _ (opts : ParseOptions) (bytes : List ℕ) (h : Header)
   records-refused e made other =
       let none = makes (Err e) made other in (
         tables-value opts bytes (header_value h) header s sections
-            ∙ ap (option_map (whole_of (header_value h) s)) (unmapped _ _ none.0),
+            ∙ ap (option_map (whole_of (header_value h) s)) (steps.unmapped _ _ none.0),
         tables-cause opts bytes (header_value h) header s sections e none.1,
       )

@@ -12,6 +12,7 @@ use Rattle.std.proofs.lemmas.Option.{cond_some}
 use Rattle.goblin_base.specs.declared.endian.Endian.TheVariants.{Little}
 use Rattle.goblin_base.specs.Bytes.{IsBytes, number_bytes}
 use Rattle.goblin_base.specs.Tables.{record_items, records_in}
+use Rattle.goblin_base.proofs.Numbers.{rest_is_drop}
 use Rattle.goblin_base.proofs.Parts.{find_is}
 use Rattle.goblin_base.proofs.RecordRoundTrip.{IsBytes-slice, length-slice, slice-is, number_bytes-number}
 use Rattle.goblin_base.proofs.Steps.{same_value}
@@ -150,5 +151,4 @@ rich_entries header bytes h e =
     let found = long_enough (nat_lt p 68) (before_marker stretch (marker_place stretch)) (rich_value header) s.found_in in
     let n = header.padding_size in
     let own = header.bytes.now in
-    let all : slice_range own n (length own) ≡ drop n own = take_all (length own - n) (drop n own) (omega (arith, length-drop n own)) in
-    rw all (in_stretch stretch (marker_place stretch) (rich_value header) (IsBytes-range bytes 64 p h) refl found)
+    rw (rest_is_drop own n) (in_stretch stretch (marker_place stretch) (rich_value header) (IsBytes-range bytes 64 p h) refl found)

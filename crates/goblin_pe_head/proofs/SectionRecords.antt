@@ -16,17 +16,13 @@ use Rattle.goblin_base.proofs.Numbers.{slice-of_slice}
 use Rattle.goblin_base.proofs.RecordRoundTrip.{length-slice}
 use Rattle.goblin_base.proofs.Records.{IsRecordOf, record_at-some}
 use Rattle.goblin_base.proofs.Steps as steps
-use Rattle.goblin_base.proofs.Steps.{all_at-each, all_at-more, all_at-none, same_value, step}
+use Rattle.goblin_base.proofs.Steps.{all_at-each, all_at-more, all_at-none, same_value, step, unmapped}
 use Rattle.readings.specs.Reads.{each}
 use Rattle.goblin_pe_sect.specs.SectionName.{name_value}
 use Rattle.goblin_pe_sect.specs.SectionReadings.{section_at, text_in_table}
 use Rattle.goblin_pe_sect.specs.SectionTable.{Section, section_record, sections_in, unnamed}
 
 -- ---- what is made of values one after the other
-
-no_value : {A B : Type 0} (o : Option A) (f : A → B) → option_map f o ≡ None → o ≡ None
-no_value None f none = refl
-no_value (Some a) f none = absurd cc
 
 -- one more value
 mapped-more : {A B : Type 0} (f : A → B) (value : ℕ → Option A) (n : ℕ) (xs : List B) (x : B)
@@ -138,7 +134,7 @@ pub unnamed_refused : (strict : Bool) (table : ℕ) (bytes : List ℕ) (p count 
 unnamed_refused strict table bytes p count n xs e below so_far refused cause =
     let value : ℕ → Option Section = λ (i : ℕ). (section_at strict table (p + 40 * i)).value bytes in
     let all = steps.mapped (all_at value n) (map unnamed) xs so_far in
-    let none = no_value (value n) unnamed refused in (
+    let none = unmapped unnamed (value n) refused in (
       ap (option_map (map unnamed)) (all_at-none value count n below none),
       (n, below, all_at-each value n all.value all.is, none, cause),
     )

@@ -10,7 +10,7 @@ use Rattle.goblin_base.specs.declared.error.CauseOf.TheVariants.{SlotCount}
 use Rattle.goblin_base.specs.Tables.{each_below, join}
 use Rattle.goblin_base.proofs.Below.{each_below-missing, each_below-next}
 use Rattle.goblin_base.specs.Answers.{◌>>=◌, all_at}
-use Rattle.goblin_base.proofs.Steps.{all_at-more, all_at-none, all_at-zero}
+use Rattle.goblin_base.proofs.Steps.{all_at-more, all_at-none, all_at-zero, unmapped}
 use Rattle.goblin_pe_sect.proofs.First.{found_at_first, found_passes, none_passes}
 use Rattle.goblin_pe_import.specs.ImportLookup.{LookupEntry}
 use Rattle.goblin_pe_import.specs.ImportDirectory.{ImportedLibrary}
@@ -22,10 +22,6 @@ opposite true valid true is test = refl
 opposite true valid false is test = let both = sym is ∙ test in cc
 opposite false valid true is test = let both = sym is ∙ test in cc
 opposite false valid false is test = refl
-
-pub unmapped : {A B : Type 0} (f : A → B) (o : Option A) → option_map f o ≡ None → o ≡ None
-unmapped f None e = refl
-unmapped f (Some x) e = absurd cc
 
 -- over a table's entries and slots
 module _ (size : ℕ) (dll : List ℕ) (rva : ℕ) (entries : List LookupEntry) (slots : List ℕ) where

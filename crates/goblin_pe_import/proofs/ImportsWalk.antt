@@ -10,6 +10,7 @@ use Rattle.goblin_base.specs.Answers.{FirstFault, all_of}
 use Rattle.goblin_base.specs.Reading.{Reading}
 use Rattle.goblin_base.specs.Tables.{Format, or_left_out}
 use Rattle.goblin_base.proofs.SlotTables.{reads}
+use Rattle.goblin_base.proofs.Steps.{unmapped}
 use Rattle.readings.specs.Reads.{given, pair_of, pick}
 use Rattle.readings.specs.Walks.{IsSlotCause, from_slot, refusal_of, until_refused}
 use Rattle.readings.proofs.Walks.{cause-slot, slot-end, slot-going, slot-last, slot-missing, slot-once}
@@ -29,7 +30,6 @@ use Rattle.goblin_pe_import.specs.ImportWalks.{entries_from, imports_at, one_if,
 use Rattle.goblin_pe_import.specs.ImportWalks.{walk_bound}
 use Rattle.goblin_pe_import.specs.ImportWalks.{imports_by_slot, imports_from, imports_in, in_two}
 use Rattle.goblin_pe_import.specs.ImportWalks.{later_items, library_items, library_name, untested_table}
-use Rattle.goblin_pe_import.proofs.Imports.{unmapped}
 use Rattle.goblin_pe_import.proofs.LookupWalk.{lookup_walked}
 use Rattle.goblin_pe_import.proofs.PermissiveReads.{name_strict}
 

@@ -19,7 +19,7 @@ use Rattle.goblin_base.specs.Bytes.{slice_at}
 use Rattle.goblin_base.specs.Record.{record_at}
 use Rattle.goblin_base.proofs.Footprints.{same-all_at, same_map}
 use Rattle.goblin_base.proofs.Numbers.{slice-of_slice}
-use Rattle.goblin_base.proofs.Steps.{all_at-none}
+use Rattle.goblin_base.proofs.Steps.{all_at-none, unmapped}
 use Rattle.goblin_pe_sect.specs.declared.data_directories.DataDirectory.{DataDirectory}
 use Rattle.goblin_pe_sect.specs.DataDirectories.{directory_record, entry_ending}
 use Rattle.goblin_pe_sect.specs.DirectoryReadings.{directories_at, sixteen}
@@ -133,18 +133,13 @@ module _ (count : ℕ) (bytes : List ℕ) (p : ℕ) where
 
 -- ---- the cause
 
-slice_none : (slice : Option (List ℕ)) → option_map (directory_record Little) slice ≡ None
-    → slice ≡ None
-slice_none None e = refl
-slice_none (Some own) e = absurd cc
-
 from_records : (count : ℕ) (bytes : List ℕ) (p : ℕ) (e : ErrorOf)
     → IsFirstMissing (λ i. slice_at bytes (p + 8 * i) 8) count (λ i. IsSliceFault bytes (p + 8 * i) 8) e
     → IsFirstMissing (directory count bytes p) count (λ i. IsSliceFault bytes (p + 8 * i) 8) e
 from_records count bytes p e (i, below, earlier, none, cause) = (
   i,
   below,
-  λ k lt missing. earlier k lt (slice_none (slice_at bytes (p + 8 * k) 8) missing),
+  λ k lt missing. earlier k lt (unmapped (directory_record Little) (slice_at bytes (p + 8 * k) 8) missing),
   ap (option_map (directory_record Little)) none,
   cause,
 )

@@ -1,12 +1,13 @@
 -- The records of a section table.
-use Rattle.std.proofs.Common.{◌≡◌, ℕ, ◌+◌, ◌-◌, ◌*◌, ◌/◌, ◌<◌, ◌≤◌, List, [], ◌∷◌, length, map, drop, take, Some, ap, sym, ◌∙◌, arith}
+use Rattle.std.proofs.Common.{◌≡◌, ℕ, ◌+◌, ◌-◌, ◌*◌, ◌/◌, ◌<◌, ◌≤◌, List, [], ◌∷◌, length, map, take, Some, ap, sym, ◌∙◌, arith}
 use Rattle.std.specs.Prelude.{slice_get, slice_range}
 use Rattle.std.specs.List.{range_with_len}
-use Rattle.std.proofs.lemmas.List.{length-drop, take_all}
+use Rattle.std.proofs.lemmas.List.{length-drop}
 use Rattle.std.proofs.lemmas.List.FromFn.{get_or-map-range_with_len, length-map-range_with_len}
 use Rattle.std.proofs.lemmas.Option.{slice_get-get_or}
 use Rattle.goblin_base.specs.declared.endian.Endian.TheVariants.{Little}
 use Rattle.goblin_base.specs.Tables.{records_in}
+use Rattle.goblin_base.proofs.Numbers.{rest_is_drop}
 use Rattle.goblin_base.proofs.RecordItems.{length-records_in, records_in-more, records_in-none}
 use Rattle.goblin_pe_sect.specs.SectionTable.{Section, section_record, sections_in}
 
@@ -17,9 +18,8 @@ length_sections bytes = length-records_in 40 (section_record Little) bytes
 pub sections_more : (bytes : List ℕ) → 40 ≤ length bytes → sections_in bytes ≡ section_record Little (slice_range bytes 0 40) ∷ sections_in (slice_range bytes 40 (length bytes))
 sections_more bytes le =
     let left = length-drop 40 bytes in
-    let after : take (length bytes - 40) (drop 40 bytes) ≡ drop 40 bytes = take_all (length bytes - 40) (drop 40 bytes) (omega (arith, left)) in
     records_in-more 40 ((length bytes - 40) / 40) (section_record Little) bytes (omega (arith, le)) (omega (arith, left))
-    ∙ ap (λ (later : List ℕ). section_record Little (take 40 bytes) ∷ sections_in later) (sym after)
+    ∙ ap (λ (later : List ℕ). section_record Little (take 40 bytes) ∷ sections_in later) (sym (rest_is_drop bytes 40))
 
 -- fewer bytes have no record
 pub sections_none : (bytes : List ℕ) → length bytes < 40 → sections_in bytes ≡ []

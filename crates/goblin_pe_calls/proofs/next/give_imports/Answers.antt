@@ -1,8 +1,7 @@
 use Rattle.std.proofs.Common.{refl}
 use Rattle.std.proofs.lemmas.Result.{err_from_is_err_and}
-use Rattle.goblin_base.proofs.Steps.{mapped}
+use Rattle.goblin_base.proofs.Steps.{mapped, unmapped}
 use Rattle.goblin_pe_sect.specs.Options.{is_strict}
-use Rattle.goblin_pe.proofs.Collected.{unmapped}
 use Rattle.goblin_pe.proofs.SectionNames.{of_file}
 use Rattle.goblin_pe.specs.HeaderReadings.{pe_header}
 use Rattle.goblin_pe.specs.PeHeader.{header_value}

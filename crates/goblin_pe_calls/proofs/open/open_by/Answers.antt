@@ -1,12 +1,11 @@
 use Rattle.std.proofs.Common.{◌≡◌, ◌<◌, ◌∙◌, Some, ap, arith, inl, length, refl, rules, subst, sym}
 use Rattle.std.proofs.lemmas.Result.{err_from_is_err_and}
 use Rattle.std.proofs.lemmas.List.{length-map}
-use Rattle.goblin_base.proofs.Steps.{mapped}
+use Rattle.goblin_base.proofs.Steps.{mapped, unmapped}
 use Rattle.goblin_pe_sect.specs.Options.{is_strict}
 use Rattle.goblin_pe_sect.specs.SectionTable.{unnamed}
 use Rattle.goblin_pe_head.specs.PeHeader.{PeHeader, header_value}
 use Rattle.goblin_base.specs.Answers.{IsMemory}
-use Rattle.goblin_pe.proofs.Collected.{unmapped}
 use Rattle.goblin_pe.proofs.Layouts.{sections-refused}
 use Rattle.goblin_pe.proofs.SectionRoom.{has_room, sections_counted}
 use Rattle.goblin_pe.specs.Whole.{whole_file}

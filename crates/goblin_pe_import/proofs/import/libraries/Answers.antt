@@ -2,10 +2,10 @@ use Rattle.std.proofs.Common.{true, false, arith, lit≤, refl}
 use Rattle.std.proofs.lemmas.Result.{err_from_is_err_and}
 use Rattle.goblin_base.specs.declared.error.ErrorOf.TheVariants.{Malformed}
 use Rattle.goblin_base.specs.declared.error.CauseOf.TheVariants.{ImportRecordEnd}
-use Rattle.goblin_base.proofs.Steps.{mapped}
+use Rattle.goblin_base.proofs.Steps.{mapped, unmapped}
 use Rattle.readings.proofs.Loops.{read-end, read-last, read-missing, read-more, read-next, read-refused, read-start}
 use Rattle.goblin_pe_import.specs.ImportReadings.{record_here}
-use Rattle.goblin_pe_import.proofs.Imports.{opposite, unmapped}
+use Rattle.goblin_pe_import.proofs.Imports.{opposite}
 use Rattle.goblin_pe_import.proofs.Modes.{strict, permissive}
 use Rattle.goblin_pe_import.proofs.import.libraries.Goals as goal
 use Rattle.goblin_pe_import.proofs.import.libraries.Goals.{in_default+then-is_permissive, in-Ok+then-not-is_possibly_valid}

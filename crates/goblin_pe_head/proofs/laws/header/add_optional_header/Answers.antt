@@ -1,19 +1,15 @@
-use Rattle.std.proofs.Common.{◌≡◌, ℕ, None, Some, List, [], ◌++◌, length, append-nil, drop, take, ◌-◌, arith}
-use Rattle.std.proofs.lemmas.List.{length-drop, take_all}
+use Rattle.std.proofs.Common.{◌≡◌, None, Some, [], ◌++◌, append-nil, drop}
 use Rattle.std.proofs.lemmas.Result.{err_from_is_err_and}
 use Rattle.goblin_base.specs.declared.endian.Endian.TheVariants.{Little}
 use Rattle.goblin_base.specs.Bytes.{number_at}
 use Rattle.goblin_base.specs.Footprints.{led_to, slice_footprint}
+use Rattle.goblin_base.proofs.Numbers.{rest_is_drop}
 use Rattle.goblin_base.proofs.Ranges.{listed-then}
 use Rattle.goblin_base.proofs.SomeRanges.{on_err, on_ok, some-left, some-right}
 use Rattle.readings.specs.Reads.{in_rest}
 use Rattle.goblin_pe_head.specs.HeaderReadings.{fixed_fields}
 use Rattle.goblin_pe_head.proofs.HeaderRanges.{led_by, magic_reach, optional-reaches}
 use Rattle.goblin_pe_head.proofs.laws.header.add_optional_header.Goals as goal
-
--- all bytes from p on
-rest-is : (bytes : List ℕ) (p : ℕ) → take (length bytes - p) (drop p bytes) ≡ drop p bytes
-rest-is bytes p = take_all (length bytes - p) (drop p bytes) (omega (arith, length-drop p bytes))
 
 pub returns-in_err-add_slice-clause-grown : goal.returns-in_err-add_slice-clause-grown
 returns-in_err-add_slice-clause-grown c =
@@ -27,7 +23,7 @@ unfolding led_to
 returns-in_default-clause-added c =
     let bytes = c.args.bytes.now in
     let p = c.args.offset in
-    let none : number_at Little 2 (drop p bytes) 0 ≡ None = rw (← rest-is bytes p) c.in_default.ensures.0 in
+    let none : number_at Little 2 (drop p bytes) 0 ≡ None = rw (← rest_is_drop bytes p) c.in_default.ensures.0 in
     let all : slice_footprint bytes p 2 ++ [] ≡ slice_footprint bytes p 2 = append-nil (slice_footprint bytes p 2) in
     rw (optional-reaches p bytes, none, all) c.in_ok-add_slice.ensures.added
 
@@ -38,7 +34,7 @@ returns-in_err-add_fields-clause-grown c =
     let bytes = c.args.bytes.now in
     let p = c.args.offset in
     let magic = c.in-Ok.magic in
-    let is : number_at Little 2 (drop p bytes) 0 ≡ Some magic = rw (← rest-is bytes p) c.in-Ok.ensures in
+    let is : number_at Little 2 (drop p bytes) 0 ≡ Some magic = rw (← rest_is_drop bytes p) c.in-Ok.ensures in
     let fields = (in_rest p (fixed_fields magic)).reaches bytes in
     let led = led_to ((fixed_fields magic).value (drop p bytes)) (led_by p bytes) in
     rw (e.1, optional-reaches p bytes, is)
@@ -51,8 +47,8 @@ returns-in_default-fixed_fields-clause-added c =
     let bytes = c.args.bytes.now in
     let p = c.args.offset in
     let magic = c.in-Ok.magic in
-    let is : number_at Little 2 (drop p bytes) 0 ≡ Some magic = rw (← rest-is bytes p) c.in-Ok.ensures in
-    let none : (fixed_fields magic).value (drop p bytes) ≡ None = rw (← rest-is bytes p) c.in_default-fixed_fields.ensures.value.0 in
+    let is : number_at Little 2 (drop p bytes) 0 ≡ Some magic = rw (← rest_is_drop bytes p) c.in-Ok.ensures in
+    let none : (fixed_fields magic).value (drop p bytes) ≡ None = rw (← rest_is_drop bytes p) c.in_default-fixed_fields.ensures.value.0 in
     let fields = (in_rest p (fixed_fields magic)).reaches bytes in
     let all : fields ++ [] ≡ fields = append-nil fields in
     rw (optional-reaches p bytes, is, none, all)
@@ -65,8 +61,8 @@ returns-clause-added c =
     let bytes = c.args.bytes.now in
     let p = c.args.offset in
     let magic = c.in-Ok.magic in
-    let is : number_at Little 2 (drop p bytes) 0 ≡ Some magic = rw (← rest-is bytes p) c.in-Ok.ensures in
-    let there : (fixed_fields magic).value (drop p bytes) ≡ Some c.in-Ok-fixed_fields.fields = rw (← rest-is bytes p) c.in-Ok-fixed_fields.ensures.value in
+    let is : number_at Little 2 (drop p bytes) 0 ≡ Some magic = rw (← rest_is_drop bytes p) c.in-Ok.ensures in
+    let there : (fixed_fields magic).value (drop p bytes) ≡ Some c.in-Ok-fixed_fields.fields = rw (← rest_is_drop bytes p) c.in-Ok-fixed_fields.ensures.value in
     let fields = (in_rest p (fixed_fields magic)).reaches bytes in
     let led = led_by p bytes c.in-Ok-fixed_fields.fields in
     rw (optional-reaches p bytes, is, there)
@@ -81,8 +77,8 @@ returns-clause-grown c =
     let bytes = c.args.bytes.now in
     let p = c.args.offset in
     let magic = c.in-Ok.magic in
-    let is : number_at Little 2 (drop p bytes) 0 ≡ Some magic = rw (← rest-is bytes p) c.in-Ok.ensures in
-    let there : (fixed_fields magic).value (drop p bytes) ≡ Some c.in-Ok-fixed_fields.fields = rw (← rest-is bytes p) c.in-Ok-fixed_fields.ensures.value in
+    let is : number_at Little 2 (drop p bytes) 0 ≡ Some magic = rw (← rest_is_drop bytes p) c.in-Ok.ensures in
+    let there : (fixed_fields magic).value (drop p bytes) ≡ Some c.in-Ok-fixed_fields.fields = rw (← rest_is_drop bytes p) c.in-Ok-fixed_fields.ensures.value in
     let fields = (in_rest p (fixed_fields magic)).reaches bytes in
     let led = led_by p bytes c.in-Ok-fixed_fields.fields in
     rw (optional-reaches p bytes, is, there)
