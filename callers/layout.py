@@ -115,14 +115,11 @@ def enum_of(name, source):
 
 def own_numbers(source):
     """The numbers by their names, as the code of the records gives them, and those of directories by their place."""
-    words = re.findall(r'what == "([\w ]+)" \{\s+(\d+)', source)
     kinds = re.search(r"const KINDS: .*?= \[(.*?)\];", text(CRATES, "goblin_pe_sect/src/data_directories.rt"), re.S).group(1)
     return {
-        **{name: enum_of(name, source) for name in ("State", "Forwards", "Kind", "Status")},
+        **{name: enum_of(name, source) for name in ("State", "Forwards", "Kind", "Status", "Counted")},
         "Cause": numbered((snake(name), number) for name, number in re.findall(r"Cause::(\w+)\b.* => malformed\((\d+),", source)),
-        "Counted": {**numbered((word.upper().replace(" ", "_"), number) for word, number in words),
-                    "OTHER": int(re.search(r'"address table entries".*?\} else \{\s+(\d+)', source, re.S).group(1))},
-        "ReadFault": numbered((snake(name), number) for name, number in re.findall(r"ReadFault::(\w+)\) => fault\(\w+::\w+, (\d+),", source)),
+        "ReadFault": enum_of("ReadRefusal", source),
         "DirectoryType": {snake(name): index for index, name in enumerate(re.findall(r"DataDirectoryType::(\w+)", kinds))},
     }
 

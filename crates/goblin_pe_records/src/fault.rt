@@ -1,8 +1,8 @@
 //! Refusals as numbers, and their texts by these.
 
-ghost use Rattle.std.specs.Prelude.{◌≡◌, Some, length, option_map};
+ghost use Rattle.std.specs.Prelude.{◌≡◌, ◌≤◌, Some, length, option_map, slice_get};
 ghost use Rattle.std.specs.Fmt.InlineText.{inline_text};
-ghost use Rattle.goblin_base.specs.declared.error.ErrorOf.TheVariants.{Malformed};
+ghost use Rattle.goblin_base.specs.declared.error.ErrorOf.TheVariants.{Malformed, Read};
 ghost use Rattle.goblin_base.specs.ErrorText.{error_text};
 ghost use Rattle.goblin_pe_records.specs.Faults.{IsNumbered, IsTextOf, cause_of, causes, fault};
 ghost use Rattle.goblin_pe_records.specs.Faults.{fault_of, number_of, status_with};
@@ -25,6 +25,13 @@ const TEXT_ROOM: usize = 160;
 
 const _: () = prove!(TEXT_ROOM == 160);
 
+// The item of a table at this index.
+fn item_at<T: Copy>(table: &[T], index: u32) -> Option<T>
+    ensures { result ≡ slice_get table.now index }
+{
+    table.get(index as usize).copied()
+}
+
 // What the status of a fault says.
 #[derive(Copy, Clone)]
 enum Status {
@@ -37,22 +44,57 @@ enum Status {
     Memory = 5,
 }
 
+// The statuses in the order of their numbers.
+const STATUSES: [Status; 6] = [
+    Status::Ok,
+    Status::Malformed,
+    Status::BadMagic,
+    Status::BufferTooShort,
+    Status::Read,
+    Status::Memory,
+];
+
 impl Status {
     // The status with this number.
     fn of(number: u32) -> Option<Status>
         ensures { result ≡ status_with number }
     {
-        match number {
-            0 => Some(Status::Ok),
-            1 => Some(Status::Malformed),
-            2 => Some(Status::BadMagic),
-            3 => Some(Status::BufferTooShort),
-            4 => Some(Status::Read),
-            5 => Some(Status::Memory),
-            _ => None,
-        }
+        item_at(&STATUSES, number)
     }
 }
+
+// What a file can be too short for.
+#[derive(Copy, Clone)]
+enum Counted {
+    // Something else, which the text calls entries.
+    Other = 0,
+    Sections = 1,
+    NamePointers = 2,
+    AddressTableEntries = 3,
+}
+
+// What a file can be too short for, in the order of its numbers.
+const COUNTED: [Counted; 4] = [
+    Counted::Other,
+    Counted::Sections,
+    Counted::NamePointers,
+    Counted::AddressTableEntries,
+];
+
+// Why a read was refused.
+#[derive(Copy, Clone)]
+enum ReadRefusal {
+    BadOffset = 1,
+    TooBig = 2,
+    BadInput = 3,
+}
+
+// The refusals of a read in the order of their numbers.
+const READ_REFUSALS: [ReadRefusal; 3] = [
+    ReadRefusal::BadOffset,
+    ReadRefusal::TooBig,
+    ReadRefusal::BadInput,
+];
 
 /// Why a call gave no value, in numbers; the status 0 is that it gave one.
 #[repr(C)]
@@ -92,15 +134,28 @@ fn malformed(cause: u32, first: u64, second: u64) -> PeFault
 fn word_number(what: &str) -> u32
     ensures { result ≡ word_number what.now }
 {
-    if what == "sections" {
-        1
+    let counted = if what == "sections" {
+        Counted::Sections
     } else if what == "name pointers" {
-        2
+        Counted::NamePointers
     } else if what == "address table entries" {
-        3
+        Counted::AddressTableEntries
     } else {
-        0
-    }
+        Counted::Other
+    };
+    counted as u32
+}
+
+// The number of a refusal of a read.
+fn read_number(refused: &ReadFault) -> u32
+    ensures { fault_of (Read refused.now) ≡ fault 4 result 0 0 }
+{
+    let refusal = match refused {
+        ReadFault::BadOffset => ReadRefusal::BadOffset,
+        ReadFault::TooBig => ReadRefusal::TooBig,
+        ReadFault::BadInput => ReadRefusal::BadInput,
+    };
+    refusal as u32
 }
 
 /// That nothing is refused.
@@ -168,9 +223,7 @@ pub fn fault_of(error: &Error) -> PeFault
             *count as u64,
             0,
         ),
-        Error::Read(ReadFault::BadOffset) => fault(Status::Read, 1, 0, 0),
-        Error::Read(ReadFault::TooBig) => fault(Status::Read, 2, 0, 0),
-        Error::Read(ReadFault::BadInput) => fault(Status::Read, 3, 0, 0),
+        Error::Read(refused) => fault(Status::Read, read_number(refused), 0, 0),
         Error::Memory(_) => fault(Status::Memory, 0, 0, 0),
     }
 }
@@ -226,36 +279,32 @@ fn causes(first: u64, second: u64) -> [Cause; CAUSES]
 fn cause_of(fault: &PeFault) -> Option<Cause>
     ensures { result ≡ cause_of fault.now }
 {
-    if fault.cause < FIRST_CAUSE {
-        return None;
-    }
-    let causes = causes(fault.first, fault.second);
-    Some(*causes.get((fault.cause - FIRST_CAUSE) as usize)?)
+    let index = fault.cause.checked_sub(FIRST_CAUSE)?;
+    item_at(&causes(fault.first, fault.second), index)
 }
 
 // What a file is too short for, by its number.
 fn word_of(number: u32) -> Option<&'static str>
     ensures { option_map (λ s. s.now) result ≡ word_of number }
 {
-    match number {
-        0 => Some("entries"),
-        1 => Some("sections"),
-        2 => Some("name pointers"),
-        3 => Some("address table entries"),
-        _ => None,
-    }
+    Some(match item_at(&COUNTED, number)? {
+        Counted::Other => "entries",
+        Counted::Sections => "sections",
+        Counted::NamePointers => "name pointers",
+        Counted::AddressTableEntries => "address table entries",
+    })
 }
 
 // Why a read was refused, by its number.
 fn read_fault_of(number: u32) -> Option<ReadFault>
     ensures { result ≡ read_fault_of number }
 {
-    match number {
-        1 => Some(ReadFault::BadOffset),
-        2 => Some(ReadFault::TooBig),
-        3 => Some(ReadFault::BadInput),
-        _ => None,
-    }
+    let index = number.checked_sub(ReadRefusal::BadOffset as u32)?;
+    Some(match item_at(&READ_REFUSALS, index)? {
+        ReadRefusal::BadOffset => ReadFault::BadOffset,
+        ReadRefusal::TooBig => ReadFault::TooBig,
+        ReadRefusal::BadInput => ReadFault::BadInput,
+    })
 }
 
 // The refusal with these numbers.
@@ -274,10 +323,11 @@ fn error_of(fault: &PeFault) -> Option<Error>
     })
 }
 
-/// The text of the refusal with these numbers, cut where it has no room; none where they are of no
-/// refusal.
+/// The text of the refusal with these numbers, cut where it is longer than 160 bytes; none where they
+/// are of no refusal.
 pub fn text_of(fault: &PeFault) -> InlineText<TEXT_ROOM>
-    ensures { IsTextOf fault.now (inline_text result) }
+    ensures text { IsTextOf fault.now (inline_text result) }
+    ensures short { length (inline_text result) ≤ 160 }
 {
     match error_of(fault) {
         Some(error) => InlineText::of(error),

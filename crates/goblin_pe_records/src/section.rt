@@ -105,12 +105,7 @@ fn section_record<'a>(bytes: &'a [u8], section: &SectionTable) -> PeSection<'a>
 // takes the record alone, since a section of which it took a reference would be stored for each call
 // of `name_record`.)
 #[inline(never)]
-fn name_by_table<'a>(
-    place: &mut PeSection<'a>,
-    bytes: &'a [u8],
-    table: usize,
-    opts: &ParseOptions,
-)
+fn name_by_table<'a>(place: &mut PeSection<'a>, bytes: &'a [u8], table: usize, opts: &ParseOptions)
     requires { section_said place.old ≡ alone (unnamed (section_view place.old)) }
     ensures { section_said place.new
         ≡ alone (named_in (is_strict opts.now.parse_mode) bytes.now table (section_view place.old)) }

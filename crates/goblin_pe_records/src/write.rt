@@ -18,11 +18,8 @@ use crate::section::{PeSection, section_of};
 use goblin_base::{Endian, Result};
 use goblin_pe_head::header::{DosStub, Header, PE_MAGIC};
 use goblin_pe_head::optional_header::OptionalHeader;
-use goblin_pe_sect::data_directories::{DataDirectories, DataDirectory};
+use goblin_pe_sect::data_directories::{DataDirectories, DataDirectory, NUM_DATA_DIRECTORIES};
 use goblin_pe_sect::section_table::SectionTable;
-
-// How many entries a table of data directories has.
-const DIRECTORIES: usize = 16;
 
 // The entry that a record says.
 fn entry_said(directory: &PeDirectory) -> Option<(usize, DataDirectory)>
@@ -36,11 +33,13 @@ fn entry_said(directory: &PeDirectory) -> Option<(usize, DataDirectory)>
 }
 
 // The entries that records say: the first sixteen, and none in place of those that are not there.
-fn entries_said(directories: &[PeDirectory]) -> [Option<(usize, DataDirectory)>; DIRECTORIES]
+fn entries_said(
+    directories: &[PeDirectory],
+) -> [Option<(usize, DataDirectory)>; NUM_DATA_DIRECTORIES]
     ensures { result ≡ entries_said directories.now }
 {
-    let mut entries = [None; DIRECTORIES];
-    let count = directories.len().min(DIRECTORIES);
+    let mut entries = [None; NUM_DATA_DIRECTORIES];
+    let count = directories.len().min(NUM_DATA_DIRECTORIES);
     'records: for i in 0..count {
         entries[i] = entry_said(&directories[i]);
     }
