@@ -2,6 +2,7 @@
 import functools
 import os
 import re
+import struct
 import sys
 import unittest
 
@@ -157,7 +158,20 @@ class Loader(Case):
         self.assertEqual(self.resolved([], 0), [
             "image.exe for machine 0x8664 at 0x180010000", "section at 0x1000: 512 bytes and 1536 zeros",
             "section at 0x2000: 512 bytes and 0 zeros", "section at 0x3000: 512 bytes and 0 zeros",
-            "Fruit.dll for machine 0x8664 at 0x180010000", "section at 0x1000: 512 bytes and 0 zeros", "3 base relocations"])
+            "Fruit.dll for machine 0x8664 at 0x180010000", "section at 0x1000: 512 bytes and 0 zeros",
+            "relocation at 0x1000: 0x180011000", "relocation at 0x1008: 0x180011001", "relocation at 0x1010: 0x180011002",
+            "3 base relocations"])
+
+    def test_an_image_for_32_bits_is_relocated(self):
+        """In its headers the address of the PE signature, and in its section two numbers, the second of which passes 32 bits.
+        The blocks end in a word of padding."""
+        blocks = struct.pack("<2I2H2I4H", 0, 12, 0x303C, 0, 0x1000, 16, 0x3000, 0x3004, 0, 0)
+        image = self.written("narrow.dll", images.sample(
+            (0x74, struct.pack("<I", 0x400000)), (0x90, struct.pack("<2I", 0x2000, 0x200)), (0xB8, bytes(16)),
+            (0xE0, struct.pack("<2I", 0x1020, len(blocks))), (0x200, struct.pack("<2I", 0x401234, 0xFFFF8000)), (0x220, blocks)))
+        self.assertEqual(succeed([built("loader"), image]).splitlines(), [
+            "narrow.dll for machine 0x14c at 0x410000", "section at 0x1000: 256 bytes and 0 zeros",
+            "relocation at 0x3c: 0x10040", "relocation at 0x1000: 0x411234", "relocation at 0x1004: 0x8000", "3 base relocations"])
 
     def test_imports_by_name_and_by_ordinal(self):
         self.assert_resolves([(b"FRUIT.DLL", [b"Elder", 10, 11, b"Apple"])], 0, [
@@ -241,6 +255,22 @@ class Loader(Case):
             with self.subTest(sample=sample.name):
                 status, out, said = run([built("loader"), sample])
                 self.assertEqual((status, said), (int(b"no such library" in out), b""))
+
+    def test_samples_are_relocated_as_by_pefile(self):
+        try:
+            import pefile
+        except ImportError:
+            self.skipTest("no pefile")
+        for sample in IMAGES:
+            with self.subTest(sample=sample.name):
+                pe = pefile.PE(data=sample.read_bytes())
+                pe.relocate_image(pe.OPTIONAL_HEADER.ImageBase + 0x10000)
+                number_at = {3: pe.get_dword_at_rva, 10: pe.get_qword_at_rva}
+                wanted = [f"relocation at {it.rva:#x}: {number_at[it.type](it.rva):#x}"
+                          for block in pe.DIRECTORY_ENTRY_BASERELOC for it in block.entries if it.type]
+                _, out, _ = run([built("loader"), sample])
+                self.assertTrue(wanted)
+                self.assertEqual([it for it in out.decode().splitlines() if it.startswith("relocation ")], wanted)
 
 
 class Patch(Case):

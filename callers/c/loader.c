@@ -1,8 +1,9 @@
 /* Loads an image as the Windows loader does, up to the point where its code would run: loader IMAGE LIBRARY...
    It maps the headers and the sections into memory, applies the base relocations for an address 64 KiB above the
-   preferred one, and resolves each import against the libraries, which it opens the same way, and tells what it
-   finds. A library stands for the imports whose library has the name of its file, with or without the ending .dll.
-   Forwarders are followed through the libraries. The status is 0 where all is resolved. */
+   preferred one, and resolves each import against the libraries, which it opens the same way. It tells what it finds,
+   and what stands in memory after each relocation. A library stands for the imports whose library has the name of its
+   file, with or without the ending .dll. Forwarders are followed through the libraries. The status is 0 where all is
+   resolved. */
 #include "goblin_pe.h"
 
 #include <ctype.h>
@@ -134,7 +135,8 @@ static int open_module(struct module *m, const char *path)
     return map(m);
 }
 
-/* Adds to the numbers at the places that the words name how far the image is from its preferred address. */
+/* Adds to the numbers at the places that the words name how far the image is from its preferred address, and tells what
+   stands there then. */
 static int relocate(struct module *m)
 {
     uint64_t moved = m->base - m->file.optional_header.windows_fields.image_base;
@@ -144,12 +146,14 @@ static int relocate(struct module *m)
         for (size_t j = 0; j + 1 < block->words.length; j += 2) {
             unsigned word = (unsigned)number_at(block->words.bytes + j, 2), type = word >> 12;
             size_t size = type == GOBLIN_PE_IMAGE_REL_BASED_DIR64 ? 8 : 4;
-            uint8_t *place = place_of(m, block->rva + (size_t)(word & 0xfff), size);
+            size_t rva = block->rva + (size_t)(word & 0xfff);
+            uint8_t *place = place_of(m, rva, size);
             if (type == GOBLIN_PE_IMAGE_REL_BASED_ABSOLUTE)
                 continue;
             if (!place || (size == 4 && type != GOBLIN_PE_IMAGE_REL_BASED_HIGHLOW))
                 return fprintf(stderr, "%s: base relocation of type %u at 0x%x\n", m->name, type, block->rva), 1;
             put_number(place, size, number_at(place, size) + moved);
+            printf("relocation at 0x%zx: 0x%" PRIx64 "\n", rva, number_at(place, size));
             count++;
         }
     }
