@@ -16,6 +16,8 @@ SANITIZED = ("-std=c11", "-g", "-fsanitize=address,undefined", "-fno-sanitize-re
 # The calls for an image: those that fill the caller's records alone, and all.
 IN_PLACE = ("damage", "imports", "exports")
 OF_IMAGES = ("open", "footprint", *IN_PLACE)
+# How many imports an image has, and that image, an object and a Terse Executable, for eight threads to read.
+THREADED = ("1", BY_NAME, SAMPLES / "object_x64.obj", SAMPLES / "firmware_x64.te")
 # What stands around the program of the README.
 README = b"""#include "goblin_pe.h"
 void map_sections(const struct goblin_pe_section *sections, size_t count);
@@ -62,11 +64,12 @@ class Programs(Case):
         self.assert_runs([built("list"), os.devnull], (1, b"", b"refused: the file is too short for the DOS signature\n"))
 
     def test_threads_with_stacks_of_16_kib(self):
-        succeed([built("threads", "-std=c11", "-pthread"), "16", "1", BY_NAME])
+        succeed([built("threads", "-std=c11", "-pthread"), "16", *THREADED])
 
     def test_threads_under_the_sanitizer_of_races(self):
+        """Of the program and of malloc and free; the library itself is built without it."""
         need_flags("-fsanitize=thread")
-        succeed([built("threads", "-std=c11", "-pthread", "-fsanitize=thread"), "256", "1", BY_NAME])
+        succeed([built("threads", "-std=c11", "-pthread", "-fsanitize=thread"), "256", *THREADED])
 
     def test_each_growth_is_refused(self):
         for call, samples in (("open", IMAGES), ("footprint", IMAGES), ("object", OBJECTS), ("te", TERSE)):

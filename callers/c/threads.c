@@ -1,15 +1,19 @@
-/* Reads one file in eight threads at once, each with a small stack: threads KIB IMPORTS FILE. The
-   status is 0 where each read finds that number of imports. */
+/* Reads files in eight threads at once, each with a small stack: threads KIB IMPORTS IMAGE OBJECT TE. The status is 0
+   where each read of the image finds that number of imports, and the other calls that take memory are granted. */
 #include "goblin_pe.h"
 
 #include <pthread.h>
 #include <stdio.h>
 #include <stdlib.h>
 
-static uint8_t bytes[1 << 20];
-static size_t length;
+struct contents {
+    uint8_t bytes[1 << 20];
+    size_t length;
+};
 
-/* The calls that take memory beside that which opens: whether each is granted. */
+static struct contents image, object, te;
+
+/* The calls that take memory, but for the one that opens: whether each is granted. */
 static bool makes_the_other_calls(void)
 {
     struct goblin_pe_damage damage;
@@ -17,12 +21,19 @@ static bool makes_the_other_calls(void)
     struct goblin_pe_import_position position = { 0, 0 };
     struct goblin_pe_import import;
     struct goblin_pe_export export;
+    struct goblin_pe_object parts;
+    struct goblin_pe_te_header header;
+    struct goblin_pe_section section;
     size_t place = 0, count;
-    bool is_granted = goblin_pe_damage(bytes, length, NULL, &damage).status == GOBLIN_PE_OK;
-    is_granted &= goblin_pe_footprint(bytes, length, NULL, &ranges).status == GOBLIN_PE_OK;
+    bool is_granted = goblin_pe_damage(image.bytes, image.length, NULL, &damage).status == GOBLIN_PE_OK;
+    is_granted &= goblin_pe_footprint(image.bytes, image.length, NULL, &ranges).status == GOBLIN_PE_OK;
     goblin_pe_free_ranges(&ranges);
-    is_granted &= goblin_pe_next_imports(bytes, length, NULL, &position, &import, 1, &count).status == GOBLIN_PE_OK;
-    is_granted &= goblin_pe_next_exports(bytes, length, NULL, &place, &export, 1, &count).status == GOBLIN_PE_OK;
+    is_granted &= goblin_pe_next_imports(image.bytes, image.length, NULL, &position, &import, 1, &count).status ==
+                  GOBLIN_PE_OK;
+    is_granted &= goblin_pe_next_exports(image.bytes, image.length, NULL, &place, &export, 1, &count).status ==
+                  GOBLIN_PE_OK;
+    is_granted &= goblin_pe_read_object(object.bytes, object.length, NULL, &parts, &section, 1).status == GOBLIN_PE_OK;
+    is_granted &= goblin_pe_read_te(te.bytes, te.length, &header, &section, 1).status == GOBLIN_PE_OK;
     return is_granted;
 }
 
@@ -31,7 +42,7 @@ static void *reads(void *imports_wanted)
     for (int i = 0; i < 200; i++) {
         struct goblin_pe_file file;
         struct goblin_pe_tables tables = { 0 };
-        struct goblin_pe_fault fault = goblin_pe_open(bytes, length, NULL, &file, NULL, 0, &tables);
+        struct goblin_pe_fault fault = goblin_pe_open(image.bytes, image.length, NULL, &file, NULL, 0, &tables);
         size_t found = tables.import_count;
         goblin_pe_free(&tables);
         if (fault.status != GOBLIN_PE_OK || found != *(const size_t *)imports_wanted || !makes_the_other_calls())
@@ -40,18 +51,25 @@ static void *reads(void *imports_wanted)
     return imports_wanted;
 }
 
+static bool read_file(const char *path, struct contents *file)
+{
+    FILE *from = fopen(path, "rb");
+    if (!from)
+        return false;
+    file->length = fread(file->bytes, 1, sizeof file->bytes, from);
+    fclose(from);
+    return true;
+}
+
 int main(int argc, char **argv)
 {
     pthread_t threads[8];
     pthread_attr_t attributes;
-    if (argc != 4)
+    if (argc != 6)
         return 2;
     size_t imports = strtoul(argv[2], NULL, 10);
-    FILE *from = fopen(argv[3], "rb");
-    if (!from)
+    if (!read_file(argv[3], &image) || !read_file(argv[4], &object) || !read_file(argv[5], &te))
         return 3;
-    length = fread(bytes, 1, sizeof bytes, from);
-    fclose(from);
     pthread_attr_init(&attributes);
     if (pthread_attr_setstacksize(&attributes, strtoul(argv[1], NULL, 10) * 1024))
         return 4;
