@@ -109,6 +109,14 @@ def shared_image(libraries, functions):
     return headers + data + bytes(-len(data) % 0x200)
 
 
+def own_tables(libraries):
+    """The small image with so many libraries instead, each of which has all their records as its table of imports: five
+    entries in each record, two of them ordinals."""
+    name = 0x1000 + 20 * libraries + 20
+    data = struct.pack("<5I", 0x1000, 1 << 31 | 1, 1 << 31 | 1, name, 0x1000) * libraries + bytes(20) + b"a.dll\0"
+    return sample((0xB8, bytes(8)), (0x140, struct.pack("<4I", len(data), 0x1000, len(data), 0x200)), (0x200, data))
+
+
 def library(name, exports, base=1):
     """A library for 64 bits that exports these by the ordinals from a base on: each a pair (name or None, address or text of
     a forwarder). The names have to be sorted."""

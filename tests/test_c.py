@@ -125,8 +125,10 @@ class Walk(Case):
         return run(with_memory(40000, [built("walk"), str(most), self.written("many.dll", image)]))
 
     def test_all_imports_of_a_hostile_image(self):
-        """Of so many libraries that share one table."""
-        self.assertEqual(self.walked(1 << 62, images.shared_image(6500, 16000)), (0, b"104000000 imports\n", b""))
+        """Of 32 KiB, with so many libraries that each have all their records as table."""
+        image = images.own_tables(1609)
+        self.assertLessEqual(len(image), 32 << 10)
+        self.assertEqual(self.walked(1 << 62, image), (0, b"%d imports\n" % (5 * 1609 ** 2), b""))
 
     def test_a_walk_stops_where_there_are_too_many(self):
         self.assertEqual(self.walked(10000, images.shared_image(650, 1600)), (0, b"10240 imports and perhaps more\n", b""))

@@ -30,10 +30,10 @@
    A call may be made from any thread, and from several at once. After a refusal nothing is changed.
 
    How much memory a file may take is for the caller to limit, as a small file may list much: its
-   libraries may share one table of imports. 32 KiB can list a million imports, and 256 KiB 104 million,
-   7 GB of records. Where no limit can be set, open with parse_imports false, and walk over the imports by
-   goblin_pe_next_imports, with parse_imports true: it takes memory only for an index of more than 96
-   sections, and gives it back; stop when it is enough.
+   libraries may share one table of imports, and that may be their own records. So 32 KiB can list 12 million
+   imports, 0.8 GB of records, and 256 KiB 850 million, over 50 GB. Where no limit can be set, open with
+   parse_imports false, and walk over the imports by goblin_pe_next_imports, with parse_imports true: it takes
+   memory only for an index of more than 96 sections, and gives it back; stop when it is enough.
 
    The fields are those of the proved records, in the same order, and so are the numbers; callers/layout.py
    compares them. In C++ a record with the name of a call, such as goblin_pe_damage, is named with the word
