@@ -1,9 +1,9 @@
 #!/usr/bin/env python3
 """Compares the records of goblin_pe_records and goblin_pe_calls, and those of the libraries that stand in them, with those
 that the callers declare: the same names, with the same fields in the same order and of the same types. Compares also the
-numbers that stand in the records, each with its name: those of the code, and of the enums of the callers; and the
-calls of goblin_pe_c, by what they take and answer, and the version of their interface. The last line says how many
-passed and failed."""
+numbers that stand in the records, each with its name: those of the code, and of the enums of the callers; the calls of
+goblin_pe_c, by what they take and answer, and in C and Rust by what they write; the version of their interface; and the
+default options. The last line says how many passed and failed."""
 import glob
 import os
 import re
@@ -163,22 +163,25 @@ def python_numbers(source):
 
 
 def own_calls(source):
-    """The calls of goblin_pe_c, each as what it answers and takes; a slice is a pointer and a count."""
+    """The calls of goblin_pe_c, each as what it answers and takes; a slice is a pointer and a count, and a pointer to what
+    is written begins with *mut."""
     found = re.findall(r'pub extern "C" fn goblin_pe_(\w+)\((.*?)\) -> (\w+)$', re.sub(r"<'[^>]*>", "", source), re.S | re.M)
     def kinds(taken):
         for kind in re.findall(r"\w+: ([^,\n]+)", taken):
             star, kind = re.fullmatch(r"(&(?:'a )?(?:mut )?)?(.*)", kind).groups()
+            star = re.sub(r"&(?:'a )?", "*", star or "")
             if kind.startswith("["):
-                yield from ("*" + named(kind[1:-1]), "usize")
+                yield from (star + named(kind[1:-1]), "usize")
             elif kind != "Global":
-                yield "*" * bool(star) + named(kind)
+                yield star + named(kind)
     return {"goblin_pe_" + name: [named(answer), *kinds(taken)] for name, taken, answer in found}
 
 
 def c_calls(source):
     source = re.sub(r"/\*.*?\*/", "", source, flags=re.S)
     def kind(words):
-        star, words = "*" * words.count("*"), re.sub(r"\bconst |\*", "", words).strip()
+        star = "*" if "const " in words else "*mut " if "*" in words else ""
+        words = re.sub(r"\bconst |\*", "", words).strip()
         return star + (camel(words[len("struct goblin_pe_"):]) if words.startswith("struct ") else NUMBERS[words])
     found = re.findall(r"^((?:struct )?\w+) goblin_pe_(\w+)\(([^)]*)\);", source, re.M)
     return {"goblin_pe_" + name: [kind(answer), *(kind(re.sub(r"\w+$", "", it)) for it in " ".join(taken.split()).split(", ") if it != "void")]
@@ -187,12 +190,12 @@ def c_calls(source):
 
 def rust_calls(source):
     found = re.findall(r"^    (?:safe )?fn (goblin_pe_\w+)\((.*?)\) -> (\w+);", re.sub(r"<'[^>]*>", "", source), re.S | re.M)
-    kind = lambda it: re.sub(r"^(?:\*const |\*mut |&mut |&)", "*", it).replace("Slice", "Text")
+    kind = lambda it: re.sub(r"^(?:\*const |[*&](mut )?)", r"*\1", it).replace("Slice", "Text")
     return {name: [answer, *map(kind, re.findall(r"\w+: ([^,\n]+)", taken))] for name, taken, answer in found}
 
 
 def python_calls(source):
-    """The calls as the module declares them; its pointers to bytes have no type of their own."""
+    """The calls as the module declares them; its pointers to bytes have no type of their own, and none says what is written."""
     found = re.findall(r'"(goblin_pe_\w+)": \(([\w.]+), \[(.*?)\]\)', source, re.S)
     words = {"*_BYTES": ["*u8", "usize"], "_SIZE": ["*usize"]}
     def kinds(taken):
@@ -200,6 +203,30 @@ def python_calls(source):
             yield from ["*" + counted, "usize"] if counted else ["*" + pointer] if pointer else words.get(kind) or [PYTHON[kind]]
     calls = {name: [PYTHON.get(answer, answer), *kinds(taken)] for name, answer, taken in found}
     return {"goblin_pe_interface": ["u32"], **calls}
+
+
+def own_defaults(source):
+    """The default options of the libraries, as the record of options has them."""
+    body = re.search(r"fn default\(\) -> ParseOptions \{(.*?)\n    \}", source, re.S)[1]
+    value = dict(re.findall(r"(\w+): (?:\w+::)?(\w+),", body))
+    return [("is_permissive", value["parse_mode"] == "Permissive"), ("resolve_rva", value["resolve_rva"] == "true"),
+            ("rounds_raw_pointers", value["raw_pointer_rule"] == "RoundedTo512"), ("parse_imports", value["parse_imports"] == "true")]
+
+
+def c_defaults(source):
+    values = re.search(r"#define GOBLIN_PE_DEFAULT_OPTIONS \{ (.*) \}", source)[1].split(", ")
+    return [(field, value == "true") for (field, _), value in zip(c_records(source)["Options"], values)]
+
+
+def rust_defaults(source):
+    name = re.search(r"fn default\(\) -> Options \{\s+Options::(\w+)\s", source)[1]
+    body = re.search(r"const %s: Options = Options \{(.*?)\}" % name, source, re.S)[1]
+    return [(field, value == "true") for field, value in re.findall(r"(\w+): (\w+),", body)]
+
+
+def python_defaults(source):
+    body = re.search(r"^class Options:\n.*?\n((?:    \w+: bool = \w+\n)+)", source, re.S | re.M)[1]
+    return [(field, value == "True") for field, value in re.findall(r"(\w+): bool = (\w+)", body)]
 
 
 def version(pattern, source):
@@ -226,6 +253,12 @@ def main():
     callers["c/goblin_pe.h"].update(version(r"#define GOBLIN_PE_INTERFACE (\d+)", text("c/goblin_pe.h")))
     callers["rust/src"].update(version(r"const INTERFACE: u32 = (\d+)", text("rust/src/raw.rs")))
     callers["python/goblin_pe"].update(version(r"INTERFACE = (\d+)", text("python/goblin_pe/_library.py")))
+    ours["default options"] = own_defaults(code_of("goblin_pe_sect"))
+    callers["c/goblin_pe.h"]["default options"] = c_defaults(text("c/goblin_pe.h"))
+    callers["rust/src"]["default options"] = rust_defaults(text("rust/src/raw.rs"))
+    callers["python/goblin_pe"]["default options"] = python_defaults(text("python/goblin_pe/__init__.py"))
+    unmarked = {name: [it.replace("mut ", "") for it in kinds] for name, kinds in own_calls(calls).items()}
+    wanted = {**dict.fromkeys(callers, ours), "python/goblin_pe": {**ours, **unmarked}}
     inline = re.findall(r"^static inline .*?\bgoblin_pe_(\w+)\(", text("c/goblin_pe.h"), re.M)
     missing = [name for name in ours if name.startswith("goblin_pe_raw_") and name[len("goblin_pe_raw_"):] not in inline]
     passed, failed = 0, len(missing)
@@ -233,11 +266,11 @@ def main():
         print("FAILED: c/goblin_pe.h has %s, but no call over it" % name)
     for path, records in callers.items():
         for name in sorted({*ours, *records}):
-            if ours.get(name) and ours.get(name) == records.get(name):
+            if ours.get(name) and wanted[path].get(name) == records.get(name):
                 passed += 1
             else:
                 failed += 1
-                print("FAILED: %s in %s: %s and not %s" % (name, path, records.get(name), ours.get(name)))
+                print("FAILED: %s in %s: %s and not %s" % (name, path, records.get(name), wanted[path].get(name)))
     print("%d passed, %d failed" % (passed, failed))
     return 1 if failed or not ours else 0
 
