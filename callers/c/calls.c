@@ -15,17 +15,25 @@ static bool is_in_file(struct goblin_pe_text text)
     return offset <= length && text.length <= length - offset;
 }
 
+static bool is_fault(struct goblin_pe_fault fault, uint32_t status, uint32_t cause)
+{
+    return fault.status == status && fault.cause == cause;
+}
+
 /* Whether bytes at an address are those at its offset, and end with the file. */
 static bool are_mapped(const struct goblin_pe_image *image, size_t rva)
 {
     struct goblin_pe_text found = { bytes, 77 };
     size_t offset = 7;
     if (!goblin_pe_find_offset(image, rva, &offset))
-        return offset == 7 && goblin_pe_bytes_at(image, rva, 0, &found).cause == GOBLIN_PE_CAUSE_UNMAPPED &&
+        return offset == 7 &&
+               is_fault(goblin_pe_bytes_at(image, rva, 0, &found), GOBLIN_PE_MALFORMED, GOBLIN_PE_CAUSE_UNMAPPED) &&
                found.length == 77;
     if (offset >= length)
-        return goblin_pe_bytes_at(image, rva, 1, &found).cause == GOBLIN_PE_READ_FAULT_BAD_OFFSET && found.length == 77;
-    return goblin_pe_bytes_at(image, rva, length - offset + 1, &found).cause == GOBLIN_PE_READ_FAULT_TOO_BIG &&
+        return is_fault(goblin_pe_bytes_at(image, rva, 1, &found), GOBLIN_PE_BAD_READ, GOBLIN_PE_READ_FAULT_BAD_OFFSET) &&
+               found.length == 77;
+    return is_fault(goblin_pe_bytes_at(image, rva, length - offset + 1, &found), GOBLIN_PE_BAD_READ,
+                    GOBLIN_PE_READ_FAULT_TOO_BIG) &&
            found.length == 77 && goblin_pe_bytes_at(image, rva, length - offset, &found).status == GOBLIN_PE_OK &&
            found.bytes == bytes + offset && found.length == length - offset;
 }
@@ -144,9 +152,40 @@ static bool sets_names(void)
            goblin_pe_set_name_offset(&section, SIZE_MAX).cause == GOBLIN_PE_CAUSE_NAME_OFFSET && section.name[1] == '1';
 }
 
+/* Whether an address is mapped by sections whose records a caller made, zeros but for what maps them, and the data of
+   one begins where the options say. */
+static bool maps_by_records_of_zeros(void)
+{
+    static uint8_t file[0x800];
+    struct goblin_pe_section sections[2];
+    struct goblin_pe_image image = { { file, sizeof file }, sections, 2, 0x200, GOBLIN_PE_DEFAULT_OPTIONS };
+    struct goblin_pe_section_data data;
+    struct goblin_pe_text text = { file, 77 }, found;
+    struct goblin_pe_fault fault;
+    size_t offset;
+    memset(sections, 0, sizeof sections);
+    for (uint32_t i = 0; i < 2; i++) {
+        sections[i].virtual_address = 0x1000 + 0x1000 * i;
+        sections[i].pointer_to_raw_data = 0x400 + 0x200 * i;
+        sections[i].virtual_size = sections[i].size_of_raw_data = 0x200;
+    }
+    memcpy(file + 0x634, "Apple", 5);
+    fault = goblin_pe_text_at(&image, 0x4000, &text);
+    if (!is_fault(fault, GOBLIN_PE_MALFORMED, GOBLIN_PE_CAUSE_UNMAPPED) || fault.first != 0x4000 || text.length != 77)
+        return false;
+    if (goblin_pe_text_at(&image, 0x2034, &text).status != GOBLIN_PE_OK || text.bytes != file + 0x634 || text.length != 5)
+        return false;
+    sections[1].pointer_to_raw_data += 0x34;
+    image.options.rounds_raw_pointers = true;
+    return goblin_pe_find_offset(&image, 0x2034, &offset) && offset == 0x634 &&
+           goblin_pe_bytes_at(&image, 0x2034, 5, &found).status == GOBLIN_PE_OK && found.bytes == file + 0x634 &&
+           found.length == 5 && goblin_pe_section_data(&image, &sections[1], &data).status == GOBLIN_PE_OK &&
+           data.bytes.bytes == file + 0x600 && data.bytes.length == 0x200 && !data.zeros;
+}
+
 int main(int argc, char **argv)
 {
-    if (!sets_names() || goblin_pe_kind(NULL, 0) != GOBLIN_PE_KIND_UNKNOWN)
+    if (!sets_names() || !maps_by_records_of_zeros() || goblin_pe_kind(NULL, 0) != GOBLIN_PE_KIND_UNKNOWN)
         return 4;
     for (int i = 1; i < argc; i++) {
         FILE *from = fopen(argv[i], "rb");

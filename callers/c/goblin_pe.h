@@ -915,7 +915,8 @@ struct goblin_pe_ranges {
 struct goblin_pe_image {
     /* The file's bytes. */
     struct goblin_pe_text bytes;
-    /* The records of its sections, in the order of the section table. */
+    /* The records of its sections, in the order of the section table. The look-ups read no name of
+       theirs, so a record may be zeros but for its sizes and places. */
     const struct goblin_pe_section *sections;
     size_t section_count;
     /* Its file alignment, in bytes. */
