@@ -7,8 +7,11 @@ import textwrap
 
 HERE = pathlib.Path(__file__).resolve().parent
 HEADER = HERE / "c/goblin_pe_constants.h"
-SOURCES = ("goblin_pe_head/src/header/machine", "goblin_pe_sect/src/section_table/constants", "goblin_pe_symbol/src/symbol/constants",
-           "goblin_pe_sect/src/relocation/constants")
+# The files, and what heads their constants where they have more than these.
+SOURCES = ("goblin_pe_head/src/header/machine", "goblin_pe_head/src/optional_header", "goblin_pe_sect/src/section_table/constants",
+           "goblin_pe_symbol/src/symbol/constants", "goblin_pe_sect/src/relocation/constants")
+
+HEADINGS = {"goblin_pe_head/src/optional_header": "The magic numbers of optional headers."}
 
 FRONT = """/* The numbers of the PE and COFF formats, by the names that they have there, after GOBLIN_PE_. callers/constants.py
    writes this file from the constants of the proved libraries, whose values are proved to be these. */
@@ -28,9 +31,10 @@ def number(kind, value):
     return "(%s)" % value if value.startswith("-") else value + "u" * (kind == "u32")
 
 
-def section(source):
+def section(path):
     """What a file says that its constants are, and those."""
-    lines = [comment("".join(re.findall(r"^//!(.*\n)", source, re.M)))]
+    source = (HERE.parent / "crates" / (path + ".rt")).read_text()
+    lines = [comment(HEADINGS.get(path) or "".join(re.findall(r"^//!(.*\n)", source, re.M)))]
     for doc, name, kind, value in re.findall(r"((?:^///.*\n)+)pub const (\w+): (\w+) = (.+);$", source, re.M):
         lines += [comment(doc.replace("///", "")), "#define GOBLIN_PE_%s %s" % (name, number(kind, value))]
     return "\n".join(lines) + "\n"
@@ -38,8 +42,7 @@ def section(source):
 
 def header():
     """The text of the header."""
-    sections = [section((HERE.parent / "crates" / (it + ".rt")).read_text()) for it in SOURCES]
-    return "\n".join([FRONT, *sections, "#endif\n"])
+    return "\n".join([FRONT, *map(section, SOURCES), "#endif\n"])
 
 
 if __name__ == "__main__":

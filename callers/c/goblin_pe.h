@@ -17,7 +17,8 @@
    read, has no bytes and points at the file's first.
 
    An address (rva) is relative to the image's base, an offset is a file offset, and both are in bytes.
-   Names such as IMAGE_SCN_* and COFF_MACHINE_* are those of goblin_pe_constants.h after GOBLIN_PE_.
+   Names such as IMAGE_SCN_* and COFF_MACHINE_* are those of goblin_pe_constants.h after GOBLIN_PE_; only
+   IMAGE_FILE_*, IMAGE_SUBSYSTEM_* and IMAGE_DLLCHARACTERISTICS_* are not there, but in PE Format.
 
    What a caller owes, which nothing checks:
    - The bytes are as many as the length says, and nothing changes them during the call. What is filled
@@ -329,8 +330,8 @@ struct goblin_pe_coff_header {
    Source: PE Format, "Optional Header Standard Fields (Image Only)". `at` gives a field's offset
    from the front of the optional header, in both widths. */
 struct goblin_pe_standard_fields {
-    /* What the optional header is, at 0: 0x10b or 0x20b. Only this says the width of the header
-       and of import entries. */
+    /* What the optional header is, at 0: MAGIC_32 (0x10b) or MAGIC_64 (0x20b). Only this says the
+       width of the header and of import entries. */
     uint16_t magic;
     /* The linker's major version, at 2. */
     uint8_t major_linker_version;

@@ -63,6 +63,18 @@
 /* The machine: MIPS WCE v2, little-endian. */
 #define GOBLIN_PE_COFF_MACHINE_WCEMIPSV2 0x169
 
+/* The magic numbers of optional headers. */
+/* The magic of an optional header for 32 bits. */
+#define GOBLIN_PE_MAGIC_32 0x10B
+/* The magic of an optional header for 64 bits. */
+#define GOBLIN_PE_MAGIC_64 0x20B
+/* The magic of an optional header for 32 bits, by its name in the Windows headers. */
+#define GOBLIN_PE_IMAGE_NT_OPTIONAL_HDR32_MAGIC 0x10B
+/* The magic of an optional header for 64 bits, by its name in the Windows headers. */
+#define GOBLIN_PE_IMAGE_NT_OPTIONAL_HDR64_MAGIC 0x20B
+/* The magic of a ROM image. No reader takes it. */
+#define GOBLIN_PE_IMAGE_ROM_OPTIONAL_HDR_MAGIC 0x107
+
 /* The characteristics of sections, as bits. Source: PE Format, "Section Flags". */
 /* The section is not padded to the next border. Obsolete; use IMAGE_SCN_ALIGN_1BYTES. */
 #define GOBLIN_PE_IMAGE_SCN_TYPE_NO_PAD 0x00000008u

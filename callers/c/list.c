@@ -133,7 +133,7 @@ static int list_image(const uint8_t *bytes, size_t length, bool is_permissive)
     putchar('\n');
     put_sections(tables.sections, tables.section_count);
     put_table("imports", file.imports);
-    put_imports(tables.imports, tables.import_count, standard->magic == 0x20b ? 8 : 4);
+    put_imports(tables.imports, tables.import_count, standard->magic == GOBLIN_PE_MAGIC_64 ? 8 : 4);
     put_table("exports", file.exports);
     put_exports(tables.exports, tables.export_count);
     put_table("relocations", file.relocations.blocks);

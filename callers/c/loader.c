@@ -41,7 +41,7 @@ struct wanted {
 
 static bool is_wide(const struct module *m)
 {
-    return m->file.optional_header.standard_fields.magic == 0x20b;
+    return m->file.optional_header.standard_fields.magic == GOBLIN_PE_MAGIC_64;
 }
 
 static int refused(const struct module *m, struct goblin_pe_fault fault)
