@@ -31,8 +31,8 @@
    A call may be made from any thread, and from several at once. After a refusal nothing is changed.
 
    How much memory a file may take is for the caller to limit, as a small file may list much: its
-   libraries may share one table of imports, and that may be their own records. So 32 KiB can list 12 million
-   imports, 0.8 GB of records, and 256 KiB 850 million, over 50 GB. Where no limit can be set, open with
+   libraries may share one table of imports, and that may be their own records. So 32 KiB can list nearly 13
+   million imports, 0.8 GB of records, and 256 KiB 850 million, over 50 GB. Where no limit can be set, open with
    parse_imports false, and walk over the imports by goblin_pe_next_imports, with parse_imports true: it takes
    memory only for an index of more than 96 sections, and gives it back; stop when it is enough.
 
@@ -230,8 +230,8 @@ struct goblin_pe_options {
     /* Whether an address is mapped to a file offset by the sections; where not, it is the
        offset. */
     bool resolve_rva;
-    /* Whether the mapping rounds the raw pointer of a section down to 512, as the Windows loader
-       does; where not, it takes the pointer as stored. */
+    /* Whether the raw pointer of a section is rounded down to 512, as the Windows loader does, for
+       addresses and for its data; where not, it is taken as stored. */
     bool rounds_raw_pointers;
     /* Whether the imports are read; where not, their table is absent. */
     bool parse_imports;
@@ -330,8 +330,8 @@ struct goblin_pe_coff_header {
    Source: PE Format, "Optional Header Standard Fields (Image Only)". `at` gives a field's offset
    from the front of the optional header, in both widths. */
 struct goblin_pe_standard_fields {
-    /* What the optional header is, at 0: MAGIC_32 (0x10b) or MAGIC_64 (0x20b). Only this says the
-       width of the header and of import entries. */
+    /* What the optional header is, at 0: 0x10b or 0x20b. Only this says the width of the header
+       and of import entries. */
     uint16_t magic;
     /* The linker's major version, at 2. */
     uint8_t major_linker_version;
@@ -916,8 +916,9 @@ struct goblin_pe_ranges {
 struct goblin_pe_image {
     /* The file's bytes. */
     struct goblin_pe_text bytes;
-    /* The records of its sections, in the order of the section table. The look-ups read no name of
-       theirs, so a record may be zeros but for its sizes and places. */
+    /* The records of its sections, in the order of the section table. No call looks at more of them
+       than their virtual_address, virtual_size, pointer_to_raw_data and size_of_raw_data; all else
+       may be zeros. */
     const struct goblin_pe_section *sections;
     size_t section_count;
     /* Its file alignment, in bytes. */
@@ -1226,8 +1227,7 @@ static inline bool goblin_pe_find_offset(const struct goblin_pe_image *image, si
 }
 
 /* The text at an address, up to its NUL or the end of the file. Refused are an address without an offset in
-   the file, an offset at or past the file's end, and bytes that are not UTF-8; `text` is unchanged then. No
-   memory is taken. */
+   the file, an offset at or past the file's end, and bytes that are not UTF-8. No memory is taken. */
 static inline struct goblin_pe_fault goblin_pe_text_at(
     const struct goblin_pe_image *image, size_t rva, struct goblin_pe_text *text)
 {
@@ -1236,8 +1236,8 @@ static inline struct goblin_pe_fault goblin_pe_text_at(
 }
 
 /* So many bytes at an address. Refused are an address without an offset in the file, an offset at or past
-   the file's end, even if no bytes are asked for, and bytes that pass that end; `bytes` is unchanged then. The
-   end of a section is not looked at. No memory is taken. */
+   the file's end, even if no bytes are asked for, and bytes that pass that end. The end of a section is not looked
+   at. No memory is taken. */
 static inline struct goblin_pe_fault goblin_pe_bytes_at(
     const struct goblin_pe_image *image, size_t rva, size_t size, struct goblin_pe_text *bytes)
 {
@@ -1249,7 +1249,7 @@ static inline struct goblin_pe_fault goblin_pe_bytes_at(
    image's options say, and how many zeros follow them up to the size in memory; none where the file has at
    least as many bytes, which are not cut then. Of the image only the bytes and the options are looked at, so
    for an object one with its bytes and else zeros will do. Refused is a file that is too short for it, and one
-   in which it begins past the end, even where it has no bytes; `data` is unchanged then. No memory is taken. */
+   in which it begins past the end, even where it has no bytes. No memory is taken. */
 static inline struct goblin_pe_fault goblin_pe_section_data(
     const struct goblin_pe_image *image, const struct goblin_pe_section *section, struct goblin_pe_section_data *data)
 {

@@ -24,7 +24,7 @@ those of a `bytes` object or of a file mapped with ACCESS_READ, or of a memoryvi
 while it reads any other buffer, as a bytearray or a writable mapping: also not where the buffer is a view for reading,
 since its bytes could be written past it. A mapped file must not be written or cut meanwhile, by whatever way.
 
-A file of 256 KiB can have more than 100 million imports. Where memory can't be limited, read it by
+A file of 256 KiB can have more than 800 million imports. Where memory can't be limited, read it by
 Options(parse_imports=False) and use Pe.walk_imports, which keeps none of them.
 
 A refusal raises Refused, also where the library is refused memory: its status is then Status.NO_MEMORY. MemoryError
@@ -120,8 +120,8 @@ class Options:
 
     is_permissive: whether damaged parts are passed over.
     resolve_rva: whether an address is mapped to a file offset by the sections; where not, it is the offset.
-    rounds_raw_pointers: whether the mapping rounds the raw pointer of a section down to 512, as the Windows
-        loader does; where not, it takes the pointer as stored.
+    rounds_raw_pointers: whether the raw pointer of a section is rounded down to 512, as the Windows loader does, for
+        addresses and for its data; where not, it is taken as stored.
     parse_imports: whether the imports are read; where not, their table is absent.
     """
 
@@ -249,15 +249,16 @@ class Pe:
         return offset.value if is_found else None
 
     def text_at(self, rva: int) -> Optional[bytes]:
-        """The text at an address, up to its NUL: None where the address has no offset in the file, or no UTF-8 stands
-        there."""
+        """The text at an address, up to its NUL or the end of the file: None where the address has no offset in the file,
+        this lies at or past its end, or no UTF-8 stands there."""
         text = records.Text()
         with memoryview(self._bytes()) as view, _held(view) as (calls, address, length), view.cast("B") as in_bytes:
             refused = calls.goblin_pe_raw_text_at(c.byref(self._image(address, length)), _size(rva), c.byref(text)).status
             return None if refused else _Rows(in_bytes, address).text(text)
 
     def bytes_at(self, rva: int, size: int) -> Optional[bytes]:
-        """So many bytes at an address: None where the address has no offset in the file, or the bytes pass its end."""
+        """So many bytes at an address: None where the address has no offset in the file, this lies at or past its end, or
+        the bytes pass it."""
         text = records.Text()
         with memoryview(self._bytes()) as view, _held(view) as (calls, address, length), view.cast("B") as in_bytes:
             image = self._image(address, length)
@@ -265,8 +266,8 @@ class Pe:
             return None if refused else _Rows(in_bytes, address).text(text)
 
     def section_data(self, section: Section) -> SectionData:
-        """The data of one of its sections, and how many zeros follow it in memory. It begins where find_offset has the
-        section's address: at the raw pointer, which the options may round down to 512."""
+        """The data of one of its sections, and how many zeros follow it in memory. It begins at the raw pointer, which the
+        options may round down to 512, as they do for find_offset."""
         return _data_of(section, self._bytes(), self._options)
 
     def walk_imports(self) -> Iterator[Import]:

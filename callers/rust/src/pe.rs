@@ -14,7 +14,7 @@ use crate::raw::{
     self, CoffHeader, DataDirectory, DosHeader, OptionalHeader, Options, RichMetadata,
 };
 use crate::rows::{
-    Damage, Export, ExportAddress, ExportDirectory, Header, RichHeader, Section, section_table,
+    section_table, Damage, Export, ExportAddress, ExportDirectory, Header, RichHeader, Section,
 };
 use crate::text::Text;
 
@@ -223,9 +223,8 @@ impl<'a> Pe<'a> {
         self.sections().find(|s| s.name == *name.as_ref())
     }
 
-    /// The data of one of its sections, and how many zeros follow it in memory. It begins where
-    /// [`Pe::find_offset`] has the section's address: at the raw pointer, which the options may round
-    /// down to 512.
+    /// The data of one of its sections, and how many zeros follow it in memory. It begins at the raw
+    /// pointer, which the options may round down to 512, as they do for [`Pe::find_offset`].
     ///
     /// # Errors
     /// Where the data passes the file, and where it begins past the end, even if there is none.
@@ -274,7 +273,7 @@ impl<'a> Pe<'a> {
     }
 
     /// A walk over the imports, in constant memory, which reads the file as it goes on: also where the
-    /// options of the read left them out. A file of 256 KiB can have more than 100 million imports, more
+    /// options of the read left them out. A file of 256 KiB can have more than 800 million imports, more
     /// than may be listed. In strict mode it ends with the error for which a read is refused.
     ///
     /// ```no_run
@@ -481,11 +480,11 @@ impl<'a> Pe<'a> {
         raw::find_offset(&self.image(), rva)
     }
 
-    /// The text at an address, up to its NUL.
+    /// The text at an address, up to its NUL or the end of the file.
     ///
     /// # Errors
-    /// Where the address has no offset in the file, this lies past the file's end, or no UTF-8 stands
-    /// there.
+    /// Where the address has no offset in the file, where this lies at or past the file's end, and where
+    /// the text is not UTF-8.
     ///
     /// ```no_run
     /// # use goblin_pe::{Options, Pe};
@@ -505,8 +504,8 @@ impl<'a> Pe<'a> {
     /// So many bytes at an address.
     ///
     /// # Errors
-    /// Where the address has no offset in the file, this lies past the file's end, or the bytes pass
-    /// it.
+    /// Where the address has no offset in the file, where this lies at or past the file's end, even if no
+    /// bytes are asked for, and where the bytes pass that end.
     ///
     /// ```no_run
     /// # use goblin_pe::{DirectoryType, Options, Pe};

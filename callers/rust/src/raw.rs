@@ -2,7 +2,7 @@
 //! `goblin_pe_calls` and of the libraries below it, in the same order; callers/layout.py compares
 //! them.
 
-use std::alloc::{Layout, handle_alloc_error};
+use std::alloc::{handle_alloc_error, Layout};
 use std::marker::PhantomData;
 use std::ptr::NonNull;
 use std::sync::Once;
@@ -69,8 +69,8 @@ pub struct Options {
     /// Whether an address is mapped to a file offset by the sections; where not, it is the
     /// offset.
     pub resolve_rva: bool,
-    /// Whether the mapping rounds the raw pointer of a section down to 512, as the Windows loader
-    /// does; where not, it takes the pointer as stored.
+    /// Whether the raw pointer of a section is rounded down to 512, as the Windows loader does, for
+    /// addresses and for its data; where not, it is taken as stored.
     pub rounds_raw_pointers: bool,
     /// Whether the imports are read; where not, their table is absent.
     pub parse_imports: bool,
@@ -1159,11 +1159,7 @@ unsafe extern "C" {
 
     fn goblin_pe_raw_find_offset(image: &Image<'_, '_>, rva: usize, offset: &mut usize) -> bool;
 
-    fn goblin_pe_raw_text_at<'a>(
-        image: &Image<'_, 'a>,
-        rva: usize,
-        text: &mut Slice<'a>,
-    ) -> Fault;
+    fn goblin_pe_raw_text_at<'a>(image: &Image<'_, 'a>, rva: usize, text: &mut Slice<'a>) -> Fault;
 
     fn goblin_pe_raw_bytes_at<'a>(
         image: &Image<'_, 'a>,

@@ -268,7 +268,10 @@ impl<'a> Section<'a> {
     }
 
     /// The same in an image, from where its options say.
-    pub(crate) fn data_in<'b>(&self, image: &raw::Image<'_, 'b>) -> Result<(&'b [u8], usize), Error> {
+    pub(crate) fn data_in<'b>(
+        &self,
+        image: &raw::Image<'_, 'b>,
+    ) -> Result<(&'b [u8], usize), Error> {
         let mut data = raw::SectionData::EMPTY;
         Error::test(raw::section_data(image, &self.record(), &mut data))?;
         Ok((data.bytes.get(), data.zeros))

@@ -2,7 +2,7 @@
 //! section.
 //!
 //! Addresses are relative to the image's base; offsets are file offsets. Both are in bytes. No call
-//! takes memory, and after a refusal nothing is changed.
+//! takes memory. After a refusal, or where there is no offset, nothing is changed.
 
 ghost use Rattle.std.specs.Prelude.{◌≡◌};
 ghost use Rattle.goblin_pe_sect.specs.AddressReadings.{text_at_address};
@@ -32,11 +32,11 @@ pub extern "C" fn goblin_pe_raw_find_offset(image: &PeImage, rva: usize, offset:
 }
 
 /// Reads the text at the address `rva` into `text`: the bytes at its file offset up to a NUL or the
-/// end of the file. It takes no memory.
+/// end of the file.
 ///
 /// Refused are an address without a file offset (the status 1, the cause 22, whose number is the
 /// address), and one where there is no text (the status 4): by the cause 1 if the offset lies at or
-/// past the end of the file, by 3 if the bytes are not UTF-8. `text` is then unchanged.
+/// past the end of the file, by 3 if the bytes are not UTF-8.
 #[unsafe(no_mangle)]
 pub extern "C" fn goblin_pe_raw_text_at<'a>(
     image: &PeImage<'a>,
@@ -53,12 +53,11 @@ pub extern "C" fn goblin_pe_raw_text_at<'a>(
     }
 }
 
-/// Reads the `size` bytes at the address `rva` into `text`. A section's end is not looked at. It
-/// takes no memory.
+/// Reads the `size` bytes at the address `rva` into `text`. A section's end is not looked at.
 ///
 /// Refused are an address without a file offset (the status 1, the cause 22, whose number is the
 /// address), and one where the bytes are not there (the status 4): by the cause 1 if the offset lies
-/// at or past the end of the file, else by 2. `text` is then unchanged.
+/// at or past the end of the file, else by 2.
 #[unsafe(no_mangle)]
 pub extern "C" fn goblin_pe_raw_bytes_at<'a>(
     image: &PeImage<'a>,
@@ -79,11 +78,10 @@ pub extern "C" fn goblin_pe_raw_bytes_at<'a>(
 /// Reads the data of a section in memory: the bytes at its raw pointer, as many as its raw size
 /// says, and how many zeros follow them up to the virtual size. There are none where the raw size
 /// is at least that; the bytes are then not cut. The raw pointer is taken as the image's options say,
-/// as stored or rounded down to 512; its sections are not looked at. It takes no memory.
+/// as stored or rounded down to 512; its sections are not looked at.
 ///
 /// A read is refused (the status 4) where the bytes run past the end of the file, or begin past it,
-/// even where there are none: by the cause 1 if they begin at or past it, else by 2. `contents` is
-/// then unchanged.
+/// even where there are none: by the cause 1 if they begin at or past it, else by 2.
 #[unsafe(no_mangle)]
 pub extern "C" fn goblin_pe_raw_section_data<'a>(
     image: &PeImage<'a>,

@@ -5,8 +5,7 @@ use Rattle.goblin_pe_sect.specs.Mapping.{raw_begin}
 use Rattle.goblin_pe_sect.specs.SectionTable.{Section}
 use Rattle.goblin_pe_records.specs.declared.section_data.PeSectionData.{PeSectionData}
 
--- a section whose data begins where its address is mapped to: at its raw pointer by the rule of the
--- options
+-- a section whose data begins at its raw pointer by the rule of the options
 abbrev pub placed : ParseOptions → Section → Section
 placed opts s = record s { pointer_to_raw_data = raw_begin opts s }
 

@@ -130,7 +130,7 @@ fn malformed(cause: u32, first: u64, second: u64) -> PeFault
     fault(Status::Malformed, cause, first, second)
 }
 
-// What a file is too short for, by its number.
+// The number of what a file is too short for.
 fn word_number(what: &str) -> u32
     ensures { result ≡ word_number what.now }
 {
@@ -323,8 +323,8 @@ fn error_of(fault: &PeFault) -> Option<Error>
     })
 }
 
-/// The text of the refusal with these numbers, cut where it is longer than 160 bytes; none where they
-/// are of no refusal.
+/// The text of the refusal with these numbers, whole, or cut and ended by three dots, in 160 bytes at
+/// most; none where they are of no refusal.
 pub fn text_of(fault: &PeFault) -> InlineText<TEXT_ROOM>
     ensures text { IsTextOf fault.now (inline_text result) }
     ensures short { length (inline_text result) ≤ 160 }

@@ -2,7 +2,7 @@
 //!
 //! Addresses are relative to the image's base; offsets are file offsets. Both are in bytes.
 
-ghost use Rattle.std.specs.Prelude.{◌≡◌, option_map};
+ghost use Rattle.std.specs.Prelude.{◌≡◌};
 ghost use Rattle.goblin_base.specs.declared.error.CauseOf.TheVariants.{Unmapped};
 ghost use Rattle.goblin_base.specs.declared.error.ErrorOf.TheVariants.{Malformed};
 ghost use Rattle.goblin_base.specs.Answers.{Answers};
@@ -38,15 +38,6 @@ pub struct PeText<'a> {
     pub bytes: &'a [u8],
 }
 
-/// The record of a text, where there is one.
-pub fn text_record<'a>(text: Option<&'a str>) -> Option<PeText<'a>>
-    ensures { option_map text_view result ≡ option_map (λ s. s.now) text.entry }
-{
-    Some(PeText {
-        bytes: text?.as_bytes(),
-    })
-}
-
 impl<'a> PeImage<'a> {
     /// The file offset of an address.
     pub fn offset_of(&self, rva: usize) -> Option<usize>
@@ -57,7 +48,7 @@ impl<'a> PeImage<'a> {
     }
 
     // The file offset of an address; it is refused where there is none.
-    fn mapped(&self, rva: usize) -> Result<usize>
+    fn offset_at(&self, rva: usize) -> Result<usize>
         ensures { Answers (λ p. p) result (image_map self.now rva) (λ e. e ≡ Malformed (Unmapped rva)) }
     {
         self.offset_of(rva)
@@ -74,7 +65,7 @@ impl<'a> PeImage<'a> {
         ensures { ReadsWithout (text_at_address (image_map self.now) rva) self.now.bytes.now
             (λ whole. text_view text.new ≡ whole) (text.new ≡ text.old) result }
     {
-        let offset = self.mapped(rva)?;
+        let offset = self.offset_at(rva)?;
         let found = pread_str(self.bytes, offset)?;
         *text = PeText {
             bytes: found.as_bytes(),
@@ -85,12 +76,14 @@ impl<'a> PeImage<'a> {
     /// Reads so many bytes at an address.
     ///
     /// # Errors
-    /// As [`PeImage::read_text`]; [`Error::Read`] if the file ends before the bytes do.
+    /// [`Error::Malformed`] with [`Cause::Unmapped`] if the address has no file offset, and
+    /// [`Error::Read`] if this lies at or past the end of the file, or the bytes pass it; nothing is
+    /// then changed.
     pub fn read_bytes(&self, rva: usize, size: usize, text: &mut PeText<'a>) -> Result<()>
         ensures { ReadsWithout (bytes_at_address (image_map self.now) rva size) self.now.bytes.now
             (λ whole. text_view text.new ≡ whole) (text.new ≡ text.old) result }
     {
-        let offset = self.mapped(rva)?;
+        let offset = self.offset_at(rva)?;
         let bytes = pread_slice(self.bytes, offset, size)?;
         *text = PeText { bytes };
         Ok(())

@@ -9,7 +9,7 @@ use goblin_pe_sect::options::ParseOptions;
 use goblin_pe_sect::utils::find_offset;
 
 /// The file offset of an address, by the first record whose section maps it.
-pub fn offset_by(
+pub(crate) fn offset_by(
     rva: usize,
     sections: &[PeSection],
     file_alignment: u32,

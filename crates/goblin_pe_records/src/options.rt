@@ -13,8 +13,8 @@ pub struct PeOptions {
     pub is_permissive: bool,
     /// Whether an address is mapped to a file offset by the sections; where not, it is the offset.
     pub resolve_rva: bool,
-    /// Whether the mapping rounds the raw pointer of a section down to 512, as the Windows loader
-    /// does; where not, it takes the pointer as stored.
+    /// Whether the raw pointer of a section is rounded down to 512, as the Windows loader does, for
+    /// addresses and for its data; where not, it is taken as stored.
     pub rounds_raw_pointers: bool,
     /// Whether the imports are read; where not, their table is absent.
     pub parse_imports: bool,

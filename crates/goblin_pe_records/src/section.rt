@@ -47,8 +47,8 @@ pub struct PeSection<'a> {
     pub has_real_name: bool,
 }
 
-/// The section of a record, without its name from the string table, which lies in the file.
-pub fn section_of(section: &PeSection) -> SectionTable
+/// The section of a record, without its name from the string table, which would take memory.
+pub(crate) fn section_of(section: &PeSection) -> SectionTable
     ensures { result ≡ unnamed (section_view section.now) }
 {
     SectionTable {
@@ -102,8 +102,8 @@ fn section_record<'a>(bytes: &'a [u8], section: &SectionTable) -> PeSection<'a>
 }
 
 // Gives the record of a section its name from the string table at `table`, where there is one. (It
-// takes the record alone, since a section of which it took a reference would be stored for each call
-// of `name_record`.)
+// takes the record alone: a section that it took by reference would be stored at each call of
+// `name_record`.)
 #[inline(never)]
 fn name_by_table<'a>(place: &mut PeSection<'a>, bytes: &'a [u8], table: usize, opts: &ParseOptions)
     requires { section_said place.old ≡ alone (unnamed (section_view place.old)) }

@@ -24,8 +24,8 @@ pub struct PeSectionData<'a> {
 }
 
 /// Reads the data of a section of an image in memory: the bytes that the file has of it, and how
-/// many zeros follow them. The bytes begin where the section's address is mapped to: at its raw
-/// pointer, by the rule of the image's options.
+/// many zeros follow them. The bytes begin at its raw pointer, as stored or rounded down to 512 as
+/// the image's options say.
 ///
 /// # Errors
 /// Bytes that do not lie in the file; nothing is then changed.

@@ -315,7 +315,7 @@ impl DataDirectories {
     /// Reads `count` entries, which follow one another from `offset` on, in place of these, so that
     /// the entries, which are large, are not moved. There must be at most sixteen, all inside
     /// `bytes`: [`DataDirectories::test`] tests that.
-    // (Out of line its pointers stay in registers, which a caller has none left for.)
+    // (Out of line, as a caller has no registers left for its pointers.)
     #[inline(never)]
     #[tactic(auto, using(crate::proofs::DirectoryReadings::no_entries))]
     pub fn read(&mut self, bytes: &[u8], count: usize, offset: usize)
