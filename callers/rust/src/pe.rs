@@ -14,7 +14,7 @@ use crate::raw::{
     self, CoffHeader, DataDirectory, DosHeader, OptionalHeader, Options, RichMetadata,
 };
 use crate::rows::{
-    section_table, Damage, Export, ExportAddress, ExportDirectory, Header, RichHeader, Section,
+    Damage, Export, ExportAddress, ExportDirectory, Header, RichHeader, Section, section_table,
 };
 use crate::text::Text;
 

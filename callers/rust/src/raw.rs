@@ -2,7 +2,7 @@
 //! `goblin_pe_calls` and of the libraries below it, in the same order; callers/layout.py compares
 //! them.
 
-use std::alloc::{handle_alloc_error, Layout};
+use std::alloc::{Layout, handle_alloc_error};
 use std::marker::PhantomData;
 use std::ptr::NonNull;
 use std::sync::Once;

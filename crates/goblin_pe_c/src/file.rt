@@ -21,7 +21,7 @@ use goblin_pe_calls::import::PeImport;
 use goblin_pe_calls::next::{self, PeImportPosition};
 use goblin_pe_calls::open::{self, PeTables};
 use goblin_pe_records::directory::PeDirectory;
-use goblin_pe_records::fault::{PeFault, fault_of, no_fault};
+use goblin_pe_records::fault::{PeFault, status_of};
 use goblin_pe_records::file::PeFile;
 use goblin_pe_records::kind;
 use goblin_pe_records::options::{PeOptions, options_of};
@@ -74,10 +74,7 @@ pub extern "C" fn goblin_pe_raw_open<'a>(
         (whole_file opts) bytes.now (λ w. Opens opts bytes.now w old new) (new ≡ old)) }
 {
     let opts = options_of(options);
-    match open::open(alloc, bytes, &opts, file, directories, tables) {
-        Ok(()) => no_fault(),
-        Err(error) => fault_of(&error),
-    }
+    status_of(open::open(alloc, bytes, &opts, file, directories, tables))
 }
 
 /// Fills `records` with the imports of a file from a position on, as many as there is room for,
@@ -112,10 +109,7 @@ pub extern "C" fn goblin_pe_raw_next_imports<'a>(
         ((new ≡ old) × (count.new ≡ count.old))) }
 {
     let opts = options_of(options);
-    match next::give_imports(alloc, bytes, &opts, position, records, count) {
-        Ok(()) => no_fault(),
-        Err(error) => fault_of(&error),
-    }
+    status_of(next::give_imports(alloc, bytes, &opts, position, records, count))
 }
 
 /// Fills `records` with the exports of a file from a position on, as many as there is room for,
@@ -146,10 +140,7 @@ pub extern "C" fn goblin_pe_raw_next_exports<'a>(
         ((new ≡ old) × (count.new ≡ count.old))) }
 {
     let opts = options_of(options);
-    match next::give_exports(alloc, bytes, &opts, position, records, count) {
-        Ok(()) => no_fault(),
-        Err(error) => fault_of(&error),
-    }
+    status_of(next::give_exports(alloc, bytes, &opts, position, records, count))
 }
 
 /// Tells in `damage` what strict mode would refuse of a file, part by part, where its header and
@@ -173,10 +164,7 @@ pub extern "C" fn goblin_pe_raw_damage(
         bytes.now
         (λ l. TellsDamage opts l.0 l.1 bytes.now damage.new) (damage.new ≡ damage.old)) }
 {
-    match damage::tell(alloc, bytes, &options_of(options), damage) {
-        Ok(()) => no_fault(),
-        Err(error) => fault_of(&error),
-    }
+    status_of(damage::tell(alloc, bytes, &options_of(options), damage))
 }
 
 /// Puts into `ranges` the positions of a file on which a read of the whole file by these options
@@ -197,8 +185,5 @@ pub extern "C" fn goblin_pe_raw_footprint<'a>(
     ensures { let footprint = (whole_file (options_of options.now)).reaches bytes.now in
         Reported result (Lists footprint ranges.old ranges.new) }
 {
-    match footprint::list(alloc, bytes, &options_of(options), ranges) {
-        Ok(()) => no_fault(),
-        Err(error) => fault_of(&error),
-    }
+    status_of(footprint::list(alloc, bytes, &options_of(options), ranges))
 }

@@ -14,7 +14,7 @@ ghost use Rattle.goblin_pe_records.specs.Options.{options_of};
 ghost use Rattle.goblin_pe_records.specs.SectionData.{SaysData, placed};
 ghost use Rattle.goblin_pe_records.specs.Sections.{section_view};
 
-use goblin_pe_records::fault::{PeFault, fault_of, no_fault};
+use goblin_pe_records::fault::{PeFault, status_of};
 use goblin_pe_records::found::put_found;
 use goblin_pe_records::image::{PeImage, PeText};
 use goblin_pe_records::section::PeSection;
@@ -47,10 +47,7 @@ pub extern "C" fn goblin_pe_raw_text_at<'a>(
         (ReadsWithout (text_at_address (image_map image.now) rva) image.now.bytes.now
         (λ whole. text_view text.new ≡ whole) (text.new ≡ text.old)) }
 {
-    match image.read_text(rva, text) {
-        Ok(()) => no_fault(),
-        Err(error) => fault_of(&error),
-    }
+    status_of(image.read_text(rva, text))
 }
 
 /// Reads the `size` bytes at the address `rva` into `text`. A section's end is not looked at.
@@ -69,10 +66,7 @@ pub extern "C" fn goblin_pe_raw_bytes_at<'a>(
         (ReadsWithout (bytes_at_address (image_map image.now) rva size) image.now.bytes.now
         (λ whole. text_view text.new ≡ whole) (text.new ≡ text.old)) }
 {
-    match image.read_bytes(rva, size, text) {
-        Ok(()) => no_fault(),
-        Err(error) => fault_of(&error),
-    }
+    status_of(image.read_bytes(rva, size, text))
 }
 
 /// Reads the data of a section in memory: the bytes at its raw pointer, as many as its raw size
@@ -93,8 +87,5 @@ pub extern "C" fn goblin_pe_raw_section_data<'a>(
         (ReadsWithout (section_data s) image.now.bytes.now
         (λ whole. SaysData s whole contents.new) (contents.new ≡ contents.old)) }
 {
-    match read_data(image, section, contents) {
-        Ok(()) => no_fault(),
-        Err(error) => fault_of(&error),
-    }
+    status_of(read_data(image, section, contents))
 }

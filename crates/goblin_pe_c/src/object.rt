@@ -14,7 +14,7 @@ ghost use Rattle.goblin_pe_records.specs.Symbols.{SaysSymbols, SymbolRecords, sy
 use goblin_pe::header::CoffHeader;
 use goblin_pe::relocation::Relocation;
 use goblin_pe_calls::object::{self, PeObject};
-use goblin_pe_records::fault::{PeFault, fault_of, no_fault};
+use goblin_pe_records::fault::{PeFault, status_of};
 use goblin_pe_records::options::{PeOptions, options_of};
 use goblin_pe_records::relocation::read_relocations;
 use goblin_pe_records::section::PeSection;
@@ -43,10 +43,7 @@ pub extern "C" fn goblin_pe_raw_read_object<'a>(
         (λ x. SaysObject x old new) (new ≡ old)) }
 {
     let opts = options_of(options);
-    match object::read(alloc, bytes, &opts, object, sections) {
-        Ok(()) => no_fault(),
-        Err(error) => fault_of(&error),
-    }
+    status_of(object::read(alloc, bytes, &opts, object, sections))
 }
 
 /// Fills records of the symbols of an image or an object, which its COFF header leads to, from the
@@ -78,10 +75,7 @@ pub extern "C" fn goblin_pe_raw_next_symbols<'a>(
         (ReadsWithout (symbol_tables header.now) bytes.now (λ x. SaysSymbols x old new)
         (new ≡ old)) }
 {
-    match read_symbols(alloc, bytes, header, position, records, count) {
-        Ok(()) => no_fault(),
-        Err(error) => fault_of(&error),
-    }
+    status_of(read_symbols(alloc, bytes, header, position, records, count))
 }
 
 /// Reads the relocations of a section of an object, fills the records as far as there is room, and
@@ -103,8 +97,5 @@ pub extern "C" fn goblin_pe_raw_read_relocations(
         (ReadsWithout (relocations_of (section_view section.now)) bytes.now
         (λ x. SaysRelocations x old new) (new ≡ old)) }
 {
-    match read_relocations(bytes, section, records, count) {
-        Ok(()) => no_fault(),
-        Err(error) => fault_of(&error),
-    }
+    status_of(read_relocations(bytes, section, records, count))
 }

@@ -7,7 +7,7 @@ ghost use Rattle.goblin_pe_calls.specs.Te.{SaysImage, TakesMemory, TeRecords, te
 
 use goblin_pe::header::TeHeader;
 use goblin_pe_calls::te;
-use goblin_pe_records::fault::{PeFault, fault_of, no_fault};
+use goblin_pe_records::fault::{PeFault, status_of};
 use goblin_pe_records::section::PeSection;
 use std::alloc::Global;
 
@@ -28,8 +28,5 @@ pub extern "C" fn goblin_pe_raw_read_te<'a>(
         (ReadsInto (te_header 0) (TakesMemory bytes.now) te_file bytes.now
         (λ x. SaysImage x old new) (new ≡ old)) }
 {
-    match te::read(alloc, bytes, header, sections) {
-        Ok(()) => no_fault(),
-        Err(error) => fault_of(&error),
-    }
+    status_of(te::read(alloc, bytes, header, sections))
 }

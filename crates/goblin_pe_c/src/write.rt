@@ -16,7 +16,7 @@ ghost use Rattle.goblin_pe_calls.specs.Written.{OpenedWritesBack};
 
 use goblin_pe_calls::write::write_header;
 use goblin_pe_records::directory::PeDirectory;
-use goblin_pe_records::fault::{PeFault, fault_of, no_fault};
+use goblin_pe_records::fault::{PeFault, status_of};
 use goblin_pe_records::file::PeFile;
 use goblin_pe_records::section::PeSection;
 use goblin_pe_records::write::{set_name_offset, write_section};
@@ -52,10 +52,7 @@ pub extern "C" fn goblin_pe_raw_write_header(
         old new) }
     ensures back { OpenedWritesBack }
 {
-    match write_header(file, directories, stub, out, written) {
-        Ok(()) => no_fault(),
-        Err(error) => fault_of(&error),
-    }
+    status_of(write_header(file, directories, stub, out, written))
 }
 
 /// Writes the record of a section, with the eight bytes of its name, to the front of `out`, and
@@ -76,10 +73,7 @@ pub extern "C" fn goblin_pe_raw_write_section(
         (λ size. size ≡ 40) (IsSliceFault out.old 0 40) old new) }
     ensures back { SectionWritesBack }
 {
-    match write_section(section, out, written) {
-        Ok(()) => no_fault(),
-        Err(error) => fault_of(&error),
-    }
+    status_of(write_section(section, out, written))
 }
 
 /// Sets the eight bytes of a section's name to say that the name is at `offset` in the string
@@ -90,8 +84,5 @@ pub extern "C" fn goblin_pe_raw_write_section(
 pub extern "C" fn goblin_pe_raw_set_name_offset(section: &mut PeSection, offset: usize) -> PeFault
     ensures { Reported result (SetsName offset section.old section.new) }
 {
-    match set_name_offset(section, offset) {
-        Ok(()) => no_fault(),
-        Err(error) => fault_of(&error),
-    }
+    status_of(set_name_offset(section, offset))
 }

@@ -5,12 +5,12 @@ ghost use Rattle.std.specs.Fmt.InlineText.{inline_text};
 ghost use Rattle.goblin_base.specs.declared.error.ErrorOf.TheVariants.{Malformed, Read};
 ghost use Rattle.goblin_base.specs.ErrorText.{error_text};
 ghost use Rattle.goblin_pe_records.specs.Faults.{IsNumbered, IsTextOf, cause_of, causes, fault};
-ghost use Rattle.goblin_pe_records.specs.Faults.{fault_of, number_of, status_with};
+ghost use Rattle.goblin_pe_records.specs.Faults.{fault_of, number_of, status_of, status_with};
 ghost use Rattle.goblin_pe_records.specs.Faults.{no_fault, read_fault_of, refusal_text, word_number};
 ghost use Rattle.goblin_pe_records.specs.Faults.{word_of};
 ghost use Rattle.goblin_pe_records.specs.Filled.{Filled};
 
-use goblin_base::{Cause, Error, ReadFault};
+use goblin_base::{Cause, Error, ReadFault, Result};
 use std::alloc::AllocError;
 use std::fmt::InlineText;
 
@@ -225,6 +225,16 @@ pub fn fault_of(error: &Error) -> PeFault
         ),
         Error::Read(refused) => fault(Status::Read, read_number(refused), 0, 0),
         Error::Memory(_) => fault(Status::Memory, 0, 0, 0),
+    }
+}
+
+/// The numbers of what a call answers: those of its refusal, or that nothing is refused.
+pub fn status_of(answer: Result<()>) -> PeFault
+    ensures { result ≡ status_of answer.entry }
+{
+    match answer {
+        Ok(()) => no_fault(),
+        Err(error) => fault_of(&error),
     }
 }
 
