@@ -1,6 +1,6 @@
 -- Ranges that are listed: those of a text, those of a part of the bytes, and those of pieces one
 -- after the other.
-use Rattle.std.proofs.Common.{◌≡◌, ◌<◌, ℕ, zero, suc, ◌+◌, ◌-◌, min, true, false, nat_le, nat_lt}
+use Rattle.std.proofs.Common.{Bool, ◌≡◌, ◌<◌, ℕ, zero, suc, ◌+◌, ◌-◌, min, true, false, nat_le, nat_lt}
 use Rattle.std.proofs.Common.{Option, Some, None, List, [], ◌++◌, length, take, drop, append_assoc}
 use Rattle.std.proofs.Common.{ap, sym, ◌∙◌, refl, arith, inl, inr}
 use Rattle.std.proofs.lemmas.Bool.{cases_Bool, cases_lt, le-leb, le-ltb, leb-false, leb-true}
@@ -13,7 +13,8 @@ use Rattle.goblin_base.specs.Parts.{moved_by}
 use Rattle.goblin_base.specs.Tables.{concat_below}
 use Rattle.goblin_base.proofs.Below.{concat_below-next}
 use Rattle.goblin_base.proofs.Numbers.{rest_is_drop}
-use Rattle.goblin_base.proofs.SomeRanges.{some-left, some-right}
+use Rattle.goblin_base.specs.Marks.{marked}
+use Rattle.goblin_base.proofs.Marks.{marked_append}
 
 -- the positions up to and with the byte after the text, where the file has one
 pub stretch-is : (bytes : List ℕ) (p end : ℕ) (text : List ℕ)
@@ -102,29 +103,14 @@ moved-below p piece (suc n) =
 -- ---- pieces one after the other
 
 -- two pieces
-pub listed-then : (old now more first second : List Range) → now ≡ old ++ first
-    → more ≡ now ++ second → more ≡ old ++ (first ++ second)
-listed-then old now more first second so_far next =
-    next ∙ ap (λ (x : List Range). x ++ second) so_far ∙ append_assoc old first second
+pub marked_then : (old now more : List Bool) (first second : List Range) → now ≡ marked old first
+    → more ≡ marked now second → more ≡ marked old (first ++ second)
+marked_then old now more first second so_far next =
+    next ∙ ap (λ (m : List Bool). marked m second) so_far ∙ marked_append old first second
 
-pub below-more : (piece : ℕ → List Range) (n : ℕ) (old now more : List Range)
-    → now ≡ old ++ concat_below piece n → more ≡ now ++ piece n
-    → more ≡ old ++ concat_below piece (n + 1)
-below-more piece n old now more so_far next =
-    listed-then old now more (concat_below piece n) (piece n) so_far next
-    ∙ ap (λ (x : List Range). old ++ x) (sym (concat_below-next piece n))
-
--- a piece with a range is among those below n
-pub below-some : (piece : ℕ → List Range) (n i : ℕ) → i < n → 0 < length (piece i)
-    → 0 < length (concat_below piece n)
-unfolding concat_below
-below-some piece zero i lt some = absurd (omega (arith, lt))
-below-some piece (suc n) i lt some =
-    elim (cases_lt i n) [
-      | inl before ↦
-          some-left (concat_below piece n) (piece n) (below-some piece n i before some)
-      | inr past ↦
-          let here : i ≡ n = omega (arith, lt, past) in
-          let own : 0 < length (piece n) = rw (← here) some in
-          some-right (concat_below piece n) (piece n) own
-    ]
+pub marked_below : (piece : ℕ → List Range) (n : ℕ) (old now more : List Bool)
+    → now ≡ marked old (concat_below piece n) → more ≡ marked now (piece n)
+    → more ≡ marked old (concat_below piece (n + 1))
+marked_below piece n old now more so_far next =
+    marked_then old now more (concat_below piece n) (piece n) so_far next
+    ∙ ap (marked old) (sym (concat_below-next piece n))

@@ -1,96 +1,115 @@
-//! Lists which positions of a file a read depends on, as ranges (begin, end). A reader that lists
-//! its own footprint adds the ranges of each part in turn; none is empty, and none runs past the
-//! end of the file.
+//! Marks which positions of a file a read depends on. A reader that marks its own footprint marks
+//! each part in turn; what lies past the end of the file is not marked. The marked positions come
+//! back as ranges (begin, end) in order, none empty, with a position between each and the next.
 
-ghost use Rattle.std.specs.Prelude.{◌≡◌, ◌<◌, ◌++◌, IfErr, OnErr, OnOk, length};
+ghost use Rattle.std.specs.Prelude.{◌≡◌, ◌<◌, IfErr, IfOk, OnErr, false, length, replicate};
 ghost use Rattle.goblin_base.specs.Answers.{IsMemory};
 ghost use Rattle.goblin_base.specs.Footprints.{positions, slice_footprint, stretch_footprint};
+ghost use Rattle.goblin_base.specs.Marks.{GivesNext, marked, ranges_of};
 ghost use Rattle.goblin_base.specs.Parts.{between_footprint};
 
 use crate::error::ResultOf;
 use crate::read::before_nul;
+use crate::words::{BITS, empty_words, first_wanted, mark_words};
+use std::alloc::Global;
+use std::marker::Model;
 
-/// Adds the positions from `begin` on and before `end`, if there are any.
-///
-/// # Errors
-/// [`Error::Memory`](crate::Error::Memory) only, and only if there are any.
-#[tactic(auto, unfolding(crate::specs::Footprints::positions))]
-pub fn add_positions<'e>(
-    ranges: &mut Vec<(usize, usize)>,
-    begin: usize,
-    end: usize,
-) -> ResultOf<'e, ()>
-    ensures added { OnOk result (ranges.new.items ≡ ranges.old.items ++ positions begin end) }
-    ensures refused { IfErr result IsMemory }
-    ensures grown { OnErr result (0 < length (positions begin end)) }
-{
-    if begin < end {
-        ranges.push((begin, end))?;
-    }
-    Ok(())
+/// The positions of a file that are marked.
+#[derive(Drop)]
+pub struct Marks {
+    words: Vec<u64>,
+    len: usize,
 }
 
-/// Adds the `len` bytes at `offset`, if all of them are in the file.
-///
-/// # Errors
-/// [`Error::Memory`](crate::Error::Memory) only, and only if a range is added.
-#[tactic(auto, unfolding(crate::specs::Footprints::slice_footprint))]
-pub fn add_slice<'e>(
-    ranges: &mut Vec<(usize, usize)>,
-    bytes: &[u8],
-    offset: usize,
-    len: usize,
-) -> ResultOf<'e, ()>
-    ensures added { OnOk result
-        (ranges.new.items ≡ ranges.old.items ++ slice_footprint bytes.now offset len) }
-    ensures refused { IfErr result IsMemory }
-    ensures grown { OnErr result (0 < length (slice_footprint bytes.now offset len)) }
+impl Model for Marks {
+    ghost use Rattle.std.specs.Prelude.{Bool, List, ◌≤◌, ◌*◌, length};
+    ghost use Rattle.goblin_base.specs.Marks.{word_marks};
+
+    ghost Value = { List Bool };
+
+    ghost view = { λ m. word_marks m.len m.words.items };
+
+    ghost invariant = { λ m. m.len ≤ 64 * length m.words.items };
+}
+
+impl Marks {
+    /// No position of a file of `len` bytes.
+    pub fn with_room_for<'e>(alloc: Global, len: usize) -> ResultOf<'e, Marks>
+        ensures none { IfOk result (λ marks. marks ≡ replicate len false) }
+        ensures refused { IfErr result IsMemory }
+        ensures grown { OnErr result (0 < len) }
+    {
+        let words = empty_words(alloc, len.div_ceil(BITS))?;
+        Ok(Marks { words, len })
+    }
+
+    /// Marks the positions from `begin` on and before `end` that the file has.
+    pub fn add(&mut self, begin: usize, end: usize)
+        ensures { self.new ≡ marked self.old (positions begin end) }
+    {
+        mark_words(&mut self.words, begin, end.min(self.len));
+    }
+
+    /// The first marked positions from `from` on, up to one that is not marked.
+    pub fn next_range(&self, from: usize) -> Option<(usize, usize)>
+        ensures { GivesNext self.now from result }
+    {
+        if self.len <= from {
+            return None;
+        }
+        let begin = first_wanted(&self.words, from, self.len, true);
+        if begin == self.len {
+            return None;
+        }
+        Some((begin, first_wanted(&self.words, begin, self.len, false)))
+    }
+
+    /// The marked positions, as ranges in order that do not touch.
+    pub fn ranges<'e>(&self, alloc: Global) -> ResultOf<'e, Vec<(usize, usize)>>
+        ensures listed { IfOk result (λ ranges. ranges.items ≡ ranges_of self.now) }
+        ensures refused { IfErr result IsMemory }
+        ensures grown { OnErr result (0 < length (ranges_of self.now)) }
+    {
+        let mut ranges = Vec::new(alloc);
+        let mut place = 0;
+        'spans: while let Some((begin, end)) = self.next_range(place) {
+            ranges.push((begin, end))?;
+            place = end;
+        }
+        Ok(ranges)
+    }
+}
+
+/// Marks the `len` bytes at `offset`, if all of them are in the file.
+#[tactic(auto, unfolding(crate::specs::Footprints::slice_footprint), using(crate::proofs::Marks::marking))]
+pub fn add_slice(marks: &mut Marks, bytes: &[u8], offset: usize, len: usize)
+    ensures { marks.new ≡ marked marks.old (slice_footprint bytes.now offset len) }
 {
     if bytes.len() < offset || bytes.len() - offset < len {
-        return Ok(());
+        return;
     }
-    add_positions(ranges, offset, offset + len)
+    marks.add(offset, offset + len);
 }
 
-/// Adds the bytes from `begin` up to `end`, if all of them are in the file.
-///
-/// # Errors
-/// [`Error::Memory`](crate::Error::Memory) only, and only if a range is added.
-#[tactic(auto, unfolding(crate::specs::Footprints::positions, crate::specs::Footprints::led_to))]
-pub fn add_between<'e>(
-    ranges: &mut Vec<(usize, usize)>,
-    bytes: &[u8],
-    begin: usize,
-    end: usize,
-) -> ResultOf<'e, ()>
-    ensures added { OnOk result
-        (ranges.new.items ≡ ranges.old.items ++ between_footprint bytes.now begin end) }
-    ensures refused { IfErr result IsMemory }
-    ensures grown { OnErr result (0 < length (between_footprint bytes.now begin end)) }
+/// Marks the bytes from `begin` up to `end`, if all of them are in the file.
+#[tactic(auto, unfolding(crate::specs::Footprints::positions, crate::specs::Footprints::led_to), using(crate::proofs::Marks::marking))]
+pub fn add_between(marks: &mut Marks, bytes: &[u8], begin: usize, end: usize)
+    ensures { marks.new ≡ marked marks.old (between_footprint bytes.now begin end) }
 {
     if bytes.len() < end {
-        return Ok(());
+        return;
     }
-    add_positions(ranges, begin, end)
+    marks.add(begin, end);
 }
 
-/// Adds the text at `offset`, through its NUL or to the end of the file.
-///
-/// # Errors
-/// [`Error::Memory`](crate::Error::Memory) only, and only if a range is added.
-pub fn add_stretch<'e>(
-    ranges: &mut Vec<(usize, usize)>,
-    bytes: &[u8],
-    offset: usize,
-) -> ResultOf<'e, ()>
-    ensures added { OnOk result
-        (ranges.new.items ≡ ranges.old.items ++ stretch_footprint bytes.now offset) }
-    ensures refused { IfErr result IsMemory }
-    ensures grown { OnErr result (0 < length (stretch_footprint bytes.now offset)) }
+/// Marks the text at `offset`, through its NUL or to the end of the file.
+#[tactic(auto, using(crate::proofs::Marks::marking))]
+pub fn add_stretch(marks: &mut Marks, bytes: &[u8], offset: usize)
+    ensures { marks.new ≡ marked marks.old (stretch_footprint bytes.now offset) }
 {
     if bytes.len() <= offset {
-        return Ok(());
+        return;
     }
     let end = offset + before_nul(&bytes[offset..]).len();
-    add_positions(ranges, offset, bytes.len().min(end + 1))
+    marks.add(offset, bytes.len().min(end + 1));
 }

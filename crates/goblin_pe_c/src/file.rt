@@ -1,6 +1,6 @@
 //! The calls that read a whole file.
 
-ghost use Rattle.std.specs.Prelude.{◌≡◌};
+ghost use Rattle.std.specs.Prelude.{◌≡◌, length};
 ghost use Rattle.goblin_pe_sect.specs.Options.{is_strict};
 ghost use Rattle.goblin_pe_head.specs.HeaderReadings.{pe_header};
 ghost use Rattle.goblin_pe.specs.Whole.{layout, whole_file};
@@ -172,9 +172,9 @@ pub extern "C" fn goblin_pe_raw_damage(
 /// sections and tables, or both are refused, not always for the same cause. A file that is refused
 /// has a footprint, too.
 ///
-/// The ranges come in no order and may overlap; none is empty, and none passes the file. They are a
-/// block of memory that the caller frees, if there is one. Refused is memory alone (the status 5),
-/// only where there is a range to list, and then nothing is changed.
+/// The ranges come in order, with a position between each and the next; none is empty, and none
+/// passes the file. They are a block of memory that the caller frees, if there is one. Refused is
+/// memory alone (the status 5), only where the file has a byte, and then nothing is changed.
 #[unsafe(no_mangle)]
 pub extern "C" fn goblin_pe_raw_footprint<'a>(
     alloc: Global,
@@ -183,7 +183,7 @@ pub extern "C" fn goblin_pe_raw_footprint<'a>(
     ranges: &mut PeRanges<'a>,
 ) -> PeFault
     ensures { let footprint = (whole_file (options_of options.now)).reaches bytes.now in
-        Reported result (Lists footprint ranges.old ranges.new) }
+        Reported result (Lists (length bytes.now) footprint ranges.old ranges.new) }
 {
     status_of(footprint::list(alloc, bytes, &options_of(options), ranges))
 }

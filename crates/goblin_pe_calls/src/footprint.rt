@@ -74,7 +74,8 @@ pub fn list<'a>(
     opts: &ParseOptions,
     ranges: &mut PeRanges<'a>,
 ) -> Result<()>
-    ensures { Lists ((whole_file opts.now).reaches bytes.now) ranges.old ranges.new result }
+    ensures { let footprint = (whole_file opts.now).reaches bytes.now in
+        Lists (length bytes.now) footprint ranges.old ranges.new result }
 {
     let footprint = footprint_whole(alloc, bytes, opts)?;
     let records = range_records(alloc, &footprint)?;

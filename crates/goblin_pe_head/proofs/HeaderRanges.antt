@@ -11,7 +11,6 @@ use Rattle.goblin_base.specs.Record.{record_at}
 use Rattle.goblin_base.proofs.Below.{concat_below-agree}
 use Rattle.goblin_base.proofs.Ranges.{moved-append, moved-below, moved-led, moved-positions}
 use Rattle.goblin_base.proofs.Ranges.{moved-slice}
-use Rattle.goblin_base.proofs.SomeRanges.{some-left}
 use Rattle.readings.specs.Reads.{in_rest}
 use Rattle.goblin_pe_sect.specs.DirectoryReadings.{directories_at}
 use Rattle.goblin_pe_head.specs.declared.optional_header.FixedFields.{FixedFields}
@@ -75,15 +74,6 @@ marker_there p stretch i is =
     rw is
     (moved-append p (search_footprint 8 (Some i) stretch)
     (search_footprint 4 (dans_place (word_at (take (i + 8) stretch) (i + 4)) stretch) stretch))
-
--- the search for the marker is part of it
-pub marker_some : (p : ℕ) (stretch : List ℕ) → 0 < length (marker_reach p stretch)
-    → 0 < length (moved_by p (rich_in.reaches stretch))
-unfolding rich_in led_to
-marker_some p stretch some =
-    let rest = (rich_before (front_through Little 4 4 is_rich stretch)).reaches stretch in
-    rw (moved-append p (search_footprint 8 (marker_place stretch) stretch) rest)
-    (some-left (marker_reach p stretch) (moved_by p rest) some)
 
 -- ---- the fields
 

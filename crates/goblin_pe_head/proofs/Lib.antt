@@ -3,7 +3,6 @@ pub mod CoffHeaderRoundTrip
 pub mod DosHeaderRoundTrip
 pub mod HeaderFaults
 mod HeaderRanges
-pub mod HeaderReached
 pub mod OptionalFieldsRoundTrip
 pub mod OptionalHeaderRoundTrip
 pub mod PeHeaderRoundTrip

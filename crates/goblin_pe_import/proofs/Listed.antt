@@ -49,9 +49,3 @@ pub entry-reaches : (strict : Bool) (offset_of : ℕ → Option ℕ) (bytes : Li
     → (kept_entry strict offset_of entry).reaches bytes ≡ hint_reach bytes p
 unfolding kept_entry kept_name hint_name
 entry-reaches strict offset_of bytes entry p named is = rw (named, is) refl
-
--- what is appended in three steps
-pub appended : {A : Type 0} (old x y z first second : List A) → first ≡ old ++ x
-    → second ≡ first ++ y → second ++ z ≡ old ++ ((x ++ y) ++ z)
-appended old x y z first second e f =
-    rw (f, e, append_assoc old x y, append_assoc old (x ++ y) z) refl

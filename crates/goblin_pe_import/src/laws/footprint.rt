@@ -1,10 +1,9 @@
 //! Which bytes of a file its imports depend on.
 
-ghost use Rattle.std.specs.Prelude.{◌≡◌, ◌+◌, ◌<◌, ◌≤◌, ◌⊎◌, ◌↔◌, ◌++◌, ℕ, IfErr, IfOk, OnErr};
-ghost use Rattle.std.specs.Prelude.{OnOk, length};
-ghost use Rattle.std.specs.List.{All};
+ghost use Rattle.std.specs.Prelude.{◌≡◌, ◌+◌, ◌<◌, ◌⊎◌, ◌++◌, IfErr, IfOk, OnErr, length};
 ghost use Rattle.goblin_base.specs.Answers.{IsMemory};
-ghost use Rattle.goblin_base.specs.Footprints.{Covers, led_to, slice_footprint, stretch_footprint};
+ghost use Rattle.goblin_base.specs.Marks.{IsFootprint, marked};
+ghost use Rattle.goblin_base.specs.Footprints.{led_to, slice_footprint, stretch_footprint};
 ghost use Rattle.goblin_pe_sect.specs.Addresses.{TakesMap, map_by, map_of, offset_of};
 ghost use Rattle.goblin_pe_sect.specs.Addresses.{reads_strictly};
 ghost use Rattle.goblin_pe_import.specs.ImportReadings.{import_data, libraries_at, library_of};
@@ -15,7 +14,7 @@ use crate::import::{
     Bitfield, ImportDirectoryEntry, SIZEOF_IMPORT_DIRECTORY_ENTRY, address_table_rva,
     lookup_offset, read_entry,
 };
-use goblin_base::footprint::{add_positions, add_stretch};
+use goblin_base::footprint::{Marks, add_stretch};
 use goblin_base::{Endian, Record, ResultOf, pread_slice};
 use goblin_pe_sect::address_map::{AddressMap, Finder};
 use goblin_pe_sect::data_directories::DataDirectory;
@@ -23,260 +22,207 @@ use goblin_pe_sect::options::ParseOptions;
 use goblin_pe_sect::section_table::SectionTable;
 use std::alloc::Global;
 
-// Adds the hint at an offset, and the text after it.
-fn add_hint<'e>(ranges: &mut Vec<(usize, usize)>, bytes: &[u8], offset: usize) -> ResultOf<'e, ()>
-    ensures added { let text = stretch_footprint bytes.now (offset + 2) in
+// Marks the hint at an offset, and the text after it.
+#[tactic(auto, using(goblin_base::proofs::Marks::marking))]
+fn add_hint(marks: &mut Marks, bytes: &[u8], offset: usize)
+    ensures { let text = stretch_footprint bytes.now (offset + 2) in
         let hint_name = slice_footprint bytes.now offset 2 ++ text in
-        OnOk result (ranges.new.items ≡ ranges.old.items ++ hint_name) }
-    ensures refused { IfErr result IsMemory }
-    ensures grown { let text = stretch_footprint bytes.now (offset + 2) in
-        OnErr result (0 < length (slice_footprint bytes.now offset 2 ++ text)) }
+        marks.new ≡ marked marks.old hint_name }
 {
     let Ok(hint) = pread_slice(bytes, offset, 2) else {
-        return Ok(());
+        return;
     };
     let end = offset + hint.len();
-    add_positions(ranges, offset, end)?;
-    add_stretch(ranges, bytes, end)
+    marks.add(offset, end);
+    add_stretch(marks, bytes, end)
 }
 
-// Adds what an entry of a lookup table leads to.
-#[tactic(auto, unfolding(crate::specs::LookupReadings::kept_entry, crate::specs::LookupReadings::kept_name))]
-fn add_entry<'a, 'e, T: Bitfield<'a>>(
-    ranges: &mut Vec<(usize, usize)>,
+// Marks what an entry of a lookup table leads to.
+#[tactic(auto, unfolding(crate::specs::LookupReadings::kept_entry, crate::specs::LookupReadings::kept_name), using(goblin_base::proofs::Marks::marking))]
+fn add_entry<'a, T: Bitfield<'a>>(
+    marks: &mut Marks,
     entry: &T,
     bytes: &'a [u8],
     address_map: &AddressMap,
-) -> ResultOf<'e, ()>
-    ensures added { let m = map_of address_map.now in
+)
+    ensures { let m = map_of address_map.now in
         let reached =
         (kept_entry (reads_strictly m) (offset_of m) (T.value entry.now)).reaches bytes.now in
-        OnOk result (ranges.new.items ≡ ranges.old.items ++ reached) }
-    ensures refused { IfErr result IsMemory }
-    ensures grown { let m = map_of address_map.now in
-        let reached =
-        (kept_entry (reads_strictly m) (offset_of m) (T.value entry.now)).reaches bytes.now in
-        OnErr result (0 < length reached) }
+        marks.new ≡ marked marks.old reached }
 {
     if entry.is_ordinal() {
-        return Ok(());
+        return;
     }
     match address_map.offset_of(entry.to_rva()) {
-        Some(offset) => add_hint(ranges, bytes, offset),
-        None => Ok(()),
+        Some(offset) => add_hint(marks, bytes, offset),
+        None => (),
     }
 }
 
-// Adds the footprint of the lookup table at an offset.
-fn add_lookup_table<'a, 'e, T: Bitfield<'a>>(
-    ranges: &mut Vec<(usize, usize)>,
+// Marks the footprint of the lookup table at an offset.
+#[tactic(auto, using(goblin_base::proofs::Marks::marking))]
+fn add_lookup_table<'a, T: Bitfield<'a>>(
+    marks: &mut Marks,
     bytes: &'a [u8],
     offset: usize,
     address_map: &AddressMap,
-) -> ResultOf<'e, ()>
-    ensures added { let m = map_of address_map.now in
+)
+    ensures { let m = map_of address_map.now in
         let reached =
         (lookup_table (reads_strictly m) T.format (offset_of m) offset).reaches bytes.now in
-        OnOk result (ranges.new.items ≡ ranges.old.items ++ reached) }
-    ensures refused { IfErr result IsMemory }
-    ensures grown { let m = map_of address_map.now in
-        let reached =
-        (lookup_table (reads_strictly m) T.format (offset_of m) offset).reaches bytes.now in
-        OnErr result (0 < length reached) }
+        marks.new ≡ marked marks.old reached }
 {
     let size = T::size_of();
     let mut place = offset;
     'slots: loop {
         let Ok(entry) = read_entry::<T>(bytes, place) else {
-            return add_positions(ranges, offset, place);
+            return marks.add(offset, place);
         };
         if entry.is_zero() {
-            return add_positions(ranges, offset, place + size);
+            return marks.add(offset, place + size);
         }
-        add_entry(ranges, &entry, bytes, address_map)?;
+        add_entry(marks, &entry, bytes, address_map);
         place += size;
     }
 }
 
-// Adds the footprint of the address table at an offset.
-fn add_address_table<'a, 'e, T: Bitfield<'a>>(
-    ranges: &mut Vec<(usize, usize)>,
-    bytes: &'a [u8],
-    offset: usize,
-) -> ResultOf<'e, ()>
-    ensures added { let reached = (address_table T.format offset).reaches bytes.now in
-        OnOk result (ranges.new.items ≡ ranges.old.items ++ reached) }
-    ensures refused { IfErr result IsMemory }
-    ensures grown { let reached = (address_table T.format offset).reaches bytes.now in
-        OnErr result (0 < length reached) }
+// Marks the footprint of the address table at an offset.
+#[tactic(auto, using(goblin_base::proofs::Marks::marking))]
+fn add_address_table<'a, T: Bitfield<'a>>(marks: &mut Marks, bytes: &'a [u8], offset: usize)
+    ensures { let reached = (address_table T.format offset).reaches bytes.now in
+        marks.new ≡ marked marks.old reached }
 {
     let size = T::size_of();
     let mut place = offset;
     'slots: loop {
         let Ok(entry) = read_entry::<T>(bytes, place) else {
-            return add_positions(ranges, offset, place);
+            return marks.add(offset, place);
         };
         place += size;
         if entry.is_zero() {
-            return add_positions(ranges, offset, place);
+            return marks.add(offset, place);
         }
     }
 }
 
-// Adds the text at a place, where there is one.
-#[tactic(auto, unfolding(goblin_base::specs::Footprints::led_to))]
-fn add_text<'e>(
-    ranges: &mut Vec<(usize, usize)>,
-    bytes: &[u8],
-    place: Option<usize>,
-) -> ResultOf<'e, ()>
-    ensures added { let reached = led_to place (stretch_footprint bytes.now) in
-        OnOk result (ranges.new.items ≡ ranges.old.items ++ reached) }
-    ensures refused { IfErr result IsMemory }
-    ensures grown { OnErr result (0 < length (led_to place (stretch_footprint bytes.now))) }
+// Marks the text at a place, where there is one.
+#[tactic(auto, unfolding(goblin_base::specs::Footprints::led_to), using(goblin_base::proofs::Marks::marking))]
+fn add_text(marks: &mut Marks, bytes: &[u8], place: Option<usize>)
+    ensures { let reached = led_to place (stretch_footprint bytes.now) in
+        marks.new ≡ marked marks.old reached }
 {
     match place {
-        Some(offset) => add_stretch(ranges, bytes, offset),
-        None => Ok(()),
+        Some(offset) => add_stretch(marks, bytes, offset),
+        None => (),
     }
 }
 
-// Adds the footprint of the lookup table at a place, where there is one.
-#[tactic(auto, unfolding(crate::specs::ImportReadings::lookup_if))]
-fn add_lookup<'a, 'e, T: Bitfield<'a>>(
-    ranges: &mut Vec<(usize, usize)>,
+// Marks the footprint of the lookup table at a place, where there is one.
+#[tactic(auto, unfolding(crate::specs::ImportReadings::lookup_if), using(goblin_base::proofs::Marks::marking))]
+fn add_lookup<'a, T: Bitfield<'a>>(
+    marks: &mut Marks,
     bytes: &'a [u8],
     place: Option<usize>,
     address_map: &AddressMap,
-) -> ResultOf<'e, ()>
-    ensures added { let m = map_of address_map.now in
+)
+    ensures { let m = map_of address_map.now in
         let reached =
         (lookup_if (reads_strictly m) T.format (offset_of m) place).reaches bytes.now in
-        OnOk result (ranges.new.items ≡ ranges.old.items ++ reached) }
-    ensures refused { IfErr result IsMemory }
-    ensures grown { let m = map_of address_map.now in
-        let reached =
-        (lookup_if (reads_strictly m) T.format (offset_of m) place).reaches bytes.now in
-        OnErr result (0 < length reached) }
+        marks.new ≡ marked marks.old reached }
 {
     match place {
-        Some(offset) => add_lookup_table::<T>(ranges, bytes, offset, address_map),
-        None => Ok(()),
+        Some(offset) => add_lookup_table::<T>(marks, bytes, offset, address_map),
+        None => (),
     }
 }
 
-// Adds the footprint of the address table at a place, where there is one.
-#[tactic(auto, unfolding(goblin_base::specs::Footprints::led_to))]
-fn add_addresses<'a, 'e, T: Bitfield<'a>>(
-    ranges: &mut Vec<(usize, usize)>,
-    bytes: &'a [u8],
-    place: Option<usize>,
-) -> ResultOf<'e, ()>
-    ensures added { let reached =
+// Marks the footprint of the address table at a place, where there is one.
+#[tactic(auto, unfolding(goblin_base::specs::Footprints::led_to), using(goblin_base::proofs::Marks::marking))]
+fn add_addresses<'a, T: Bitfield<'a>>(marks: &mut Marks, bytes: &'a [u8], place: Option<usize>)
+    ensures { let reached =
         led_to place (λ o. (address_table T.format o).reaches bytes.now) in
-        OnOk result (ranges.new.items ≡ ranges.old.items ++ reached) }
-    ensures refused { IfErr result IsMemory }
-    ensures grown { let reached =
-        led_to place (λ o. (address_table T.format o).reaches bytes.now) in
-        OnErr result (0 < length reached) }
+        marks.new ≡ marked marks.old reached }
 {
     match place {
-        Some(offset) => add_address_table::<T>(ranges, bytes, offset),
-        None => Ok(()),
+        Some(offset) => add_address_table::<T>(marks, bytes, offset),
+        None => (),
     }
 }
 
-// Adds what a record of an import directory leads to.
-#[tactic(auto, unfolding(crate::specs::ImportReadings::library_of, goblin_pe_sect::specs::AddressReadings::name_at))]
-fn add_library<'a, 'e, T: Bitfield<'a>>(
-    ranges: &mut Vec<(usize, usize)>,
+// Marks what a record of an import directory leads to.
+#[tactic(auto, unfolding(crate::specs::ImportReadings::library_of, goblin_pe_sect::specs::AddressReadings::name_at), using(goblin_base::proofs::Marks::marking))]
+fn add_library<'a, T: Bitfield<'a>>(
+    marks: &mut Marks,
     bytes: &'a [u8],
     entry: &ImportDirectoryEntry,
     address_map: &AddressMap,
-) -> ResultOf<'e, ()>
-    ensures added { let m = map_of address_map.now in
+)
+    ensures { let m = map_of address_map.now in
         let reached =
         (library_of (reads_strictly m) T.format (offset_of m) entry.now).reaches bytes.now in
-        OnOk result (ranges.new.items ≡ ranges.old.items ++ reached) }
-    ensures refused { IfErr result IsMemory }
-    ensures grown { let m = map_of address_map.now in
-        let reached =
-        (library_of (reads_strictly m) T.format (offset_of m) entry.now).reaches bytes.now in
-        OnErr result (0 < length reached) }
+        marks.new ≡ marked marks.old reached }
 {
-    add_text(ranges, bytes, address_map.offset_of(entry.name_rva))?;
+    add_text(marks, bytes, address_map.offset_of(entry.name_rva));
     let lookup = lookup_offset(entry, &mut Finder::of(address_map));
-    add_lookup::<T>(ranges, bytes, lookup, address_map)?;
+    add_lookup::<T>(marks, bytes, lookup, address_map);
     let addresses = address_map.offset_of(address_table_rva(entry));
-    add_addresses::<T>(ranges, bytes, addresses)
+    add_addresses::<T>(marks, bytes, addresses)
 }
 
-// Adds the footprint of the import directory at an offset.
-fn add_libraries<'a, 'e, T: Bitfield<'a>>(
-    ranges: &mut Vec<(usize, usize)>,
+// Marks the footprint of the import directory at an offset.
+#[tactic(auto, using(goblin_base::proofs::Marks::marking))]
+fn add_libraries<'a, T: Bitfield<'a>>(
+    marks: &mut Marks,
     bytes: &'a [u8],
     offset: usize,
     address_map: &AddressMap,
-) -> ResultOf<'e, ()>
-    ensures added { let m = map_of address_map.now in
+)
+    ensures { let m = map_of address_map.now in
         let reached =
         (libraries_at (reads_strictly m) T.format (offset_of m) offset).reaches bytes.now in
-        OnOk result (ranges.new.items ≡ ranges.old.items ++ reached) }
-    ensures refused { IfErr result IsMemory }
-    ensures grown { let m = map_of address_map.now in
-        let reached =
-        (libraries_at (reads_strictly m) T.format (offset_of m) offset).reaches bytes.now in
-        OnErr result (0 < length reached) }
+        marks.new ≡ marked marks.old reached }
 {
     let mut place = offset;
     'records: loop {
         let Ok(record) = ImportDirectoryEntry::read_at(bytes, place, Endian::Little) else {
-            return add_positions(ranges, offset, place);
+            return marks.add(offset, place);
         };
         if !record.is_possibly_valid() {
-            return add_positions(ranges, offset, place + SIZEOF_IMPORT_DIRECTORY_ENTRY);
+            return marks.add(offset, place + SIZEOF_IMPORT_DIRECTORY_ENTRY);
         }
-        add_library::<T>(ranges, bytes, &record, address_map)?;
+        add_library::<T>(marks, bytes, &record, address_map);
         place += SIZEOF_IMPORT_DIRECTORY_ENTRY;
     }
 }
 
-/// Adds the footprint of the import data of a directory at the address `rva`.
-///
-/// # Errors
-/// [`Error::Memory`](goblin_base::Error::Memory) only, and only if a range is added.
-#[tactic(auto, unfolding(crate::specs::ImportReadings::import_data, crate::specs::ImportReadings::libraries_past_front, goblin_base::specs::Footprints::led_to))]
-pub fn add_imports<'a, 'e, T: Bitfield<'a>>(
-    ranges: &mut Vec<(usize, usize)>,
+/// Marks the footprint of the import data of a directory at the address `rva`.
+#[tactic(auto, unfolding(crate::specs::ImportReadings::import_data, crate::specs::ImportReadings::libraries_past_front, goblin_base::specs::Footprints::led_to), using(goblin_base::proofs::Marks::marking))]
+pub fn add_imports<'a, T: Bitfield<'a>>(
+    marks: &mut Marks,
     bytes: &'a [u8],
     rva: u32,
     address_map: &AddressMap,
-) -> ResultOf<'e, ()>
-    ensures added { let m = map_of address_map.now in
+)
+    ensures { let m = map_of address_map.now in
         let reached =
         (import_data (reads_strictly m) T.format (offset_of m) rva).reaches bytes.now in
-        OnOk result (ranges.new.items ≡ ranges.old.items ++ reached) }
-    ensures refused { IfErr result IsMemory }
-    ensures grown { let m = map_of address_map.now in
-        let reached =
-        (import_data (reads_strictly m) T.format (offset_of m) rva).reaches bytes.now in
-        OnErr result (0 < length reached) }
+        marks.new ≡ marked marks.old reached }
 {
     match address_map.offset_of(rva) {
-        Some(0) if address_map.is_permissive() => Ok(()),
-        Some(offset) => add_libraries::<T>(ranges, bytes, offset, address_map),
-        None => Ok(()),
+        Some(0) if address_map.is_permissive() => (),
+        Some(offset) => add_libraries::<T>(marks, bytes, offset, address_map),
+        None => (),
     }
 }
 
 /// The footprint of the imports of a file: the ranges (begin, end) of the positions on which the
 /// import data of a directory depends, as [`twin_imports`](crate::laws::twin_imports) says. A
-/// position is in the footprint exactly where it lies in one of the ranges, which come in no order
-/// and may overlap. None is empty, and none runs past the end of the file.
+/// position is in the footprint exactly where it lies in one of the ranges. They come in order, none
+/// is empty, and none runs past the end of the file; a position lies between each and the next.
 ///
 /// # Errors
-/// [`Error::Memory`](goblin_base::Error::Memory) only, and only if addresses are mapped by
-/// sections or a range is listed.
+/// [`Error::Memory`](goblin_base::Error::Memory) only, and only if the file has a byte or addresses
+/// are mapped by sections.
 pub fn footprint_imports<'a, 'e, T: Bitfield<'a>>(
     alloc: Global,
     bytes: &'a [u8],
@@ -287,25 +233,15 @@ pub fn footprint_imports<'a, 'e, T: Bitfield<'a>>(
 ) -> ResultOf<'e, Vec<(usize, usize)>>
     ensures ranges { let m = map_by opts.now sections.now file_alignment in
         let rva = directory.virtual_address in
-        IfOk result
-        (λ v.
-        v.items ≡ (import_data (reads_strictly m) T.format (offset_of m) rva).reaches bytes.now) }
-    ensures covers { let m = map_by opts.now sections.now file_alignment in
-        let rva = directory.virtual_address in
         let footprint =
         (import_data (reads_strictly m) T.format (offset_of m) rva).reaches bytes.now in
-        IfOk result (λ v. (p : ℕ) → Covers v.items p ↔ Covers footprint p) }
-    ensures within { IfOk result
-        (λ v. All (λ range. (range.0 < range.1) × (range.1 ≤ length bytes.now)) v.items) }
+        IfOk result (λ v. IsFootprint (length bytes.now) footprint v.items) }
     ensures refused { IfErr result IsMemory }
-    ensures grown { let m = map_by opts.now sections.now file_alignment in
-        let rva = directory.virtual_address in
-        let footprint =
-        (import_data (reads_strictly m) T.format (offset_of m) rva).reaches bytes.now in
-        OnErr result ((0 < length footprint) ⊎ TakesMap opts.now sections.now file_alignment) }
+    ensures grown { OnErr result
+        ((0 < length bytes.now) ⊎ TakesMap opts.now sections.now file_alignment) }
 {
     let address_map = AddressMap::prepare(alloc, sections, file_alignment, opts)?;
-    let mut ranges = Vec::new(alloc);
-    add_imports::<T>(&mut ranges, bytes, directory.virtual_address, &address_map)?;
-    Ok(ranges)
+    let mut marks = Marks::with_room_for(alloc, bytes.len())?;
+    add_imports::<T>(&mut marks, bytes, directory.virtual_address, &address_map);
+    marks.ranges(alloc)
 }

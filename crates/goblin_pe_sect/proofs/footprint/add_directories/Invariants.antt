@@ -1,11 +1,12 @@
 -- The entries so far are listed.
-use Rattle.std.proofs.Common.{◌≡◌, ◌+◌, ◌*◌, ◌++◌}
+use Rattle.std.proofs.Common.{◌≡◌, ◌+◌, ◌*◌}
 use Rattle.goblin_base.specs.Footprints.{slice_footprint}
+use Rattle.goblin_base.specs.Marks.{marked}
 use Rattle.goblin_base.specs.Tables.{concat_below}
 use Rattle.goblin_pe_sect.proofs.footprint.add_directories.Given as goal
 
 abbrev pub invariant-entries : goal.invariant-entries
 invariant-entries l =
-    l.ranges.items
-    ≡ l.initial.ranges.items
-    ++ concat_below (λ i. slice_footprint l.fn.bytes (l.fn.offset + 8 * i) 8) l.i
+    l.marks
+    ≡ marked l.initial.marks
+    (concat_below (λ i. slice_footprint l.fn.bytes (l.fn.offset + 8 * i) 8) l.i)

@@ -1,5 +1,6 @@
 -- What the name pointers so far lead to is listed.
-use Rattle.std.proofs.Common.{◌≡◌, ◌++◌}
+use Rattle.std.proofs.Common.{◌≡◌}
+use Rattle.goblin_base.specs.Marks.{marked}
 use Rattle.goblin_base.specs.Tables.{concat_below}
 use Rattle.goblin_pe_sect.specs.Addresses.{map_of, offset_of}
 use Rattle.goblin_pe_export.specs.ExportReadings.{export_row}
@@ -9,5 +10,5 @@ abbrev pub invariant-pointers : goal.invariant-pointers
 invariant-pointers g l =
     let offset_of = offset_of (map_of l.fn.address_map) in
     let tables = g.T.Entries.entries l.fn.tables in
-    l.ranges.items
-    ≡ l.initial.ranges.items ++ concat_below (λ i. (export_row offset_of tables i).reaches l.fn.bytes) l.index
+    l.marks
+    ≡ marked l.initial.marks (concat_below (λ i. (export_row offset_of tables i).reaches l.fn.bytes) l.index)

@@ -1,10 +1,11 @@
-use Rattle.std.proofs.Common.{◌≡◌, ◌<◌, ◌+◌, ◌*◌, ℕ, Bool, List, ◌++◌, length, append-nil, ap, sym, ◌∙◌, arith}
-use Rattle.std.proofs.lemmas.Result.{err_from_is_err_and}
+use Rattle.std.proofs.Common.{◌≡◌, ◌<◌, ◌+◌, ◌*◌, ℕ, Bool, List, ◌++◌, length, ap, sym, ◌∙◌, arith}
 use Rattle.goblin_base.specs.Footprints.{Range}
+use Rattle.goblin_base.specs.Marks.{marked}
 use Rattle.goblin_base.specs.Tables.{concat_below}
-use Rattle.goblin_base.proofs.Ranges.{below-more, below-some}
+use Rattle.goblin_base.proofs.Ranges.{marked_below}
 use Rattle.goblin_pe_sect.specs.Options.{is_strict}
 use Rattle.goblin_pe_sect.specs.SectionReadings.{section_at}
+use Rattle.goblin_base.proofs.Marks.{marked_nil}
 use Rattle.goblin_pe_head.specs.CoffHeader.{symbols_end}
 use Rattle.goblin_pe_head.specs.CoffReadings.{sections_at}
 use Rattle.goblin_pe_head.proofs.laws.sections.add_sections.Goals as goal
@@ -24,7 +25,7 @@ section-here strict table strings start place i bytes same at =
 
 pub records-init : goal.records-init
 unfolding concat_below
-records-init c = record { at = omega arith; listed = sym (append-nil c.args.ranges.now.items) }
+records-init c = record { at = omega arith; listed = sym (marked_nil c.args.marks.now) }
 
 pub records-preserved : goal.records-preserved
 unfolding section_reach
@@ -38,18 +39,6 @@ records-preserved c =
     record {
       at = omega (arith, before.at);
       listed =
-          below-more (section_reach strict table start bytes) c.records.counter c.args.ranges.now.items c.records.ranges.items c.add_section.new.ranges.items before.listed
-          (c.in_ok-add_section.ensures.added ∙ ap (λ (x : List Range). c.records.ranges.items ++ x) here);
+          marked_below (section_reach strict table start bytes) c.records.counter c.args.marks.now c.records.marks c.add_section.new.marks before.listed
+          (c.add_section.ensures ∙ ap (marked c.records.marks) here);
     }
-
-pub returns-in_err-add_section-clause-grown : goal.returns-in_err-add_section-clause-grown
-unfolding section_reach sections_at
-returns-in_err-add_section-clause-grown c =
-    let e = err_from_is_err_and c.from_residual.result c.from_residual.ensures.1 in
-    let strict = is_strict c.args.opts.now.parse_mode in
-    let table = symbols_end c.args.coff_header in
-    let start = c.args.pe_pointer + 24 + c.args.coff_header.size_of_optional_header in
-    let bytes = c.args.bytes.now in
-    let here = section-here strict table c.symbols_end-strings.result start c.records.place c.records.counter bytes c.symbols_end-strings.ensures c.records.invariant.at in
-    let some : 0 < length (section_reach strict table start bytes c.records.counter) = rw (← here) c.in_err-add_section.ensures.grown in
-    rw e.1 (below-some (section_reach strict table start bytes) c.args.coff_header.number_of_sections c.records.counter c.records-test.true some)

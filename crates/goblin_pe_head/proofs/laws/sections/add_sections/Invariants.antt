@@ -1,5 +1,6 @@
 -- The sections so far are listed.
-use Rattle.std.proofs.Common.{◌≡◌, ◌+◌, ◌*◌, ◌++◌}
+use Rattle.std.proofs.Common.{◌≡◌, ◌+◌, ◌*◌}
+use Rattle.goblin_base.specs.Marks.{marked}
 use Rattle.goblin_base.specs.Tables.{concat_below}
 use Rattle.goblin_pe_sect.specs.Options.{is_strict}
 use Rattle.goblin_pe_sect.specs.SectionReadings.{section_at}
@@ -13,5 +14,5 @@ invariant-records l =
     let table = symbols_end l.fn.coff_header in
     record {
       at : l.place ≡ start + 40 * l.counter;
-      listed : l.ranges.items ≡ l.initial.ranges.items ++ concat_below (λ i. (section_at strict table (start + 40 * i)).reaches l.fn.bytes) l.counter;
+      listed : l.marks ≡ marked l.initial.marks (concat_below (λ i. (section_at strict table (start + 40 * i)).reaches l.fn.bytes) l.counter);
     }

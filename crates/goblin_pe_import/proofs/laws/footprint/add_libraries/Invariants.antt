@@ -11,7 +11,7 @@ invariant-records g l =
     AtRanges import_slots
     (reach_of (kept_library (reads_strictly (map_of l.fn.address_map)) g.T.Bitfield.format
     (offset_of (map_of l.fn.address_map))) l.fn.bytes) l.fn.bytes l.fn.offset l.place
-    l.initial.ranges.items l.ranges.items
+    l.initial.marks l.marks
 
 abbrev pub decreases-records : goal.decreases-records
 decreases-records g l = length l.fn.bytes - l.place

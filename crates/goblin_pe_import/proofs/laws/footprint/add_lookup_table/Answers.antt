@@ -1,7 +1,5 @@
 use Rattle.std.proofs.Common.{◌≤◌, sym, ◌∙◌, arith}
-use Rattle.std.proofs.lemmas.Result.{err_from_is_err_and}
 use Rattle.goblin_base.proofs.SlotFootprints.{ranges-end, ranges-last, ranges-next, ranges-start}
-use Rattle.goblin_base.proofs.SomeRanges.{on_err, ranges-all, ranges-some}
 use Rattle.goblin_pe_import.proofs.laws.footprint.add_lookup_table.Goals as goal
 
 pub slots-init : goal.slots-init
@@ -9,34 +7,15 @@ slots-init g c = ranges-start _ _ _ _ _
 
 pub slots-preserved : goal.slots-preserved
 slots-preserved g c =
-    let next = ranges-next _ _ _ _ _ _ _ _ _ c.slots.invariant c.in-Ok.ensures (sym c.is_zero.ensures ∙ c.if-is_zero.false) c.in_ok-add_entry.ensures.added in
+    let next = ranges-next _ _ _ _ _ _ _ _ _ c.slots.invariant c.in-Ok.ensures (sym c.is_zero.ensures ∙ c.if-is_zero.false) c.add_entry.ensures in
     rw c.size_of-size.ensures.width next
 
-pub returns-in_default-clause-added : goal.returns-in_default-clause-added
-returns-in_default-clause-added g c =
+pub returns-in_default : goal.returns-in_default
+returns-in_default g c =
     let width : 1 ≤ g.T.Bitfield.format.width = omega (arith, c.size_of-size.ensures.width, c.size_of-size.ensures.positive) in
-    rw (← ranges-end _ _ _ _ _ _ _ width c.slots.invariant c.in_default.ensures.0) c.add_positions.ensures.added
+    rw (← ranges-end _ _ _ _ _ _ _ width c.slots.invariant c.in_default.ensures.0) c.add.ensures
 
-pub returns-then-is_zero-clause-added : goal.returns-then-is_zero-clause-added
-returns-then-is_zero-clause-added g c =
+pub returns-then-is_zero : goal.returns-then-is_zero
+returns-then-is_zero g c =
     let width : 1 ≤ g.T.Bitfield.format.width = omega (arith, c.size_of-size.ensures.width, c.size_of-size.ensures.positive) in
-    rw (← ranges-last _ _ _ _ _ _ _ _ width c.slots.invariant c.in-Ok.ensures (sym c.is_zero.ensures ∙ c.if-is_zero.true), ← c.size_of-size.ensures.width) c.add_positions-then-is_zero.ensures.added
-
-pub returns-in_default-clause-grown : goal.returns-in_default-clause-grown
-returns-in_default-clause-grown g c =
-    let width : 1 ≤ g.T.Bitfield.format.width = omega (arith, c.size_of-size.ensures.width, c.size_of-size.ensures.positive) in
-    let all = ranges-end _ _ _ _ _ _ _ width c.slots.invariant c.in_default.ensures.0 in
-    on_err _ (ranges-all _ _ _ _ _ _ _ _ c.slots.invariant all) c.add_positions.ensures.grown
-
-pub returns-then-is_zero-clause-grown : goal.returns-then-is_zero-clause-grown
-returns-then-is_zero-clause-grown g c =
-    let width : 1 ≤ g.T.Bitfield.format.width = omega (arith, c.size_of-size.ensures.width, c.size_of-size.ensures.positive) in
-    let all = ranges-last _ _ _ _ _ _ _ _ width c.slots.invariant c.in-Ok.ensures (sym c.is_zero.ensures ∙ c.if-is_zero.true) in
-    let listed = on_err _ (ranges-all _ _ _ _ _ _ _ _ c.slots.invariant all) in
-    listed (rw (← c.size_of-size.ensures.width) c.add_positions-then-is_zero.ensures.grown)
-
-pub returns-in_err-add_entry-clause-grown : goal.returns-in_err-add_entry-clause-grown
-returns-in_err-add_entry-clause-grown g c =
-    let width : 1 ≤ g.T.Bitfield.format.width = omega (arith, c.size_of-size.ensures.width, c.size_of-size.ensures.positive) in
-    let e = err_from_is_err_and c.from_residual.result c.from_residual.ensures.1 in
-    rw e.1 (ranges-some _ _ _ _ _ _ _ _ width c.slots.invariant c.in-Ok.ensures (sym c.is_zero.ensures ∙ c.if-is_zero.false))
+    rw (← ranges-last _ _ _ _ _ _ _ _ width c.slots.invariant c.in-Ok.ensures (sym c.is_zero.ensures ∙ c.if-is_zero.true), ← c.size_of-size.ensures.width) c.add-then-is_zero.ensures

@@ -1,28 +1,30 @@
-use Rattle.std.proofs.Common.{◌≡◌, List, ◌++◌, ap, sym, subst, ◌∙◌}
-use Rattle.std.proofs.lemmas.List.Elements.{All-same}
-use Rattle.goblin_base.specs.Footprints.{Covers, Range}
-use Rattle.goblin_base.specs.Reading.{IsInFile}
-use Rattle.goblin_pe_sect.specs.Addresses.{MapOfAddresses, map_of, offset_of, reads_strictly}
+use Rattle.std.proofs.Common.{◌≡◌, Bool, List, false, length, replicate, ap, subst, sym, ◌∙◌, inl}
+use Rattle.std.proofs.lemmas.Result.{IfOk-weaker, on_err_weaker}
+use Rattle.goblin_base.specs.Footprints.{Range}
+use Rattle.goblin_base.specs.Marks.{marked}
+use Rattle.goblin_base.proofs.MarkRanges.{footprint_of, some_of}
+use Rattle.goblin_pe_sect.specs.Addresses.{MapOfAddresses, map_by, map_of, offset_of, reads_strictly}
 use Rattle.goblin_pe_import.specs.ImportReadings.{import_data}
 use Rattle.goblin_pe_import.proofs.laws.footprint.footprint_imports.Goals as goal
 
-pub returns-clause-covers : goal.returns-clause-covers
-returns-clause-covers g c = λ p.
+pub returns-clause-ranges : goal.returns-clause-ranges
+returns-clause-ranges g c =
+    let bytes = c.args.bytes.now in
+    let n = length bytes in
+    let rva = c.args.directory.virtual_address in
     let reached : MapOfAddresses → List Range =
-    λ m. (import_data (reads_strictly m) g.T.Bitfield.format (offset_of m) c.args.directory.virtual_address).reaches c.args.bytes.now in
-    let own : c.add_imports.new.ranges.items ≡ reached (map_of c.in_ok-address_map.address_map) =
-    c.in_ok-add_imports.ensures.added ∙ ap (λ (x : List Range). x ++ reached (map_of c.in_ok-address_map.address_map)) c.new-ranges.ensures.items in
-    let listed =
-    subst (λ (m : MapOfAddresses). c.add_imports.new.ranges.items ≡ reached m)
-    (sym c.in_ok-address_map.ensures.made) own in (
-      subst (λ (x : List Range). Covers x p) listed,
-      subst (λ (x : List Range). Covers x p) (sym listed),
-    )
+    λ m. (import_data (reads_strictly m) g.T.Bitfield.format (offset_of m) rva).reaches bytes in
+    let m = map_by c.args.opts.now c.args.sections.now c.args.file_alignment in
+    let own = c.add_imports.ensures ∙ ap (λ (x : List Bool). marked x (reached (map_of c.in_ok-address_map.address_map))) c.in_ok-marks.ensures.none in
+    let all = subst (λ (m : MapOfAddresses). c.add_imports.new.marks ≡ marked (replicate n false) (reached m)) (sym c.in_ok-address_map.ensures.made) own in
+    IfOk-weaker c.ranges-2.result _ _
+    (λ v is. footprint_of n (reached m) v.items c.add_imports.new.marks ((import_data (reads_strictly m) g.T.Bitfield.format (offset_of m) rva).is_inside bytes) all is)
+    c.ranges-2.ensures.listed
 
-pub returns-clause-within : goal.returns-clause-within
-returns-clause-within g c =
+pub returns-clause-grown : goal.returns-clause-grown
+returns-clause-grown g c =
+    let bytes = c.args.bytes.now in
     let m = map_of c.in_ok-address_map.address_map in
-    let reading = import_data (reads_strictly m) g.T.Bitfield.format (offset_of m) c.args.directory.virtual_address in
-    let own : c.add_imports.new.ranges.items ≡ reading.reaches c.args.bytes.now =
-    c.in_ok-add_imports.ensures.added ∙ ap (λ (x : List Range). x ++ reading.reaches c.args.bytes.now) c.new-ranges.ensures.items in
-    All-same (IsInFile c.args.bytes.now) _ _ own (reading.is_inside c.args.bytes.now)
+    let reached = (import_data (reads_strictly m) g.T.Bitfield.format (offset_of m) c.args.directory.virtual_address).reaches bytes in
+    let own = c.add_imports.ensures ∙ ap (λ (x : List Bool). marked x reached) c.in_ok-marks.ensures.none in
+    on_err_weaker c.ranges-2.result (λ some. inl (some_of (length bytes) reached c.add_imports.new.marks own some)) c.ranges-2.ensures.grown
