@@ -43,16 +43,18 @@ static bool are_in_file(const struct goblin_pe_tables *tables)
     return are_right && is_in_file(tables->export_directory.name);
 }
 
-/* Whether each range of the footprint lies in the file. */
+/* Whether the ranges of the footprint lie in the file, each behind a byte that is in none. */
 static bool has_footprint(void)
 {
     struct goblin_pe_ranges ranges;
     if (goblin_pe_footprint(bytes, length, NULL, &ranges).status != GOBLIN_PE_OK)
         return false;
     bool is_right = ranges.range_count > 0;
+    size_t next = 0;
     for (size_t i = 0; i < ranges.range_count; i++) {
         struct goblin_pe_range range = ranges.ranges[i];
-        is_right &= range.length && range.offset < length && range.length <= length - range.offset;
+        is_right &= next <= range.offset && range.length && range.offset < length && range.length <= length - range.offset;
+        next = range.offset + range.length + 1;
     }
     goblin_pe_free_ranges(&ranges);
     return is_right;

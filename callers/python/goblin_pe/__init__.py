@@ -305,7 +305,8 @@ class Pe:
 
     def footprint(self) -> List[Range]:
         """The bytes of the file on which all that was read depends: a file of the same length that has the same bytes in
-        these ranges is read alike. They come in no order and may overlap; none is empty, and none passes the file."""
+        these ranges is read alike. They come in order, with a byte between each and the next; none is empty, and none
+        passes the file. So footprints of the same bytes are equal."""
         with memoryview(self._bytes()) as view, _held(view) as (calls, address, length), records.Ranges() as ranges:
             _test(calls.goblin_pe_raw_footprint(address, length, c.byref(self._options), c.byref(ranges)))
             return [Range(it.offset, it.length) for it in ranges.records("ranges")]
@@ -313,17 +314,11 @@ class Pe:
     def fingerprint(self) -> str:
         """A hash of the length of the file and of the bytes on which all that was read depends: the SHA-256 in hexadecimal.
         Files that have the same are read alike by the same options."""
-        ranges: List[List[int]] = []
-        for begin, length in sorted(self.footprint()):
-            if ranges and begin <= ranges[-1][1]:
-                ranges[-1][1] = max(ranges[-1][1], begin + length)
-            else:
-                ranges.append([begin, begin + length])
         with memoryview(self._bytes()) as view, view.cast("B") as in_bytes:
             digest = hashlib.sha256(b"%d" % len(in_bytes))
-            for begin, end in ranges:
-                digest.update(b" %d %d " % (begin, end))
-                digest.update(in_bytes[begin:end])
+            for begin, length in self.footprint():
+                digest.update(b" %d %d " % (begin, begin + length))
+                digest.update(in_bytes[begin: begin + length])
         return digest.hexdigest()
 
     def write(self, coff_header: Optional[CoffHeader] = None, optional_header: Optional[OptionalHeader] = None,

@@ -68,6 +68,9 @@ iterators! {
     /// The entries of the export address table of an image, with the ordinal of the first and their indexes.
     ExportAddresses<'p> over Zip<Range<usize>, Iter<'p, raw::ExportAddress>>, by export_address => ExportAddress;
 
+    /// The ranges of a footprint.
+    FootprintRanges<'p> over Iter<'p, raw::Range>, by footprint_range => Range<usize>;
+
     /// The words of a block of base relocations, as pairs (type, offset in the page in bytes).
     Words<'a> over ChunksExact<'a, u8>, by word => (u8, u16);
 }
@@ -90,6 +93,10 @@ fn export_address((ordinal, it): (usize, &raw::ExportAddress)) -> ExportAddress 
         rva: it.rva,
         forwards: it.forwards,
     }
+}
+
+fn footprint_range(it: &raw::Range) -> Range<usize> {
+    it.offset..it.offset + it.length
 }
 
 // The type and the offset in a word of two bytes.
@@ -180,7 +187,11 @@ impl<T: Copy, P: Position> Batches<T, P> {
         empty: T,
         call: impl FnOnce(&mut P, &mut [T], &mut usize) -> Fault,
     ) -> Result<(), Error> {
-        let room = if self.records.is_empty() { first } else { BATCH };
+        let room = if self.records.is_empty() {
+            first
+        } else {
+            BATCH
+        };
         self.records.resize(room, empty);
         (self.next, self.count) = (0, 0);
         let fault = call(&mut self.position, &mut self.records, &mut self.count);
@@ -274,9 +285,11 @@ impl<'a> Symbols<'a> {
     fn fill(&mut self) -> Result<(), Error> {
         let (bytes, header) = (self.bytes, &self.header);
         // (each call reads the whole string table)
-        self.batches.fill(BATCH, raw::NamedSymbol::EMPTY, |position, records, count| {
-            raw::next_symbols(bytes, header, position, records, count)
-        })
+        self.batches.fill(
+            BATCH,
+            raw::NamedSymbol::EMPTY,
+            |position, records, count| raw::next_symbols(bytes, header, position, records, count),
+        )
     }
 }
 

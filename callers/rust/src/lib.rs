@@ -37,6 +37,7 @@
 #![warn(missing_docs)]
 
 mod error;
+mod footprint;
 mod iterators;
 mod memory;
 mod numbers;
@@ -49,9 +50,10 @@ mod te;
 mod text;
 
 pub use error::Error;
+pub use footprint::Footprint;
 pub use iterators::{
-    Blocks, DataDirectories, ExportAddresses, Exports, Imports, Sections, Symbols, WalkExports,
-    WalkImports, Words,
+    Blocks, DataDirectories, ExportAddresses, Exports, FootprintRanges, Imports, Sections, Symbols,
+    WalkExports, WalkImports, Words,
 };
 pub use numbers::{Cause, Counted, DirectoryType, ErrorKind, Kind, Part, ReadFault};
 pub use object::Object;

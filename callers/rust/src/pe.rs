@@ -1,14 +1,13 @@
 //! Images.
 
 use std::fmt;
-use std::ops::Range;
 
 use crate::error::Error;
+use crate::footprint::Footprint;
 use crate::iterators::{
     Blocks, DataDirectories, ExportAddresses, Exports, Imports, Sections, Symbols, WalkExports,
     WalkImports,
 };
-use crate::memory::room;
 use crate::numbers::{DirectoryType, Part};
 use crate::raw::{
     self, CoffHeader, DataDirectory, DosHeader, OptionalHeader, Options, RichMetadata,
@@ -590,8 +589,7 @@ impl<'a> Pe<'a> {
     }
 
     /// The bytes of the file on which all that was read depends: a file of the same length that has the
-    /// same bytes in these ranges is read alike. They come in no order and may overlap; none is empty, and
-    /// none passes the file.
+    /// same bytes in these ranges is read alike.
     ///
     /// # Errors
     /// [`ErrorKind::Memory`](crate::ErrorKind::Memory) alone.
@@ -601,16 +599,11 @@ impl<'a> Pe<'a> {
     /// # let bytes = [];
     /// let pe = Pe::read(&bytes, &Options::default())?;
     /// let count: usize = pe.footprint()?.iter().map(|range| range.len()).sum();
-    /// println!("it depends on at most {count} bytes");
+    /// println!("it depends on {count} bytes");
     /// # Ok::<(), goblin_pe::Error>(())
     /// ```
-    pub fn footprint(&self) -> Result<Vec<Range<usize>>, Error> {
-        let mut ranges = raw::Ranges::EMPTY;
-        Error::test(raw::footprint(self.bytes, &self.options, &mut ranges))?;
-        let found = ranges.ranges.get();
-        let mut footprint = room(found.len())?;
-        footprint.extend(found.iter().map(|it| it.offset..it.offset + it.length));
-        Ok(footprint)
+    pub fn footprint(&self) -> Result<Footprint, Error> {
+        Footprint::of(self.bytes, &self.options)
     }
 }
 

@@ -1005,6 +1005,7 @@ impl Tables<'_> {
 
 /// Ranges of the file.
 #[repr(C)]
+#[derive(Clone)]
 pub struct Ranges<'a> {
     /// The ranges.
     pub ranges: List<'a, Range>,

@@ -401,10 +401,16 @@ fn a_file_depends_on_its_footprint_alone() {
         let bytes = sample(name);
         let pe = Pe::read(&bytes, &options).unwrap();
         let mut other: Vec<u8> = bytes.iter().map(|byte| !byte).collect();
-        for range in pe.footprint().unwrap() {
+        let footprint = pe.footprint().unwrap();
+        for range in &footprint {
+            assert!(
+                footprint.contains(range.start) && !footprint.contains(range.end),
+                "{name}"
+            );
             other[range.clone()].copy_from_slice(&bytes[range]);
         }
         let other = Pe::read(&other, &options).unwrap();
+        assert_eq!(footprint, other.footprint().unwrap(), "{name}");
         assert!(pe.imports().eq(other.imports()), "{name}");
         assert!(pe.exports().eq(other.exports()), "{name}");
         assert_eq!(pe.header(), other.header());

@@ -1,7 +1,8 @@
 -- The ranges of marked positions: they cover what is marked, and are the only ones that do.
-use Rattle.std.proofs.Common.{◌≡◌, ◌<◌, ◌≤◌, ◌⊎◌, ℕ, zero, suc, ◌+◌, ◌-◌, Bool, true, false, cond, eqb, leb, ltb, ◌&&◌, ◌||◌, List, [], ◌∷◌, length, get_or, drop, replicate, ap, sym, subst, ◌∙◌, refl, arith, inl, inr, add-one}
+use Rattle.std.proofs.Common.{◌≡◌, ◌<◌, ◌≤◌, ℕ, zero, suc, ◌+◌, ◌-◌, Bool, true, false, cond, eqb, leb, ltb, ◌&&◌, ◌||◌, List, [], ◌∷◌, length, get_or, drop, replicate, ap, sym, subst, ◌∙◌, refl, arith, inl, inr}
 use Rattle.std.specs.List.{All}
-use Rattle.std.proofs.lemmas.Bool.{cases_lt, cases_eq, cases_Bool, eq-eqb, ne_eqb, le-ltb, lt-ltb, le-leb, lt-leb, false≢true}
+use Rattle.std.proofs.Math.Bool.{or_assoc}
+use Rattle.std.proofs.lemmas.Bool.{cases_lt, cases_eq, cases_Bool, eq-eqb, ne_eqb, lt-ltb, le-leb, lt-leb, false≢true}
 use Rattle.std.proofs.lemmas.Bool.Decides.{nat_tests}
 use Rattle.std.proofs.lemmas.List.{drop_more, get_or_past, get_or-replicate, length-replicate, length-drop, nil_from_length}
 use Rattle.std.proofs.lemmas.List.Elements.{All-nil, All-cons, All-head, All-same, All-tail}
@@ -53,14 +54,6 @@ joined_span p q begin end is some = grind (arith, nat_tests)
 
 single_span : (p q : ℕ) → (leb p q && ltb q (p + 1)) ≡ eqb q p
 single_span p q = grind (arith, nat_tests)
-
-or_assoc : (a b c : Bool) → ((a || b) || c) ≡ (a || (b || c))
-or_assoc true b c = refl
-or_assoc false b c = refl
-
-or_false : (a : Bool) → (a || false) ≡ a
-or_false true = refl
-or_false false = refl
 
 covered-put_before : (p q : ℕ) (rs : List Range) → AreApart (p + 1) rs
     → is_covered (put_before p rs) q ≡ (eqb q p || is_covered rs q)
@@ -132,6 +125,18 @@ true-covers [] p h = absurd h
 true-covers (x ∷ xs) p (inl h) = rw (le-leb x.0 p h.0, lt-ltb p x.1 h.1) refl
 true-covers (x ∷ xs) p (inr h) = grind (arith, nat_tests, true-covers xs p h)
 
+-- where each covers what the other covers, the tests are equal
+pub same-covered : (xs ys : List Range) (p : ℕ) → (Covers xs p → Covers ys p) → (Covers ys p → Covers xs p)
+    → is_covered xs p ≡ is_covered ys p
+same-covered xs ys p there back =
+    elim (cases_Bool (is_covered xs p)) [
+      | inl here ↦ here ∙ sym (true-covers ys p (there (covers-true xs p here)))
+      | inr none ↦ elim (cases_Bool (is_covered ys p)) [
+        | inl here ↦ absurd (false≢true (sym none ∙ true-covers xs p (back (covers-true ys p here))))
+        | inr neither ↦ none ∙ sym neither
+      ]
+    ]
+
 -- ---- one range after another
 
 drop_past : (m : List Bool) (at : ℕ) → length m ≤ at → drop at m ≡ []
@@ -196,6 +201,26 @@ pub ranges-next : (m : List Bool) (at begin end : ℕ) → IsNext m at (begin, e
 ranges-next m at begin end h =
     skip m (begin - at) at begin (omega (arith, h.after)) h.before
     ∙ run m (end - begin - 1) begin end (omega (arith, h.some)) h.inside h.ends
+
+-- a position that is marked is in the file
+marked_within : (m : List Bool) (p : ℕ) → get_or m p false ≡ true → p < length m
+marked_within m p is =
+    elim (cases_lt p (length m)) [
+      | inl in' ↦ in'
+      | inr past ↦ absurd (false≢true (sym (get_or_past m p false past) ∙ is))
+    ]
+
+-- after it, fewer positions are left
+pub next-smaller : (m : List Bool) (at begin end : ℕ) → IsNext m at (begin, end)
+    → length m - end < length m - at
+next-smaller m at begin end h =
+    let in' = marked_within m begin (h.inside begin (omega arith) h.some) in
+    omega (arith, in', h.after, h.some)
+
+-- and one range fewer
+pub next-counted : (m : List Bool) (at begin end : ℕ) → IsNext m at (begin, end)
+    → length (ranges_from at (drop at m)) ≡ suc (length (ranges_from end (drop end m)))
+next-counted m at begin end h = ap length (ranges-next m at begin end h)
 
 -- no range is left
 pub ranges-none : (m : List Bool) (at : ℕ) → ((p : ℕ) → at ≤ p → get_or m p false ≡ false)
@@ -295,6 +320,8 @@ is_footprint n footprint ranges inside is = record {
   );
   apart = subst (AreApart 0) (sym is) (joined-apart n footprint);
   within = All-same (IsWithin n) ranges (joined n footprint) is (joined-within n footprint);
+  alone = λ other same.
+      same-joined n other footprint (λ p lt. same-covered other footprint p (same p).0 (same p).1) ∙ sym is;
 }
 
 -- an empty file has no ranges

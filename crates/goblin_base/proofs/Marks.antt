@@ -1,8 +1,8 @@
 -- Marks that are added to marks, and their bits in words.
-use Rattle.std.proofs.Common.{◌≡◌, ◌<◌, ◌≤◌, ℕ, zero, suc, ◌+◌, ◌-◌, ◌*◌, ◌/◌, ◌%◌, min, max, replicate, Bool, true, false, not, cond, Option, Some, None, w64, eqb, leb, ltb, ◌&&◌, ◌||◌, List, [], ◌∷◌, ◌++◌, length, map, get_or, set, ◌^◌, ap, sym, subst, ◌∙◌, refl, arith, inl, inr, add-zero}
+use Rattle.std.proofs.Common.{◌≡◌, ◌<◌, ◌≤◌, ℕ, zero, suc, ◌+◌, ◌-◌, ◌*◌, ◌/◌, ◌%◌, min, max, replicate, Bool, true, false, not, cond, Some, None, w64, eqb, leb, ltb, ◌&&◌, ◌||◌, List, [], ◌∷◌, ◌++◌, length, get_or, set, ◌^◌, ap, sym, subst, ◌∙◌, refl, arith, inl, inr, add-zero}
 use Rattle.std.specs.Int.{bit_at, trailing_zeros}
 use Rattle.std.specs.Int.RustNames.{bit_or}
-use Rattle.std.specs.List.{range_with_len}
+use Rattle.std.proofs.Math.Bool.{or_assoc, or-false}
 use Rattle.std.proofs.lemmas.Bool.{cases_lt, cases_eq, le-ltb, lt-ltb, le-leb, lt-leb, and_from, and_right, false≢true}
 use Rattle.std.proofs.lemmas.Bool.Decides.{nat_tests}
 use Rattle.std.proofs.lemmas.List.{ext_get_or, get_or_past, get_or-replicate, length-replicate, get_or-set_same, get_or-set_other}
@@ -13,14 +13,6 @@ use Rattle.goblin_base.specs.Footprints.{Range, positions}
 use Rattle.goblin_base.specs.Marks.{GivesBit, GivesNext, IsMask, IsNext, is_covered, marked, word_mark, word_marks}
 
 -- ---- tests
-
-or_assoc : (a b c : Bool) → ((a || b) || c) ≡ (a || (b || c))
-or_assoc true b c = refl
-or_assoc false b c = refl
-
-or_false : (a : Bool) → (a || false) ≡ a
-or_false true = refl
-or_false false = refl
 
 covered-append : (xs ys : List Range) (p : ℕ) → is_covered (xs ++ ys) p ≡ (is_covered xs p || is_covered ys p)
 covered-append [] ys p = refl
@@ -66,7 +58,7 @@ pub marked_nil : (m : List Bool) → marked m [] ≡ m
 unfolding marked
 marked_nil m =
     sym (fill_by_all (λ p. get_or m p false || false) m (length m) false refl
-    (λ k lt. sym (or_false (get_or m k false))))
+    (λ k lt. sym (or-false (get_or m k false))))
 
 -- what is marked in two steps
 pub marked_append : (m : List Bool) (xs ys : List Range) → marked (marked m xs) ys ≡ marked m (xs ++ ys)
@@ -122,7 +114,7 @@ word_mark-set words at next mask p less le room is =
           ∙ ap (λ (k : ℕ). eqb (bit_at (get_or words k 0) (p % 64)) 1 || (leb at p && ltb p next)) (sym same)
       | inr other ↦
           ap (λ (w : ℕ). eqb (bit_at w (p % 64)) 1) (get_or-set_other words (at / 64) (p / 64) (bit_or word mask) 0 other)
-          ∙ sym (or_false (word_mark words p))
+          ∙ sym (or-false (word_mark words p))
           ∙ ap (λ (c : Bool). word_mark words p || c) (sym (other_span at next p other less le))
     ]
 
@@ -204,19 +196,44 @@ unfolding positions
 covered-cut begin end n cut p lt is =
     elim (cases_lt begin end) [
       | inl some ↦
-          rw (lt-ltb begin end some) (cut_span begin end n cut p lt is ∙ sym (or_false (leb begin p && ltb p end)))
+          rw (lt-ltb begin end some) (cut_span begin end n cut p lt is ∙ sym (or-false (leb begin p && ltb p end)))
       | inr none ↦ rw (le-ltb begin end none) (no_span begin end n cut p none is)
     ]
 
--- no position is marked
-pub word_marks-none : (n count : ℕ) → n ≤ 64 * count → word_marks n (replicate count 0) ≡ replicate n false
+empty_span : (begin cut p : ℕ) → cut ≤ begin → (leb begin p && ltb p cut) ≡ false
+empty_span begin cut p none = grind (arith, nat_tests)
+
+-- where no position is to be marked, nothing changes
+pub word_marks-same : (n : ℕ) (words : List ℕ) (begin end cut : ℕ) → cut ≡ min end n → cut ≤ begin
+    → word_marks n words ≡ marked (word_marks n words) (positions begin end)
+word_marks-same n words begin end cut is none =
+    word_marks-marked n words words (positions begin end)
+    (λ p lt.
+    sym (or-false (word_mark words p))
+    ∙ ap (λ (b : Bool). word_mark words p || b) (sym (empty_span begin cut p none) ∙ covered-cut begin end n cut p lt is))
+
+-- words behind the last are not marked
+pub word_mark-past : (words : List ℕ) (p : ℕ) → 64 * length words ≤ p → word_mark words p ≡ false
+word_mark-past words p past =
+    ap (λ (w : ℕ). eqb (bit_at w (p % 64)) 1) (get_or_past words (p / 64) 0 (omega (arith, past)))
+    ∙ ap (λ (b : ℕ). eqb b 1) (bit_at-zero (p % 64))
+
+empty_word : (words : List ℕ) (k : ℕ) → get_or (words ++ 0 ∷ []) k 0 ≡ get_or words k 0
+empty_word [] zero = refl
+empty_word [] (suc k) = refl
+empty_word (w ∷ ws) zero = refl
+empty_word (w ∷ ws) (suc k) = empty_word ws k
+
+-- nor is an empty word
+pub word_mark-more : (words : List ℕ) (p : ℕ) → word_mark (words ++ 0 ∷ []) p ≡ word_mark words p
+word_mark-more words p = ap (λ (w : ℕ). eqb (bit_at w (p % 64)) 1) (empty_word words (p / 64))
+
+-- without words no position is marked
+pub word_marks-none : (n : ℕ) → word_marks n [] ≡ replicate n false
 unfolding word_marks
-word_marks-none n count room =
-    sym (fill_by_all (word_mark (replicate count 0)) (replicate n false) n false (length-replicate n false)
-    (λ k lt.
-    let here : k / 64 < count = omega (arith, lt, room) in
-    get_or-replicate n k false false lt
-    ∙ sym (ap (λ (w : ℕ). eqb (bit_at w (k % 64)) 1) (get_or-replicate count (k / 64) 0 0 here) ∙ ap (λ (b : ℕ). eqb b 1) (bit_at-zero (k % 64)))))
+word_marks-none n =
+    sym (fill_by_all (word_mark []) (replicate n false) n false (length-replicate n false)
+    (λ k lt. get_or-replicate n k false false lt ∙ sym (word_mark-past [] k (omega arith))))
 
 -- ---- the first bit of a word, and the first mark
 
@@ -265,22 +282,30 @@ pub mark-word_marks : (n : ℕ) (words : List ℕ) (p : ℕ) → p < n → get_o
 unfolding word_marks
 mark-word_marks n words p lt = get_or-map-range_with_len (word_mark words) 0 n p p false lt (omega arith)
 
+-- how far the first n positions have words
+abbrev pub marked_end : ℕ → List ℕ → ℕ
+marked_end n words = min n (64 * length words)
+
 -- no mark is left
-pub marks-none : (n : ℕ) (words : List ℕ) (from : ℕ)
-    → ((p : ℕ) → from ≤ p → p < n → word_mark words p ≡ false)
+pub marks-none : (n : ℕ) (words : List ℕ) (from end : ℕ) → end ≡ marked_end n words
+    → ((p : ℕ) → from ≤ p → p < end → word_mark words p ≡ false)
     → GivesNext (word_marks n words) from None
-marks-none n words from none = λ p low.
+marks-none n words from end is none = λ p low.
     elim (cases_lt p n) [
-      | inl in' ↦ mark-word_marks n words p in' ∙ none p low in'
       | inr past ↦ get_or_past (word_marks n words) p false (omega (arith, past, length-word_marks n words))
+      | inl in' ↦ mark-word_marks n words p in' ∙ elim (cases_lt p end) [
+        | inl before ↦ none p low before
+        | inr past ↦ word_mark-past words p (omega (arith, in', past, is))
+      ]
     ]
 
 -- the next range of marks
-pub marks-next : (n : ℕ) (words : List ℕ) (from begin end : ℕ) → from ≤ begin → begin < n → begin ≤ end → end ≤ n
+pub marks-next : (n : ℕ) (words : List ℕ) (from begin end last : ℕ) → last ≡ marked_end n words
+    → from ≤ begin → begin < last → begin ≤ end → end ≤ last
     → ((p : ℕ) → from ≤ p → p < begin → word_mark words p ≡ false) → word_mark words begin ≡ true
-    → ((p : ℕ) → begin ≤ p → p < end → word_mark words p ≡ true) → (end < n → word_mark words end ≡ false)
+    → ((p : ℕ) → begin ≤ p → p < end → word_mark words p ≡ true) → (end < last → word_mark words end ≡ false)
     → IsNext (word_marks n words) from (begin, end)
-marks-next n words from begin end after in' low high before here inside ends = record {
+marks-next n words from begin end last is after in' low high before here inside ends = record {
   after = after;
   some = elim (cases_lt begin end) [
     | inl some ↦ some
@@ -288,10 +313,13 @@ marks-next n words from begin end after in' low high before here inside ends = r
         let same : begin ≡ end = omega (arith, low, none) in
         absurd (false≢true (sym (ends (omega (arith, same, in'))) ∙ ap (word_mark words) (sym same) ∙ here))
   ];
-  before = λ p from' to. mark-word_marks n words p (omega (arith, to, in')) ∙ before p from' to;
-  inside = λ p from' to. mark-word_marks n words p (omega (arith, to, high)) ∙ inside p from' to;
+  before = λ p from' to. mark-word_marks n words p (omega (arith, to, in', is)) ∙ before p from' to;
+  inside = λ p from' to. mark-word_marks n words p (omega (arith, to, high, is)) ∙ inside p from' to;
   ends = elim (cases_lt end n) [
-    | inl more ↦ mark-word_marks n words end more ∙ ends more
-    | inr last ↦ get_or_past (word_marks n words) end false (omega (arith, last, length-word_marks n words))
+    | inl in-file ↦ mark-word_marks n words end in-file ∙ elim (cases_lt end last) [
+      | inl more ↦ ends more
+      | inr past ↦ word_mark-past words end (omega (arith, in-file, past, is))
+    ]
+    | inr past ↦ get_or_past (word_marks n words) end false (omega (arith, past, length-word_marks n words))
   ];
 }

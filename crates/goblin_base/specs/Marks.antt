@@ -84,3 +84,5 @@ pub record IsFootprint (n : ℕ) (footprint ranges : List Range) : Type 0 where
   pub covers : (p : ℕ) → Covers ranges p ↔ Covers footprint p
   pub apart : AreApart 0 ranges
   pub within : All (λ range. (range.0 < range.1) × (range.1 ≤ n)) ranges
+  pub alone : (other : List Range) → ((p : ℕ) → Covers other p ↔ Covers footprint p)
+      → joined n other ≡ ranges

@@ -2,19 +2,23 @@
 //! each part in turn; what lies past the end of the file is not marked. The marked positions come
 //! back as ranges (begin, end) in order, none empty, with a position between each and the next.
 
-ghost use Rattle.std.specs.Prelude.{◌≡◌, ◌<◌, IfErr, IfOk, OnErr, false, length, replicate};
+ghost use Rattle.std.specs.Prelude.{◌≡◌, ◌<◌, IfErr, IfOk, OnErr, false, length, map, replicate};
+ghost use Rattle.std.specs.Prelude.{vec_capacity, vec_len};
 ghost use Rattle.goblin_base.specs.Answers.{IsMemory};
-ghost use Rattle.goblin_base.specs.Footprints.{positions, slice_footprint, stretch_footprint};
+ghost use Rattle.goblin_base.specs.Footprints.{Range, positions, slice_footprint, stretch_footprint};
 ghost use Rattle.goblin_base.specs.Marks.{GivesNext, marked, ranges_of};
 ghost use Rattle.goblin_base.specs.Parts.{between_footprint};
 
 use crate::error::ResultOf;
 use crate::read::before_nul;
-use crate::words::{BITS, empty_words, first_wanted, mark_words};
+use crate::words::{BITS, add_words, first_wanted, mark_words};
 use std::alloc::Global;
 use std::marker::Model;
 
 /// The positions of a file that are marked.
+///
+/// There is room for a bit for each position of the file, so marking needs no more memory; words
+/// behind the last mark are not there, so it takes no time for what is not reached.
 #[derive(Drop)]
 pub struct Marks {
     words: Vec<u64>,
@@ -22,24 +26,27 @@ pub struct Marks {
 }
 
 impl Model for Marks {
-    ghost use Rattle.std.specs.Prelude.{Bool, List, ◌≤◌, ◌*◌, length};
+    ghost use Rattle.std.specs.Prelude.{Bool, List, ◌≤◌, ◌*◌, vec_capacity};
     ghost use Rattle.goblin_base.specs.Marks.{word_marks};
 
     ghost Value = { List Bool };
 
     ghost view = { λ m. word_marks m.len m.words.items };
 
-    ghost invariant = { λ m. m.len ≤ 64 * length m.words.items };
+    ghost invariant = { λ m. m.len ≤ 64 * vec_capacity m.words };
 }
 
 impl Marks {
     /// No position of a file of `len` bytes.
+    ///
+    /// # Errors
+    /// [`Error::Memory`](crate::Error::Memory) only, and only if the file has a byte.
     pub fn with_room_for<'e>(alloc: Global, len: usize) -> ResultOf<'e, Marks>
         ensures none { IfOk result (λ marks. marks ≡ replicate len false) }
         ensures refused { IfErr result IsMemory }
         ensures grown { OnErr result (0 < len) }
     {
-        let words = empty_words(alloc, len.div_ceil(BITS))?;
+        let words = Vec::with_capacity(alloc, len.div_ceil(BITS))?;
         Ok(Marks { words, len })
     }
 
@@ -47,36 +54,77 @@ impl Marks {
     pub fn add(&mut self, begin: usize, end: usize)
         ensures { self.new ≡ marked self.old (positions begin end) }
     {
-        mark_words(&mut self.words, begin, end.min(self.len));
+        let end = end.min(self.len);
+        if begin < end {
+            add_words(&mut self.words, end.div_ceil(BITS));
+            mark_words(&mut self.words, begin, end);
+        }
     }
 
     /// The first marked positions from `from` on, up to one that is not marked.
     pub fn next_range(&self, from: usize) -> Option<(usize, usize)>
         ensures { GivesNext self.now from result }
     {
-        if self.len <= from {
+        let end = self.len.min(self.words.len().saturating_mul(BITS));
+        if end <= from {
             return None;
         }
-        let begin = first_wanted(&self.words, from, self.len, true);
-        if begin == self.len {
+        let begin = first_wanted(&self.words, from, end, true);
+        if begin == end {
             return None;
         }
-        Some((begin, first_wanted(&self.words, begin, self.len, false)))
+        Some((begin, first_wanted(&self.words, begin, end, false)))
+    }
+
+    // How many ranges the marked positions are.
+    fn count_ranges(&self) -> usize
+        ensures { result ≡ length (ranges_of self.now) }
+    {
+        let mut count = 0;
+        let mut place = 0;
+        'spans: while let Some((_, end)) = self.next_range(place) {
+            count += 1;
+            place = end;
+        }
+        count
+    }
+
+    /// What `made` makes of each range of the marked positions, with room for no more.
+    ///
+    /// # Errors
+    /// [`Error::Memory`](crate::Error::Memory) only, and only if a position is marked.
+    pub fn list<'e, T: Drop, F: Fn((usize, usize)) -> T>(
+        &self,
+        alloc: Global,
+        made: F,
+    ) -> ResultOf<'e, Vec<T>>
+        requires { (range : _) → F.pre made range }
+        ensures listed { (value : Range → T)
+            → ((range : _) (found : _) → F.post made range found → found ≡ value range)
+            → IfOk result (λ v. v.items ≡ map value (ranges_of self.now)) }
+        ensures room { IfOk result (λ v. vec_capacity v ≡ vec_len v) }
+        ensures refused { IfErr result IsMemory }
+        ensures grown { OnErr result (0 < length (ranges_of self.now)) }
+    {
+        let mut list = Vec::with_capacity(alloc, self.count_ranges())?;
+        let mut place = 0;
+        'spans: while let Some((begin, end)) = self.next_range(place) {
+            list.push_reserved(made((begin, end)));
+            place = end;
+        }
+        Ok(list)
     }
 
     /// The marked positions, as ranges in order that do not touch.
+    ///
+    /// # Errors
+    /// [`Error::Memory`](crate::Error::Memory) only, and only if a position is marked.
     pub fn ranges<'e>(&self, alloc: Global) -> ResultOf<'e, Vec<(usize, usize)>>
         ensures listed { IfOk result (λ ranges. ranges.items ≡ ranges_of self.now) }
         ensures refused { IfErr result IsMemory }
         ensures grown { OnErr result (0 < length (ranges_of self.now)) }
     {
-        let mut ranges = Vec::new(alloc);
-        let mut place = 0;
-        'spans: while let Some((begin, end)) = self.next_range(place) {
-            ranges.push((begin, end))?;
-            place = end;
-        }
-        Ok(ranges)
+        self.list(alloc, |range| range)
     }
 }
 

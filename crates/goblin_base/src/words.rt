@@ -1,11 +1,9 @@
 //! Bits in words of 64: one for each position of a file.
 
 ghost use Rattle.std.specs.Prelude.{◌≡◌, ◌==◌, ◌<◌, ◌≤◌, ◌+◌, ◌*◌, ◌/◌, ◌%◌, ◌&&◌, ◌||◌, ℕ, nat_le};
-ghost use Rattle.std.specs.Prelude.{nat_lt, not, IfOk, OnErr, if◌then◌else◌, length, replicate};
+ghost use Rattle.std.specs.Prelude.{nat_lt, not, if◌then◌else◌, length, vec_capacity, vec_len};
 ghost use Rattle.std.specs.Int.{bit_at};
 ghost use Rattle.goblin_base.specs.Marks.{GivesBit, IsMask, word_mark};
-
-use std::alloc::{AllocError, Global};
 
 pub(crate) const BITS: usize = 64;
 
@@ -32,15 +30,25 @@ fn mark_word(words: &mut [u64], at: usize, count: usize)
     words[at / BITS] |= mask(first, first + count);
 }
 
-// Marks the positions from `begin` on and before `end`.
+// Adds empty words where there are fewer than `count`.
+pub(crate) fn add_words(words: &mut Vec<u64>, count: usize)
+    requires { count ≤ vec_capacity words.old }
+    ensures there { count ≤ vec_len words.new }
+    ensures same { (p : ℕ) → word_mark words.new.items p ≡ word_mark words.old.items p }
+    ensures capacity { vec_capacity words.new ≡ vec_capacity words.old }
+{
+    'words: while words.len() < count {
+        words.push_reserved(0);
+    }
+}
+
+// Marks the positions from `begin` on and before `end`, of which there is one at least.
 pub(crate) fn mark_words(words: &mut [u64], begin: usize, end: usize)
-    requires { end ≤ 64 * length words.old }
+    requires some { begin < end }
+    requires room { end ≤ 64 * length words.old }
     ensures { (p : ℕ) → word_mark words.new p
         ≡ (word_mark words.old p || (nat_le begin p && nat_lt p end)) }
 {
-    if end <= begin {
-        return;
-    }
     let head = (BITS - begin % BITS).min(end - begin);
     mark_word(words, begin, head);
     let mut at = begin + head;
@@ -90,15 +98,4 @@ pub(crate) fn first_wanted(words: &[u64], from: usize, end: usize, wanted: bool)
         at = at.saturating_add(BITS - at % BITS);
     }
     end
-}
-
-// A number of words without a bit.
-pub(crate) fn empty_words(alloc: Global, count: usize) -> Result<Vec<u64>, AllocError>
-    ensures none { IfOk result (λ words. words.items ≡ replicate count 0) }
-    ensures grown { OnErr result (0 < count) }
-{
-    if count == 0 {
-        return Ok(Vec::new(alloc));
-    }
-    vec![in alloc; 0u64; count]
 }

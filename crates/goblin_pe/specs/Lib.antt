@@ -11,6 +11,7 @@ pub use Rattle.goblin_base.specs.Answers
 pub use Rattle.goblin_base.specs.Bytes
 pub use Rattle.goblin_base.specs.ErrorText
 pub use Rattle.goblin_base.specs.Footprints
+pub use Rattle.goblin_base.specs.Marks
 pub use Rattle.goblin_base.specs.Parts
 pub use Rattle.goblin_base.specs.Reading
 pub use Rattle.goblin_base.specs.Record

@@ -1,13 +1,12 @@
 //! On which bytes of a file a read of the whole file depends.
 
-ghost use Rattle.std.specs.Prelude.{◌≡◌, ◌<◌, IfOk, OnErr, length, map};
-ghost use Rattle.goblin_base.specs.Answers.{GivesOrMemory};
+ghost use Rattle.std.specs.Prelude.{◌≡◌, length};
 ghost use Rattle.goblin_pe.specs.Whole.{whole_file};
 ghost use Rattle.goblin_pe_records.specs.Blocked.{HasNoSpareRoom};
-ghost use Rattle.goblin_pe_calls.specs.Footprints.{Lists, range_said, range_view};
+ghost use Rattle.goblin_pe_calls.specs.Footprints.{Lists, range_record_of};
 
 use goblin_pe::Result;
-use goblin_pe::laws::footprint_whole;
+use goblin_pe::laws::mark_whole;
 use goblin_pe::options::ParseOptions;
 use std::alloc::Global;
 
@@ -30,27 +29,13 @@ pub struct PeRanges<'a> {
 }
 
 // The record of the positions from the first number on and before the second.
-fn range_record(range: &(usize, usize)) -> PeRange
-    ensures { range_view result ≡ range_said range.now }
+fn range_record(range: (usize, usize)) -> PeRange
+    ensures { result ≡ range_record_of range }
 {
     PeRange {
         offset: range.0,
         length: range.1.saturating_sub(range.0),
     }
-}
-
-// The records of ranges, in memory of their own.
-fn range_records(alloc: Global, ranges: &[(usize, usize)]) -> Result<Vec<PeRange>>
-    ensures made { GivesOrMemory (λ v. map range_view v.items) result (map range_said ranges.now) }
-    ensures none { IfOk result HasNoSpareRoom }
-    ensures grown { OnErr result (0 < length ranges.now) }
-{
-    let count = ranges.len();
-    let mut records = Vec::with_capacity(alloc, count)?;
-    'records: for i in 0..count {
-        records.push_reserved(range_record(&ranges[i]));
-    }
-    Ok(records)
 }
 
 // Hands the ranges over: no ranges have no block, which nobody would free.
@@ -77,8 +62,8 @@ pub fn list<'a>(
     ensures { let footprint = (whole_file opts.now).reaches bytes.now in
         Lists (length bytes.now) footprint ranges.old ranges.new result }
 {
-    let footprint = footprint_whole(alloc, bytes, opts)?;
-    let records = range_records(alloc, &footprint)?;
+    let marks = mark_whole(alloc, bytes, opts)?;
+    let records = marks.list(alloc, |range| range_record(range))?;
     *ranges = handed_over(records);
     Ok(())
 }

@@ -1,6 +1,7 @@
 //! Which bytes of a file a read of the whole file depends on.
 
-ghost use Rattle.std.specs.Prelude.{◌≡◌, ◌<◌, ◌+◌, IfErr, IfOk, OnErr, OnOk, Some, length};
+ghost use Rattle.std.specs.Prelude.{◌≡◌, ◌<◌, ◌+◌, IfErr, IfOk, OnErr, OnOk, Some, false, length};
+ghost use Rattle.std.specs.Prelude.{replicate};
 ghost use Rattle.goblin_base.specs.Answers.{IsMemory};
 ghost use Rattle.goblin_base.specs.Marks.{IsFootprint, marked};
 ghost use Rattle.goblin_pe_head.specs.PeHeader.{header_value};
@@ -193,6 +194,24 @@ fn add_whole<'e>(
     add_after(alloc, marks, bytes, &header, opts)
 }
 
+/// The marks of the positions on which [`Whole::read`](crate::Whole::read) depends, as
+/// [`footprint_whole`] lists them.
+///
+/// # Errors
+/// [`Error::Memory`](goblin_base::Error::Memory) only, and only if the file has a byte.
+pub fn mark_whole<'e>(alloc: Global, bytes: &[u8], opts: &ParseOptions) -> ResultOf<'e, Marks>
+    ensures reached { let footprint = (whole_file opts.now).reaches bytes.now in
+        IfOk result (λ marks. marks ≡ marked (replicate (length bytes.now) false) footprint) }
+    ensures refused { IfErr result IsMemory }
+    ensures grown { OnErr result (0 < length bytes.now) }
+{
+    let mut marks = Marks::with_room_for(alloc, bytes.len())?;
+    if !bytes.is_empty() {
+        add_whole(alloc, &mut marks, bytes, opts)?;
+    }
+    Ok(marks)
+}
+
 /// The footprint of a whole file: the ranges (begin, end) of the positions on which
 /// [`Whole::read`](crate::Whole::read) depends, as [`twin_whole`](crate::laws::twin_whole) says. By
 /// the same options a file of the same length with the same bytes there has the same value, or is
@@ -212,10 +231,6 @@ pub fn footprint_whole<'e>(
     ensures refused { IfErr result IsMemory }
     ensures grown { OnErr result (0 < length bytes.now) }
 {
-    if bytes.is_empty() {
-        return Ok(Vec::new(alloc));
-    }
-    let mut marks = Marks::with_room_for(alloc, bytes.len())?;
-    add_whole(alloc, &mut marks, bytes, opts)?;
+    let marks = mark_whole(alloc, bytes, opts)?;
     marks.ranges(alloc)
 }

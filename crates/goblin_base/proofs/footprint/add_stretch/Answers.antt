@@ -1,6 +1,5 @@
-use Rattle.std.proofs.Common.{◌≡◌, Bool, List, [], ap, sym, ◌∙◌, arith}
-use Rattle.goblin_base.specs.Footprints.{Range, stretch_footprint}
-use Rattle.goblin_base.specs.Marks.{marked}
+use Rattle.std.proofs.Common.{◌≡◌, [], sym, arith}
+use Rattle.goblin_base.specs.Footprints.{stretch_footprint}
 use Rattle.goblin_base.proofs.Marks.{marked_nil}
 use Rattle.goblin_base.proofs.SlotFootprints.{stretch-none}
 use Rattle.goblin_base.proofs.Ranges.{stretch-is}

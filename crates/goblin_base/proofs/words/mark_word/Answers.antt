@@ -1,4 +1,4 @@
-use Rattle.std.proofs.Common.{◌≡◌, ◌<◌, ◌≤◌, ◌+◌, ◌-◌, ◌%◌, ℕ, subst, sym, arith}
+use Rattle.std.proofs.Common.{◌≡◌, ◌+◌, ◌-◌, ◌%◌, ℕ, subst, sym, arith}
 use Rattle.goblin_base.specs.Marks.{IsMask}
 use Rattle.goblin_base.proofs.Marks.{word_mark-set}
 use Rattle.goblin_base.proofs.words.mark_word.Goals as goal

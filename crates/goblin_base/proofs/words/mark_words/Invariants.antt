@@ -1,4 +1,4 @@
-use Rattle.std.proofs.Common.{◌≡◌, ◌≤◌, ◌<◌, ◌-◌, ◌%◌, ◌⊎◌, ℕ, ◌&&◌, ◌||◌, leb, ltb}
+use Rattle.std.proofs.Common.{◌≡◌, ◌≤◌, ◌<◌, ◌-◌, ◌%◌, ℕ, ◌&&◌, ◌||◌, leb, ltb}
 use Rattle.goblin_base.specs.Marks.{word_mark}
 use Rattle.goblin_base.proofs.words.mark_words.Given as goal
 
