@@ -29,10 +29,10 @@ TAKE_MEMORY = [
     (DEFAULT, "imports", "11"),
     (EACH, "export_data", "2"),
     (EACH, "exports", "6"),
-    (MODES, "footprint_header", "24"),
-    (MODES, "footprint_imports", "6"),
-    (MODES, "footprint_exports", "8"),
-    (MODES, "footprint_whole", "40"),
+    (MODES, "footprint_header", "1"),
+    (MODES, "footprint_imports", "5"),
+    (MODES, "footprint_exports", "4"),
+    (MODES, "footprint_whole", "9"),
     (MODES, "whole", "22"),
     (MODES, "twin_lookup", "2 1"),
     (("strict",), "twin_imports", "1 refused"),
@@ -105,9 +105,18 @@ class Answers(Case):
                 pe = struct.unpack_from("<I", data, 60)[0]
                 self.assert_shows(sample, data[:pe + 24 + struct.unpack_from("<H", data, pe + 20)[0]], "header")
 
-    def test_a_footprint_of_many_ranges(self):
+    def test_a_footprint_of_parts_that_are_shared(self):
+        """Of libraries that each have all their records as table of imports, by ranges that would be millions one by one:
+        the headers, and the records through the one that ends them with the name behind it."""
+        count = 1609
+        footprint = with_memory((32_768 + 20_000_000) >> 10, [PE_REPLAY, "footprint"])
+        wanted = b"0 0x160\n0x200 %#x\n" % (0x200 + 20 * (count + 1) + len(b"a.dll\0"))
+        self.assert_runs(footprint, (0, wanted.replace(b"0 ", b"0x0 ", 1), b""), images.own_tables(count))
+
+    def test_a_footprint_of_parts_that_touch(self):
+        """All of a large image's tables but a byte behind the name of each library, before its hints."""
         image = images.large_image(libraries=64, functions=2400, exports=0, blocks=0, size=1 << 20)
-        self.assert_shows(image, b"%#x\n" % (64 * (2 * 2400 + 3) + 1), "footprint")
+        self.assert_shows(image, b"%d\n" % 0, "footprint")
 
     def test_addresses_among_many_sections(self):
         """By both rules for raw pointers each is found where the format says."""

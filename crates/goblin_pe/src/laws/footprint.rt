@@ -206,9 +206,10 @@ pub fn mark_whole<'e>(alloc: Global, bytes: &[u8], opts: &ParseOptions) -> Resul
     ensures grown { OnErr result (0 < length bytes.now) }
 {
     let mut marks = Marks::with_room_for(alloc, bytes.len())?;
-    if !bytes.is_empty() {
-        add_whole(alloc, &mut marks, bytes, opts)?;
+    if bytes.is_empty() {
+        return Ok(marks);
     }
+    add_whole(alloc, &mut marks, bytes, opts)?;
     Ok(marks)
 }
 
