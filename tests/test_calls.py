@@ -105,18 +105,27 @@ class Answers(Case):
                 pe = struct.unpack_from("<I", data, 60)[0]
                 self.assert_shows(sample, data[:pe + 24 + struct.unpack_from("<H", data, pe + 20)[0]], "header")
 
+    def assert_ranges(self, image, wanted, *limit):
+        lines = "".join("%#x %#x\n" % it for it in wanted)
+        self.assert_runs([*limit, PE_REPLAY, "footprint"], (0, lines.encode(), b""), image)
+
     def test_a_footprint_of_parts_that_are_shared(self):
-        """Of libraries that each have all their records as table of imports, by ranges that would be millions one by one:
-        the headers, and the records through the one that ends them with the name behind it."""
+        """Of libraries that each have all their records as table of imports, millions of parts: the headers, and the
+        records through the one that ends them, with the name behind it."""
         count = 1609
-        footprint = with_memory((32_768 + 20_000_000) >> 10, [PE_REPLAY, "footprint"])
-        wanted = b"0 0x160\n0x200 %#x\n" % (0x200 + 20 * (count + 1) + len(b"a.dll\0"))
-        self.assert_runs(footprint, (0, wanted.replace(b"0 ", b"0x0 ", 1), b""), images.own_tables(count))
+        image = images.own_tables(count)
+        self.assertLessEqual(len(image), 32 << 10)
+        limit = with_memory((len(image) + 20_000_000) >> 10, [])
+        self.assert_ranges(image, [(0, 0x160), (0x200, 0x200 + 20 * (count + 1) + len(b"a.dll\0"))], *limit)
 
     def test_a_footprint_of_parts_that_touch(self):
-        """All of a large image's tables but a byte behind the name of each library, before its hints."""
+        """The tables of a large image: all but a byte before the hints of each library, behind its name."""
         image = images.large_image(libraries=64, functions=2400, exports=0, blocks=0, size=1 << 20)
-        self.assert_shows(image, b"%d\n" % 0, "footprint")
+        library = 16 + 2400 * 24 + 2 * 2401 * 8
+        names = [0x1200 + i * library for i in range(64)]
+        begins = [0, names[0], *(name + 16 for name in names)]
+        ends = [0x170, *(name + 15 for name in names), names[-1] + library + 20 * 65 + 40 + len(b"large.dll\0")]
+        self.assert_ranges(image, zip(begins, ends))
 
     def test_addresses_among_many_sections(self):
         """By both rules for raw pointers each is found where the format says."""

@@ -1,11 +1,13 @@
 //! On which bytes of a file a read of the whole file depends.
 
-ghost use Rattle.std.specs.Prelude.{◌≡◌, length};
+ghost use Rattle.std.specs.Prelude.{◌≡◌, ◌<◌, IfErr, IfOk, OnErr, length, map};
+ghost use Rattle.goblin_base.specs.Answers.{IsMemory};
+ghost use Rattle.goblin_base.specs.Marks.{joined};
 ghost use Rattle.goblin_pe.specs.Whole.{whole_file};
 ghost use Rattle.goblin_pe_records.specs.Blocked.{HasNoSpareRoom};
 ghost use Rattle.goblin_pe_calls.specs.Footprints.{Lists, range_record_of};
 
-use goblin_pe::Result;
+use goblin_pe::{Result, ResultOf};
 use goblin_pe::laws::mark_whole;
 use goblin_pe::options::ParseOptions;
 use std::alloc::Global;
@@ -38,6 +40,23 @@ fn range_record(range: (usize, usize)) -> PeRange
     }
 }
 
+// The records of the ranges on which a read of the whole file depends.
+fn range_records<'e>(
+    alloc: Global,
+    bytes: &[u8],
+    opts: &ParseOptions,
+) -> ResultOf<'e, Vec<PeRange>>
+    ensures listed { let footprint = (whole_file opts.now).reaches bytes.now in
+        IfOk result
+        (λ v. v.items ≡ map range_record_of (joined (length bytes.now) footprint)) }
+    ensures room { IfOk result HasNoSpareRoom }
+    ensures refused { IfErr result IsMemory }
+    ensures grown { OnErr result (0 < length bytes.now) }
+{
+    let marks = mark_whole(alloc, bytes, opts)?;
+    marks.list(alloc, |range| range_record(range))
+}
+
 // Hands the ranges over: no ranges have no block, which nobody would free.
 fn handed_over<'a>(records: Vec<PeRange>) -> PeRanges<'a>
     requires none { HasNoSpareRoom records }
@@ -62,8 +81,7 @@ pub fn list<'a>(
     ensures { let footprint = (whole_file opts.now).reaches bytes.now in
         Lists (length bytes.now) footprint ranges.old ranges.new result }
 {
-    let marks = mark_whole(alloc, bytes, opts)?;
-    let records = marks.list(alloc, |range| range_record(range))?;
+    let records = range_records(alloc, bytes, opts)?;
     *ranges = handed_over(records);
     Ok(())
 }
