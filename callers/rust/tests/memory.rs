@@ -61,12 +61,11 @@ fn refused_memory_is_an_error() {
     let memory = Some(ErrorKind::Memory);
     assert_eq!(refused(|| Object::read(&object, &options)), memory);
     assert_eq!(refused(|| Te::read(&te)), memory);
-    assert_eq!(refused(|| pe.footprint()), memory);
+    assert_eq!(refused(|| pe.footprint()), None); // (its ranges are in the library's memory)
     let refused_relocations = |section: goblin_pe::Section| {
         section.number_of_relocations == 0 || refused(|| section.relocations(&object)) == memory
     };
     let sections = Object::read(&object, &options).unwrap();
     assert!(sections.sections().all(refused_relocations));
     assert!(Object::read(&object, &options).is_ok() && Te::read(&te).is_ok());
-    assert!(pe.footprint().is_ok());
 }
