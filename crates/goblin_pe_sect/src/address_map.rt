@@ -195,14 +195,15 @@ impl<'s> AddressMap<'s> {
     }
 
     // The file offset of an address. `run` becomes addresses about it that have their offsets
-    // without another walk; it may stay as it was where no section owns the address, and does by an
-    // index. (A result of that size would cost loops that seldom ask here more than an argument
+    // without another walk. It may stay as it was where no section owns the address, and always does
+    // by an index. (A result of that size would cost loops that seldom ask here more than an argument
     // does.)
     #[inline(never)]
     pub(crate) fn find_run(&self, rva: u32, run: &mut Run) -> Option<usize>
         requires { IsRun (offset_of (map_of self.now)) run.old }
         ensures value { result ≡ offset_of (map_of self.now) rva }
         ensures is { IsRun (offset_of (map_of self.now)) run.new }
+        ensures walked { IsIndexed self.now → run.new ≡ run.old }
     {
         match &self.windows {
             Windows::Walked(records, file_alignment) => {
