@@ -15,6 +15,7 @@ use crate::import::{Import, ImportData};
 use crate::utils::{find_offset, try_name};
 use goblin_base::Result;
 use goblin_pe_head::header::Header;
+use goblin_pe_sect::address_map::AddressMap;
 use goblin_pe_sect::relocation::RelocationData;
 use goblin_pe_sect::{ParseOptions, SectionTable};
 use std::alloc::Global;
@@ -29,6 +30,7 @@ mod places;
 pub use damage::Damage;
 pub use imports::FileImports;
 pub use layout::Layout;
+use layout::sections_of;
 use listed::{ListedTables, export_parts};
 use places::Places;
 
@@ -90,7 +92,7 @@ impl<'a> Whole<'a> {
     /// Reads a whole file: its header, its sections, its imports, exports and base relocations. The
     /// section table follows the optional header, whose size is the one in the COFF header. The
     /// entries of the import tables have four bytes by the magic of 32 bits, else eight; addresses
-    /// are mapped by the header's file alignment.
+    /// are mapped by one index of the sections' windows, by the header's file alignment.
     ///
     /// A table is absent where there is no optional header or no directory for it; the imports also
     /// where they are not asked for. In permissive mode a table that is refused is
@@ -113,13 +115,14 @@ impl<'a> Whole<'a> {
             IsMemory e → IsSome ((pe_header (is_strict opts.now.parse_mode)).value bytes.now)) }
     {
         let header = Header::parse_with_opts(bytes, opts)?;
-        let layout = Layout::of(alloc, bytes, &header, opts)?;
-        let sections = layout.sections(alloc)?;
+        let sections = sections_of(alloc, bytes, &header, opts)?;
+        let places = Places::of(&header.optional_header);
+        let address_map = AddressMap::prepare(alloc, &sections, places.file_alignment, opts)?;
         let ListedTables {
             imports,
             exports,
             relocations,
-        } = layout.listed(alloc, &sections)?;
+        } = places.listed(alloc, bytes, &address_map, &sections)?;
         let (import_data, imports) = imports;
         let (export_data, exports) = export_parts(exports);
         Ok(Whole {

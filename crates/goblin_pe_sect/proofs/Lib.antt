@@ -19,7 +19,6 @@ pub mod PermissiveReads
 pub mod RelocationRecords
 pub mod RelocationsRoundTrip
 pub mod Reordered
-pub mod Runs
 pub mod SectionNameRoundTrip
 pub mod SectionRecords
 pub mod SectionTableRoundTrip

@@ -31,6 +31,11 @@ offset_by_windows opts (Walked records file_alignment) =
     file_offset opts (section_records records) file_alignment
 offset_by_windows opts (Indexed index) = located index
 
+-- windows are found by an index, and not by a walk
+abbrev pub AreIndexed : Windows → Type 0
+AreIndexed (Walked records file_alignment) = ⊥
+AreIndexed (Indexed index) = ⊤
+
 -- sections are so many that they get an index: more than the Windows loader takes
 abbrev pub AreMany : ℕ → Type 0
 AreMany count = 96 < count
@@ -40,6 +45,10 @@ abbrev pub WalksFew : ParseOptions → Windows → Type 0
 WalksFew opts (Walked records file_alignment) =
     HasPieces opts file_alignment → ¬ AreMany (length (section_records records))
 WalksFew opts (Indexed index) = ⊤
+
+-- addresses are found by an index, whatever the number of sections
+abbrev pub IsIndexed : AddressMap → Type 0
+IsIndexed map = AreIndexed map.windows
 
 -- the map of addresses by these options and windows
 abbrev pub map_with : ParseOptions → Windows → MapOfAddresses

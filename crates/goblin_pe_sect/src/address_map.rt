@@ -4,7 +4,8 @@ ghost use Rattle.std.specs.Prelude.{◌≡◌, ◌↔◌, ◌<◌, ℕ, IfErr, I
 ghost use Rattle.goblin_base.specs.Answers.{GivesOrMemory, IsMemory};
 ghost use Rattle.goblin_pe_sect.specs.Mapping.{file_offset};
 ghost use Rattle.goblin_base.specs.declared.permissive.ParseMode.TheVariants.{Permissive};
-ghost use Rattle.goblin_pe_sect.specs.Addresses.{AreMany, KeepsWindowsAlone, TakesMap, WalksFew};
+ghost use Rattle.goblin_pe_sect.specs.Addresses.{AreMany, IsIndexed, KeepsWindowsAlone, TakesMap};
+ghost use Rattle.goblin_pe_sect.specs.Addresses.{WalksFew};
 ghost use Rattle.goblin_pe_sect.specs.Addresses.{map_by, map_of, map_with, offset_of, strict_map};
 ghost use Rattle.goblin_pe_sect.specs.Runs.{IsRun};
 ghost use Rattle.goblin_pe_sect.specs.SectionTable.{section_records};
@@ -12,14 +13,16 @@ ghost use Rattle.goblin_pe_sect.specs.WindowIndex.{HasPieces, located};
 
 use crate::options::{ParseMode, ParseOptions};
 use crate::section_table::{SectionRecords, SectionTable};
-use crate::windows::{Run, WindowIndex};
+use crate::windows::WindowIndex;
 use goblin_base::ResultOf;
 use std::alloc::Global;
 
 mod finder;
+mod run;
 mod walk;
 
 pub use finder::Finder;
+use run::Run;
 use walk::find_in_records;
 
 // The Windows loader takes at most this many sections (PE Format, "COFF File Header (Object and
@@ -37,7 +40,7 @@ pub(crate) enum Windows<'s> {
 
 /// How addresses are mapped to file offsets, and how the bytes there are read: the options, and what
 /// the windows of the sections are found by. That is an index, beside which the sections may be
-/// dropped; or, where they are few and stand in a file, their records.
+/// dropped; or their records in a file, where they are few or have no windows.
 #[derive(Drop)]
 pub struct AddressMap<'s> {
     opts: ParseOptions,
@@ -117,6 +120,7 @@ impl<'s> AddressMap<'s> {
     ) -> ResultOf<'e, AddressMap<'s>>
         ensures made { GivesOrMemory map_of result
             (map_by opts.now sections.now file_alignment) }
+        ensures indexed { IfOk result IsIndexed }
         ensures grown { IfErr result (λ e. TakesMap opts.now sections.now file_alignment) }
         ensures whole { KeepsWindowsAlone }
     {
@@ -191,19 +195,21 @@ impl<'s> AddressMap<'s> {
     }
 
     // The file offset of an address. `run` becomes addresses about it that have their offsets
-    // without another search; it may stay as it was where no section owns the address. (It is an
-    // argument, as in `WindowIndex::find_run`.)
+    // without another walk. It may stay as it was where no section owns the address, and always does
+    // by an index. (A result of that size would cost loops that seldom ask here more than an argument
+    // does.)
     #[inline(never)]
     pub(crate) fn find_run(&self, rva: u32, run: &mut Run) -> Option<usize>
         requires { IsRun (offset_of (map_of self.now)) run.old }
         ensures value { result ≡ offset_of (map_of self.now) rva }
         ensures is { IsRun (offset_of (map_of self.now)) run.new }
+        ensures walked { IsIndexed self.now → run.new ≡ run.old }
     {
         match &self.windows {
             Windows::Walked(records, file_alignment) => {
                 find_in_records(*records, *file_alignment, &self.opts, rva, run)
             }
-            Windows::Indexed(index) => index.find_run(rva as usize, run),
+            Windows::Indexed(index) => index.find(rva as usize),
         }
     }
 }

@@ -11,7 +11,6 @@ ghost use Rattle.std.specs.Int.{is_power_of_two};
 ghost use Rattle.std.specs.List.Sorted.{IsStrictlyIncreasing};
 ghost use Rattle.goblin_base.specs.Answers.{IsMemory};
 ghost use Rattle.goblin_pe_sect.specs.Mapping.{file_offset};
-ghost use Rattle.goblin_pe_sect.specs.Runs.{IsRun, run_of_piece};
 ghost use Rattle.goblin_pe_sect.specs.WindowIndex.{IsCut, begins_of, first_owner, located};
 ghost use Rattle.goblin_pe_sect.specs.WindowIndex.{reached, halvings, HasPieces};
 ghost use Rattle.goblin_pe_sect.specs.WindowIndexFields.{KeepsPiecesAlone};
@@ -20,7 +19,6 @@ mod bounds;
 mod cuts;
 mod division;
 mod owners;
-mod run;
 
 use crate::options::ParseOptions;
 use crate::section_table::SectionTable;
@@ -28,13 +26,11 @@ pub use bounds::{Bounds, Piece};
 use division::division_of;
 use goblin_base::ResultOf;
 pub use owners::Owner;
-pub(crate) use run::Run;
 use std::alloc::Global;
 use std::marker::Model;
 
-// How many pieces begin at or before the address, and how many bounds were looked at. It is not
-// inlined, since a call passes the pieces in registers.
-#[inline(never)]
+// How many pieces begin at or before the address, and how many bounds were looked at.
+#[inline(always)]
 fn search(pieces: &[Piece], rva: usize) -> (usize, usize)
     requires { IsStrictlyIncreasing (begins_of pieces.now) }
     ensures value { result.0 ≡ reached (begins_of pieces.now) rva }
@@ -190,36 +186,10 @@ impl WindowIndex {
 
     /// The file offset of the address `rva`, as [`find_offset`](crate::utils::find_offset) returns
     /// it for the arguments that the index was prepared with.
+    #[inline(never)]
     pub fn find(&self, rva: usize) -> Option<usize>
         ensures { result ≡ located self.now rva }
     {
         self.find_counted(rva).0
-    }
-
-    // The run of the last of the first `count` pieces.
-    fn run_by_count(&self, count: usize) -> Run
-        requires { count ≤ length self.now.begins }
-        ensures run { result ≡ run_of_piece self.now count }
-        ensures is { IsRun (located self.now) result }
-    {
-        if count == 0 || count == self.pieces.len() {
-            return Run::default();
-        }
-        self.pieces[count - 1].run_to(&self.pieces[count])
-    }
-
-    /// The file offset of the address `rva`, as [`WindowIndex::find`] returns it. `run` becomes the
-    /// addresses of its piece, which have their offsets without another search: none where no section
-    /// owns the piece, or where there are no pieces. (A result of that size would cost loops that
-    /// seldom search more than an argument does.)
-    #[inline(never)]
-    pub(crate) fn find_run(&self, rva: usize, run: &mut Run) -> Option<usize>
-        ensures value { result ≡ located self.now rva }
-        ensures piece { run.new ≡ run_of_piece self.now (reached self.now.begins rva) }
-        ensures is { IsRun (located self.now) run.new }
-    {
-        let (count, _) = search(self.in_order(), rva);
-        *run = self.run_by_count(count);
-        self.offset_by_count(count, rva)
     }
 }

@@ -9,6 +9,7 @@ mod exports;
 mod footprints;
 mod imports;
 mod modes;
+mod overlapping;
 mod plain;
 mod rows;
 mod sample;

@@ -16,13 +16,12 @@ ghost use Rattle.goblin_pe.specs.Layouts.{IsExportWalk, IsFileImportsCause, IsLa
 ghost use Rattle.goblin_pe.specs.Layouts.{file_imports_left, layout_map, layout_places};
 ghost use Rattle.goblin_pe.specs.Layouts.{walked_exports};
 ghost use Rattle.goblin_pe.specs.SectionRoom.{TakesIndex, TakesSections};
-ghost use Rattle.goblin_pe.specs.Whole.{AreListed, IfRead, export_part, import_list, listed_view};
+ghost use Rattle.goblin_pe.specs.Whole.{AreListed, IfRead, export_part, import_list};
 ghost use Rattle.goblin_pe.specs.Whole.{part_map, relocation_part, section_table_offset};
-ghost use Rattle.goblin_pe.specs.Whole.{sections_after, table_parts};
+ghost use Rattle.goblin_pe.specs.Whole.{sections_after};
 
 use crate::export::Exports;
 use crate::import::{ImportPosition, LeftOut};
-use crate::whole::listed::ListedTables;
 use crate::whole::places::Places;
 use crate::whole::{FileImports, Part};
 use goblin_base::{Result, ResultOf};
@@ -290,19 +289,5 @@ impl<'a, 'h> Layout<'a, 'h> {
             result ≡ left_out_of m.opts (offset_of m) (layout_places self.now) self.now.bytes.now }
     {
         self.places.left_out(self.bytes, &self.address_map)
-    }
-
-    // The lists of all tables.
-    pub(super) fn listed(
-        &self,
-        alloc: Global,
-        sections: &[SectionTable],
-    ) -> Result<ListedTables<'a>>
-        ensures { let m = layout_map self.now in
-            ReadsOrMemory listed_view result
-            (table_parts m.opts (offset_of m) (layout_places self.now)) self.now.bytes.now }
-    {
-        self.places
-            .listed(alloc, self.bytes, &self.address_map, sections)
     }
 }

@@ -3,7 +3,7 @@
 ghost use Rattle.std.specs.Prelude.{◌≡◌};
 ghost use Rattle.goblin_base.specs.Answers.{AnswersOrMemory};
 ghost use Rattle.goblin_base.specs.Reading.{ReadsOrMemory};
-ghost use Rattle.goblin_pe_sect.specs.Addresses.{map_of, offset_of, reads_strictly};
+ghost use Rattle.goblin_pe_sect.specs.Addresses.{IsIndexed, map_of, offset_of, reads_strictly};
 ghost use Rattle.goblin_pe_export.specs.ExportReadings.{export_read};
 ghost use Rattle.goblin_pe_export.specs.ExportRecords.{export_read_view};
 ghost use Rattle.goblin_pe_import.specs.ImportReadings.{import_data};
@@ -150,7 +150,7 @@ impl Places {
         }
     }
 
-    // All tables, by this map of addresses.
+    // All tables, by this index of the sections.
     #[tactic(auto, unfolding(crate::specs::Whole::table_parts))]
     pub(super) fn listed<'a>(
         &self,
@@ -159,6 +159,7 @@ impl Places {
         address_map: &AddressMap,
         sections: &[SectionTable],
     ) -> Result<ListedTables<'a>>
+        requires { IsIndexed address_map.now }
         ensures { let m = map_of address_map.now in
             let places = table_places self.now in
             ReadsOrMemory listed_view result (table_parts m.opts (offset_of m) places) bytes.now }

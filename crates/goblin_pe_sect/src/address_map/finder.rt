@@ -6,16 +6,16 @@ ghost use Rattle.goblin_base.specs.declared.permissive.ParseMode.TheVariants.{Pe
 ghost use Rattle.goblin_pe_sect.specs.AddressReadings.{name_or_none};
 ghost use Rattle.goblin_pe_sect.specs.Addresses.{map_of, offset_of, reads_strictly};
 
+use super::run::Run;
 use crate::address_map::AddressMap;
 use crate::options::ParseOptions;
 use crate::utils::safe_name_at;
-use crate::windows::Run;
 use goblin_base::ResultOf;
 use std::marker::Model;
 
-/// A map of addresses that keeps addresses about the last one asked for, with their offsets: one that
-/// lies among them takes no search. What it answers does not depend on what
-/// was asked before.
+/// A map of addresses that keeps addresses about the last one for which it walked over sections,
+/// with their offsets: one that lies among them takes no further walk. Of an index it keeps none.
+/// What it answers does not depend on what was asked before.
 #[derive(Drop)]
 pub struct Finder<'m> {
     address_map: &'m AddressMap<'m>,
@@ -125,7 +125,7 @@ impl<'m> Finder<'m> {
     }
 
     /// The file offset of an address, where it lies among the addresses that the finder keeps; else
-    /// `None`, which says nothing of it. It takes no search.
+    /// `None`, which says nothing of it. It takes no walk and no search.
     #[inline(always)]
     pub fn near_offset(&self, rva: u32) -> Option<usize>
         ensures { IfSome result (λ offset. offset_of (map_of self.now) rva ≡ Some offset) }
@@ -134,7 +134,7 @@ impl<'m> Finder<'m> {
     }
 
     /// The file offset of the address of a name, where it lies among those about names that the
-    /// finder keeps; else `None`, which says nothing of it. It takes no search.
+    /// finder keeps; else `None`, which says nothing of it. It takes no walk and no search.
     #[inline(always)]
     pub fn near_name_offset(&self, rva: u32) -> Option<usize>
         ensures { IfSome result (λ offset. offset_of (map_of self.now) rva ≡ Some offset) }

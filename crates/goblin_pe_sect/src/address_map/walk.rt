@@ -6,10 +6,10 @@ ghost use Rattle.goblin_pe_sect.specs.Mapping.{file_offset};
 ghost use Rattle.goblin_pe_sect.specs.Runs.{IsRun, offset_in_run};
 ghost use Rattle.goblin_pe_sect.specs.SectionTable.{section_records};
 
+use super::run::Run;
 use crate::options::ParseOptions;
 use crate::section_table::SectionRecords;
 use crate::utils::{past_window, raw_begin, section_window};
-use crate::windows::Run;
 
 // All addresses, each of which is its own offset.
 const ALL_ADDRESSES: Run = Run {

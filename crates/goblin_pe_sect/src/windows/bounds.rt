@@ -1,13 +1,11 @@
 //! The pieces of the address space. A search sees where they begin by a call that counts.
 
-ghost use Rattle.std.specs.Prelude.{◌≡◌, ◌+◌, ◌*◌, ◌^◌, ◌<◌, ◌≤◌, ◌↔◌, IfSome, IsTrue, length};
+ghost use Rattle.std.specs.Prelude.{◌≡◌, ◌+◌, ◌*◌, ◌^◌, ◌<◌, ◌≤◌, ◌↔◌, IsTrue, length};
 ghost use Rattle.std.specs.Prelude.{slice_index};
-ghost use Rattle.goblin_pe_sect.specs.Runs.{run_between};
 ghost use Rattle.goblin_pe_sect.specs.WindowIndex.{begins_of};
 ghost use Rattle.goblin_pe_sect.specs.WindowIndexFields.{KeepsBoundsAlone};
 
 use super::owners::Owner;
-use super::run::Run;
 use std::marker::Model;
 
 /// A piece of the address space. A search sees where it begins only through [`Bounds::reaches`].
@@ -25,25 +23,6 @@ impl Piece {
         ensures { result ≡ record { begin = begin; owner = owner } }
     {
         Piece { begin, owner }
-    }
-
-    /// The addresses from where this piece begins to where the next does.
-    pub(super) fn run_to(&self, next: &Piece) -> Run
-        requires rising { self.now.begin ≤ next.now.begin }
-        requires near { IfSome self.now.owner (λ o.
-            (o.address ≤ self.now.begin) × (next.now.begin ≤ o.address + 2 ^ 33)) }
-        ensures run { result ≡ run_between self.now.begin next.now.begin self.now.owner }
-        ensures offsets_fit { result.offset + result.size < 2 ^ 64 }
-        ensures addresses_fit { result.first + result.size < 2 ^ 64 }
-    {
-        match self.owner {
-            Some(owner) => Run {
-                first: self.begin,
-                size: next.begin - self.begin,
-                offset: owner.pointer as usize + (self.begin - owner.address as usize),
-            },
-            None => Run::default(),
-        }
     }
 }
 

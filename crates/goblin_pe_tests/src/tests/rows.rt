@@ -155,6 +155,6 @@ pub fn are_exports(exports: &[Export], rows: &[ExportRow]) -> bool {
 }
 
 /// Whether this is the export of a row.
-fn is_export(export: &Export, row: &ExportRow) -> bool {
+pub fn is_export(export: &Export, row: &ExportRow) -> bool {
     (export.name, export.offset, export.rva, export.reexport) == *row && export.size == 0
 }

@@ -1,0 +1,43 @@
+"""Where a piece of the address space begins is read by one call, which counts. What reads it elsewhere is refused before any
+proof, so it can't stand among the wrong bodies."""
+import shutil
+
+from tests.programs import CRATES, TOP, Case, need, run
+
+BELOW = ("goblin_base", "readings")
+
+
+class Bounds(Case):
+    """The crate of the index, with another line in it, over the proved libraries below it."""
+
+    def setUp(self):
+        super().setUp()
+        need("rt")
+        if not all((CRATES / it / "out/rlib").is_dir() for it in BELOW):
+            self.skipTest("the libraries below goblin_pe_sect are not kept in crates/*/out")
+
+    def said_of(self, old, new):
+        """What the prover says of the crate with this text in its index."""
+        top = self.folder / "copy"
+        for part in ("src", "specs", "proofs"):
+            shutil.copytree(CRATES / "goblin_pe_sect" / part, top / "crates/goblin_pe_sect" / part)
+        for it in BELOW:
+            (top / "crates" / it / "out").mkdir(parents=True)
+            (top / "crates" / it / "out/rlib").symlink_to(CRATES / it / "out/rlib")
+        shutil.copytree(TOP / "tools", top / "tools")
+        shutil.copy2(TOP / "crates.txt", top)
+        index = top / "crates/goblin_pe_sect/src/windows.rt"
+        source = index.read_text("utf-8")
+        self.assertEqual(source.count(old), 1)
+        index.write_text(source.replace(old, new), "utf-8")
+        build = [top / "tools/over_libraries", "build", "goblin_pe_sect", "--jobs", "1", "-o", self.folder / "made"]
+        _, _, said = run(build, cwd=index.parent.parent)
+        shutil.rmtree(top)
+        return said.decode()
+
+    def test_no_other_module_reads_where_a_piece_begins(self):
+        for old, new, reason in (
+                ("self.pieces.len()\n", "self.pieces[0].begin\n", "field `begin` of struct `Piece` is private"),
+                ("let mut high = bounds.len();", "let mut high = bounds.pieces.len();", "field `pieces` of struct `Bounds` is private")):
+            with self.subTest(new):
+                self.assertRegex(self.said_of(old, new), rf"src/windows\.rt:\d+:\d+: error\[private-field\]: {reason}")
