@@ -1,3 +1,4 @@
+pub mod Callers
 pub mod Damages
 pub mod LayoutPositions
 pub mod Layouts
@@ -11,6 +12,7 @@ pub use Rattle.goblin_base.specs.Answers
 pub use Rattle.goblin_base.specs.Bytes
 pub use Rattle.goblin_base.specs.ErrorText
 pub use Rattle.goblin_base.specs.Footprints
+pub use Rattle.goblin_base.specs.Marks
 pub use Rattle.goblin_base.specs.Parts
 pub use Rattle.goblin_base.specs.Reading
 pub use Rattle.goblin_base.specs.Record

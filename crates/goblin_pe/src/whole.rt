@@ -25,12 +25,14 @@ mod imports;
 mod layout;
 mod listed;
 mod places;
+mod sections;
 
 pub use damage::Damage;
 pub use imports::FileImports;
 pub use layout::Layout;
 use listed::{ListedTables, export_parts};
 use places::Places;
+pub use sections::section_at;
 
 /// A table of a file, as [`Whole::read`] found it.
 #[derive(Debug, Drop)]

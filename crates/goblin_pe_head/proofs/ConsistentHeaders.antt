@@ -1,22 +1,20 @@
 -- A header whose parts agree is read again from what is written of it, and a header that was read has such parts.
-use Rattle.std.proofs.Common.{◌≡◌, ℕ, zero, suc, ◌+◌, ◌-◌, ◌*◌, ◌^◌, ◌<◌, ◌≤◌, ◌&&◌, ◌||◌, Bool, true, false, cond, nat_le, nat_lt, nat_eq, List, [], ◌∷◌, ◌++◌, take, drop, length, map, get_or, Option, Some, None, Result, Ok, Err, refl, sym, ap, ◌∙◌, subst, append_assoc, inl, inr, arith, ◌⊎◌}
-use Rattle.std.specs.Prelude.{◌==◌, IfErr, IfOk, IfSome, option_map, option_and_then, slice_range}
+use Rattle.std.proofs.Common.{◌≡◌, ℕ, zero, suc, ◌+◌, ◌-◌, ◌*◌, ◌^◌, ◌<◌, ◌≤◌, ◌&&◌, ◌||◌, Bool, true, false, cond, nat_le, nat_lt, nat_eq, List, [], ◌∷◌, ◌++◌, take, drop, length, map, get_or, Option, Some, None, Result, Ok, Err, refl, sym, ap, ◌∙◌, subst, append_assoc, inl, inr, arith}
+use Rattle.std.specs.Prelude.{◌==◌, IfOk, IfSome, option_map, slice_range}
 use Rattle.std.specs.List.{range_with_len}
 use Rattle.std.proofs.Math.Bool.{or-true}
 use Rattle.std.proofs.Math.Nat.{mod-eq_of_lt}
-use Rattle.std.proofs.lemmas.Bool.{and_parts, cases_lt, eqb-true, le-leb, leb-true, lt-ltb, ltb-true, le-ltb}
+use Rattle.std.proofs.lemmas.Bool.{and_parts, cases_lt, eqb-true, le-leb, leb-true, lt-ltb, le-ltb}
 use Rattle.std.proofs.lemmas.List.{append-nil, drop_at, drop-drop, length-append, length-drop, length-take-le, take_at}
 use Rattle.std.proofs.lemmas.List.FromFn.{get_or-map-range_with_len, length-map-range_with_len}
 use Rattle.std.proofs.lemmas.Option.{cond_some}
 use Rattle.goblin_base.specs.declared.endian.Endian.{Endian}
 use Rattle.goblin_base.specs.declared.endian.Endian.TheVariants.{Little}
 use Rattle.goblin_base.specs.declared.error.ErrorOf.{ErrorOf}
-use Rattle.goblin_base.specs.Answers.{◌>>=◌, Writes}
-use Rattle.goblin_base.specs.Bytes.{IsBytes, number, number_at, number_bytes, overwritten, replaced, slice_at}
-use Rattle.goblin_base.specs.Parts.{bytes_between}
+use Rattle.goblin_base.specs.Bytes.{IsBytes, number, number_at, number_bytes, replaced}
 use Rattle.goblin_base.specs.Reading.{Reads}
 use Rattle.goblin_base.specs.Record.{FieldValue, FieldsFit, ReadsBack, encoding, record_at, uint}
-use Rattle.goblin_base.proofs.Numbers.{number-of_slice, number-slice, number_at-some, read_number, slice_at-some}
+use Rattle.goblin_base.proofs.Numbers.{number-of_slice, number-slice, number_at-some, read_number}
 use Rattle.goblin_base.proofs.Records.{record_at-some}
 use Rattle.goblin_base.proofs.RecordRoundTrip.{IsBytes-slice, number-lt, slice-is}
 use Rattle.goblin_base.proofs.Steps.{mapped, same_value, step}
@@ -28,7 +26,6 @@ use Rattle.goblin_pe_sect.specs.DirectoryReadings.{directories_at}
 use Rattle.goblin_pe_sect.proofs.DataDirectoriesRoundTrip.{directory_again}
 use Rattle.goblin_pe_sect.proofs.DirectoryReadings.{value-directories_at}
 use Rattle.goblin_pe_sect.proofs.Entries.{directory_entry_at, directory_entry_at-below, directory_entry_at-past, entries_in_room, width-entries}
-use Rattle.goblin_pe_head.specs.declared.header.coff.CoffHeader.{CoffHeader}
 use Rattle.goblin_pe_head.specs.declared.header.dos.DosHeader.{DosHeader}
 use Rattle.goblin_pe_head.specs.declared.header.pe_header.Header.{Header}
 use Rattle.goblin_pe_head.specs.declared.optional_header.OptionalHeader.{OptionalHeader}
@@ -41,13 +38,13 @@ use Rattle.goblin_pe_head.specs.declared.optional_header.windows_fields.WindowsF
 use Rattle.goblin_pe_head.specs.CoffHeader.{coff_fields, coff_header}
 use Rattle.goblin_pe_head.specs.DosHeader.{dos_fields, dos_record}
 use Rattle.goblin_pe_head.specs.HeaderLaws.{FieldsReadBack, IsConsistent, IsConsistentOptional, IsConsistentPart, IsEntryAt, fields_size}
-use Rattle.goblin_pe_head.specs.HeaderReadings.{fields_32, fields_64, fixed_fields, optional_at, optional_header, pe_header, with_entries}
+use Rattle.goblin_pe_head.specs.HeaderReadings.{fields_32, fields_64, fixed_fields, optional_at, optional_header, pe_header}
 use Rattle.goblin_pe_head.specs.OptionalHeader.{bytes_32, bytes_64, narrowed, optional_bytes, standard_32_fields, standard_32_record, standard_64_fields, standard_64_record, standard_from_32, standard_from_64, standard_to_32, standard_to_64, windows_32_fields, windows_32_record, windows_64_fields, windows_64_record, windows_from_32, windows_to_32}
-use Rattle.goblin_pe_head.specs.PeHeader.{PeHeader, header_bytes, header_parts, header_value, optional_part}
+use Rattle.goblin_pe_head.specs.PeHeader.{PeHeader, header_parts, header_value, optional_part}
 use Rattle.goblin_pe_head.specs.RichReadings.{rich_at, rich_in}
 use Rattle.goblin_pe_head.proofs.Beside.{both}
 use Rattle.goblin_pe_head.proofs.OptionalHeaderRoundTrip.{bytes_after, pick}
-use Rattle.goblin_pe_head.proofs.PeHeaderRoundTrip.{IsDosOf, IsHeaderOf, dos_of, laid, of_dos, of_parts, parts_of}
+use Rattle.goblin_pe_head.proofs.PeHeaderRoundTrip.{dos_of, of_dos, of_parts, parts_of}
 
 -- ---- what stands at a place
 
