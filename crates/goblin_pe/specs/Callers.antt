@@ -1,8 +1,10 @@
--- Words for callers: one table of a file, the bytes of a layout, the section of an address, and a
--- refusal.
-use Rattle.std.specs.Prelude.{◌≡◌, ℕ, List, Option, None, find, if◌then◌else◌}
+-- Words for callers: one table of a file, the bytes of a layout, the section of an address, a
+-- refusal, and pieces of a file.
+use Rattle.std.specs.Prelude.{◌≡◌, ◌≤◌, ℕ, List, Option, None, find, if◌then◌else◌, length}
+use Rattle.std.specs.Prelude.{slice_range}
 use Rattle.std.specs.Int.{is_power_of_two}
 use Rattle.goblin_base.specs.declared.error.ErrorOf.{ErrorOf}
+use Rattle.goblin_base.specs.Footprints.{Range}
 use Rattle.goblin_base.specs.Reading.{Reading}
 use Rattle.readings.specs.Reads.{◌>>=◌}
 use Rattle.goblin_pe_sect.specs.declared.options.ParseOptions.{ParseOptions}
@@ -59,3 +61,16 @@ read_or default f Refused = default
 -- the file is refused by this reading, and this cause is true
 abbrev pub IsRefused : {A : Type 0} → Reading A → List ℕ → ErrorOf → Type 0
 IsRefused reading bytes e = (reading.value bytes ≡ None) × reading.IsCause bytes e
+
+-- a piece of a file: its bytes in a range
+abbrev pub Piece : Type 0
+Piece = Range × List ℕ
+
+abbrev pub piece_at : List ℕ → Range → Piece
+piece_at file range = (range, slice_range file range.0 range.1)
+
+-- the file has this piece
+abbrev pub HasPiece : List ℕ → Piece → Type 0
+HasPiece file piece =
+    (piece.0.0 ≤ piece.0.1) × (piece.0.1 ≤ length file)
+    × (slice_range file piece.0.0 piece.0.1 ≡ piece.1)

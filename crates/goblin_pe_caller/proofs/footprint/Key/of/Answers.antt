@@ -1,5 +1,5 @@
 use Rattle.std.proofs.Common.{map, refl, ap, ◌∙◌}
-use Rattle.goblin_pe_caller.specs.Keys.{piece_of}
+use Rattle.goblin_pe.specs.Callers.{piece_at}
 use Rattle.goblin_pe_caller.proofs.footprint.Key.of.Goals as goal
 
 pub returns-clause-value : goal.returns-clause-value
@@ -7,5 +7,5 @@ returns-clause-value c = record {
   ranges = c.in_ok-ranges.ranges.items;
   is = c.in_ok-ranges.ensures.ranges;
   same_length = refl;
-  same_pieces = c.in_ok-pieces.ensures.value ∙ ap (map (piece_of c.args.file.now)) c.deref.ensures.value;
+  same_pieces = c.in_ok-pieces.ensures.value ∙ ap (map (piece_at c.args.file.now)) c.deref.ensures.value;
 }
