@@ -10,7 +10,7 @@ import sys
 import time
 import unittest
 
-from tests.programs import build_pe_list, build_pe_replay, library, shared_folder
+from tests.programs import build_pe_audit, build_pe_list, build_pe_replay, library, shared_folder
 
 
 class Counts(unittest.TestResult):
@@ -34,7 +34,7 @@ class Counts(unittest.TestResult):
 
 def build_for_all():
     """Builds what several modules use, once, before they part. A module that lacks it says so."""
-    for build in (library, build_pe_list, build_pe_replay):
+    for build in (library, build_pe_list, build_pe_replay, build_pe_audit):
         with contextlib.suppress(AssertionError, OSError):
             build()
 

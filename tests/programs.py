@@ -19,6 +19,7 @@ CALLERS = TOP / "callers"
 SAMPLES = TOP / "samples"
 PE_LIST = CRATES / "pe_list/out/pe_list"
 PE_REPLAY = CRATES / "pe_replay/out/pe_replay"
+PE_AUDIT = CRATES / "pe_audit/out/pe_audit"
 IMAGES = sorted(it for it in SAMPLES.iterdir() if it.suffix in (".dll", ".exe", ".efi"))
 OBJECTS = sorted(SAMPLES.glob("*.obj"))
 TERSE = sorted(SAMPLES.glob("*.te"))
@@ -95,19 +96,27 @@ def build_pe_list():
 
 
 @functools.cache
-def built_pe_replay():
-    """Proves and builds pe_replay where it is not built: what came of it, and what was said."""
-    if PE_REPLAY.exists():
+def built(program):
+    """Proves and builds a program of the tests where it is not built: what came of it, and what was said."""
+    if program.exists():
         return 0, b""
-    folder = PE_REPLAY.parent.parent
+    folder = program.parent.parent
     status, _, said = run(["rt", "run", "--", *(folder / "args").read_text().split()], folder / "stdin", cwd=folder)
     return status, said
 
 
-def build_pe_replay():
-    status, said = built_pe_replay()
+def build(program):
+    status, said = built(program)
     if status:
-        raise AssertionError(f"pe_replay: {said.decode()}")
+        raise AssertionError(f"{program.name}: {said.decode()}")
+
+
+def build_pe_replay():
+    build(PE_REPLAY)
+
+
+def build_pe_audit():
+    build(PE_AUDIT)
 
 
 @functools.cache

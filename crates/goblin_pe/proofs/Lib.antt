@@ -1,6 +1,20 @@
+-- Lemmas that callers may cite: loops over walks, ranges of a footprint, and of the crates below the
+-- parts of a header, what reads back, and steps of readings and walks.
+pub mod Covered
+pub mod Folds
+pub mod ImportStarts
+pub mod Walked
+pub use Rattle.goblin_base.proofs.Footprints
+pub use Rattle.goblin_base.proofs.Fronts
+pub use Rattle.goblin_base.proofs.Steps
+pub use Rattle.readings.proofs.WalkValues
+pub use Rattle.goblin_pe_head.proofs.CoffHeaderRoundTrip
+pub use Rattle.goblin_pe_head.proofs.ConsistentHeaders
+pub use Rattle.goblin_pe_head.proofs.DosHeaderRoundTrip
+pub use Rattle.goblin_pe_head.proofs.PeHeaderRoundTrip
+-- The others are the library's own: they change with it.
 pub mod Collected
 pub mod ImportParts
-pub mod ImportStarts
 pub mod KeptImports
 pub mod Layouts
 pub mod ListedImports
@@ -12,4 +26,3 @@ pub mod SectionRoom
 pub mod SoundFiles
 pub mod TableRuns
 pub mod TwinParts
-pub mod Walked

@@ -1,3 +1,4 @@
+pub mod Callers
 pub mod Damages
 pub mod LayoutPositions
 pub mod Layouts

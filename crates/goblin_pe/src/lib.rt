@@ -14,7 +14,7 @@ pub use goblin_pe_export::export;
 pub use goblin_pe_head::{header, optional_header};
 pub use goblin_pe_import::import;
 pub use goblin_pe_sect::{
-    data_directories, options, relocation, section_table, table, utils, windows,
+    address_map, data_directories, options, relocation, section_table, table, utils, windows,
 };
 pub use goblin_pe_symbol::symbol;
-pub use whole::{Damage, FileImports, Layout, Part, Whole};
+pub use whole::{Damage, FileImports, Layout, Part, Whole, section_at};

@@ -26,6 +26,7 @@ mod imports;
 mod layout;
 mod listed;
 mod places;
+mod sections;
 
 pub use damage::Damage;
 pub use imports::FileImports;
@@ -33,6 +34,7 @@ pub use layout::Layout;
 use layout::sections_of;
 use listed::{ListedTables, export_parts};
 use places::Places;
+pub use sections::section_at;
 
 /// A table of a file, as [`Whole::read`] found it.
 #[derive(Debug, Drop)]

@@ -1,1 +1,1 @@
-mod ImportCounts
+pub mod Keys

@@ -1,5 +1,6 @@
 pub mod Beside
 pub mod CoffHeaderRoundTrip
+pub mod ConsistentHeaders
 pub mod DosHeaderRoundTrip
 pub mod HeaderFaults
 mod HeaderRanges

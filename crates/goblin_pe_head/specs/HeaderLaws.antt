@@ -1,19 +1,26 @@
--- How headers that were read are written, and how that reads back; and the places of the markers of
--- a Rich header.
-use Rattle.std.specs.Prelude.{◌≡◌, ◌≤◌, ◌<◌, ℕ, ◌+◌, ◌-◌, ◌*◌, ◌==◌, if◌then◌else◌, List, [], ◌++◌}
-use Rattle.std.specs.Prelude.{length, replicate, take, Option, Some, None, option_and_then, true}
-use Rattle.std.specs.Prelude.{IsSomeAnd, slice_range}
+-- How headers that were read are written, which headers read back, and the places of the markers of a
+-- Rich header.
+use Rattle.std.specs.Prelude.{◌≡◌, ◌≤◌, ◌<◌, ℕ, ◌+◌, ◌-◌, ◌*◌, ◌^◌, ◌==◌, if◌then◌else◌, List, []}
+use Rattle.std.specs.Prelude.{◌++◌, length, replicate, take, Option, Some, None, option_and_then}
+use Rattle.std.specs.Prelude.{IfSome, IsSomeAnd, false, nat_lt, slice_index_or, slice_range, true}
 use Rattle.std.specs.Int.Bits.{bit_xor}
 use Rattle.goblin_base.specs.declared.endian.Endian.TheVariants.{Little}
 use Rattle.goblin_base.specs.Bytes.{IsBytes, overwritten, slice_at}
-use Rattle.goblin_base.specs.Record.{encoding}
+use Rattle.goblin_base.specs.Record.{FieldsFit, ReadsBack, encoding}
+use Rattle.goblin_pe_sect.specs.declared.data_directories.DataDirectory.{DataDirectory}
+use Rattle.goblin_pe_sect.specs.DataDirectories.{directory_fields, directory_or_zeros, entry_ending}
 use Rattle.goblin_pe_head.specs.declared.header.dos.DosHeader.{DosHeader}
 use Rattle.goblin_pe_head.specs.declared.optional_header.OptionalHeader.{OptionalHeader}
 use Rattle.goblin_pe_head.specs.DosHeader.{dos_fields}
 use Rattle.goblin_pe_head.specs.HeaderReadings.{dos_header, optional_header, pe_header, rich_header}
-use Rattle.goblin_pe_head.specs.OptionalHeader.{optional_bytes}
+use Rattle.goblin_pe_head.specs.OptionalHeader.{optional_bytes, standard_32_fields}
+use Rattle.goblin_pe_head.specs.OptionalHeader.{standard_32_record, standard_64_fields}
+use Rattle.goblin_pe_head.specs.OptionalHeader.{standard_64_record, standard_to_32, standard_to_64}
+use Rattle.goblin_pe_head.specs.OptionalHeader.{windows_32_fields, windows_32_record}
+use Rattle.goblin_pe_head.specs.OptionalHeader.{windows_64_fields, windows_64_record, windows_to_32}
 use Rattle.goblin_pe_head.specs.PeHeader.{PeHeader, header_bytes}
 use Rattle.goblin_pe_head.specs.RichHeader.{Rich, word_at}
+use Rattle.goblin_pe_head.specs.RichReadings.{rich_in}
 
 -- The DOS header of a file is written as the first 64 bytes of the file.
 unfoldable pub DosWritesBack : Type 0
@@ -21,12 +28,15 @@ DosWritesBack =
     (file : List ℕ) (h : DosHeader) → IsBytes file → dos_header.value file ≡ Some h
     → slice_at file 0 64 ≡ Some (encoding Little (dos_fields h))
 
+-- how many bytes the fields before the directories take, by the magic
+abbrev pub fields_size : ℕ → ℕ
+fields_size magic = if magic == 0x10B then 96 else 112
+
 -- how many bytes an optional header takes in its file: the fields that its magic asks for, and as
 -- many directories as they say
 abbrev pub optional_size : OptionalHeader → ℕ
 optional_size h =
-    (if h.standard_fields.magic == 0x10B then 96 else 112)
-    + 8 * h.windows_fields.number_of_rva_and_sizes
+    fields_size h.standard_fields.magic + 8 * h.windows_fields.number_of_rva_and_sizes
 
 -- the zeros that are written after its directories, up to the sixteenth
 abbrev pub filling : OptionalHeader → List ℕ
@@ -70,6 +80,55 @@ HeaderReadsBack =
     (file old new : List ℕ) (h : PeHeader) → IsBytes file → (pe_header true).value file ≡ Some h
     → option_and_then (overwritten old 0) (header_bytes Little h) ≡ Some new
     → (pe_header true).value new ≡ Some h
+
+-- ---- which headers read back, whatever their numbers are
+
+-- An entry of the data directories is what a reader makes of its directory, in which the numbers fit:
+-- it knows where its record ends, and is none where it is zeros or past the count.
+abbrev pub IsEntryAt : ℕ → ℕ → ℕ → Option (ℕ × DataDirectory) → Type 0
+IsEntryAt start count i entry =
+    let d = directory_or_zeros entry in
+    ((if nat_lt i count then entry_ending (start + 8 * i + 8) d else None) ≡ entry)
+    × FieldsFit (directory_fields d)
+
+-- The parts of an optional header agree: its directories follow the fields that its magic asks for,
+-- as many as it says, and its standard fields fit these.
+abbrev pub IsConsistentOptional : OptionalHeader → Type 0
+IsConsistentOptional h =
+    let s = h.standard_fields in
+    let count = h.windows_fields.number_of_rva_and_sizes in
+    let entries = h.data_directories.data_directories in
+    (count ≤ 16) × (length entries ≡ 16)
+    × ((i : ℕ) → i < 16 → IsEntryAt (fields_size s.magic) count i (slice_index_or entries i None))
+    × (s.size_of_code < 2 ^ 32) × (s.size_of_initialized_data < 2 ^ 32)
+    × (s.size_of_uninitialized_data < 2 ^ 32) × (s.base_of_code < 2 ^ 32)
+    × (s.magic ≡ 0x20B → s.base_of_data ≡ 0)
+
+-- there is an optional header where its size is not 0, and its parts agree
+abbrev pub IsConsistentPart : ℕ → Option OptionalHeader → Type 0
+IsConsistentPart size None = size ≡ 0
+IsConsistentPart size (Some h) = ((size == 0) ≡ false) × IsConsistentOptional h
+
+-- The parts of a header agree: both signatures are right, the DOS header points to where its stub
+-- ends, and the Rich header is that of the stub. This says nothing of its other numbers.
+abbrev pub IsConsistent : PeHeader → Type 0
+IsConsistent h =
+    (h.dos_header.signature ≡ 0x5A4D)
+    × (h.dos_header.pe_pointer ≡ 64 + length h.dos_stub)
+    × ((if nat_lt h.dos_header.pe_pointer 68 then Some None else rich_in.value h.dos_stub)
+    ≡ Some h.rich_header)
+    × (h.signature ≡ 0x4550)
+    × IsConsistentPart h.coff_header.size_of_optional_header h.optional_header
+
+-- The fields of an optional header read back from what is written of them, in either width.
+abbrev pub FieldsReadBack : OptionalHeader → Type 0
+FieldsReadBack h =
+    (h.standard_fields.magic ≡ 0x10B
+    → ReadsBack 28 standard_32_record standard_32_fields (standard_to_32 h.standard_fields)
+    × IfSome (windows_to_32 h.windows_fields) (ReadsBack 68 windows_32_record windows_32_fields))
+    × (h.standard_fields.magic ≡ 0x20B
+    → ReadsBack 24 standard_64_record standard_64_fields (standard_to_64 h.standard_fields)
+    × ReadsBack 88 windows_64_record windows_64_fields h.windows_fields)
 
 -- ---- the places of the markers of a Rich header
 

@@ -3,16 +3,22 @@
 //! Its standard fields and Windows fields have two widths, for images of 32 and of 64 bits; its
 //! magic says which. The data directories follow.
 
-ghost use Rattle.std.specs.Prelude.{◌≡◌, ◌≤◌, length, IfErr, IfOk, IsSomeAnd, None, OnErr, Some};
-ghost use Rattle.std.specs.Prelude.{option_and_then, option_map};
+ghost use Rattle.std.specs.Prelude.{◌≡◌, ◌≤◌, length, IfErr, IfOk, IfSome, IsSomeAnd, None, OnErr};
+ghost use Rattle.std.specs.Prelude.{OnOk, Some, option_and_then, option_map};
 ghost use Rattle.goblin_base.specs.Reading.{Reads};
 ghost use Rattle.goblin_base.specs.Answers.{Answers, Writes, IsSliceFault, FirstFault};
 ghost use Rattle.goblin_base.specs.Bytes.{overwritten};
+ghost use Rattle.goblin_base.specs.Record.{ReadsBack};
 ghost use Rattle.goblin_pe_head.specs.declared.optional_header.OptionalHeader.{OptionalHeader};
-ghost use Rattle.goblin_pe_head.specs.HeaderLaws.{OptionalWritesBack};
+ghost use Rattle.goblin_pe_head.specs.HeaderLaws.{FieldsReadBack, OptionalWritesBack};
 ghost use Rattle.goblin_pe_head.specs.HeaderReadings as reading;
 ghost use Rattle.goblin_pe_head.specs.OptionalHeader.{IsBadMagic, IsTooWide, IsUnwritten, bytes_32};
 ghost use Rattle.goblin_pe_head.specs.OptionalHeader.{bytes_64, container_of, optional_bytes};
+ghost use Rattle.goblin_pe_head.specs.OptionalHeader.{standard_32_fields, standard_32_record};
+ghost use Rattle.goblin_pe_head.specs.OptionalHeader.{standard_64_fields, standard_64_record};
+ghost use Rattle.goblin_pe_head.specs.OptionalHeader.{standard_to_32, standard_to_64};
+ghost use Rattle.goblin_pe_head.specs.OptionalHeader.{windows_32_fields, windows_32_record};
+ghost use Rattle.goblin_pe_head.specs.OptionalHeader.{windows_64_fields, windows_64_record};
 ghost use Rattle.goblin_pe_head.specs.OptionalHeader.{windows_to_32, written_bytes};
 ghost use Rattle.goblin_pe_head.specs.OptionalHeaderLaws.{optional_header-within};
 
@@ -245,8 +251,12 @@ impl OptionalHeader {
 
     // What is written where the magic asks for 32 bits.
     fn bytes_32(&self, endian: Endian) -> Result<[u8; 224]>
-        ensures { Answers (λ bytes. bytes) result (bytes_32 endian self.now)
+        ensures made { Answers (λ bytes. bytes) result (bytes_32 endian self.now)
             (λ e. (windows_to_32 self.now.windows_fields ≡ None) × IsTooWide e) }
+        ensures standard { OnOk result (ReadsBack 28 standard_32_record standard_32_fields
+            (standard_to_32 self.now.standard_fields)) }
+        ensures windows { OnOk result (IfSome (windows_to_32 self.now.windows_fields)
+            (ReadsBack 68 windows_32_record windows_32_fields)) }
     {
         let windows = WindowsFields32::try_from(self.windows_fields)?;
         let windows: [u8; SIZEOF_WINDOWS_FIELDS_32] = encode(windows, endian);
@@ -263,7 +273,11 @@ impl OptionalHeader {
 
     // What is written where the magic asks for 64 bits.
     fn bytes_64(&self, endian: Endian) -> [u8; 240]
-        ensures { result ≡ bytes_64 endian self.now }
+        ensures made { result ≡ bytes_64 endian self.now }
+        ensures standard { ReadsBack 24 standard_64_record standard_64_fields
+            (standard_to_64 self.now.standard_fields) }
+        ensures windows { ReadsBack 88 windows_64_record windows_64_fields
+            self.now.windows_fields }
     {
         let standard = StandardFields64::from(self.standard_fields);
         let standard: [u8; SIZEOF_STANDARD_FIELDS_64] = encode(standard, endian);
@@ -285,8 +299,9 @@ impl OptionalHeader {
     /// does not fit 32 bits.
     #[tactic(auto, unfolding(crate::specs::OptionalHeader::optional_bytes, crate::specs::OptionalHeader::IsUnwritten))]
     pub(crate) fn to_bytes(&self, endian: Endian) -> Result<WrittenHeader>
-        ensures { Answers written_bytes result (optional_bytes endian self.now)
+        ensures made { Answers written_bytes result (optional_bytes endian self.now)
             (IsUnwritten self.now) }
+        ensures again { OnOk result (FieldsReadBack self.now) }
     {
         match self.standard_fields.magic {
             MAGIC_32 => Ok(WrittenHeader::Narrow(self.bytes_32(endian)?)),

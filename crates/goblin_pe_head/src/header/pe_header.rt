@@ -6,9 +6,13 @@ ghost use Rattle.goblin_base.specs.declared.endian.Endian.{Endian};
 ghost use Rattle.goblin_base.specs.Reading.{Reads};
 ghost use Rattle.goblin_base.specs.Answers.{Answers, Writes, IsSliceFault, FirstFault};
 ghost use Rattle.goblin_base.specs.Bytes.{overwritten, replaced};
+ghost use Rattle.goblin_base.specs.Record.{ReadsBack};
 ghost use Rattle.goblin_pe_sect.specs.Options.{is_strict};
 ghost use Rattle.goblin_pe_head.specs.DosStub.{stub_bytes};
-ghost use Rattle.goblin_pe_head.specs.HeaderLaws.{HeaderReadsBack, HeaderWritesBack};
+ghost use Rattle.goblin_pe_head.specs.CoffHeader.{coff_fields, coff_header};
+ghost use Rattle.goblin_pe_head.specs.DosHeader.{dos_fields, dos_record};
+ghost use Rattle.goblin_pe_head.specs.HeaderLaws.{FieldsReadBack, HeaderReadsBack, HeaderWritesBack};
+ghost use Rattle.goblin_pe_head.specs.HeaderLaws.{IsConsistent};
 ghost use Rattle.goblin_pe_head.specs.HeaderReadings as reading;
 ghost use Rattle.goblin_pe_head.specs.OptionalHeader.{written_bytes};
 ghost use Rattle.goblin_pe_head.specs.PeHeader.{IsUnwrittenPart, default_header, header_bytes};
@@ -116,15 +120,18 @@ fn read_optional(
 }
 
 impl<'a> Header<'a> {
-    /// Reads the header of a file, as [`Header::parse_with_opts`] with the default options.
+    /// Reads the header of a file, as [`Header::parse_with_opts`] with the default options. The parts
+    /// of such a header agree.
     ///
     /// # Errors
     /// As [`Header::parse_with_opts`] in strict mode.
+    #[tactic(auto, using(crate::proofs::ConsistentHeaders::read_consistent))]
     pub fn parse(bytes: &'a [u8]) -> Result<Self>
         ensures value { Reads header_value result (reading.pe_header true) bytes.now }
         ensures padding { IfOk result (λ header. IfSome header.rich_header PaddingFits) }
         ensures rich { IfOk result (λ header.
             reading.rich_header.value bytes.now ≡ Some (option_map rich_value header.rich_header)) }
+        ensures consistent { IfOk result (λ header. IsConsistent (header_value header)) }
     {
         Header::parse_with_opts(bytes, &ParseOptions::default())
     }
@@ -227,7 +234,8 @@ impl<'a> Header<'a> {
     /// Rich header is part of the stub.
     ///
     /// In little-endian order, a header that [`Header::parse`] read is written back unchanged,
-    /// followed by zeros for the missing directories, and reads back from what was written.
+    /// followed by zeros for the missing directories, and reads back from what was written. So does
+    /// one whose numbers were changed, as long as its parts agree.
     ///
     /// # Errors
     /// In this order: [`Error::BadMagic`] of an optional header of unknown magic;
@@ -246,6 +254,9 @@ impl<'a> Header<'a> {
             IsFault }
         ensures back { HeaderWritesBack }
         ensures again { HeaderReadsBack }
+        ensures itself { IfOk result
+            (λ _. endian ≡ Endian.Little → IsConsistent (header_value self.entry)
+            → (reading.pe_header true).value bytes.new ≡ Some (header_value self.entry)) }
     {
         let optional = optional_bytes(&self.optional_header, endian)?;
         let optional = optional.as_slice();
@@ -273,8 +284,10 @@ impl<'a> Header<'a> {
     fn put(&self, bytes: &mut [u8], optional: &[u8], endian: Endian)
         requires { 88 + length (stub_bytes self.now.dos_stub) + length optional.now
             ≤ length bytes.old }
-        ensures { bytes.new
+        ensures written { bytes.new
             ≡ replaced bytes.old 0 (header_parts endian (header_value self.now) optional.now) }
+        ensures dos { ReadsBack 64 dos_record dos_fields self.now.dos_header }
+        ensures coff { ReadsBack 20 coff_header coff_fields self.now.coff_header }
     {
         let stub = self.dos_stub.bytes;
         let signature: [u8; SIZEOF_PE_MAGIC] = encode_fields(
@@ -293,8 +306,9 @@ impl<'a> Header<'a> {
 
 // What is written of the optional header, where there is one.
 fn optional_bytes(header: &Option<OptionalHeader>, endian: Endian) -> Result<WrittenHeader>
-    ensures { Answers written_bytes result (optional_part endian header.now)
+    ensures made { Answers written_bytes result (optional_part endian header.now)
         (IsUnwrittenPart header.now) }
+    ensures again { OnOk result (IfSome header.now FieldsReadBack) }
 {
     match header {
         Some(header) => header.to_bytes(endian),

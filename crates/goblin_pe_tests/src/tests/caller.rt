@@ -1,20 +1,20 @@
 //! What a caller makes of a file.
 
-use fixture::sample::{in_mode, is_err, is_ok, put, put_all, sample};
-use goblin_base::{Error, ParseMode};
+use fixture::sample::{SAMPLE_LEN, is_err, is_ok, put, put_all, sample};
+use goblin_base::Error;
 use goblin_pe::export::{
     ExportAddressTable, ExportAddressTableEntry, ExportNamePointerTable, ExportOrdinalTable,
 };
-use goblin_pe::header::Header;
 use goblin_pe::import::{Import, ImportData, ImportDirectoryEntry, SyntheticImportDirectoryEntry};
 use goblin_pe::options::ParseOptions;
 use goblin_pe::relocation::RelocationWord;
 use goblin_pe::section_table::SectionTable;
 use goblin_pe::table::*;
-use goblin_pe::{Cause, Layout};
-use goblin_pe_caller::{
-    count_entries, count_forwarders, count_imports, count_imports_of, has_ordinal, name_pointer,
-    value_at,
+use goblin_pe::Cause;
+use goblin_pe_caller::footprint::Key;
+use goblin_pe_caller::imports::imports_from;
+use goblin_pe_caller::tables::{
+    count_entries, count_forwarders, count_imports, has_ordinal, name_pointer, value_at,
 };
 use std::alloc::{AllocError, Global};
 
@@ -27,26 +27,31 @@ fn the_imports_of_a_file_are_counted(rt: HostRuntime) {
     assert!(rt; is_ok(count_imports(rt.alloc(), &file), &0));
 }
 
-/// Whether a file has two imports from `a.dll`, and none from `A.dll`.
-fn are_counted(layout: &Layout) -> bool {
-    is_ok(count_imports_of(layout, "a.dll"), &2) && is_ok(count_imports_of(layout, "A.dll"), &0)
-}
-
-fn are_counted_by(alloc: Global, file: &[u8], header: &Header, opts: &ParseOptions) -> bool {
-    matches!(&Layout::of(alloc, file, header, opts), Ok(layout) if are_counted(layout))
-}
-
-fn are_counted_in(alloc: Global, file: &[u8], mode: ParseMode) -> bool {
-    let opts = in_mode(mode);
-    let header = Header::parse_with_opts(file, &opts);
-    matches!(&header, Ok(header) if are_counted_by(alloc, file, header, &opts))
+/// Whether the sample file imports something from this library.
+fn imports(alloc: Global, library: &str) -> bool {
+    is_ok(imports_from(alloc, &sample(), library), &true)
 }
 
 #[test]
-fn the_imports_from_a_library_are_counted(rt: HostRuntime) {
-    let file = sample();
-    assert!(rt; are_counted_in(rt.alloc(), &file, ParseMode::Strict));
-    assert!(rt; are_counted_in(rt.alloc(), &file, ParseMode::Permissive));
+fn the_library_of_an_import_is_found_by_its_case(rt: HostRuntime) {
+    assert!(rt; imports(rt.alloc(), "a.dll"));
+    assert!(rt; !imports(rt.alloc(), "A.dll"));
+}
+
+/// Whether these bytes have the sample file's key.
+fn has_key(alloc: Global, file: &[u8]) -> goblin_base::Result<bool> {
+    let key = Key::of(alloc, &sample(), &ParseOptions::default())?;
+    Ok(key.fits(file))
+}
+
+#[test]
+fn a_key_is_that_of_what_is_read(rt: HostRuntime) {
+    let mut file = sample();
+    // The time stamp is read, the last byte of the file is not.
+    put(&mut file, SAMPLE_LEN - 1, b"\xFF");
+    assert!(rt; is_ok(has_key(rt.alloc(), &file), &true));
+    put(&mut file, 0x48, b"\xFF");
+    assert!(rt; is_ok(has_key(rt.alloc(), &file), &false));
 }
 
 /// A Rich header of one entry, from its first marker to the key after its last, and the key alone.

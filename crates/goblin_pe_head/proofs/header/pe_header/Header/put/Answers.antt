@@ -5,9 +5,9 @@ use Rattle.goblin_base.proofs.Writing.{length-replaced, written_then}
 use Rattle.goblin_pe_head.specs.PeHeader.{header_parts}
 use Rattle.goblin_pe_head.proofs.header.pe_header.Header.put.Goals as goal
 
-pub returns : goal.returns
+pub returns-clause-written : goal.returns-clause-written
 unfolding header_parts
-returns c =
+returns-clause-written c =
     let old = c.args.bytes.now in
     let stub = c.args.self.now.dos_stub.bytes.now in
     let dos = c.to_bytes.result in

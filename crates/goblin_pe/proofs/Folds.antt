@@ -1,0 +1,88 @@
+-- A loop over the imports of a file that gathers something: what it has gathered so far, and what at each way out.
+use Rattle.std.proofs.Common.{◌≡◌, ℕ, ◌+◌, ◌||◌, Bool, true, false, cond, List, [], ◌∷◌, ◌++◌, map, Option, Some, None, Result, Ok, Err, arith}
+use Rattle.std.proofs.Common.{refl, sym, ap, ◌∙◌}
+use Rattle.std.specs.Prelude.{count_by, option_map}
+use Rattle.std.specs.List.{list_any}
+use Rattle.std.proofs.lemmas.List.{map-id}
+use Rattle.std.proofs.lemmas.List.Folds.{list_any-append}
+use Rattle.std.proofs.lemmas.List.Sums.{sum_by-append}
+use Rattle.goblin_base.specs.declared.error.ErrorOf.{ErrorOf}
+use Rattle.goblin_base.specs.Answers.{all_of}
+use Rattle.goblin_pe_import.specs.ImportEntries.{LookupEntry}
+use Rattle.goblin_pe_import.specs.ImportEntries.LookupEntry.{ByName, ByOrdinal}
+use Rattle.goblin_pe_import.specs.ImportWalks.{walked_value}
+use Rattle.goblin_pe_import.specs.ImportLookup.{entry_view}
+use Rattle.goblin_pe_import.specs.Imports.{ImportValue, import_of}
+use Rattle.goblin_pe_import.specs.declared.import.imports.WalkedImport.{WalkedImport}
+use Rattle.goblin_pe.specs.declared.whole.imports.FileImports.{FileImports}
+use Rattle.goblin_pe.specs.Layouts.{GivesFileImport, IsFileImportsCause, file_imports_left}
+use Rattle.goblin_pe.proofs.ImportStarts.{file-given}
+use Rattle.goblin_pe.proofs.Walked.{AtMade, made-all, made-fault, made-more, made-start}
+
+mapped-same : {A : Type 0} (o : Option (List A)) {xs : List A} → option_map (map (λ x. x)) o ≡ Some xs → o ≡ Some xs
+mapped-same None is = absurd cc
+mapped-same (Some ys) is = ap (λ (ys : List _). Some ys) (sym (map-id ys)) ∙ is
+
+unmapped-same : {A : Type 0} (o : Option (List A)) → option_map (map (λ x. x)) o ≡ None → o ≡ None
+unmapped-same None is = refl
+unmapped-same (Some ys) is = absurd cc
+
+-- The walk over imports that began at `start` is now at `now`, and this was gathered of the imports so far.
+pub record Gathers {B : Type 0} (gather : List ImportValue → B) (start now : FileImports) (value : B) : Type 0 where
+  pub items : List ImportValue
+  pub at : AtMade file_imports_left IsFileImportsCause (λ x. x) start now items
+  pub said : value ≡ gather items
+
+pub gathers_start : {B : Type 0} (gather : List ImportValue → B) (start : FileImports) (value : B) → value ≡ gather [] → Gathers gather start start value
+gathers_start gather start value is = record { items = []; at = made-start file_imports_left IsFileImportsCause (λ x. x) start; said = is }
+
+module _ {B : Type 0} (gather : List ImportValue → B) (start now next : FileImports) (value : B) (h : Gathers gather start now value) where
+  -- one import more
+  pub gathers_more : (r : Result WalkedImport ErrorOf) (x : WalkedImport) (more : B) → GivesFileImport now (Some r) next → r ≡ Ok x → more ≡ gather (h.items ++ walked_value x ∷ []) → Gathers gather start next more
+  gathers_more r x more given is said = record {
+    items = h.items ++ walked_value x ∷ [];
+    at = made-more file_imports_left IsFileImportsCause (λ x. x) start now h.items h.at walked_value next r (file-given now (Some r) next given).0 x is _ refl;
+    said = said;
+  }
+
+  -- all imports have come
+  pub gathers_all : GivesFileImport now None next → option_map gather (all_of (file_imports_left start)) ≡ Some value
+  gathers_all given =
+      let all = mapped-same (all_of (file_imports_left start)) (made-all file_imports_left IsFileImportsCause (λ x. x) start now h.items h.at walked_value next (file-given now None next given).0) in
+      ap (option_map gather) all ∙ ap (λ (b : B). Some b) (sym h.said)
+
+  -- they end with a refusal
+  pub gathers_fault : (r : Result WalkedImport ErrorOf) (e : ErrorOf) → GivesFileImport now (Some r) next → r ≡ Err e → (option_map gather (all_of (file_imports_left start)) ≡ None) × IsFileImportsCause start e
+  gathers_fault r e given is =
+      let fault = made-fault file_imports_left IsFileImportsCause (λ x. x) start now h.items h.at walked_value next r (file-given now (Some r) next given).0 e is in
+      (ap (option_map gather) (unmapped-same (all_of (file_imports_left start)) fault.0), fault.1)
+
+-- the library of an import that a walk gives
+pub dll_walked : (x : WalkedImport) → (walked_value x).dll ≡ x.dll.now
+unfolding import_of
+dll_walked x = of (entry_view x.entry)
+  where
+    of : (entry : LookupEntry) → (import_of x.dll.now x.slot x.offset x.size entry).dll ≡ x.dll.now
+    of (ByOrdinal ordinal) = refl
+    of (ByName rva named) = refl
+
+one-any : {A : Type 0} (p : A → Bool) (x : A) (b : Bool) → p x ≡ b → list_any p (x ∷ []) ≡ b
+one-any p x true is = rw is refl
+one-any p x false is = rw is refl
+
+-- whether one of the imports passes a test
+pub any_more : (p : ImportValue → Bool) (start now next : FileImports) (found more : Bool) (r : Result WalkedImport ErrorOf) (x : WalkedImport)
+    → Gathers (list_any p) start now found → GivesFileImport now (Some r) next → r ≡ Ok x → more ≡ (found || p (walked_value x)) → Gathers (list_any p) start next more
+any_more p start now next found more r x h given is said =
+    gathers_more (list_any p) start now next found h r x more given is
+    (said ∙ ap (λ (b : Bool). b || p (walked_value x)) h.said ∙ ap (λ (b : Bool). list_any p h.items || b) (sym (one-any p (walked_value x) (p (walked_value x)) refl)) ∙ sym (list_any-append p h.items (walked_value x ∷ [])))
+
+one-count : {A : Type 0} (p : A → Bool) (x : A) → count_by p (x ∷ []) ≡ cond (p x) 1 0
+one-count p x = omega arith
+
+-- how many of the imports pass a test
+pub count_more : (p : ImportValue → Bool) (start now next : FileImports) (count more : ℕ) (r : Result WalkedImport ErrorOf) (x : WalkedImport)
+    → Gathers (count_by p) start now count → GivesFileImport now (Some r) next → r ≡ Ok x → more ≡ count + cond (p (walked_value x)) 1 0 → Gathers (count_by p) start next more
+count_more p start now next count more r x h given is said =
+    gathers_more (count_by p) start now next count h r x more given is
+    (said ∙ ap (λ (n : ℕ). n + cond (p (walked_value x)) 1 0) h.said ∙ ap (λ (n : ℕ). count_by p h.items + n) (sym (one-count p (walked_value x))) ∙ sym (sum_by-append (λ x. cond (p x) 1 0) h.items (walked_value x ∷ [])))

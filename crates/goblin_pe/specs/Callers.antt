@@ -1,0 +1,76 @@
+-- Words for callers: one table of a file, the bytes of a layout, the section of an address, a
+-- refusal, and pieces of a file.
+use Rattle.std.specs.Prelude.{◌≡◌, ◌≤◌, ℕ, List, Option, None, find, if◌then◌else◌, length}
+use Rattle.std.specs.Prelude.{slice_range}
+use Rattle.std.specs.Int.{is_power_of_two}
+use Rattle.goblin_base.specs.declared.error.ErrorOf.{ErrorOf}
+use Rattle.goblin_base.specs.Footprints.{Range}
+use Rattle.goblin_base.specs.Reading.{Reading}
+use Rattle.readings.specs.Reads.{◌>>=◌}
+use Rattle.goblin_pe_sect.specs.declared.options.ParseOptions.{ParseOptions}
+use Rattle.goblin_pe_sect.specs.Addresses.{offset_of}
+use Rattle.goblin_pe_sect.specs.Mapping.{is_in_window}
+use Rattle.goblin_pe_sect.specs.Options.{is_strict}
+use Rattle.goblin_pe_sect.specs.SectionTable.{Section}
+use Rattle.goblin_pe_head.specs.HeaderReadings.{pe_header}
+use Rattle.goblin_pe_head.specs.PeHeader.{PeHeader}
+use Rattle.goblin_pe.specs.declared.whole.Part.{Part}
+use Rattle.goblin_pe.specs.declared.whole.Part.TheVariants.{Absent, Refused}
+use Rattle.goblin_pe.specs.declared.whole.Part.TheVariants as part
+use Rattle.goblin_pe.specs.declared.whole.layout.Layout.{Layout}
+use Rattle.goblin_pe.specs.Layouts.{layout_map, layout_places}
+use Rattle.goblin_pe.specs.Whole.{TablePlaces, offset_by, places_in, sections_after}
+
+-- what reads a table, by how addresses are mapped and where the tables lie: `import_list`,
+-- `export_part` and `relocation_part` are such readers
+abbrev pub TableReader : Type 0 → Type 1
+TableReader A = ParseOptions → (ℕ → Option ℕ) → TablePlaces → Reading A
+
+-- a table of the file with this header and these sections
+abbrev pub table_with : {A : Type 0} → TableReader A → ParseOptions → PeHeader → List Section
+    → Reading A
+table_with read opts h sections =
+    let places = places_in h.optional_header in read opts (offset_by opts sections places) places
+
+-- a table of a file by itself: of the rest of the file only the header and the sections are needed
+abbrev pub file_table : {A : Type 0} → TableReader A → ParseOptions → Reading A
+file_table read opts =
+    let strict = is_strict opts.parse_mode in
+    pe_header strict >>= λ h. sections_after strict h >>= table_with read opts h
+
+-- the same of a layout
+abbrev pub layout_table : {A : Type 0} → TableReader A → Layout → Reading A
+layout_table read l = let m = layout_map l in read m.opts (offset_of m) (layout_places l)
+
+-- the bytes that a layout is over
+abbrev pub layout_bytes : Layout → List ℕ
+layout_bytes l = l.bytes.now
+
+-- the first section whose window holds the address; there is none if the alignment is not a power
+-- of two
+abbrev pub section_at : ℕ → ℕ → List Section → Option Section
+section_at alignment rva sections =
+    if is_power_of_two alignment then find (is_in_window alignment rva) sections else None
+
+-- what is made of a table that was read, and a default where it was not
+abbrev pub read_or : {A B : Type 0} → B → (A → B) → Part A → B
+read_or default f Absent = default
+read_or default f (part.Read table) = f table
+read_or default f Refused = default
+
+-- the file is refused by this reading, and this cause is true
+abbrev pub IsRefused : {A : Type 0} → Reading A → List ℕ → ErrorOf → Type 0
+IsRefused reading bytes e = (reading.value bytes ≡ None) × reading.IsCause bytes e
+
+-- a piece of a file: its bytes in a range
+abbrev pub Piece : Type 0
+Piece = Range × List ℕ
+
+abbrev pub piece_at : List ℕ → Range → Piece
+piece_at file range = (range, slice_range file range.0 range.1)
+
+-- the file has this piece
+abbrev pub HasPiece : List ℕ → Piece → Type 0
+HasPiece file piece =
+    (piece.0.0 ≤ piece.0.1) × (piece.0.1 ≤ length file)
+    × (slice_range file piece.0.0 piece.0.1 ≡ piece.1)

@@ -1,0 +1,45 @@
+//! Whether a program is entered in code.
+
+ghost use Rattle.std.specs.Prelude.{◌≡◌, IfErr, IsSome, true};
+ghost use Rattle.goblin_pe.specs.Answers.{IsMemory};
+ghost use Rattle.goblin_pe.specs.HeaderReadings.{pe_header};
+ghost use Rattle.goblin_pe.specs.Reading.{ReadsOrMemory};
+ghost use Rattle.goblin_pe_caller.specs.Audits.{enters_code, is_entered_in_code};
+
+use goblin_pe::header::Header;
+use goblin_pe::optional_header::OptionalHeader;
+use goblin_pe::options::ParseOptions;
+use goblin_pe::section_table::{IMAGE_SCN_MEM_EXECUTE, SectionTable};
+use goblin_pe::{Layout, Result, section_at};
+use std::alloc::Global;
+
+/// Whether the entry point of a file lies in a section that may be executed; not where it lies in
+/// none, or the file has no optional header.
+///
+/// # Errors
+/// As the header and the sections are refused in strict mode.
+#[tactic(auto, unfolding(goblin_pe::specs::Whole::layout))]
+pub fn enters_code(alloc: Global, bytes: &[u8]) -> Result<bool>
+    ensures value { ReadsOrMemory (λ b. b) result enters_code bytes.now }
+    ensures grown { IfErr result (λ e. IsMemory e → IsSome ((pe_header true).value bytes.now)) }
+{
+    let opts = ParseOptions::default();
+    let header = Header::parse(bytes)?;
+    let layout = Layout::of(alloc, bytes, &header, &opts)?;
+    let sections = layout.sections(alloc)?;
+    Ok(is_entered_in_code(&header.optional_header, &sections))
+}
+
+// Whether the entry point lies in a section that may be executed.
+fn is_entered_in_code(header: &Option<OptionalHeader>, sections: &[SectionTable]) -> bool
+    ensures { result ≡ is_entered_in_code header.now sections.now }
+{
+    let Some(header) = header else {
+        return false;
+    };
+    let entry = header.standard_fields.address_of_entry_point as usize;
+    match section_at(entry, sections, header.windows_fields.file_alignment) {
+        Some(section) => section.characteristics & IMAGE_SCN_MEM_EXECUTE != 0,
+        None => false,
+    }
+}

@@ -1,0 +1,58 @@
+//! How many exports of a file are forwarders.
+
+ghost use Rattle.std.specs.Prelude.{◌≡◌, IfErr, IsSomeAnd, count_by};
+ghost use Rattle.goblin_pe.specs.Answers.{IsMemory};
+ghost use Rattle.goblin_pe.specs.Callers.{layout_bytes, layout_table, read_or};
+ghost use Rattle.goblin_pe.specs.ExportWalks.{exports_left};
+ghost use Rattle.goblin_pe.specs.HeaderReadings.{pe_header};
+ghost use Rattle.goblin_pe.specs.Options.{is_strict};
+ghost use Rattle.goblin_pe.specs.Reading.{Reads, ReadsOrMemory};
+ghost use Rattle.goblin_pe.specs.Reads.{mapped};
+ghost use Rattle.goblin_pe.specs.SectionRoom.{TakesIndex};
+ghost use Rattle.goblin_pe.specs.Whole.{export_part};
+ghost use Rattle.goblin_pe_caller.specs.Audits.{forwarder_count, forwarders, is_forwarder};
+
+use goblin_pe::export::Exports;
+use goblin_pe::header::Header;
+use goblin_pe::options::ParseOptions;
+use goblin_pe::{Layout, Part, Result};
+use std::alloc::Global;
+
+/// How many exports of a file are forwarders.
+///
+/// # Errors
+/// As the header, the sections and the export directory are refused; `Memory` only of more than 96
+/// sections.
+pub fn forwarders(alloc: Global, bytes: &[u8], opts: &ParseOptions) -> Result<usize>
+    ensures value { ReadsOrMemory (λ n. n) result (forwarders opts.now) bytes.now }
+    ensures grown { IfErr result
+        (λ e. IsMemory e → IsSomeAnd ((pe_header (is_strict opts.now.parse_mode)).value bytes.now)
+        (λ h. TakesIndex h.coff_header.number_of_sections bytes.now)) }
+{
+    let header = Header::parse_with_opts(bytes, opts)?;
+    let layout = Layout::of(alloc, bytes, &header, opts)?;
+    layout_forwarders(&layout)
+}
+
+/// The same of a layout.
+#[tactic(auto, unfolding(goblin_pe::specs::Whole::part_map))]
+fn layout_forwarders(layout: &Layout) -> Result<usize>
+    ensures { Reads (λ n. n) result
+        (mapped (read_or 0 forwarder_count) (layout_table export_part layout.now))
+        (layout_bytes layout.now) }
+{
+    match layout.exports()? {
+        Part::Absent => Ok(0),
+        Part::Read(exports) => Ok(count(exports)),
+        Part::Refused => Ok(0),
+    }
+}
+
+// The same of the exports that a walk gives.
+fn count(exports: Exports) -> usize
+    ensures { result ≡ count_by (λ x. is_forwarder x.row) (exports_left exports.entry) }
+{
+    exports
+        .filter(|export| export.export.reexport.is_some())
+        .count()
+}

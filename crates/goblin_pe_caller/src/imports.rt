@@ -1,0 +1,66 @@
+//! From which libraries a file imports.
+
+ghost use Rattle.std.specs.Prelude.{◌≡◌, IfErr, IsSomeAnd, false, option_map, true};
+ghost use Rattle.std.specs.List.{list_any};
+ghost use Rattle.goblin_pe.specs.Answers.{Answers, IsMemory, all_of};
+ghost use Rattle.goblin_pe.specs.Callers.{layout_bytes, layout_table, read_or};
+ghost use Rattle.goblin_pe.specs.HeaderReadings.{pe_header};
+ghost use Rattle.goblin_pe.specs.Layouts.{IsFileImportsCause, file_imports_left};
+ghost use Rattle.goblin_pe.specs.Reading.{Reads, ReadsOrMemory};
+ghost use Rattle.goblin_pe.specs.Reads.{mapped};
+ghost use Rattle.goblin_pe.specs.SectionRoom.{TakesIndex};
+ghost use Rattle.goblin_pe.specs.Whole.{import_list};
+ghost use Rattle.goblin_pe_caller.specs.Audits.{imports_from, is_from};
+
+use goblin_pe::header::Header;
+use goblin_pe::options::ParseOptions;
+use goblin_pe::{FileImports, Layout, Part, Result, ResultOf};
+use std::alloc::Global;
+
+/// Whether a file, read strictly, imports something from the library of this name, whose case
+/// counts.
+///
+/// # Errors
+/// As the header, the sections and the imports are refused; `Memory` only of more than 96 sections.
+pub fn imports_from(alloc: Global, bytes: &[u8], library: &str) -> Result<bool>
+    ensures value { ReadsOrMemory (λ b. b) result (imports_from library.now) bytes.now }
+    ensures grown { IfErr result (λ e. IsMemory e → IsSomeAnd ((pe_header true).value bytes.now)
+        (λ h. TakesIndex h.coff_header.number_of_sections bytes.now)) }
+{
+    let opts = ParseOptions::default();
+    let header = Header::parse(bytes)?;
+    let layout = Layout::of(alloc, bytes, &header, &opts)?;
+    layout_imports_from(&layout, library)
+}
+
+/// The same of a layout.
+#[tactic(auto, unfolding(goblin_pe::specs::Whole::part_map))]
+fn layout_imports_from<'e>(layout: &Layout, library: &str) -> ResultOf<'e, bool>
+    ensures { Reads (λ b. b) result
+        (mapped (read_or false (list_any (is_from library.now)))
+        (layout_table import_list layout.now)) (layout_bytes layout.now) }
+{
+    match layout.imports()? {
+        Part::Absent => Ok(false),
+        Part::Read(imports) => {
+            let found = any_from(imports, library)?;
+            Ok(found)
+        }
+        Part::Refused => Ok(false),
+    }
+}
+
+// The same of the imports that a walk gives. It goes on after the first, as a later one may be
+// refused.
+fn any_from<'a, 'm, 'e>(imports: FileImports<'a, 'm, 'e>, library: &str) -> ResultOf<'e, bool>
+    ensures { Answers (λ b. b) result
+        (option_map (list_any (is_from library.now)) (all_of (file_imports_left imports.entry)))
+        (IsFileImportsCause imports.entry) }
+{
+    let mut found = false;
+    'imports: for import in imports {
+        let import = import?;
+        found |= import.dll == library;
+    }
+    Ok(found)
+}

@@ -1,0 +1,31 @@
+//! Another time stamp for a file.
+
+ghost use Rattle.std.specs.Prelude.{◌≡◌, ◌⊎◌, IfErr, IfOk, IsSomeAnd, None, OnErr, Some};
+ghost use Rattle.std.specs.Prelude.{option_and_then, true};
+ghost use Rattle.goblin_pe.specs.Bytes.{overwritten};
+ghost use Rattle.goblin_pe.specs.Callers.{IsRefused};
+ghost use Rattle.goblin_pe.specs.HeaderReadings.{pe_header};
+ghost use Rattle.goblin_pe.specs.PeHeader.{header_bytes};
+ghost use Rattle.goblin_pe_caller.specs.Audits.{stamped};
+
+use goblin_pe::header::Header;
+use goblin_pe::{Endian, Result};
+
+/// Writes the header of a file, with another time stamp, to the front of `out`, and returns how many
+/// bytes it takes. Reading these gives the header with that time stamp.
+///
+/// # Errors
+/// As [`Header::parse`] and [`Header::try_into_ctx`]; `out` is then unchanged.
+pub fn stamp(file: &[u8], time: u32, out: &mut [u8]) -> Result<usize>
+    ensures again { IfOk result (λ _. IsSomeAnd ((pe_header true).value file.now)
+        (λ h. (pe_header true).value out.new ≡ Some (stamped time h))) }
+    ensures refused { IfErr result (λ e. IsRefused (pe_header true) file.now e
+        ⊎ IsSomeAnd ((pe_header true).value file.now)
+        (λ h. option_and_then (overwritten out.old 0)
+        (header_bytes Endian.Little (stamped time h)) ≡ None)) }
+    ensures kept { OnErr result (out.new ≡ out.old) }
+{
+    let mut header = Header::parse(file)?;
+    header.coff_header.time_date_stamp = time;
+    header.try_into_ctx(out, Endian::Little)
+}
