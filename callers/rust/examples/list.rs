@@ -27,9 +27,9 @@ fn heading(label: &str, part: Part, count: usize) -> String {
 }
 
 fn image(bytes: &[u8], is_permissive: bool) -> Result<String, goblin_pe::Error> {
-    let options = Options {
-        is_permissive,
-        ..Options::default()
+    let options = match is_permissive {
+        true => Options::permissive(),
+        false => Options::default(),
     };
     let pe = Pe::read(bytes, &options)?;
     let coff = pe.coff_header();

@@ -221,7 +221,7 @@ macro_rules! walks {
                 let (bytes, options) = (self.bytes, &self.options);
                 let batches = self.batches.as_mut()?;
                 if batches.is_taken() {
-                    let filled = batches.fill(FIRST, raw::$record::EMPTY, |position, records, count| {
+                    let filled = batches.fill(FIRST, raw::$record::default(), |position, records, count| {
                         $call(bytes, options, position, records, count)
                     });
                     if let Err(error) = filled {
@@ -274,7 +274,7 @@ impl<'a> Symbols<'a> {
     fn fill(&mut self) -> Result<(), Error> {
         let (bytes, header) = (self.bytes, &self.header);
         // (each call reads the whole string table)
-        self.batches.fill(BATCH, raw::NamedSymbol::EMPTY, |position, records, count| {
+        self.batches.fill(BATCH, raw::NamedSymbol::default(), |position, records, count| {
             raw::next_symbols(bytes, header, position, records, count)
         })
     }

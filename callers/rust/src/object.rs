@@ -31,7 +31,9 @@ pub struct Object<'a> {
 }
 
 impl<'a> Object<'a> {
-    /// Reads an object that lies in memory; of the options only the mode counts.
+    /// Reads an object that lies in memory; of the options only the mode counts. No machine is tested,
+    /// so a file that is no object may be read as one with sections that make no sense: ask
+    /// [`kind`](crate::kind) before.
     ///
     /// # Errors
     /// Why it was refused.
@@ -45,7 +47,7 @@ impl<'a> Object<'a> {
     pub fn read(bytes: &'a [u8], options: &Options) -> Result<Object<'a>, Error> {
         let mut object = raw::Object::default();
         Error::test(raw::read_object(bytes, options, &mut object, &mut []))?;
-        let mut sections = records(raw::Section::EMPTY, object.sections)?;
+        let mut sections = records(raw::Section::default(), object.sections)?;
         Error::test(raw::read_object(bytes, options, &mut object, &mut sections))?;
         Ok(Object {
             bytes,
