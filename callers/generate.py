@@ -434,7 +434,7 @@ def rust_files(it: Interface) -> Dict[str, str]:
     records = [r for r in it.records.values() if r.name != "Text"]
     return {
         "rust/src/records.rs": RUST_RECORDS % (
-            MADE, it.version, "\n".join(map(record, records)), "".join("            %s: %s,\n" % row for row in it.defaults),
+            MADE, it.version, "\n".join(map(record, records)), "".join("        %s: %s,\n" % row for row in it.defaults),
             "".join(facts(r.name) for r in records), "\n".join(map(call, it.calls))),
         "rust/src/numbers.rs": "//! The numbers in the library's records, by name.\n//! %s\n\n%s" % (
             MADE, "\n".join(map(enum, it.enums.values()))),
@@ -452,12 +452,10 @@ use std::mem::offset_of;
 pub const INTERFACE: u32 = %d;
 
 %s
-impl Default for Options {
-    /// Strictly, with addresses mapped by the sections from their raw pointers as stored, and imports.
-    fn default() -> Options {
-        Options {
-%s        }
-    }
+impl Options {
+    // Strictly, with addresses mapped by the sections from their raw pointers as stored, and imports.
+    pub(crate) const DEFAULT: Options = Options {
+%s    };
 }
 
 // How the records lie in memory.

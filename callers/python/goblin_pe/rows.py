@@ -132,7 +132,8 @@ class Symbol(NamedTuple):
         return _laid_out.read(kind, record) if is_there else None
 
     def aux_file(self) -> Optional[bytes]:
-        """The name of a source file in the auxiliary records of a symbol of class 103; None where it has none."""
+        """The name of a source file in the auxiliary records of a symbol of class IMAGE_SYM_CLASS_FILE; None where it has
+        none."""
         name = records.Text()
         with memoryview(self.auxiliary) as view, held(view) as (calls, address, length):
             is_there = calls.goblin_pe_raw_read_aux_file(address, length, c.byref(name))

@@ -61,7 +61,7 @@ impl<'a> Object<'a> {
     /// ```no_run
     /// # let bytes = [];
     /// let object = goblin_pe::Object::read(&bytes, &goblin_pe::Options::default())?;
-    /// let is_for_x64 = object.coff_header().machine == 0x8664;
+    /// let is_for_x64 = object.coff_header().machine == goblin_pe::constants::COFF_MACHINE_X86_64;
     /// # Ok::<(), goblin_pe::Error>(())
     /// ```
     pub fn coff_header(&self) -> &CoffHeader {

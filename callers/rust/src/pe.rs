@@ -95,7 +95,7 @@ impl<'a> Pe<'a> {
     /// ```no_run
     /// # let bytes = [];
     /// let pe = goblin_pe::Pe::read(&bytes, &goblin_pe::Options::default())?;
-    /// let is_library = pe.coff_header().characteristics & 0x2000 != 0;
+    /// let is_library = pe.coff_header().characteristics & goblin_pe::constants::IMAGE_FILE_DLL != 0;
     /// # Ok::<(), goblin_pe::Error>(())
     /// ```
     pub fn coff_header(&self) -> &CoffHeader {

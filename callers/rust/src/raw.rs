@@ -51,21 +51,21 @@ impl<'a> Slice<'a> {
 
 impl Options {
     /// Damaged parts are passed over; else as by default.
-    pub fn permissive() -> Options {
+    pub const fn permissive() -> Options {
         Options {
             is_permissive: true,
-            ..Options::default()
+            ..Options::DEFAULT
         }
     }
 
     /// The same options, with addresses mapped by the sections or not.
-    pub fn with_resolve_rva(mut self, resolve_rva: bool) -> Options {
+    pub const fn with_resolve_rva(mut self, resolve_rva: bool) -> Options {
         self.resolve_rva = resolve_rva;
         self
     }
 
     /// The same options, with raw pointers rounded down to 512 or not.
-    pub fn with_rounds_raw_pointers(mut self, rounds_raw_pointers: bool) -> Options {
+    pub const fn with_rounds_raw_pointers(mut self, rounds_raw_pointers: bool) -> Options {
         self.rounds_raw_pointers = rounds_raw_pointers;
         self
     }
@@ -78,9 +78,16 @@ impl Options {
     /// let options = Options::permissive().with_parse_imports(false);
     /// assert!(options.is_permissive && options.resolve_rva && !options.parse_imports);
     /// ```
-    pub fn with_parse_imports(mut self, parse_imports: bool) -> Options {
+    pub const fn with_parse_imports(mut self, parse_imports: bool) -> Options {
         self.parse_imports = parse_imports;
         self
+    }
+}
+
+impl Default for Options {
+    /// Strictly, with addresses mapped by the sections from their raw pointers as stored, and imports.
+    fn default() -> Options {
+        Options::DEFAULT
     }
 }
 

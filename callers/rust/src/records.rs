@@ -784,16 +784,14 @@ pub struct TeHeader {
     pub debug_dir: DataDirectory,
 }
 
-impl Default for Options {
-    /// Strictly, with addresses mapped by the sections from their raw pointers as stored, and imports.
-    fn default() -> Options {
-        Options {
-            is_permissive: false,
-            resolve_rva: true,
-            rounds_raw_pointers: false,
-            parse_imports: true,
-        }
-    }
+impl Options {
+    // Strictly, with addresses mapped by the sections from their raw pointers as stored, and imports.
+    pub(crate) const DEFAULT: Options = Options {
+        is_permissive: false,
+        resolve_rva: true,
+        rounds_raw_pointers: false,
+        parse_imports: true,
+    };
 }
 
 // How the records lie in memory.

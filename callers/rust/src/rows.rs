@@ -648,7 +648,7 @@ impl<'a> Symbol<'a> {
         raw::aux_section_definition(self.auxiliary)
     }
 
-    /// The name of a source file, of a symbol of class 103.
+    /// The name of a source file, of a symbol of class `IMAGE_SYM_CLASS_FILE`.
     ///
     /// ```no_run
     /// # let bytes = [];
