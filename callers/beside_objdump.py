@@ -29,7 +29,7 @@ ENDS = {
     "smaller than its head": (Status.MALFORMED, Cause.BLOCK_SIZE),
     "past the end": (Status.MALFORMED, Cause.BLOCK_RANGE),
     "no words at the end": (Status.MALFORMED, Cause.BLOCK_RANGE),
-    "bytes left": (Status.BAD_READ, None),
+    "bytes left": (Status.READ, None),
     # objdump begins the next block at the byte that is no word, the library after it
     "odd size": None,
 }

@@ -1,16 +1,17 @@
 """The library for callers in C and C++."""
 import functools
+import itertools
 import os
 import re
+import shutil
 import struct
-import sys
 import unittest
 
 from tests import images, programs
 from tests.programs import BY_NAME, CALLERS, CC, FLAGS, IMAGES, OBJECTS, SAMPLES, TERSE, TOP, Case, library, milliseconds, need, run, succeed, with_memory
 
 
-STRICT = ["-pedantic", "-Wcast-qual", "-Wconversion"]
+STRICT = ["-pedantic", "-Wcast-qual", "-Wconversion", "-Wshadow"]
 VALGRIND = ["valgrind", "-q", "--error-exitcode=9", "--leak-check=full"]
 SANITIZED = ("-std=c11", "-g", "-fsanitize=address,undefined", "-fno-sanitize-recover=all")
 # The calls for an image: those that fill the caller's records alone, and all.
@@ -103,17 +104,22 @@ class Programs(Case):
     def test_a_program_in_cxx_finds_the_interface_that_it_declares(self):
         need("c++")
         program = self.folder / "interface"
-        succeed(["c++", "-std=c++11", *FLAGS, *STRICT, "-o", program, CALLERS / "c/interface.cc", library() / "libgoblin_pe.a"])
-        succeed([program])
+        for compiler, standard in itertools.product(filter(shutil.which, ("c++", "g++", "clang++")), ("c++11", "c++17")):
+            with self.subTest(compiler=compiler, standard=standard):
+                flags = [f"-std={standard}", *FLAGS, *STRICT, "-Wold-style-cast"]
+                succeed([compiler, *flags, "-o", program, CALLERS / "c/interface.cc", library() / "libgoblin_pe.a"])
+                succeed([program])
+
+    def test_compilers_warn_of_nothing(self):
+        for compiler, standard in itertools.product(filter(shutil.which, ("gcc", "clang")), ("c99", "c11")):
+            for source in sorted((CALLERS / "c").glob("*.c")):
+                with self.subTest(compiler=compiler, standard=standard, source=source.name):
+                    succeed([compiler, f"-std={standard}", *FLAGS, *STRICT, "-c", "-o", self.folder / "it.o", source])
 
     def test_the_program_of_the_readme(self):
         program, = re.findall(r"(?s)```c\n(.*?)```", (TOP / "README.md").read_text("utf-8"))
         source = self.written("readme.c", README % program.encode())
         succeed([CC, "-std=c11", *FLAGS, *STRICT, "-I", library(), "-c", "-o", self.folder / "readme.o", source])
-
-    def test_the_constants_are_those_of_the_libraries(self):
-        made = succeed([sys.executable, "-c", "import constants; print(constants.header(), end='')"], cwd=CALLERS)
-        self.assertEqual((CALLERS / "c/goblin_pe_constants.h").read_text("utf-8"), made)
 
     def test_calls_answer_alike(self):
         succeed([built("calls"), *IMAGES, *OBJECTS, *TERSE])

@@ -6,6 +6,7 @@ import struct
 import tempfile
 import types
 import unittest
+import uuid
 
 from tests.images import DEFAULT_STUB, sample, with_parts
 from tests.programs import CC, SAMPLES, need, package, refusal
@@ -72,8 +73,8 @@ HEADERS = (
 REFUSED = (
     ("the magic of a ROM image", with_parts(SAMPLE, (0x58, b"\x07\x01")), BOTH, ("BAD_MAGIC", 0, 0x107, 0)),
     ("seventeen data directories", with_parts(SAMPLE, (0xB4, b"\x11")), BOTH, ("MALFORMED", "DIRECTORY_COUNT", 17, 0)),
-    ("more sections than the file has room for", with_parts(SAMPLE, (0x46, b"\x14")), BOTH, ("TOO_SHORT", "SECTIONS", 20, 0)),
-    ("sections past the end", with_parts(SAMPLE, (0x46, b"\x13")), BOTH, ("BAD_READ", "TOO_BIG", 0, 0)),
+    ("more sections than the file has room for", with_parts(SAMPLE, (0x46, b"\x14")), BOTH, ("BUFFER_TOO_SHORT", "SECTIONS", 20, 0)),
+    ("sections past the end", with_parts(SAMPLE, (0x46, b"\x13")), BOTH, ("READ", "TOO_BIG", 0, 0)),
     ("a signature past the end", short_file((0x3C, b"\x3C\xFF")), BOTH, ("MALFORMED", "NO_PE_SIGNATURE", 0xFF3C, 0)),
     ("a signature in the DOS header", SIGNATURE_AT_4, STRICT, ("MALFORMED", "STUB_BEFORE_START", 4, 0)),
 )
@@ -150,7 +151,7 @@ WRITTEN = (
 
 # Magics and image bases that are put into the header of the sample, how much room there is, and why it is not written.
 UNWRITTEN = (
-    ("a byte of room is missing", 0x10B, 0, TABLE - 1, ("BAD_READ", "TOO_BIG", 0, 0)),
+    ("a byte of room is missing", 0x10B, 0, TABLE - 1, ("READ", "TOO_BIG", 0, 0)),
     ("a field for 32 bits is too wide", 0x10B, 1 << 32, TABLE, ("MALFORMED", "FIELD_TOO_WIDE", 0, 0)),
     ("width is tested before room", 0x10B, 1 << 32, 0, ("MALFORMED", "FIELD_TOO_WIDE", 0, 0)),
     ("magic is tested before both", 0x107, 1 << 32, 0, ("BAD_MAGIC", 0, 0x107, 0)),
@@ -250,6 +251,34 @@ def written(found, room):
                       found.stub, len(found.stub), out, room, ctypes.byref(size))
     return refused, size.value, out.raw[:room]
 
+# The identifier of big objects, and that of objects that are compiled when they are linked, as they stand in a file.
+BIG_OBJECT, LATE_OBJECT = (uuid.UUID(it).bytes_le for it in ("D1BAA1C7-BAEE-4BA9-AF20-FAF66AA4DCB8", "0CB3FE38-D9A5-4DAB-AC9B-D6B6222653C2"))
+
+
+def anonymous(version, identifier=b""):
+    """What import objects and big objects begin with."""
+    return struct.pack("<3H", 0, 0xFFFF, version) + bytes(6) + identifier
+
+
+# First bytes, and what a file with these is.
+KINDS = (
+    (b"", "UNKNOWN"), (b"M", "UNKNOWN"), (b"MZ", "IMAGE"), (b"VZ", "TE"), (b"ZM", "UNKNOWN"), (b"\x64\x86", "OBJECT"),
+    (b"\x86\x64", "UNKNOWN"), (b"\0\0", "UNKNOWN"), (b"\x7FELF", "UNKNOWN"),
+    (b"!<arch>\n", "ARCHIVE"), (b"!<arch>", "UNKNOWN"), (b"!<thin>\n", "UNKNOWN"),
+    (anonymous(0), "IMPORT_OBJECT"), (anonymous(0)[:6], "IMPORT_OBJECT"), (anonymous(0)[:5], "UNKNOWN"), (bytes(6), "UNKNOWN"),
+    (b"\xFF" * 4 + bytes(16), "UNKNOWN"),
+    (anonymous(2, BIG_OBJECT), "BIG_OBJECT"), (anonymous(3, BIG_OBJECT), "BIG_OBJECT"), (anonymous(1, BIG_OBJECT), "UNKNOWN"),
+    (anonymous(2, BIG_OBJECT)[:-1], "UNKNOWN"), (anonymous(2, LATE_OBJECT), "UNKNOWN"), (anonymous(2, BIG_OBJECT[:8] + bytes(8)), "UNKNOWN"),
+    (anonymous(2, bytes(8) + BIG_OBJECT[8:]), "UNKNOWN"), (anonymous(1), "UNKNOWN"))
+
+
+class Kinds(unittest.TestCase):
+    def test_a_file_is_told_by_its_first_bytes(self):
+        for data, wanted in KINDS:
+            for rest in (b"",) if wanted == "UNKNOWN" else (b"", bytes(100)):
+                with self.subTest(data=data, rest=len(rest)):
+                    self.assertEqual(package().kind(data + rest).name, wanted)
+
 
 class Headers(unittest.TestCase):
     def test_the_parts_of_a_header_are_read(self):
@@ -289,7 +318,7 @@ class Written(unittest.TestCase):
                 found = opened(SAMPLE)
                 standard, windows = found.file.optional_header
                 changed = standard._replace(magic=magic), windows._replace(image_base=image_base)
-                found.file.optional_header = package().records.record_of(package().OptionalHeader, package().OptionalHeader(*changed))
+                found.file.optional_header = package()._laid_out.record_of(package().OptionalHeader, package().OptionalHeader(*changed))
                 self.assertEqual(written(found, room), (wanted, 7, b"\xAA" * room))
 
     def test_wide_standard_fields_keep_their_low_halves(self):

@@ -51,7 +51,7 @@ IMPORTED = [
 TWO_RECORDS = struct.pack("<6I", 0x9000, 0x1040, 0, 0, 0x1080, 0x1060)
 # Files, why strict mode refuses their imports, and those in permissive mode.
 REFUSED_IMPORTS = [
-    ("a hint without a name", sample((0x240, b"\xFE\x10")), ("BAD_READ", "BAD_OFFSET", 0, 0), [(b"a.dll", b"", 0, 0x1060, 0x10FE, 0), SEVEN]),
+    ("a hint without a name", sample((0x240, b"\xFE\x10")), ("READ", "BAD_OFFSET", 0, 0), [(b"a.dll", b"", 0, 0x1060, 0x10FE, 0), SEVEN]),
     ("a hint that is not whole", sample((0x240, b"\xFF\x10")), ("MALFORMED", "HINT_ENTRY", 0x2FF, 0), [SEVEN]),
     ("an address table that no section maps", sample((0x210, TWO_RECORDS)), ("MALFORMED", "UNMAPPED", 0x9000, 0), [GO, SEVEN]),
     ("the end after two entries, where the names would stand", packed_sample(0x248), ("MALFORMED", "HINT_ENTRY", 0x290, 0),
@@ -78,8 +78,8 @@ CUT_EXPORTS = [
 ]
 # Files that are shorter than their export tables, and why they are refused.
 SHORT_EXPORTS = [
-    ("name pointers", sample((0x2B4, b"\x01\x03"), (0x2B8, b"\x01\x03")), ("TOO_SHORT", "NAME_POINTERS", 769, 0)),
-    ("addresses", sample((0x2B4, b"\x01\x03")), ("TOO_SHORT", "ADDRESS_TABLE_ENTRIES", 769, 0)),
+    ("name pointers", sample((0x2B4, b"\x01\x03"), (0x2B8, b"\x01\x03")), ("BUFFER_TOO_SHORT", "NAME_POINTERS", 769, 0)),
+    ("addresses", sample((0x2B4, b"\x01\x03")), ("BUFFER_TOO_SHORT", "ADDRESS_TABLE_ENTRIES", 769, 0)),
 ]
 # Texts, and the library and the name or ordinal that they forward to; and texts that are no forwarders.
 FORWARDERS = [

@@ -84,7 +84,7 @@ class Crate(Case):
 
     def test_over_another_interface(self):
         need(CC, "ar")
-        names = re.findall(r"(?m)^ *(?:safe )?fn (goblin_pe_[a-z_]*)[<(]", (CALLERS / "rust/src/raw.rs").read_text("utf-8"))
+        names = re.findall(r"(?m)^ *pub (?:safe )?fn (goblin_pe_[a-z_]*)[<(]", (CALLERS / "rust/src/records.rs").read_text("utf-8"))
         source = self.written("other.c", b"".join(b"int %s(void) { return -1; }\n" % name.encode() for name in names))
         succeed([CC, "-c", "-o", self.folder / "other.o", source])
         succeed(["ar", "r", self.other / "libgoblin_pe.a", self.folder / "other.o"])

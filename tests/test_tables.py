@@ -24,7 +24,7 @@ RICH = [
     ("no second marker", [(0, b"MZ"), (0x3C, b"\x43"), (0x43, b"PE\0\0")], None, [], None),
     ("a rest that is no whole entry",
      [(0, b"MZ"), (0x3C, b"\x5C"), (0x40, b"DanS\0\0\0\0\x02\0\x03\0\x04\0\0\0\x09\x09\x09\x09Rich\0\0\0\0"), (0x5C, b"PE\0\0")],
-     (0, 4, 0x40, 0x54), [(2, 3, 4)], ("BAD_READ", "TOO_BIG", 0, 0)),
+     (0, 4, 0x40, 0x54), [(2, 3, 4)], ("READ", "TOO_BIG", 0, 0)),
 ]
 RICH_REFUSED = [
     ("the small one without its first marker", [*SMALL, (0x40, b"\x44")], ("MALFORMED", "NO_DANS", 0, 0)),
@@ -223,7 +223,7 @@ class Tables(unittest.TestCase):
     def test_no_relocations_are_read_before_the_end_and_refused_at_it(self):
         section = package().ObjectFile(relocated(b"")).sections[0]._replace(pointer_to_relocations=0)
         self.assertEqual(section.relocations(b"a"), [])
-        self.assertEqual(refusal(section.relocations, b""), ("BAD_READ", "BAD_OFFSET", 0, 0))
+        self.assertEqual(refusal(section.relocations, b""), ("READ", "BAD_OFFSET", 0, 0))
 
     def test_the_base_relocations_of_a_library_are_those_that_another_tool_shows(self):
         headers = images.image_headers(0x200, 1, 0x5000, ((5, 0x4000, len(LIBRARY)),))

@@ -27,7 +27,7 @@ static bool is_opened(size_t *imports, size_t *exports)
     struct goblin_pe_file file;
     struct goblin_pe_directory directories[16];
     struct goblin_pe_tables tables = { 0 };
-    if (goblin_pe_open(bytes, length, NULL, &file, directories, 16, &tables).status != GOBLIN_PE_OK)
+    if (goblin_pe_open(bytes, length, NULL, &file, directories, 16, &tables).status != GOBLIN_PE_STATUS_OK)
         return false;
     *imports = tables.import_count;
     *exports = tables.export_count;
@@ -41,7 +41,7 @@ static bool are_imports_walked_over(size_t *imports)
     struct goblin_pe_import records[BATCH];
     size_t count = 1;
     for (*imports = 0; count; *imports += count)
-        if (goblin_pe_next_imports(bytes, length, NULL, &position, records, BATCH, &count).status != GOBLIN_PE_OK)
+        if (goblin_pe_next_imports(bytes, length, NULL, &position, records, BATCH, &count).status != GOBLIN_PE_STATUS_OK)
             return false;
     return true;
 }
@@ -51,7 +51,7 @@ static bool are_exports_walked_over(size_t *exports)
     struct goblin_pe_export records[BATCH];
     size_t position = 0, count = 1;
     for (*exports = 0; count; *exports += count)
-        if (goblin_pe_next_exports(bytes, length, NULL, &position, records, BATCH, &count).status != GOBLIN_PE_OK)
+        if (goblin_pe_next_exports(bytes, length, NULL, &position, records, BATCH, &count).status != GOBLIN_PE_STATUS_OK)
             return false;
     return true;
 }

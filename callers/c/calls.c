@@ -27,14 +27,14 @@ static bool are_mapped(const struct goblin_pe_image *image, size_t rva)
     size_t offset = 7;
     if (!goblin_pe_find_offset(image, rva, &offset))
         return offset == 7 &&
-               is_fault(goblin_pe_bytes_at(image, rva, 0, &found), GOBLIN_PE_MALFORMED, GOBLIN_PE_CAUSE_UNMAPPED) &&
+               is_fault(goblin_pe_bytes_at(image, rva, 0, &found), GOBLIN_PE_STATUS_MALFORMED, GOBLIN_PE_CAUSE_UNMAPPED) &&
                found.length == 77;
     if (offset >= length)
-        return is_fault(goblin_pe_bytes_at(image, rva, 1, &found), GOBLIN_PE_BAD_READ, GOBLIN_PE_READ_FAULT_BAD_OFFSET) &&
+        return is_fault(goblin_pe_bytes_at(image, rva, 1, &found), GOBLIN_PE_STATUS_READ, GOBLIN_PE_READ_FAULT_BAD_OFFSET) &&
                found.length == 77;
-    return is_fault(goblin_pe_bytes_at(image, rva, length - offset + 1, &found), GOBLIN_PE_BAD_READ,
+    return is_fault(goblin_pe_bytes_at(image, rva, length - offset + 1, &found), GOBLIN_PE_STATUS_READ,
                     GOBLIN_PE_READ_FAULT_TOO_BIG) &&
-           found.length == 77 && goblin_pe_bytes_at(image, rva, length - offset, &found).status == GOBLIN_PE_OK &&
+           found.length == 77 && goblin_pe_bytes_at(image, rva, length - offset, &found).status == GOBLIN_PE_STATUS_OK &&
            found.bytes == bytes + offset && found.length == length - offset;
 }
 
@@ -47,13 +47,13 @@ static bool has_auxiliary(const struct goblin_pe_named_symbol *s)
     struct goblin_pe_aux_section_definition section;
     struct goblin_pe_text file;
     bool is_there = s->auxiliary.length >= 18;
-    return is_there == goblin_pe_aux_function_definition(s->auxiliary, &function) &&
-           is_there == goblin_pe_aux_begin_and_end_function(s->auxiliary, &begin_or_end) &&
-           is_there == goblin_pe_aux_weak_external(s->auxiliary, &weak) &&
-           is_there == goblin_pe_aux_section_definition(s->auxiliary, &section) &&
+    return is_there == goblin_pe_read_aux_function_definition(s->auxiliary, &function) &&
+           is_there == goblin_pe_read_aux_begin_and_end_function(s->auxiliary, &begin_or_end) &&
+           is_there == goblin_pe_read_aux_weak_external(s->auxiliary, &weak) &&
+           is_there == goblin_pe_read_aux_section_definition(s->auxiliary, &section) &&
            (!is_there || function.tag_index == weak.tag_index) &&
            (is_there && s->symbol.storage_class == GOBLIN_PE_IMAGE_SYM_CLASS_FILE) <=
-               goblin_pe_aux_file(s->auxiliary, &file);
+               goblin_pe_read_aux_file(s->auxiliary, &file);
 }
 
 /* Whether each symbol is read, one at a time, and has its auxiliary records. */
@@ -62,7 +62,7 @@ static bool has_symbols(const struct goblin_pe_coff_header *header)
     struct goblin_pe_named_symbol symbol;
     size_t position = 0, count = 0, next = 0;
     for (;;) {
-        if (goblin_pe_next_symbols(bytes, length, header, &position, &symbol, 1, &count).status != GOBLIN_PE_OK)
+        if (goblin_pe_next_symbols(bytes, length, header, &position, &symbol, 1, &count).status != GOBLIN_PE_STATUS_OK)
             return false;
         if (!count)
             return next == header->number_of_symbol_table || !header->pointer_to_symbol_table;
@@ -78,10 +78,10 @@ static bool has_relocations(const struct goblin_pe_section *section)
 {
     struct goblin_pe_relocation relocations[4];
     size_t count = 7;
-    if (goblin_pe_read_relocations(bytes, length, section, NULL, 0, &count).status != GOBLIN_PE_OK)
+    if (goblin_pe_read_relocations(bytes, length, section, NULL, 0, &count).status != GOBLIN_PE_STATUS_OK)
         return false;
     return count == section->number_of_relocations &&
-           goblin_pe_read_relocations(bytes, length, section, relocations, 4, &count).status == GOBLIN_PE_OK;
+           goblin_pe_read_relocations(bytes, length, section, relocations, 4, &count).status == GOBLIN_PE_STATUS_OK;
 }
 
 static bool is_object(void)
@@ -90,11 +90,11 @@ static bool is_object(void)
     const struct goblin_pe_image whole = { .bytes = { bytes, length } };
     struct goblin_pe_object object;
     struct goblin_pe_section_data data;
-    if (goblin_pe_read_object(bytes, length, NULL, &object, sections, 100).status != GOBLIN_PE_OK)
+    if (goblin_pe_read_object(bytes, length, NULL, &object, sections, 100).status != GOBLIN_PE_STATUS_OK)
         return false;
     for (size_t i = 0; i < object.sections && i < 100; i++)
         if (!has_relocations(&sections[i]) ||
-            goblin_pe_section_data(&whole, &sections[i], &data).status != GOBLIN_PE_OK ||
+            goblin_pe_read_section_data(&whole, &sections[i], &data).status != GOBLIN_PE_STATUS_OK ||
             !is_in_file(data.bytes) || !is_in_file(sections[i].real_name))
             return false;
     return object.sections == object.coff_header.number_of_sections && has_symbols(&object.coff_header);
@@ -103,10 +103,10 @@ static bool is_object(void)
 static bool is_sound(void)
 {
     struct goblin_pe_damage damage;
-    struct goblin_pe_fault fault = goblin_pe_damage(bytes, length, NULL, &damage);
-    return fault.status == GOBLIN_PE_OK && damage.dos_stub.status == GOBLIN_PE_OK &&
-           damage.section_names.status == GOBLIN_PE_OK && damage.imports.status == GOBLIN_PE_OK &&
-           damage.exports.status == GOBLIN_PE_OK && damage.relocations.status == GOBLIN_PE_OK &&
+    struct goblin_pe_fault fault = goblin_pe_read_damage(bytes, length, NULL, &damage);
+    return fault.status == GOBLIN_PE_STATUS_OK && damage.dos_stub.status == GOBLIN_PE_STATUS_OK &&
+           damage.section_names.status == GOBLIN_PE_STATUS_OK && damage.imports.status == GOBLIN_PE_STATUS_OK &&
+           damage.exports.status == GOBLIN_PE_STATUS_OK && damage.relocations.status == GOBLIN_PE_STATUS_OK &&
            !damage.left_out_libraries && !damage.left_out_entries;
 }
 
@@ -114,7 +114,7 @@ static bool is_image(void)
 {
     struct goblin_pe_file file;
     struct goblin_pe_tables tables;
-    if (!is_sound() || goblin_pe_open(bytes, length, NULL, &file, NULL, 0, &tables).status != GOBLIN_PE_OK)
+    if (!is_sound() || goblin_pe_open(bytes, length, NULL, &file, NULL, 0, &tables).status != GOBLIN_PE_STATUS_OK)
         return false;
     struct goblin_pe_image image = goblin_pe_image_of(bytes, length, NULL, &file, &tables);
     bool is_right = has_symbols(&file.coff_header) && are_mapped(&image, 0) && are_mapped(&image, SIZE_MAX);
@@ -124,7 +124,7 @@ static bool is_image(void)
     for (size_t i = 0; i < tables.import_count; i++) {
         const struct goblin_pe_import *x = &tables.imports[i];
         struct goblin_pe_text name;
-        is_right &= !x->is_by_name || (goblin_pe_text_at(&image, x->rva + 2, &name).status == GOBLIN_PE_OK &&
+        is_right &= !x->is_by_name || (goblin_pe_text_at(&image, x->rva + 2, &name).status == GOBLIN_PE_STATUS_OK &&
                                        name.bytes == x->name.bytes && name.length == x->name.length);
     }
     goblin_pe_free(&tables);
@@ -136,7 +136,7 @@ static bool is_te(void)
     struct goblin_pe_te_header header;
     struct goblin_pe_section section;
     section.number_of_relocations = 7;
-    return goblin_pe_read_te(bytes, length, &header, &section, 1).status == GOBLIN_PE_OK &&
+    return goblin_pe_read_te(bytes, length, &header, &section, 1).status == GOBLIN_PE_STATUS_OK &&
            header.number_of_sections && !section.number_of_relocations;
 }
 
@@ -145,9 +145,9 @@ static bool sets_names(void)
     struct goblin_pe_section section;
     memset(&section, 0, sizeof section);
     bool is_long = goblin_pe_set_name(&section, "ninebytes", 9);
-    bool is_zero = goblin_pe_set_name_offset(&section, 0).status == GOBLIN_PE_OK && !section.real_name.bytes;
+    bool is_zero = goblin_pe_set_name_offset(&section, 0).status == GOBLIN_PE_STATUS_OK && !section.real_name.bytes;
     bool is_set = goblin_pe_set_name(&section, ".text", 5) && !memcmp(section.name, ".text\0\0\0", 8);
-    bool is_offset = goblin_pe_set_name_offset(&section, 1234).status == GOBLIN_PE_OK;
+    bool is_offset = goblin_pe_set_name_offset(&section, 1234).status == GOBLIN_PE_STATUS_OK;
     return !is_long && is_zero && is_set && is_offset && !memcmp(section.name, "/1234\0\0\0", 8) &&
            goblin_pe_set_name_offset(&section, SIZE_MAX).cause == GOBLIN_PE_CAUSE_NAME_OFFSET && section.name[1] == '1';
 }
@@ -171,21 +171,21 @@ static bool maps_by_records_of_zeros(void)
     }
     memcpy(file + 0x634, "Apple", 5);
     fault = goblin_pe_text_at(&image, 0x4000, &text);
-    if (!is_fault(fault, GOBLIN_PE_MALFORMED, GOBLIN_PE_CAUSE_UNMAPPED) || fault.first != 0x4000 || text.length != 77)
+    if (!is_fault(fault, GOBLIN_PE_STATUS_MALFORMED, GOBLIN_PE_CAUSE_UNMAPPED) || fault.first != 0x4000 || text.length != 77)
         return false;
-    if (goblin_pe_text_at(&image, 0x2034, &text).status != GOBLIN_PE_OK || text.bytes != file + 0x634 || text.length != 5)
+    if (goblin_pe_text_at(&image, 0x2034, &text).status != GOBLIN_PE_STATUS_OK || text.bytes != file + 0x634 || text.length != 5)
         return false;
     sections[1].pointer_to_raw_data += 0x34;
     image.options.rounds_raw_pointers = true;
     return goblin_pe_find_offset(&image, 0x2034, &offset) && offset == 0x634 &&
-           goblin_pe_bytes_at(&image, 0x2034, 5, &found).status == GOBLIN_PE_OK && found.bytes == file + 0x634 &&
-           found.length == 5 && goblin_pe_section_data(&image, &sections[1], &data).status == GOBLIN_PE_OK &&
+           goblin_pe_bytes_at(&image, 0x2034, 5, &found).status == GOBLIN_PE_STATUS_OK && found.bytes == file + 0x634 &&
+           found.length == 5 && goblin_pe_read_section_data(&image, &sections[1], &data).status == GOBLIN_PE_STATUS_OK &&
            data.bytes.bytes == file + 0x600 && data.bytes.length == 0x200 && !data.zeros;
 }
 
 int main(int argc, char **argv)
 {
-    if (!sets_names() || !maps_by_records_of_zeros() || goblin_pe_kind(NULL, 0) != GOBLIN_PE_KIND_UNKNOWN)
+    if (!sets_names() || !maps_by_records_of_zeros() || goblin_pe_kind_of(NULL, 0) != GOBLIN_PE_KIND_UNKNOWN)
         return 4;
     for (int i = 1; i < argc; i++) {
         FILE *from = fopen(argv[i], "rb");
@@ -193,7 +193,7 @@ int main(int argc, char **argv)
             return 3;
         length = fread(bytes, 1, sizeof bytes, from);
         fclose(from);
-        uint32_t kind = goblin_pe_kind(bytes, length);
+        uint32_t kind = goblin_pe_kind_of(bytes, length);
         bool is_right = kind == GOBLIN_PE_KIND_IMAGE ? is_image() : kind == GOBLIN_PE_KIND_OBJECT ? is_object() : is_te();
         if (!is_right)
             return fprintf(stderr, "%s\n", argv[i]), 1;

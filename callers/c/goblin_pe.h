@@ -1,7 +1,7 @@
 /* PE files read by a proved library.
 
-   callers/build puts libgoblin_pe.a, libgoblin_pe.so, this header and goblin_pe_constants.h into callers/lib;
-   the C library is all else that a program needs:
+   callers/build puts libgoblin_pe.a, libgoblin_pe.so, this header and the two that it includes into
+   callers/lib; the C library is all else that a program needs:
 
        cc -I callers/lib -o program program.c callers/lib/libgoblin_pe.a
 
@@ -17,8 +17,7 @@
    read, has no bytes and points at the file's first.
 
    An address (rva) is relative to the image's base, an offset is a file offset, and both are in bytes.
-   Names such as IMAGE_SCN_* and COFF_MACHINE_* are those of goblin_pe_constants.h after GOBLIN_PE_; only
-   IMAGE_FILE_*, IMAGE_SUBSYSTEM_* and IMAGE_DLLCHARACTERISTICS_* are not there, but in PE Format.
+   Names such as IMAGE_SCN_* and COFF_MACHINE_* are those of goblin_pe_constants.h after GOBLIN_PE_.
 
    What a caller owes, which nothing checks:
    - The bytes are as many as the length says, and nothing changes them during the call. What is filled
@@ -36,961 +35,20 @@
    parse_imports false, and walk over the imports by goblin_pe_next_imports, with parse_imports true: it takes
    memory only for an index of more than 96 sections, and gives it back; stop when it is enough.
 
-   The fields are those of the proved records, in the same order, and so are the numbers; callers/layout.py
-   compares them. In C++ a record with the name of a call, such as goblin_pe_damage, is named with the word
-   struct. */
+   goblin_pe_records.h has the records, the numbers in them and the default options, as the proved library
+   declares them. What a later version adds to a record stands at its end. */
 #ifndef GOBLIN_PE_H
 #define GOBLIN_PE_H
 
-#include <stdbool.h>
-#include <stddef.h>
-#include <stdint.h>
 #include <stdlib.h>
 #include <string.h>
 
 #include "goblin_pe_constants.h"
+#include "goblin_pe_records.h"
 
 #ifdef __cplusplus
 extern "C" {
 #endif
-
-/* The version of this interface, which goblin_pe_interface answers. */
-#define GOBLIN_PE_INTERFACE 3
-
-/* What a file is, by its first two bytes. */
-enum goblin_pe_kind {
-    /* Neither of these. */
-    GOBLIN_PE_KIND_UNKNOWN,
-    /* An image, which begins with MZ. */
-    GOBLIN_PE_KIND_IMAGE,
-    /* An object, which begins with a machine, a COFF_MACHINE_* other than COFF_MACHINE_UNKNOWN. */
-    GOBLIN_PE_KIND_OBJECT,
-    /* A Terse Executable, which begins with VZ. */
-    GOBLIN_PE_KIND_TE
-};
-
-/* The state of a table: the file has none or it was not asked for, it was read, or it is refused and
-   was passed over. Imports are never passed over: in permissive mode they count as read, with what
-   could be read of them, perhaps nothing. goblin_pe_damage tells what that leaves out. */
-enum goblin_pe_state { GOBLIN_PE_ABSENT, GOBLIN_PE_READ, GOBLIN_PE_REFUSED };
-
-/* What an export forwards to. */
-enum goblin_pe_forwards {
-    GOBLIN_PE_NO_FORWARDER,
-    GOBLIN_PE_FORWARDS_NAME,
-    GOBLIN_PE_FORWARDS_ORDINAL
-};
-
-/* The status of a fault: what kind of refusal it is. A later version may add numbers, here and in the
-   lists below, but changes none. */
-enum goblin_pe_status {
-    /* Nothing is refused. */
-    GOBLIN_PE_OK = 0,
-    /* The bytes are not what the format says: the cause is a goblin_pe_cause. */
-    GOBLIN_PE_MALFORMED = 1,
-    /* An optional header has the magic number `first`, neither of the two that are read. */
-    GOBLIN_PE_BAD_MAGIC = 2,
-    /* The file is too short for `first` entries: the cause is a goblin_pe_counted. */
-    GOBLIN_PE_TOO_SHORT = 3,
-    /* A read at an offset was refused: the cause is a goblin_pe_read_fault. */
-    GOBLIN_PE_BAD_READ = 4,
-    /* Memory was asked for and refused. */
-    GOBLIN_PE_NO_MEMORY = 5
-};
-
-/* What is wrong with a file. `first` and `second` are those of the fault; offsets are file offsets in
-   bytes. */
-enum goblin_pe_cause {
-    /* A message of a caller's own, in Rattle alone. */
-    GOBLIN_PE_CAUSE_MESSAGE = 1,
-    /* The file is too short for the DOS signature. */
-    GOBLIN_PE_CAUSE_NO_DOS_SIGNATURE = 2,
-    /* The file begins with `first` in place of the DOS signature. */
-    GOBLIN_PE_CAUSE_DOS_MAGIC = 3,
-    /* The file is too short for the DOS header. */
-    GOBLIN_PE_CAUSE_NO_PE_POINTER = 4,
-    /* The file has no four bytes at offset `first`, where the PE signature is placed. */
-    GOBLIN_PE_CAUSE_NO_PE_SIGNATURE = 5,
-    /* `first` stands where the PE signature is placed. */
-    GOBLIN_PE_CAUSE_PE_MAGIC = 6,
-    /* The PE signature is placed at offset `first`, before 0x40, where the DOS stub begins. */
-    GOBLIN_PE_CAUSE_STUB_BEFORE_START = 7,
-    /* The DOS stub would pass the file's `first` bytes: it would end at offset `second`. */
-    GOBLIN_PE_CAUSE_STUB_PAST_END = 8,
-    /* The DOS stub has the marker Rich with a key, but under that key no marker DanS. */
-    GOBLIN_PE_CAUSE_NO_DANS = 9,
-    /* The data of the Rich header would begin at `first` and end at `second`, not after it, in
-       bytes counted from offset 0x40. */
-    GOBLIN_PE_CAUSE_RICH_BOUNDS = 10,
-    /* The header of a Terse Executable says that `first` bytes were stripped, fewer than its own
-       40. */
-    GOBLIN_PE_CAUSE_STRIPPED_SIZE = 11,
-    /* The length of a string table is below 4, the size of the field that says it. */
-    GOBLIN_PE_CAUSE_COFF_LENGTH = 12,
-    /* No kind of data directory has the index `first`. */
-    GOBLIN_PE_CAUSE_DIRECTORY_INDEX = 13,
-    /* There are `first` data directories, more than sixteen. */
-    GOBLIN_PE_CAUSE_DIRECTORY_COUNT = 14,
-    /* The bytes after the slash of a section's indirect name are not UTF-8. */
-    GOBLIN_PE_CAUSE_NAME_TEXT = 15,
-    /* A section's indirect name has a character that is no digit of base 64. */
-    GOBLIN_PE_CAUSE_NAME_BASE64 = 16,
-    /* A section's name has no decimal number after its slash. */
-    GOBLIN_PE_CAUSE_NAME_DECIMAL = 17,
-    /* No section name can hold `first`, an offset in a string table. */
-    GOBLIN_PE_CAUSE_NAME_OFFSET = 18,
-    /* A symbol's name: no text stands at offset `first` of the string table, or the stored number is
-       `first`, below 4. */
-    GOBLIN_PE_CAUSE_SYMBOL_NAME = 19,
-    /* A string table at offset `first`, of `second` bytes, would pass the file. */
-    GOBLIN_PE_CAUSE_STRING_TABLE = 20,
-    /* A Windows field of 64 bits has a value that does not fit 32. */
-    GOBLIN_PE_CAUSE_FIELD_TOO_WIDE = 21,
-    /* The address `first` has no file offset. */
-    GOBLIN_PE_CAUSE_UNMAPPED = 22,
-    /* No text stands at offset `first`, to which the address of a name is mapped. */
-    GOBLIN_PE_CAUSE_NAME_READ = 23,
-    /* The two bytes of a hint would pass the file at offset `first`. */
-    GOBLIN_PE_CAUSE_HINT_ENTRY = 24,
-    /* A lookup table of imports meets the file's end at offset `first`, before its last entry. */
-    GOBLIN_PE_CAUSE_LOOKUP_END = 25,
-    /* An import directory meets the file's end at offset `first`, before its last record. */
-    GOBLIN_PE_CAUSE_IMPORT_RECORD_END = 26,
-    /* An export directory's record would pass the file at offset `first`. */
-    GOBLIN_PE_CAUSE_EXPORT_TABLE = 27,
-    /* A forwarder's text has no dot, or nothing after its first dot. */
-    GOBLIN_PE_CAUSE_FORWARDER = 28,
-    /* A forwarder's text has no decimal number below 2^32 after its #. */
-    GOBLIN_PE_CAUSE_FORWARDER_ORDINAL = 29,
-    /* A base relocation directory at offset `first`, of `second` bytes, would pass the file, or
-       begins at or past its end. */
-    GOBLIN_PE_CAUSE_RELOC_RANGE = 30,
-    /* A base relocation block says that it has `first` bytes, below the 8 of its own head. */
-    GOBLIN_PE_CAUSE_BLOCK_SIZE = 31,
-    /* The words of a base relocation block, `second` bytes at `first` from the directory's front,
-       would pass the directory, or begin at its end. */
-    GOBLIN_PE_CAUSE_BLOCK_RANGE = 32,
-    /* A sum or a product of offsets passes 64 bits. */
-    GOBLIN_PE_CAUSE_OVERFLOW = 33,
-    /* A library of imports made by hand has `first` entries, but `second` slots. */
-    GOBLIN_PE_CAUSE_SLOT_COUNT = 34
-};
-
-/* What a file is too short for. */
-enum goblin_pe_counted {
-    /* Something else, which the text calls entries. */
-    GOBLIN_PE_COUNTED_OTHER = 0,
-    /* Section records. */
-    GOBLIN_PE_COUNTED_SECTIONS = 1,
-    /* Entries of the export name pointer table. */
-    GOBLIN_PE_COUNTED_NAME_POINTERS = 2,
-    /* Entries of the export address table. */
-    GOBLIN_PE_COUNTED_ADDRESS_TABLE_ENTRIES = 3
-};
-
-/* Why a read was refused. */
-enum goblin_pe_read_fault {
-    /* It begins at or past the end. */
-    GOBLIN_PE_READ_FAULT_BAD_OFFSET = 1,
-    /* There are not enough bytes from there on. */
-    GOBLIN_PE_READ_FAULT_TOO_BIG = 2,
-    /* The bytes are not UTF-8. */
-    GOBLIN_PE_READ_FAULT_BAD_INPUT = 3
-};
-
-/* The kinds of data directories, by their indexes; the sixteenth is reserved and has no kind. */
-enum goblin_pe_directory_type {
-    GOBLIN_PE_DIRECTORY_EXPORT_TABLE = 0,
-    GOBLIN_PE_DIRECTORY_IMPORT_TABLE = 1,
-    GOBLIN_PE_DIRECTORY_RESOURCE_TABLE = 2,
-    GOBLIN_PE_DIRECTORY_EXCEPTION_TABLE = 3,
-    GOBLIN_PE_DIRECTORY_CERTIFICATE_TABLE = 4,
-    GOBLIN_PE_DIRECTORY_BASE_RELOCATION_TABLE = 5,
-    GOBLIN_PE_DIRECTORY_DEBUG_TABLE = 6,
-    GOBLIN_PE_DIRECTORY_ARCHITECTURE = 7,
-    GOBLIN_PE_DIRECTORY_GLOBAL_PTR = 8,
-    GOBLIN_PE_DIRECTORY_TLS_TABLE = 9,
-    GOBLIN_PE_DIRECTORY_LOAD_CONFIG_TABLE = 10,
-    GOBLIN_PE_DIRECTORY_BOUND_IMPORT_TABLE = 11,
-    GOBLIN_PE_DIRECTORY_IMPORT_ADDRESS_TABLE = 12,
-    GOBLIN_PE_DIRECTORY_DELAY_IMPORT_DESCRIPTOR = 13,
-    GOBLIN_PE_DIRECTORY_CLR_RUNTIME_HEADER = 14
-};
-
-/* Bytes of the file; not ended by a NUL. */
-struct goblin_pe_text {
-    const uint8_t *bytes;
-    size_t length;
-};
-
-/* What a call does and leaves out. */
-struct goblin_pe_options {
-    /* Whether damaged parts are passed over. */
-    bool is_permissive;
-    /* Whether an address is mapped to a file offset by the sections; where not, it is the
-       offset. */
-    bool resolve_rva;
-    /* Whether the raw pointer of a section is rounded down to 512, as the Windows loader does, for
-       addresses and for its data; where not, it is taken as stored. */
-    bool rounds_raw_pointers;
-    /* Whether the imports are read; where not, their table is absent. */
-    bool parse_imports;
-};
-
-/* Why a call gave no value, in numbers; the status 0 is that it gave one. */
-struct goblin_pe_fault {
-    /* What kind of refusal it is: a goblin_pe_status. */
-    uint32_t status;
-    /* By the status a goblin_pe_cause, a goblin_pe_read_fault or a goblin_pe_counted; else 0. */
-    uint32_t cause;
-    /* The first number of the cause, else 0. */
-    uint64_t first;
-    /* The second number of the cause, else 0. */
-    uint64_t second;
-};
-
-/* The header of a DOS program, which a PE file begins with.
-
-   Source: PE Format, "MS-DOS Stub (Image Only)"; the fields are those of a DOS executable.
-   Numbers are as stored, little-endian in a file; the record has 64 bytes, and `at` gives a
-   field's file offset. A loader of PE files looks only at the signature and the pointer. */
-struct goblin_pe_dos_header {
-    /* MZ, at 0x00. */
-    uint16_t signature;
-    /* How many bytes of the last page are used, at 0x02. */
-    uint16_t bytes_on_last_page;
-    /* How many pages of 512 bytes the program has, at 0x04. */
-    uint16_t pages_in_file;
-    /* How many relocations there are, at 0x06. */
-    uint16_t relocations;
-    /* The size of the header in paragraphs of 16 bytes, at 0x08. */
-    uint16_t size_of_header_in_paragraphs;
-    /* The least memory that the program needs after it, in paragraphs, at 0x0A. */
-    uint16_t minimum_extra_paragraphs_needed;
-    /* The most memory that the program asks for after it, in paragraphs, at 0x0C. */
-    uint16_t maximum_extra_paragraphs_needed;
-    /* The stack segment at the start, relative to the program, at 0x0E. */
-    uint16_t initial_relative_ss;
-    /* The stack pointer at the start, at 0x10. */
-    uint16_t initial_sp;
-    /* The checksum, at 0x12. */
-    uint16_t checksum;
-    /* The instruction pointer at the start, at 0x14. */
-    uint16_t initial_ip;
-    /* The code segment at the start, relative to the program, at 0x16. */
-    uint16_t initial_relative_cs;
-    /* The file offset of the relocations, at 0x18. */
-    uint16_t file_address_of_relocation_table;
-    /* The overlay's number, at 0x1A. */
-    uint16_t overlay_number;
-    /* Reserved, at 0x1C. */
-    uint16_t reserved[4];
-    /* The maker's identifier, at 0x24. */
-    uint16_t oem_id;
-    /* What the maker says, at 0x26. */
-    uint16_t oem_info;
-    /* Reserved, at 0x28. */
-    uint16_t reserved2[10];
-    /* The file offset of the PE signature, at 0x3C. It may lie anywhere in the file, even inside
-       the DOS header, and need not be aligned; a whole header is read in strict mode only where
-       this is at least 0x40. */
-    uint32_t pe_pointer;
-};
-
-/* The header of a COFF file, or of the COFF part of an image.
-
-   Source: PE Format, "COFF File Header (Object and Image)". Numbers are as stored; the record
-   has 20 bytes, and `at` gives a field's offset in it. An object begins with it; in an image it
-   follows the PE signature. */
-struct goblin_pe_coff_header {
-    /* The machine that the file is for, a COFF_MACHINE_*, at 0. No reader looks at it: the width
-       of an image is what the magic of its optional header says. */
-    uint16_t machine;
-    /* How many section records follow the optional header, at 2. The Windows loader takes at
-       most 96. */
-    uint16_t number_of_sections;
-    /* When the file was made, in seconds since the start of 1970, at 4; or what its maker put
-       there, such as a hash. */
-    uint32_t time_date_stamp;
-    /* The file offset of the symbol table, at 8; 0 where there is none, as in most images. The
-       string table follows the symbol table. */
-    uint32_t pointer_to_symbol_table;
-    /* How many records the symbol table has, the auxiliary ones too, at 12. */
-    uint32_t number_of_symbol_table;
-    /* The size of the optional header, in bytes, at 16; 0 where there is none, as in an object.
-       Only this says where the section table begins; it says nothing about the optional header's
-       own layout. */
-    uint16_t size_of_optional_header;
-    /* What kind of file it is, as bits IMAGE_FILE_* (PE Format, "Characteristics"), at 18. */
-    uint16_t characteristics;
-};
-
-/* The standard fields of an optional header of either width.
-
-   Source: PE Format, "Optional Header Standard Fields (Image Only)". `at` gives a field's offset
-   from the front of the optional header, in both widths. */
-struct goblin_pe_standard_fields {
-    /* What the optional header is, at 0: 0x10b or 0x20b. Only this says the width of the header
-       and of import entries. */
-    uint16_t magic;
-    /* The linker's major version, at 2. */
-    uint8_t major_linker_version;
-    /* The linker's minor version, at 3. */
-    uint8_t minor_linker_version;
-    /* The size of the code, in bytes, at 4: the sum of all code sections. */
-    uint64_t size_of_code;
-    /* The size of the initialized data, in bytes, at 8: the sum of all such sections. */
-    uint64_t size_of_initialized_data;
-    /* The size of the uninitialized data, in bytes, at 12: the sum of all such sections. */
-    uint64_t size_of_uninitialized_data;
-    /* The address of the entry point, relative to the image's base, at 16; 0 where there is
-       none, as in some libraries. The loader starts there, in whatever section it lies. */
-    uint32_t address_of_entry_point;
-    /* The address at which the code begins, relative to the image's base, at 20. */
-    uint64_t base_of_code;
-    /* The address at which the data begins, relative to the image's base, at 24 in an image for
-       32 bits; 0 in one for 64 bits. */
-    uint32_t base_of_data;
-};
-
-/* The Windows fields of an optional header for 64 bits.
-
-   Source: PE Format, "Optional Header Windows-Specific Fields (Image Only)". Numbers are as
-   stored; the record has 88 bytes, and `at` gives a field's offset in it. It begins at 24 in the
-   optional header. */
-struct goblin_pe_windows_fields {
-    /* The address at which the image is best loaded, a multiple of 64 KiB, at 0. Where the
-       loader takes another, it applies the base relocations. */
-    uint64_t image_base;
-    /* The alignment of sections in memory, in bytes, at 8: at least the file alignment, mostly a
-       page. */
-    uint32_t section_alignment;
-    /* The alignment of the raw data of sections in the file, in bytes, at 12: a power of two,
-       mostly 512. The mapping of addresses to file offsets goes by it. */
-    uint32_t file_alignment;
-    /* The major version of the system that the image needs, at 16. */
-    uint16_t major_operating_system_version;
-    /* The minor version of the system that the image needs, at 18. */
-    uint16_t minor_operating_system_version;
-    /* The image's major version, at 20. */
-    uint16_t major_image_version;
-    /* The image's minor version, at 22. */
-    uint16_t minor_image_version;
-    /* The major version of the subsystem that the image needs, at 24. */
-    uint16_t major_subsystem_version;
-    /* The minor version of the subsystem that the image needs, at 26. */
-    uint16_t minor_subsystem_version;
-    /* Reserved, 0, at 28. */
-    uint32_t win32_version_value;
-    /* The size of the image in memory with all headers, in bytes, at 32: how much the loader
-       reserves, a multiple of the section alignment. */
-    uint32_t size_of_image;
-    /* The size of all headers together, in bytes, rounded up to the file alignment, at 36. The
-       loader maps this much of the file's front at the image's base. */
-    uint32_t size_of_headers;
-    /* The image's checksum, at 40. The loader tests that of drivers and of what is loaded at
-       boot; no reader does. */
-    uint32_t check_sum;
-    /* The subsystem that runs the image, an IMAGE_SUBSYSTEM_* (PE Format, "Windows Subsystem"),
-       at 44. */
-    uint16_t subsystem;
-    /* What the loader may and has to do, as bits IMAGE_DLLCHARACTERISTICS_* (PE Format, "DLL
-       Characteristics"), at 46: whether it may move the image, and which guards it turns on. */
-    uint16_t dll_characteristics;
-    /* How much of the stack to reserve, in bytes, at 48. */
-    uint64_t size_of_stack_reserve;
-    /* How much of the stack to commit, in bytes, at 56; the rest follows page by page. */
-    uint64_t size_of_stack_commit;
-    /* How much of the heap to reserve, in bytes, at 64. */
-    uint64_t size_of_heap_reserve;
-    /* How much of the heap to commit, in bytes, at 72; the rest follows page by page. */
-    uint64_t size_of_heap_commit;
-    /* Reserved, 0, at 80. */
-    uint32_t loader_flags;
-    /* How many data directories follow, at 84. Readers take at most sixteen; directories past
-       this number are not there, whatever bytes follow. */
-    uint32_t number_of_rva_and_sizes;
-};
-
-/* The optional header without its data directories; zeros where there is none. */
-struct goblin_pe_optional_header {
-    /* The standard fields, whose magic is 0 where there is no optional header. */
-    struct goblin_pe_standard_fields standard_fields;
-    /* The Windows fields; of an image for 32 bits as they are of one for 64 bits. */
-    struct goblin_pe_windows_fields windows_fields;
-};
-
-/* Where a table of an image lies.
-
-   Source: PE Format, "Optional Header Data Directories (Image Only)". Numbers are as stored; the
-   record has 8 bytes, and `at` gives a field's offset in it. */
-struct goblin_pe_data_directory {
-    /* The table's address, relative to the image's base, at 0. That of the certificates is a
-       file offset, since they are not loaded. */
-    uint32_t virtual_address;
-    /* The table's size in bytes, at 4. An import directory ends at its own last record, and a
-       value at an address by its own type, whatever the size; of an export directory the size
-       says which addresses are forwarders, of base relocations where the blocks end. */
-    uint32_t size;
-};
-
-/* An entry of the table of data directories. */
-struct goblin_pe_directory {
-    /* Where the entry's record ends, in bytes from the front of the optional header; 0 where
-       there is no entry. */
-    size_t end;
-    /* Where what it leads to lies; zeros where there is no entry. */
-    struct goblin_pe_data_directory directory;
-    /* Whether there is such an entry, and not all of it is 0. */
-    bool is_present;
-};
-
-/* The header of a Terse Executable.
-
-   Source: UEFI Platform Initialization Specification, volume 1, "TE Image". Numbers are as
-   stored, but for the four that goblin_pe_read_te adjusts; the record has 40 bytes, and `at`
-   gives a field's offset in it. It replaces the headers of a PE file and keeps what a loader of
-   firmware needs of them; its addresses still count the bytes that were stripped. */
-struct goblin_pe_te_header {
-    /* VZ, at 0. No reader tests it. */
-    uint16_t signature;
-    /* The machine that the file is for, a COFF_MACHINE_*, at 2. */
-    uint16_t machine;
-    /* How many section records follow, at 4. */
-    uint8_t number_of_sections;
-    /* The subsystem that runs the image, at 5. */
-    uint8_t subsystem;
-    /* How many bytes were stripped from the front of the PE file, at 6. This header replaces
-       them, so everything after it moved forward by this minus 40. */
-    uint16_t stripped_size;
-    /* The address of the entry point, relative to the image's base, at 8; in a header that was
-       parsed, adjusted. */
-    uint32_t entry_point;
-    /* The address at which the code begins, relative to the image's base, at 12; in a header
-       that was parsed, adjusted. */
-    uint32_t base_of_code;
-    /* The address at which the image is best loaded, at 16; as stored. */
-    uint64_t image_base;
-    /* Where the base relocations lie, at 24; in a header that was parsed, with the address
-       adjusted. */
-    struct goblin_pe_data_directory reloc_dir;
-    /* Where the debug data lies, at 32; in a header that was parsed, with the address adjusted. */
-    struct goblin_pe_data_directory debug_dir;
-};
-
-/* An entry of a Rich header: a tool, and how often it was used.
-
-   Source: not documented by Microsoft; the layout is what linkers write. Numbers are as stored;
-   the record has 8 bytes, and `at` gives a field's offset in it. In a file its two words are
-   stored under the header's key. */
-struct goblin_pe_rich_metadata {
-    /* The build of the tool, at 0. */
-    uint16_t build;
-    /* Which tool it is, at 2. */
-    uint16_t product;
-    /* How many files it made, at 4. */
-    uint32_t use_count;
-};
-
-/* The Rich header; zeros where there is none. */
-struct goblin_pe_rich_header {
-    /* How many entries there are. */
-    size_t entries;
-    /* The size of the padding before the entries, in bytes. */
-    size_t padding_size;
-    /* Why the rest that follows the entries is no entry; its status is 0 where there is no rest. */
-    struct goblin_pe_fault rest;
-    /* The key, with which each stored word is the exclusive or. */
-    uint32_t key;
-    /* The file offset of the first marker, `DanS` under the key. */
-    uint32_t start_offset;
-    /* The file offset of the second marker, `Rich`. */
-    uint32_t end_offset;
-    /* Whether there is a Rich header. */
-    bool is_present;
-};
-
-/* A section, as its record describes it.
-
-   Source: PE Format, "Section Table (Section Headers)". */
-struct goblin_pe_section {
-    /* The name from the string table, where there is one; a name of more than eight bytes stands
-       there. */
-    struct goblin_pe_text real_name;
-    /* The eight bytes of the name, padded with NULs. */
-    uint8_t name[8];
-    /* The section's size in memory, in bytes: what the raw data lacks of it is zeros. */
-    uint32_t virtual_size;
-    /* The section's address in memory, relative to the image's base. */
-    uint32_t virtual_address;
-    /* The size of the section's data in the file, in bytes; in an image rounded up, so it may be
-       above the virtual size. */
-    uint32_t size_of_raw_data;
-    /* The file offset of the section's data, as stored. */
-    uint32_t pointer_to_raw_data;
-    /* The file offset of the section's relocations, 0 where it has none. */
-    uint32_t pointer_to_relocations;
-    /* The file offset of the section's line numbers, 0 where it has none. */
-    uint32_t pointer_to_linenumbers;
-    /* How many relocations the section has, as its record says. */
-    uint16_t number_of_relocations;
-    /* How many line numbers the section has. */
-    uint16_t number_of_linenumbers;
-    /* What the section holds and how it may be used, as bits IMAGE_SCN_*; the loader protects
-       its pages by them. */
-    uint32_t characteristics;
-    /* Whether the section has a name from the string table. */
-    bool has_real_name;
-};
-
-/* An import. */
-struct goblin_pe_import {
-    /* The name that is imported, where the import is by name. */
-    struct goblin_pe_text name;
-    /* The name of the library; empty where permissive mode could not read it. */
-    struct goblin_pe_text dll;
-    /* The address (not the file offset) of its own entry in the address table, where the loader
-       puts the address of what is imported. */
-    size_t slot_rva;
-    /* The address of the hint and the name; 0 of an import by ordinal. */
-    size_t rva;
-    /* The index of its entry, in the file, in the lookup table and in the address table. Entries
-       that are left out count. */
-    size_t slot;
-    /* The ordinal; of an import by name, the hint, at which index of the library's names the
-       loader looks first. */
-    uint16_t ordinal;
-    /* Whether the import is by name. */
-    bool is_by_name;
-    /* Zero. With `reserved2` it stands where padding would be, so that each byte of the record is
-       defined. */
-    uint8_t reserved;
-    /* Zero. */
-    uint32_t reserved2;
-};
-
-/* Where a walk over imports goes on; zeros are the beginning. It may be kept, and copied. */
-struct goblin_pe_import_position {
-    /* The file offset of a library's record; SIZE_MAX once the end has been reached, also of a file
-       without imports. */
-    size_t record;
-    /* The file offset of the slot that is read next, or 0 before the library's first. */
-    size_t slot;
-};
-
-/* An export. */
-struct goblin_pe_export {
-    /* The export's name, where it can be read. */
-    struct goblin_pe_text name;
-    /* Of a forwarder the library, without its ending. */
-    struct goblin_pe_text forward_lib;
-    /* Of a forwarder by name the name in that library. */
-    struct goblin_pe_text forward_name;
-    /* Of a forwarder by ordinal the ordinal in that library. */
-    size_t forward_ordinal;
-    /* Its own ordinal: the index of its address, and the ordinal base added. */
-    size_t ordinal;
-    /* The index of its name pointer: what imports by name give as a hint. */
-    size_t hint;
-    /* The file offset of `rva`, where it has one; else 0. Where the options say that addresses
-       are offsets, `rva` itself. */
-    size_t offset;
-    /* The export's address, relative to the image's base; of a forwarder that of its text. */
-    size_t rva;
-    /* Whether the name can be read. */
-    bool has_name;
-    /* Whether `rva` has a file offset: a section maps it and the file alignment is a power of
-       two, or the options say that addresses are offsets. */
-    bool has_offset;
-    /* What it forwards to: a goblin_pe_forwards. */
-    uint8_t forwards;
-    /* Zero. With `reserved2` it stands where padding would be, so that each byte of the record is
-       defined. */
-    uint8_t reserved;
-    /* Zero. */
-    uint32_t reserved2;
-};
-
-/* An entry of the export address table. Its index and the ordinal base are the ordinal that it
-   stands for. */
-struct goblin_pe_export_address {
-    /* The address, relative to the image's base; of a forwarder that of its text; 0 where the
-       ordinal is not used. */
-    uint32_t rva;
-    /* Whether it is a forwarder: its address lies in the export directory. */
-    bool forwards;
-};
-
-/* The record that an image's exports begin with.
-
-   Source: PE Format, "Export Directory Table". Numbers are as stored; the record has 40 bytes,
-   and `at` gives a field's offset in it. Addresses are relative to the image's base. */
-struct goblin_pe_export_directory_table {
-    /* Reserved, 0, at 0. */
-    uint32_t export_flags;
-    /* When the exports were made, in seconds since the start of 1970, at 4. */
-    uint32_t time_date_stamp;
-    /* The major version, at 8. It is the maker's own. */
-    uint16_t major_version;
-    /* The minor version, at 10. */
-    uint16_t minor_version;
-    /* The address of the library's name, at 12. */
-    uint32_t name_rva;
-    /* The ordinal of the first entry of the address table, at 16; mostly 1. It is added to an
-       index to make an ordinal, and counts in no table. */
-    uint32_t ordinal_base;
-    /* How many entries the address table has, at 20. */
-    uint32_t address_table_entries;
-    /* How many entries the name pointer table has, and as many has the ordinal table, at 24. */
-    uint32_t number_of_name_pointers;
-    /* The address of the address table, at 28. */
-    uint32_t export_address_table_rva;
-    /* The address of the name pointer table, at 32. */
-    uint32_t name_pointer_rva;
-    /* The address of the ordinal table, at 36. */
-    uint32_t ordinal_table_rva;
-};
-
-/* What the export directory says of the library; zeros where the exports are not read. */
-struct goblin_pe_export_directory {
-    /* The library's own name, as it was linked, where there is a text at its address. */
-    struct goblin_pe_text name;
-    /* The record itself. */
-    struct goblin_pe_export_directory_table table;
-    /* Whether there is a text at the name's address. */
-    bool has_name;
-};
-
-/* A block of base relocations, for one page of the image in memory.
-
-   Source: PE Format, "Base Relocation Block". */
-struct goblin_pe_block {
-    /* The words, of two bytes each: the type, an IMAGE_REL_BASED_*, in the high four bits, and
-       in the low twelve the offset in the page, in bytes. A byte that is left is no word. */
-    struct goblin_pe_text words;
-    /* The page's address, relative to the image's base, to which each offset is added. */
-    uint32_t rva;
-    /* The size of the block with its head, in bytes. */
-    uint32_t size;
-};
-
-/* A table of the file. */
-struct goblin_pe_table {
-    /* How many entries it has, whatever the room. */
-    size_t count;
-    /* Whether it was read: a goblin_pe_state. */
-    uint32_t state;
-};
-
-/* The base relocations. */
-struct goblin_pe_base_relocations {
-    /* The blocks. */
-    struct goblin_pe_table blocks;
-    /* Why the rest that follows the blocks is no block; its status is 0 where there is no rest. */
-    struct goblin_pe_fault rest;
-};
-
-/* The file as a whole. */
-struct goblin_pe_file {
-    /* The optional header. */
-    struct goblin_pe_optional_header optional_header;
-    /* How many data directories there are, whatever the room: sixteen, or none where there is no
-       optional header. Records past them are not filled. */
-    size_t directories;
-    /* How many sections there are. */
-    size_t sections;
-    /* The imports. */
-    struct goblin_pe_table imports;
-    /* The exports. */
-    struct goblin_pe_table exports;
-    /* The base relocations. */
-    struct goblin_pe_base_relocations relocations;
-    /* The Rich header. */
-    struct goblin_pe_rich_header rich_header;
-    /* The DOS header. */
-    struct goblin_pe_dos_header dos_header;
-    /* The COFF header. */
-    struct goblin_pe_coff_header coff_header;
-};
-
-/* An object as a whole. */
-struct goblin_pe_object {
-    /* How many sections there are, whatever the room. */
-    size_t sections;
-    /* The COFF header. */
-    struct goblin_pe_coff_header coff_header;
-};
-
-/* The tables of an image. Each that is not empty is a block of memory of its own, and the texts
-   in it are in the file's bytes. */
-struct goblin_pe_tables {
-    /* The entries of the Rich header. */
-    const struct goblin_pe_rich_metadata *rich_entries;
-    size_t rich_entry_count;
-    /* The sections. */
-    const struct goblin_pe_section *sections;
-    size_t section_count;
-    /* The imports. */
-    const struct goblin_pe_import *imports;
-    size_t import_count;
-    /* The exports, in the order of their name pointers. */
-    const struct goblin_pe_export *exports;
-    size_t export_count;
-    /* The entries of the export address table: that at index i has the ordinal i plus the
-       ordinal base. */
-    const struct goblin_pe_export_address *export_addresses;
-    size_t export_address_count;
-    /* The blocks of base relocations. */
-    const struct goblin_pe_block *blocks;
-    size_t block_count;
-    /* What the export directory says; zeros where the exports are not read. */
-    struct goblin_pe_export_directory export_directory;
-    /* The DOS stub, which goblin_pe_write_header takes: bytes of the file, or where permissive
-       mode could not read them a stub of the library's own. It is never freed. */
-    struct goblin_pe_text dos_stub;
-};
-
-/* A symbol, as its record describes it.
-
-   Source: PE Format, "COFF Symbol Table". Numbers are as stored; a record has 18 bytes, and `at`
-   gives a field's offset in it. */
-struct goblin_pe_symbol {
-    /* The eight bytes of the name, padded with NULs, at 0. Where the first is 0, the name is in
-       the string table, at the number in the last four, which counts from the table's length
-       field. */
-    uint8_t name[8];
-    /* What the symbol stands for, by its section and class, at 8: mostly an offset in its
-       section, in bytes. */
-    uint32_t value;
-    /* The number of its section, counted from 1, at 12; or IMAGE_SYM_UNDEFINED (0),
-       IMAGE_SYM_ABSOLUTE (-1) or IMAGE_SYM_DEBUG (-2). */
-    int16_t section_number;
-    /* Its type, at 14: an IMAGE_SYM_TYPE_* in the low four bits, an IMAGE_SYM_DTYPE_* above
-       them. Microsoft's tools store 0x20 of a function, else 0. */
-    uint16_t typ;
-    /* Its class, an IMAGE_SYM_CLASS_*, at 16. */
-    uint8_t storage_class;
-    /* How many auxiliary records follow it, at 17. The next symbol follows these. */
-    uint8_t number_of_aux_symbols;
-};
-
-/* A symbol with its name and the bytes of its auxiliary records. */
-struct goblin_pe_named_symbol {
-    /* The name, from the record or the string table, where it can be read. */
-    struct goblin_pe_text name;
-    /* The records that follow it and say more, 18 bytes each: as many as it says, or fewer where
-       the table ends before. */
-    struct goblin_pe_text auxiliary;
-    /* The index of its record in the symbol table, which also counts auxiliary records. */
-    size_t index;
-    /* The symbol, as its record describes it. */
-    struct goblin_pe_symbol symbol;
-    /* Whether the name can be read. */
-    bool has_name;
-};
-
-/* What follows a symbol that defines a function.
-
-   Source: PE Format, "Auxiliary Format 1: Function Definitions". Numbers are as stored; the
-   record has 18 bytes, and `at` gives a field's offset in it. */
-struct goblin_pe_aux_function_definition {
-    /* The index in the symbol table of the function's start, a record of class
-       IMAGE_SYM_CLASS_FUNCTION, at 0. */
-    uint32_t tag_index;
-    /* The size of the function's code, in bytes, at 4. */
-    uint32_t total_size;
-    /* The file offset of the function's first line number, at 8; 0 where it has none. */
-    uint32_t pointer_to_line_number;
-    /* The index in the symbol table of the next function's record, at 12; 0 where this is the
-       last. */
-    uint32_t pointer_to_next_function;
-    /* Not used, at 16. */
-    uint8_t unused[2];
-};
-
-/* What follows a symbol of a function's start or end.
-
-   Source: PE Format, "Auxiliary Format 2: .bf and .ef Symbols". Numbers are as stored; the
-   record has 18 bytes, and `at` gives a field's offset in it. */
-struct goblin_pe_aux_begin_and_end_function {
-    /* Not used, at 0. */
-    uint8_t unused1[4];
-    /* The line in the source file, counted from 1, at 4. */
-    uint16_t line_number;
-    /* Not used, at 6. */
-    uint8_t unused2[6];
-    /* At 12, only for a start: the index in the symbol table of the next function's start, 0
-       where this is the last. */
-    uint32_t pointer_to_next_function;
-    /* Not used, at 16. */
-    uint8_t unused3[2];
-};
-
-/* What follows a symbol that another may replace.
-
-   Source: PE Format, "Auxiliary Format 3: Weak Externals". Numbers are as stored; the record has
-   18 bytes, and `at` gives a field's offset in it. */
-struct goblin_pe_aux_weak_external {
-    /* The index in the symbol table of the symbol that is taken where this one is not found, at
-       0. */
-    uint32_t tag_index;
-    /* Where this one is looked for, an IMAGE_WEAK_EXTERN_SEARCH_*, at 4. */
-    uint32_t characteristics;
-    /* Not used, at 8. */
-    uint8_t unused[10];
-};
-
-/* What follows a symbol that defines a section.
-
-   Source: PE Format, "Auxiliary Format 5: Section Definitions". Numbers are as stored; the
-   record has 18 bytes, and `at` gives a field's offset in it. */
-struct goblin_pe_aux_section_definition {
-    /* The size of the section's data, in bytes, at 0: the same as in its section record. */
-    uint32_t length;
-    /* How many relocations the section has, at 4. */
-    uint16_t number_of_relocations;
-    /* How many line numbers the section has, at 6. */
-    uint16_t number_of_line_numbers;
-    /* The checksum of COMDAT data, at 8. */
-    uint32_t checksum;
-    /* The number, counted from 1, of the section that this one is taken with, at 12; it counts
-       if `selection` is IMAGE_COMDAT_SELECT_ASSOCIATIVE. */
-    uint16_t number;
-    /* Which of several COMDAT sections of one name is taken, an IMAGE_COMDAT_SELECT_*, at 14. */
-    uint8_t selection;
-    /* Not used, at 15. */
-    uint8_t unused[3];
-};
-
-/* A relocation of a COFF object: which bytes of a section a linker changes, and how.
-
-   Source: PE Format, "COFF Relocations (Object Only)". Numbers are as stored; the record has 10
-   bytes, and `at` gives a field's offset in it. */
-struct goblin_pe_relocation {
-    /* Where the bytes that are changed begin, at 0: their offset in the section, in bytes, plus
-       the section's own address, which is mostly 0. Of the first relocation of a section with
-       IMAGE_SCN_LNK_NRELOC_OVFL it is the number of all. */
-    uint32_t virtual_address;
-    /* The index in the symbol table of the symbol whose address is put there, at 4. */
-    uint32_t symbol_table_index;
-    /* How it is put there, at 8: an IMAGE_REL_* of the machine that the COFF header names. */
-    uint16_t typ;
-};
-
-/* What strict mode would refuse of a file, part by part: for each part a fault of the status 0
-   where strict mode would read it, or the file has no such part; else why not. */
-struct goblin_pe_damage {
-    /* The DOS stub. */
-    struct goblin_pe_fault dos_stub;
-    /* The names of the sections. */
-    struct goblin_pe_fault section_names;
-    /* The imports, if they are asked for. */
-    struct goblin_pe_fault imports;
-    /* The exports. */
-    struct goblin_pe_fault exports;
-    /* The base relocations: their directory, not its blocks. */
-    struct goblin_pe_fault relocations;
-    /* How many libraries permissive mode leaves out of the imports: those without an address
-       table. */
-    size_t left_out_libraries;
-    /* How many entries of the other libraries it leaves out. */
-    size_t left_out_entries;
-};
-
-/* A range of the file. */
-struct goblin_pe_range {
-    /* The file offset of its first byte. */
-    size_t offset;
-    /* How many bytes it has: at least one. */
-    size_t length;
-};
-
-/* Ranges of the file: a block of memory of its own, or none where there is no range. */
-struct goblin_pe_ranges {
-    /* The ranges. */
-    const struct goblin_pe_range *ranges;
-    size_t range_count;
-};
-
-/* An image, by what maps its addresses. */
-struct goblin_pe_image {
-    /* The file's bytes. */
-    struct goblin_pe_text bytes;
-    /* The records of its sections, in the order of the section table. No call looks at more of them
-       than their virtual_address, virtual_size, pointer_to_raw_data and size_of_raw_data; all else
-       may be zeros. */
-    const struct goblin_pe_section *sections;
-    size_t section_count;
-    /* Its file alignment, in bytes. */
-    uint32_t file_alignment;
-    /* Whether addresses are mapped, and by which rule for raw pointers; all else is not looked
-       at. */
-    struct goblin_pe_options options;
-};
-
-/* The data of a section, as it is in memory. */
-struct goblin_pe_section_data {
-    /* The bytes that the file has of it. */
-    struct goblin_pe_text bytes;
-    /* How many zeros follow them. */
-    size_t zeros;
-};
-
-/* The library's own calls, for those who declare them in another language. As the calls below, which are
-   made of them, but none of their pointers may be null. */
-
-uint32_t goblin_pe_interface(void);
-struct goblin_pe_fault goblin_pe_raw_open(
-    const uint8_t *bytes, size_t length, const struct goblin_pe_options *options, struct goblin_pe_file *file,
-    struct goblin_pe_directory *directories, size_t directory_room, struct goblin_pe_tables *tables);
-struct goblin_pe_fault goblin_pe_raw_damage(
-    const uint8_t *bytes, size_t length, const struct goblin_pe_options *options, struct goblin_pe_damage *damage);
-struct goblin_pe_fault goblin_pe_raw_footprint(
-    const uint8_t *bytes, size_t length, const struct goblin_pe_options *options, struct goblin_pe_ranges *ranges);
-struct goblin_pe_fault goblin_pe_raw_next_imports(
-    const uint8_t *bytes, size_t length, const struct goblin_pe_options *options,
-    struct goblin_pe_import_position *position, struct goblin_pe_import *imports, size_t room, size_t *count);
-struct goblin_pe_fault goblin_pe_raw_next_exports(
-    const uint8_t *bytes, size_t length, const struct goblin_pe_options *options, size_t *position,
-    struct goblin_pe_export *exports, size_t room, size_t *count);
-struct goblin_pe_fault goblin_pe_raw_read_object(
-    const uint8_t *bytes, size_t length, const struct goblin_pe_options *options, struct goblin_pe_object *object,
-    struct goblin_pe_section *sections, size_t room);
-struct goblin_pe_fault goblin_pe_raw_read_te(
-    const uint8_t *bytes, size_t length, struct goblin_pe_te_header *header, struct goblin_pe_section *sections,
-    size_t room);
-struct goblin_pe_fault goblin_pe_raw_next_symbols(
-    const uint8_t *bytes, size_t length, const struct goblin_pe_coff_header *header, size_t *position,
-    struct goblin_pe_named_symbol *symbols, size_t room, size_t *count);
-bool goblin_pe_raw_aux_function_definition(
-    const uint8_t *bytes, size_t length, struct goblin_pe_aux_function_definition *record);
-bool goblin_pe_raw_aux_begin_and_end_function(
-    const uint8_t *bytes, size_t length, struct goblin_pe_aux_begin_and_end_function *record);
-bool goblin_pe_raw_aux_weak_external(const uint8_t *bytes, size_t length, struct goblin_pe_aux_weak_external *record);
-bool goblin_pe_raw_aux_section_definition(
-    const uint8_t *bytes, size_t length, struct goblin_pe_aux_section_definition *record);
-bool goblin_pe_raw_aux_file(const uint8_t *bytes, size_t length, struct goblin_pe_text *name);
-struct goblin_pe_fault goblin_pe_raw_read_relocations(
-    const uint8_t *bytes, size_t length, const struct goblin_pe_section *section,
-    struct goblin_pe_relocation *relocations, size_t room, size_t *count);
-bool goblin_pe_raw_find_offset(const struct goblin_pe_image *image, size_t rva, size_t *offset);
-struct goblin_pe_fault goblin_pe_raw_text_at(
-    const struct goblin_pe_image *image, size_t rva, struct goblin_pe_text *text);
-struct goblin_pe_fault goblin_pe_raw_bytes_at(
-    const struct goblin_pe_image *image, size_t rva, size_t size, struct goblin_pe_text *bytes);
-struct goblin_pe_fault goblin_pe_raw_section_data(
-    const struct goblin_pe_image *image, const struct goblin_pe_section *section, struct goblin_pe_section_data *data);
-struct goblin_pe_fault goblin_pe_raw_write_header(
-    const struct goblin_pe_file *file, const struct goblin_pe_directory *directories, size_t directory_count,
-    const uint8_t *stub, size_t stub_length, uint8_t *out, size_t room, size_t *written);
-struct goblin_pe_fault goblin_pe_raw_write_section(
-    const struct goblin_pe_section *section, uint8_t *out, size_t room, size_t *written);
-struct goblin_pe_fault goblin_pe_raw_set_name_offset(struct goblin_pe_section *section, size_t offset);
-uint32_t goblin_pe_raw_kind(const uint8_t *bytes, size_t length);
-size_t goblin_pe_raw_fault_text(const struct goblin_pe_fault *fault, uint8_t *text, size_t room);
-
-/* Strictly, with addresses mapped by the sections from their raw pointers as stored, and imports. */
-#define GOBLIN_PE_DEFAULT_OPTIONS { false, true, false, true }
 
 /* The options, or the default ones in place of a null pointer. */
 static inline const struct goblin_pe_options *goblin_pe_options_or_default(const struct goblin_pe_options *options)
@@ -1005,7 +63,11 @@ static inline void *goblin_pe_nowhere(void)
     static uint64_t nowhere[1];
     return nowhere;
 }
+#ifdef __cplusplus
+#define GOBLIN_PE_SOME(kind, pointer) ((pointer) ? (pointer) : static_cast<kind *>(goblin_pe_nowhere()))
+#else
 #define GOBLIN_PE_SOME(kind, pointer) ((pointer) ? (pointer) : (kind *)goblin_pe_nowhere())
+#endif
 #define GOBLIN_PE_BYTES(pointer) GOBLIN_PE_SOME(const uint8_t, pointer)
 
 /* The record of a section, and an image, without null pointers. */
@@ -1024,10 +86,10 @@ static inline struct goblin_pe_image goblin_pe_sound_image(const struct goblin_p
     return sound;
 }
 
-/* What a file is, by its first two bytes: a goblin_pe_kind. */
-static inline uint32_t goblin_pe_kind(const uint8_t *bytes, size_t length)
+/* What a file is, by its first bytes: a goblin_pe_kind. */
+static inline uint32_t goblin_pe_kind_of(const uint8_t *bytes, size_t length)
 {
-    return goblin_pe_raw_kind(GOBLIN_PE_BYTES(bytes), length);
+    return goblin_pe_raw_kind_of(GOBLIN_PE_BYTES(bytes), length);
 }
 
 /* Reads an image once: says in `file` what it is, fills the records of its data directories as far as
@@ -1046,8 +108,10 @@ static inline struct goblin_pe_fault goblin_pe_open(
 /* Frees a block of so many records. */
 static inline void goblin_pe_free_block(const void *block, size_t count)
 {
+    void *writable;
+    memcpy(&writable, &block, sizeof writable);
     if (count)
-        free((void *)(uintptr_t)block);
+        free(writable);
 }
 
 /* Frees the tables of an image, and leaves zeros. Tables of zeros have nothing to be freed. */
@@ -1066,10 +130,10 @@ static inline void goblin_pe_free(struct goblin_pe_tables *tables)
    sections are read as the options say; a file without damage is one that strict mode reads. Refused are a
    header or sections that these options refuse, and memory, which is taken only for an index of more than 96
    sections, and given back. */
-static inline struct goblin_pe_fault goblin_pe_damage(
+static inline struct goblin_pe_fault goblin_pe_read_damage(
     const uint8_t *bytes, size_t length, const struct goblin_pe_options *options, struct goblin_pe_damage *damage)
 {
-    return goblin_pe_raw_damage(GOBLIN_PE_BYTES(bytes), length, goblin_pe_options_or_default(options), damage);
+    return goblin_pe_raw_read_damage(GOBLIN_PE_BYTES(bytes), length, goblin_pe_options_or_default(options), damage);
 }
 
 /* Puts into `ranges` the bytes of a file on which goblin_pe_open by these options depends: of two files of
@@ -1119,8 +183,9 @@ static inline struct goblin_pe_fault goblin_pe_next_exports(
 }
 
 /* Reads an object, which begins with a COFF header: says in `object` how many sections there are, and fills
-   their records as far as there is room. Of the options only the mode counts. Memory is taken for the
-   sections, and given back. */
+   their records as far as there is room. No machine is tested, so a file that is no object may be read as one
+   with sections that make no sense: ask goblin_pe_kind_of before. Of the options only the mode counts. Memory
+   is taken for the sections, and given back. */
 static inline struct goblin_pe_fault goblin_pe_read_object(
     const uint8_t *bytes, size_t length, const struct goblin_pe_options *options, struct goblin_pe_object *object,
     struct goblin_pe_section *sections, size_t room)
@@ -1158,36 +223,36 @@ static inline struct goblin_pe_fault goblin_pe_next_symbols(
 
 /* Reads the first auxiliary record of a symbol, by the kind that its class says; each answers false, and
    changes nothing, where there are fewer than the 18 bytes of one. */
-static inline bool goblin_pe_aux_function_definition(
+static inline bool goblin_pe_read_aux_function_definition(
     struct goblin_pe_text auxiliary, struct goblin_pe_aux_function_definition *record)
 {
-    return goblin_pe_raw_aux_function_definition(GOBLIN_PE_BYTES(auxiliary.bytes), auxiliary.length, record);
+    return goblin_pe_raw_read_aux_function_definition(GOBLIN_PE_BYTES(auxiliary.bytes), auxiliary.length, record);
 }
 
-static inline bool goblin_pe_aux_begin_and_end_function(
+static inline bool goblin_pe_read_aux_begin_and_end_function(
     struct goblin_pe_text auxiliary, struct goblin_pe_aux_begin_and_end_function *record)
 {
-    return goblin_pe_raw_aux_begin_and_end_function(GOBLIN_PE_BYTES(auxiliary.bytes), auxiliary.length, record);
+    return goblin_pe_raw_read_aux_begin_and_end_function(GOBLIN_PE_BYTES(auxiliary.bytes), auxiliary.length, record);
 }
 
-static inline bool goblin_pe_aux_weak_external(
+static inline bool goblin_pe_read_aux_weak_external(
     struct goblin_pe_text auxiliary, struct goblin_pe_aux_weak_external *record)
 {
-    return goblin_pe_raw_aux_weak_external(GOBLIN_PE_BYTES(auxiliary.bytes), auxiliary.length, record);
+    return goblin_pe_raw_read_aux_weak_external(GOBLIN_PE_BYTES(auxiliary.bytes), auxiliary.length, record);
 }
 
-static inline bool goblin_pe_aux_section_definition(
+static inline bool goblin_pe_read_aux_section_definition(
     struct goblin_pe_text auxiliary, struct goblin_pe_aux_section_definition *record)
 {
-    return goblin_pe_raw_aux_section_definition(GOBLIN_PE_BYTES(auxiliary.bytes), auxiliary.length, record);
+    return goblin_pe_raw_read_aux_section_definition(GOBLIN_PE_BYTES(auxiliary.bytes), auxiliary.length, record);
 }
 
 /* The name of a source file, up to its padding, in the auxiliary records of a symbol of class
    IMAGE_SYM_CLASS_FILE, up to a NUL or the end of the records; false, and nothing changed, where there is
    none, or it is not UTF-8. */
-static inline bool goblin_pe_aux_file(struct goblin_pe_text auxiliary, struct goblin_pe_text *name)
+static inline bool goblin_pe_read_aux_file(struct goblin_pe_text auxiliary, struct goblin_pe_text *name)
 {
-    return goblin_pe_raw_aux_file(GOBLIN_PE_BYTES(auxiliary.bytes), auxiliary.length, name);
+    return goblin_pe_raw_read_aux_file(GOBLIN_PE_BYTES(auxiliary.bytes), auxiliary.length, name);
 }
 
 /* Reads the relocations of a section of an object: says in `count` how many there are, and fills as many
@@ -1251,12 +316,12 @@ static inline struct goblin_pe_fault goblin_pe_bytes_at(
    least as many bytes, which are not cut then. Of the image only the bytes and the options are looked at, so
    for an object one with its bytes and else zeros will do. Refused is a file that is too short for it, and one
    in which it begins past the end, even where it has no bytes. No memory is taken. */
-static inline struct goblin_pe_fault goblin_pe_section_data(
+static inline struct goblin_pe_fault goblin_pe_read_section_data(
     const struct goblin_pe_image *image, const struct goblin_pe_section *section, struct goblin_pe_section_data *data)
 {
     struct goblin_pe_image sound = goblin_pe_sound_image(image);
     struct goblin_pe_section sound_section = goblin_pe_sound_section(section);
-    return goblin_pe_raw_section_data(&sound, &sound_section, data);
+    return goblin_pe_raw_read_section_data(&sound, &sound_section, data);
 }
 
 /* Writes the header of an image to the front of `out`, and says in `written` how many bytes it has: the DOS

@@ -1,9 +1,11 @@
-/* The numbers of the PE and COFF formats, by the names that they have there, after GOBLIN_PE_. callers/constants.py
-   writes this file from the constants of the proved libraries, whose values are proved to be these. */
+/* The numbers of the PE and COFF formats, by the names that they have there, after GOBLIN_PE_. The libraries have them as
+   constants, whose values are proved to be these. callers/generate.py makes this file of what the proved crates declare. */
 #ifndef GOBLIN_PE_CONSTANTS_H
 #define GOBLIN_PE_CONSTANTS_H
 
-/* The machines that a COFF header can name. Source: PE Format, "Machine Types", and of some the Windows headers. */
+/* The machines that a COFF header can name.
+
+   Source: PE Format, "Machine Types", and of some the Windows headers. */
 /* The machine: any machine. */
 #define GOBLIN_PE_COFF_MACHINE_UNKNOWN 0x0
 /* The machine: Alpha AXP, 32 bits. */
@@ -63,6 +65,40 @@
 /* The machine: MIPS WCE v2, little-endian. */
 #define GOBLIN_PE_COFF_MACHINE_WCEMIPSV2 0x169
 
+/* What kind of file a COFF header says that it is, as bits.
+
+   Source: PE Format, "Characteristics". */
+/* The image has no base relocations, so it has to be loaded at its base. */
+#define GOBLIN_PE_IMAGE_FILE_RELOCS_STRIPPED 0x0001
+/* The image is valid and can be run. Where the bit is not set, the linker failed. */
+#define GOBLIN_PE_IMAGE_FILE_EXECUTABLE_IMAGE 0x0002
+/* The COFF line numbers were removed. Obsolete. */
+#define GOBLIN_PE_IMAGE_FILE_LINE_NUMS_STRIPPED 0x0004
+/* The COFF symbols of local names were removed. Obsolete. */
+#define GOBLIN_PE_IMAGE_FILE_LOCAL_SYMS_STRIPPED 0x0008
+/* The working set is trimmed aggressively. Obsolete. */
+#define GOBLIN_PE_IMAGE_FILE_AGGRESSIVE_WS_TRIM 0x0010
+/* The program can use addresses above 2 GiB. */
+#define GOBLIN_PE_IMAGE_FILE_LARGE_ADDRESS_AWARE 0x0020
+/* The bytes of a word are stored little-endian. Obsolete. */
+#define GOBLIN_PE_IMAGE_FILE_BYTES_REVERSED_LO 0x0080
+/* The machine has words of 32 bits. */
+#define GOBLIN_PE_IMAGE_FILE_32BIT_MACHINE 0x0100
+/* The debug data was removed from the image. */
+#define GOBLIN_PE_IMAGE_FILE_DEBUG_STRIPPED 0x0200
+/* From removable media the image is loaded whole and copied to the swap file. */
+#define GOBLIN_PE_IMAGE_FILE_REMOVABLE_RUN_FROM_SWAP 0x0400
+/* From a network the image is loaded whole and copied to the swap file. */
+#define GOBLIN_PE_IMAGE_FILE_NET_RUN_FROM_SWAP 0x0800
+/* The image is a system file, no user program. */
+#define GOBLIN_PE_IMAGE_FILE_SYSTEM 0x1000
+/* The image is a dynamic-link library. */
+#define GOBLIN_PE_IMAGE_FILE_DLL 0x2000
+/* The image is only for machines with one processor. */
+#define GOBLIN_PE_IMAGE_FILE_UP_SYSTEM_ONLY 0x4000
+/* The bytes of a word are stored big-endian. Obsolete. */
+#define GOBLIN_PE_IMAGE_FILE_BYTES_REVERSED_HI 0x8000
+
 /* The magic numbers of optional headers. */
 /* The magic of an optional header for 32 bits. */
 #define GOBLIN_PE_MAGIC_32 0x10B
@@ -75,8 +111,68 @@
 /* The magic of a ROM image. No reader takes it. */
 #define GOBLIN_PE_IMAGE_ROM_OPTIONAL_HDR_MAGIC 0x107
 
-/* The characteristics of sections, as bits. Source: PE Format, "Section Flags". */
-/* The section is not padded to the next border. Obsolete; use IMAGE_SCN_ALIGN_1BYTES. */
+/* The subsystems that run images.
+
+   Source: PE Format, "Windows Subsystem". */
+/* The subsystem: none that is known. */
+#define GOBLIN_PE_IMAGE_SUBSYSTEM_UNKNOWN 0
+/* The subsystem: none is needed, as for device drivers and native processes of Windows. */
+#define GOBLIN_PE_IMAGE_SUBSYSTEM_NATIVE 1
+/* The subsystem: the graphical user interface of Windows. */
+#define GOBLIN_PE_IMAGE_SUBSYSTEM_WINDOWS_GUI 2
+/* The subsystem: the console of Windows. */
+#define GOBLIN_PE_IMAGE_SUBSYSTEM_WINDOWS_CUI 3
+/* The subsystem: the console of OS/2. */
+#define GOBLIN_PE_IMAGE_SUBSYSTEM_OS2_CUI 5
+/* The subsystem: the console of POSIX. */
+#define GOBLIN_PE_IMAGE_SUBSYSTEM_POSIX_CUI 7
+/* The subsystem: a native driver of Windows 9x. */
+#define GOBLIN_PE_IMAGE_SUBSYSTEM_NATIVE_WINDOWS 8
+/* The subsystem: Windows CE. */
+#define GOBLIN_PE_IMAGE_SUBSYSTEM_WINDOWS_CE_GUI 9
+/* The subsystem: an application of the Extensible Firmware Interface. */
+#define GOBLIN_PE_IMAGE_SUBSYSTEM_EFI_APPLICATION 10
+/* The subsystem: a driver of this interface, with boot services. */
+#define GOBLIN_PE_IMAGE_SUBSYSTEM_EFI_BOOT_SERVICE_DRIVER 11
+/* The subsystem: a driver of this interface, with run-time services. */
+#define GOBLIN_PE_IMAGE_SUBSYSTEM_EFI_RUNTIME_DRIVER 12
+/* The subsystem: a ROM image of this interface. */
+#define GOBLIN_PE_IMAGE_SUBSYSTEM_EFI_ROM 13
+/* The subsystem: Xbox. */
+#define GOBLIN_PE_IMAGE_SUBSYSTEM_XBOX 14
+/* The subsystem: an application that Windows boots. */
+#define GOBLIN_PE_IMAGE_SUBSYSTEM_WINDOWS_BOOT_APPLICATION 16
+
+/* What the loader may do with an image, and has to, as bits of an optional header.
+
+   Source: PE Format, "DLL Characteristics". */
+/* The image can be moved within the whole address space of 64 bits. */
+#define GOBLIN_PE_IMAGE_DLLCHARACTERISTICS_HIGH_ENTROPY_VA 0x0020
+/* The image can be moved when it is loaded. */
+#define GOBLIN_PE_IMAGE_DLLCHARACTERISTICS_DYNAMIC_BASE 0x0040
+/* The loader has to check the image's signature. */
+#define GOBLIN_PE_IMAGE_DLLCHARACTERISTICS_FORCE_INTEGRITY 0x0080
+/* The image runs where data can't be executed. */
+#define GOBLIN_PE_IMAGE_DLLCHARACTERISTICS_NX_COMPAT 0x0100
+/* The image is not isolated, though it could be. */
+#define GOBLIN_PE_IMAGE_DLLCHARACTERISTICS_NO_ISOLATION 0x0200
+/* The image has no structured exception handlers. */
+#define GOBLIN_PE_IMAGE_DLLCHARACTERISTICS_NO_SEH 0x0400
+/* The image may not be bound. */
+#define GOBLIN_PE_IMAGE_DLLCHARACTERISTICS_NO_BIND 0x0800
+/* The image has to run in an AppContainer. */
+#define GOBLIN_PE_IMAGE_DLLCHARACTERISTICS_APPCONTAINER 0x1000
+/* The image is a driver of the Windows Driver Model. */
+#define GOBLIN_PE_IMAGE_DLLCHARACTERISTICS_WDM_DRIVER 0x2000
+/* The image supports Control Flow Guard. */
+#define GOBLIN_PE_IMAGE_DLLCHARACTERISTICS_GUARD_CF 0x4000
+/* The image knows of terminal servers. */
+#define GOBLIN_PE_IMAGE_DLLCHARACTERISTICS_TERMINAL_SERVER_AWARE 0x8000
+
+/* The characteristics of sections, as bits.
+
+   Source: PE Format, "Section Flags". */
+/* The section is not padded to the next border. Obsolete; use `IMAGE_SCN_ALIGN_1BYTES`. */
 #define GOBLIN_PE_IMAGE_SCN_TYPE_NO_PAD 0x00000008u
 /* The section has executable code. */
 #define GOBLIN_PE_IMAGE_SCN_CNT_CODE 0x00000020u
@@ -132,7 +228,8 @@
 #define GOBLIN_PE_IMAGE_SCN_ALIGN_8192BYTES 0x00E00000u
 /* The bits that say the alignment. */
 #define GOBLIN_PE_IMAGE_SCN_ALIGN_MASK 0x00F00000u
-/* The section has more relocations than its record can count: the first one's address is their number. */
+/* The section has more relocations than its record can count: the first one's address is their
+   number. */
 #define GOBLIN_PE_IMAGE_SCN_LNK_NRELOC_OVFL 0x01000000u
 /* The section can be discarded once the image is loaded. */
 #define GOBLIN_PE_IMAGE_SCN_MEM_DISCARDABLE 0x02000000u
@@ -149,9 +246,10 @@
 /* The section can be written. */
 #define GOBLIN_PE_IMAGE_SCN_MEM_WRITE 0x80000000u
 
-/* The values of the fields of symbols and of their auxiliary records. Source: PE Format, "Section Number
-   Values", "Type Representation", "Storage Class", "Auxiliary Format 3: Weak Externals" and "COMDAT Sections
-   (Object Only)". */
+/* The values of the fields of symbols and of their auxiliary records.
+
+   Source: PE Format, "Section Number Values", "Type Representation", "Storage Class", "Auxiliary
+   Format 3: Weak Externals" and "COMDAT Sections (Object Only)". */
 /* A symbol's section: none; it is defined elsewhere, or is common where its value is not 0. */
 #define GOBLIN_PE_IMAGE_SYM_UNDEFINED 0
 /* A symbol's section: none; the value is not an address. */
@@ -275,8 +373,9 @@
 /* Which of several COMDAT sections is taken: the largest. */
 #define GOBLIN_PE_IMAGE_COMDAT_SELECT_LARGEST 6
 
-/* The types of relocations, by the machine, and those of base relocations. Source: PE Format, "Type Indicators"
-   and "Base Relocation Types". */
+/* The types of relocations, by the machine, and those of base relocations.
+
+   Source: PE Format, "Type Indicators" and "Base Relocation Types". */
 /* x86: nothing is changed. */
 #define GOBLIN_PE_IMAGE_REL_I386_ABSOLUTE 0x00
 /* x86: the target's address, 16 bits; not supported. */
@@ -309,15 +408,15 @@
 #define GOBLIN_PE_IMAGE_REL_AMD64_ADDR32NB 0x03
 /* x86-64: the distance to the target from the byte after the field, 32 bits. */
 #define GOBLIN_PE_IMAGE_REL_AMD64_REL32 0x04
-/* x86-64: as IMAGE_REL_AMD64_REL32, from 1 byte further on. */
+/* x86-64: as `IMAGE_REL_AMD64_REL32`, from 1 byte further on. */
 #define GOBLIN_PE_IMAGE_REL_AMD64_REL32_1 0x05
-/* x86-64: as IMAGE_REL_AMD64_REL32, from 2 bytes further on. */
+/* x86-64: as `IMAGE_REL_AMD64_REL32`, from 2 bytes further on. */
 #define GOBLIN_PE_IMAGE_REL_AMD64_REL32_2 0x06
-/* x86-64: as IMAGE_REL_AMD64_REL32, from 3 bytes further on. */
+/* x86-64: as `IMAGE_REL_AMD64_REL32`, from 3 bytes further on. */
 #define GOBLIN_PE_IMAGE_REL_AMD64_REL32_3 0x07
-/* x86-64: as IMAGE_REL_AMD64_REL32, from 4 bytes further on. */
+/* x86-64: as `IMAGE_REL_AMD64_REL32`, from 4 bytes further on. */
 #define GOBLIN_PE_IMAGE_REL_AMD64_REL32_4 0x08
-/* x86-64: as IMAGE_REL_AMD64_REL32, from 5 bytes further on. */
+/* x86-64: as `IMAGE_REL_AMD64_REL32`, from 5 bytes further on. */
 #define GOBLIN_PE_IMAGE_REL_AMD64_REL32_5 0x09
 /* x86-64: the index of the target's section, 16 bits. */
 #define GOBLIN_PE_IMAGE_REL_AMD64_SECTION 0x0A

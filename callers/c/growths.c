@@ -69,7 +69,7 @@ static struct goblin_pe_fault called(const char *name, struct records *r)
     if (!strcmp(name, "open"))
         return goblin_pe_open(bytes, length, NULL, &r->file, r->directories, 16, &r->tables);
     if (!strcmp(name, "damage"))
-        return goblin_pe_damage(bytes, length, NULL, &r->damage);
+        return goblin_pe_read_damage(bytes, length, NULL, &r->damage);
     if (!strcmp(name, "footprint"))
         return goblin_pe_footprint(bytes, length, NULL, &r->ranges);
     if (!strcmp(name, "imports"))
@@ -104,9 +104,9 @@ int main(int argc, char **argv)
             goblin_pe_free_ranges(&new.ranges);
             is_called = false;
             printf("%zu\n", growth - 1);
-            return fault.status == GOBLIN_PE_OK && !blocks ? 0 : 1;
+            return fault.status == GOBLIN_PE_STATUS_OK && !blocks ? 0 : 1;
         }
-        if (fault.status != GOBLIN_PE_NO_MEMORY || memcmp(&new, &old, sizeof new) || blocks)
+        if (fault.status != GOBLIN_PE_STATUS_MEMORY || memcmp(&new, &old, sizeof new) || blocks)
             return 1;
     }
 }

@@ -22,10 +22,10 @@ static void put(const char *label, struct goblin_pe_text text)
 
 static void put_table(const char *label, struct goblin_pe_table table)
 {
-    if (table.state == GOBLIN_PE_READ)
+    if (table.state == GOBLIN_PE_STATE_READ)
         printf("%s %zu\n", label, table.count);
     else
-        printf("%s %s\n", label, table.state == GOBLIN_PE_ABSENT ? "absent" : "refused");
+        printf("%s %s\n", label, table.state == GOBLIN_PE_STATE_ABSENT ? "absent" : "refused");
 }
 
 /* The name from the string table, else the eight bytes up to the first NUL. */
@@ -124,7 +124,7 @@ static int list_image(const uint8_t *bytes, size_t length, bool is_permissive)
     struct goblin_pe_tables tables;
     options.is_permissive = is_permissive;
     struct goblin_pe_fault fault = goblin_pe_open(bytes, length, &options, &file, NULL, 0, &tables);
-    if (fault.status != GOBLIN_PE_OK)
+    if (fault.status != GOBLIN_PE_STATUS_OK)
         return refused(fault);
     const struct goblin_pe_standard_fields *standard = &file.optional_header.standard_fields;
     printf("header machine=0x%x sections=%zu", file.coff_header.machine, file.sections);
@@ -140,7 +140,7 @@ static int list_image(const uint8_t *bytes, size_t length, bool is_permissive)
     for (size_t i = 0; i < tables.block_count; i++)
         printf("block rva=0x%x size=0x%x words=%zu\n", tables.blocks[i].rva, tables.blocks[i].size,
                tables.blocks[i].words.length / 2);
-    if (file.relocations.rest.status != GOBLIN_PE_OK)
+    if (file.relocations.rest.status != GOBLIN_PE_STATUS_OK)
         puts("block refused");
     goblin_pe_free(&tables);
     return 0;
@@ -155,14 +155,14 @@ static struct goblin_pe_fault put_symbols(const uint8_t *bytes, size_t length,
     size_t position = 0, count = 0;
     do {
         fault = goblin_pe_next_symbols(bytes, length, header, &position, symbols, 16, &count);
-        for (size_t i = 0; fault.status == GOBLIN_PE_OK && i < count; i++) {
+        for (size_t i = 0; fault.status == GOBLIN_PE_STATUS_OK && i < count; i++) {
             const struct goblin_pe_symbol *s = &symbols[i].symbol;
             printf("symbol %zu value=%u section=%d class=%u aux=%u", symbols[i].index, s->value,
                    s->section_number, s->storage_class, s->number_of_aux_symbols);
             put(" name=", symbols[i].name);
             putchar('\n');
         }
-    } while (fault.status == GOBLIN_PE_OK && count);
+    } while (fault.status == GOBLIN_PE_STATUS_OK && count);
     return fault;
 }
 
@@ -171,21 +171,21 @@ static int list_symbols(const uint8_t *bytes, size_t length)
     struct goblin_pe_object object;
     struct goblin_pe_section *sections = NULL;
     struct goblin_pe_fault fault = goblin_pe_read_object(bytes, length, NULL, &object, NULL, 0);
-    if (fault.status == GOBLIN_PE_OK) {
+    if (fault.status == GOBLIN_PE_STATUS_OK) {
         sections = malloc((object.sections + 1) * sizeof *sections);
         if (!sections)
             return 3;
         fault = goblin_pe_read_object(bytes, length, NULL, &object, sections, object.sections);
     }
-    if (fault.status == GOBLIN_PE_OK)
+    if (fault.status == GOBLIN_PE_STATUS_OK)
         fault = put_symbols(bytes, length, &object.coff_header);
-    for (size_t i = 0; fault.status == GOBLIN_PE_OK && i < object.sections; i++)
+    for (size_t i = 0; fault.status == GOBLIN_PE_STATUS_OK && i < object.sections; i++)
         if (sections[i].number_of_relocations) {
             put("relocations ", section_name(&sections[i]));
             printf(" %u\n", sections[i].number_of_relocations);
         }
     free(sections);
-    return fault.status == GOBLIN_PE_OK ? 0 : refused(fault);
+    return fault.status == GOBLIN_PE_STATUS_OK ? 0 : refused(fault);
 }
 
 static int list_te(const uint8_t *bytes, size_t length)
@@ -193,7 +193,7 @@ static int list_te(const uint8_t *bytes, size_t length)
     struct goblin_pe_te_header h;
     static struct goblin_pe_section sections[255];
     struct goblin_pe_fault fault = goblin_pe_read_te(bytes, length, &h, sections, 255);
-    if (fault.status != GOBLIN_PE_OK)
+    if (fault.status != GOBLIN_PE_STATUS_OK)
         return refused(fault);
     printf("signature %#x\nmachine %#x\nnumber_of_sections %#x\nsubsystem %#x\n"
            "stripped_size %#x\nentry_point %#x\nbase_of_code %#x\nimage_base %#" PRIx64 "\n"

@@ -109,8 +109,8 @@ static int map(struct module *m)
     for (size_t i = 0; i < m->tables.section_count; i++) {
         const struct goblin_pe_section *s = &m->tables.sections[i];
         struct goblin_pe_section_data data;
-        struct goblin_pe_fault fault = goblin_pe_section_data(&m->image, s, &data);
-        if (fault.status != GOBLIN_PE_OK)
+        struct goblin_pe_fault fault = goblin_pe_read_section_data(&m->image, s, &data);
+        if (fault.status != GOBLIN_PE_STATUS_OK)
             return refused(m, fault);
         size_t end = m->size - (s->virtual_address < m->size ? s->virtual_address : m->size);
         size_t size = data.bytes.length < end ? data.bytes.length : end;
@@ -127,7 +127,7 @@ static int open_module(struct module *m, const char *path)
     if (!read_file(m, path))
         return fprintf(stderr, "%s: it can't be read\n", path), 1;
     fault = goblin_pe_open(m->bytes, m->length, NULL, &m->file, NULL, 0, &m->tables);
-    if (fault.status != GOBLIN_PE_OK)
+    if (fault.status != GOBLIN_PE_STATUS_OK)
         return refused(m, fault);
     m->image = goblin_pe_image_of(m->bytes, m->length, NULL, &m->file, &m->tables);
     printf("%s for machine 0x%x at 0x%" PRIx64 "\n", m->name, m->file.coff_header.machine,
@@ -250,7 +250,7 @@ static bool find(struct wanted wanted, const struct module *libraries, size_t co
             *address = library->base + found->rva;
             return true;
         }
-        if (goblin_pe_text_at(&library->image, found->rva, &text).status != GOBLIN_PE_OK ||
+        if (goblin_pe_text_at(&library->image, found->rva, &text).status != GOBLIN_PE_STATUS_OK ||
             !forwarded_to(text, &wanted))
             return puts(": its forwarder can't be read"), false;
         if (forwarders == MOST_FORWARDERS)

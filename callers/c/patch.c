@@ -41,7 +41,7 @@ static struct goblin_pe_fault write_back(size_t length, struct goblin_pe_file *f
        directories, the zeros for the others would pass the section table. */
     struct goblin_pe_fault fault = goblin_pe_write_header(file, directories, file->directories, tables->dos_stub, header,
                                                           sizeof header, &written);
-    if (fault.status != GOBLIN_PE_OK)
+    if (fault.status != GOBLIN_PE_STATUS_OK)
         return fault;
     memcpy(bytes, header, written < table ? written : table);
     return goblin_pe_write_section(&section, bytes + table + 40 * index, length - table - 40 * index, &written);
@@ -58,16 +58,16 @@ int main(int argc, char **argv)
     size_t length = fread(bytes, 1, sizeof bytes, from);
     fclose(from);
     struct goblin_pe_fault fault = goblin_pe_open(bytes, length, NULL, &file, directories, 16, &tables);
-    if (fault.status != GOBLIN_PE_OK)
+    if (fault.status != GOBLIN_PE_STATUS_OK)
         return refused(fault);
     size_t index = section_named(&tables, argv[3]);
     if (index == tables.section_count)
         return fprintf(stderr, "there is no such section\n"), goblin_pe_free(&tables), 1;
     fault = write_back(length, &file, directories, &tables, index, argv + 2);
     goblin_pe_free(&tables);
-    if (fault.status == GOBLIN_PE_OK)
+    if (fault.status == GOBLIN_PE_STATUS_OK)
         fault = goblin_pe_open(bytes, length, NULL, &file, directories, 16, &tables);
-    if (fault.status != GOBLIN_PE_OK)
+    if (fault.status != GOBLIN_PE_STATUS_OK)
         return refused(fault);
     printf("%#x %.8s\n", file.coff_header.time_date_stamp, (const char *)tables.sections[index].name);
     goblin_pe_free(&tables);

@@ -26,7 +26,7 @@ static bool is_section_in_file(const struct goblin_pe_section *s)
     const struct goblin_pe_image whole = { .bytes = { bytes, length } };
     struct goblin_pe_section_data data;
     return is_in_file(s->real_name) &&
-           (goblin_pe_section_data(&whole, s, &data).status != GOBLIN_PE_OK || is_in_file(data.bytes));
+           (goblin_pe_read_section_data(&whole, s, &data).status != GOBLIN_PE_STATUS_OK || is_in_file(data.bytes));
 }
 
 static bool are_in_file(const struct goblin_pe_tables *tables)
@@ -47,7 +47,7 @@ static bool are_in_file(const struct goblin_pe_tables *tables)
 static bool has_footprint(void)
 {
     struct goblin_pe_ranges ranges;
-    if (goblin_pe_footprint(bytes, length, NULL, &ranges).status != GOBLIN_PE_OK)
+    if (goblin_pe_footprint(bytes, length, NULL, &ranges).status != GOBLIN_PE_STATUS_OK)
         return false;
     bool is_right = ranges.range_count > 0;
     size_t next = 0;
@@ -72,7 +72,7 @@ static bool walks_over_imports(const struct goblin_pe_tables *tables)
     struct goblin_pe_import imports[2];
     size_t found = 0, count = 0;
     do {
-        if (goblin_pe_next_imports(bytes, length, NULL, &position, imports, 2, &count).status != GOBLIN_PE_OK)
+        if (goblin_pe_next_imports(bytes, length, NULL, &position, imports, 2, &count).status != GOBLIN_PE_STATUS_OK)
             return false;
         for (size_t i = 0; i < count; i++, found++)
             if (found >= tables->import_count || !is_import(&imports[i], &tables->imports[found]))
@@ -86,7 +86,7 @@ static bool walks_over_exports(const struct goblin_pe_tables *tables)
     struct goblin_pe_export exports[2];
     size_t position = 0, found = 0, count = 0;
     do {
-        if (goblin_pe_next_exports(bytes, length, NULL, &position, exports, 2, &count).status != GOBLIN_PE_OK)
+        if (goblin_pe_next_exports(bytes, length, NULL, &position, exports, 2, &count).status != GOBLIN_PE_STATUS_OK)
             return false;
         for (size_t i = 0; i < count; i++, found++)
             if (found >= tables->export_count || exports[i].ordinal != tables->exports[found].ordinal ||
@@ -102,7 +102,7 @@ static bool has_addresses(const struct goblin_pe_tables *tables)
     for (size_t i = 0; i < tables->export_count; i++) {
         size_t index = tables->exports[i].ordinal - tables->export_directory.table.ordinal_base;
         if (index >= tables->export_address_count || tables->export_addresses[index].rva != tables->exports[i].rva ||
-            tables->export_addresses[index].forwards != (tables->exports[i].forwards != GOBLIN_PE_NO_FORWARDER))
+            tables->export_addresses[index].forwards != (tables->exports[i].forwards != GOBLIN_PE_FORWARDS_NONE))
             return false;
     }
     return true;
@@ -114,11 +114,11 @@ static bool is_written(const struct goblin_pe_file *file, const struct goblin_pe
 {
     size_t count = 0, table = file->dos_header.pe_pointer + 24u + file->coff_header.size_of_optional_header;
     if (goblin_pe_write_header(file, directories, file->directories, tables->dos_stub, written, sizeof written, &count)
-            .status != GOBLIN_PE_OK)
+            .status != GOBLIN_PE_STATUS_OK)
         return false;
     for (size_t i = 0; i < tables->section_count; i++) {
         size_t place = table + 40 * i;
-        if (goblin_pe_write_section(&tables->sections[i], written + place, 40, &count).status != GOBLIN_PE_OK ||
+        if (goblin_pe_write_section(&tables->sections[i], written + place, 40, &count).status != GOBLIN_PE_STATUS_OK ||
             count != 40)
             return false;
     }
@@ -140,7 +140,7 @@ int main(int argc, char **argv)
         length = fread(bytes, 1, sizeof bytes, from);
         fclose(from);
         struct goblin_pe_fault fault = goblin_pe_open(bytes, length, NULL, &file, directories, 16, &tables);
-        if (fault.status != GOBLIN_PE_OK)
+        if (fault.status != GOBLIN_PE_STATUS_OK)
             continue;
         bool has_header = file.coff_header.size_of_optional_header;
         if (file.directories != (has_header ? 16 : 0))

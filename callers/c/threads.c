@@ -25,15 +25,15 @@ static bool makes_the_other_calls(void)
     struct goblin_pe_te_header header;
     struct goblin_pe_section section;
     size_t place = 0, count;
-    bool is_granted = goblin_pe_damage(image.bytes, image.length, NULL, &damage).status == GOBLIN_PE_OK;
-    is_granted &= goblin_pe_footprint(image.bytes, image.length, NULL, &ranges).status == GOBLIN_PE_OK;
+    bool is_granted = goblin_pe_read_damage(image.bytes, image.length, NULL, &damage).status == GOBLIN_PE_STATUS_OK;
+    is_granted &= goblin_pe_footprint(image.bytes, image.length, NULL, &ranges).status == GOBLIN_PE_STATUS_OK;
     goblin_pe_free_ranges(&ranges);
     is_granted &= goblin_pe_next_imports(image.bytes, image.length, NULL, &position, &import, 1, &count).status ==
-                  GOBLIN_PE_OK;
+                  GOBLIN_PE_STATUS_OK;
     is_granted &= goblin_pe_next_exports(image.bytes, image.length, NULL, &place, &export, 1, &count).status ==
-                  GOBLIN_PE_OK;
-    is_granted &= goblin_pe_read_object(object.bytes, object.length, NULL, &parts, &section, 1).status == GOBLIN_PE_OK;
-    is_granted &= goblin_pe_read_te(te.bytes, te.length, &header, &section, 1).status == GOBLIN_PE_OK;
+                  GOBLIN_PE_STATUS_OK;
+    is_granted &= goblin_pe_read_object(object.bytes, object.length, NULL, &parts, &section, 1).status == GOBLIN_PE_STATUS_OK;
+    is_granted &= goblin_pe_read_te(te.bytes, te.length, &header, &section, 1).status == GOBLIN_PE_STATUS_OK;
     return is_granted;
 }
 
@@ -45,7 +45,7 @@ static void *reads(void *imports_wanted)
         struct goblin_pe_fault fault = goblin_pe_open(image.bytes, image.length, NULL, &file, NULL, 0, &tables);
         size_t found = tables.import_count;
         goblin_pe_free(&tables);
-        if (fault.status != GOBLIN_PE_OK || found != *(const size_t *)imports_wanted || !makes_the_other_calls())
+        if (fault.status != GOBLIN_PE_STATUS_OK || found != *(const size_t *)imports_wanted || !makes_the_other_calls())
             return NULL;
     }
     return imports_wanted;

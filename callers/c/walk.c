@@ -21,8 +21,8 @@ int main(int argc, char **argv)
     most = strtoull(argv[1], NULL, 10);
     do {
         fault = goblin_pe_next_imports(bytes, length, NULL, &position, imports, 1024, &count);
-        found += fault.status == GOBLIN_PE_OK ? count : 0;
-    } while (fault.status == GOBLIN_PE_OK && count && found < most);
-    printf("%zu imports%s\n", found, fault.status == GOBLIN_PE_OK && count ? " and perhaps more" : "");
-    return fault.status != GOBLIN_PE_OK;
+        found += fault.status == GOBLIN_PE_STATUS_OK ? count : 0;
+    } while (fault.status == GOBLIN_PE_STATUS_OK && count && found < most);
+    printf("%zu imports%s\n", found, fault.status == GOBLIN_PE_STATUS_OK && count ? " and perhaps more" : "");
+    return fault.status != GOBLIN_PE_STATUS_OK;
 }

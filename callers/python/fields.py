@@ -95,8 +95,8 @@ def names():
     """A status and a cause are numbers by their names, where they have one."""
     named = [(it.status, it.cause) for it in (Refused(*it) for it in ((1, 22), (3, 1), (4, 3), (5, 0), (1, 35)))]
     assert [type(cause) for _, cause in named] == [Cause, Counted, ReadFault, int, int], named
-    assert named == [(Status.MALFORMED, Cause.UNMAPPED), (Status.TOO_SHORT, Counted.SECTIONS), (Status.BAD_READ, ReadFault.BAD_INPUT),
-                     (Status.NO_MEMORY, 0), (Status.MALFORMED, 35)], named
+    assert named == [(Status.MALFORMED, Cause.UNMAPPED), (Status.BUFFER_TOO_SHORT, Counted.SECTIONS), (Status.READ, ReadFault.BAD_INPUT),
+                     (Status.MEMORY, 0), (Status.MALFORMED, 35)], named
 
 
 def main(paths):

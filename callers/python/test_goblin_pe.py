@@ -192,7 +192,7 @@ class Headers(unittest.TestCase):
         data, key = bytearray(sample("program_x64.exe")), 0x1234ABCD
         self.assertIsNone(Pe(data).rich_rest)
         words = [0x536E6144, 0, 0, 0, 261 << 16 | 30159, 7]
-        for rest, wanted in (([], None), ([5], (Status.BAD_READ, ReadFault.TOO_BIG))):
+        for rest, wanted in (([], None), ([5], (Status.READ, ReadFault.TOO_BIG))):
             stored = struct.pack("<%dI" % len(words + rest), *(it ^ key for it in words + rest)) + struct.pack("<II", 0x68636952, key)
             data[64: 64 + len(stored)] = stored
             pe = Pe(data)
@@ -202,7 +202,7 @@ class Headers(unittest.TestCase):
 
 class HowFilesAreRead(unittest.TestCase):
     def test_options_are_those_of_the_library_but_for_what_is_said(self):
-        with open(os.path.join(HERE, "../c/goblin_pe.h"), encoding="ascii") as file:
+        with open(os.path.join(HERE, "../c/goblin_pe_records.h"), encoding="ascii") as file:
             stored = re.search(r"GOBLIN_PE_DEFAULT_OPTIONS \{(.*)\}", file.read()).group(1)
         self.assertEqual(str(dataclasses.astuple(Options())).lower().strip("()"), stored.strip())
         data = sample("imports_by_name_x64.dll")

@@ -27,12 +27,13 @@ since its bytes could be written past it. A mapped file must not be written or c
 A file of 256 KiB can have more than 800 million imports. Where memory can't be limited, read it by
 Options(parse_imports=False) and use Pe.walk_imports, which keeps none of them.
 
-A refusal raises Refused, also where the library is refused memory: its status is then Status.NO_MEMORY. MemoryError
+A refusal raises Refused, also where the library is refused memory: its status is then Status.MEMORY. MemoryError
 comes from Python alone, where there is no memory for what was read.
 
 The rows Section, Import, Export, Block, Symbol, Range and others are named tuples, and so are the headers, whose fields
 are those of the format: a changed copy is made by _replace, and Pe.write writes it. State, Status, Kind, Cause, Counted,
-ReadFault and DirectoryType name numbers. All of them can be imported from here.
+ReadFault and DirectoryType name numbers. All of them can be imported from here; goblin_pe.constants has the numbers of the
+formats, such as IMAGE_FILE_DLL.
 
 The reader is the proved library goblin_pe. Its shared library stands beside an installed module; in the repository
 callers/build puts it into callers/lib. The variable GOBLIN_PE_SO names another when the module is imported.
@@ -43,7 +44,7 @@ import hashlib
 import operator
 from typing import Any, Callable, Dict, Iterable, Iterator, List, NamedTuple, Optional
 
-from . import records
+from . import _laid_out, records
 from ._imphash import imphash as _imphash
 from ._library import LIB as _LIB, Data, held as _held
 from ._refused import Refused, named as _named, refusal as _refusal, test as _test
@@ -90,15 +91,15 @@ def _walk(data: Data, kind: Any, row: str, call: Callable[..., records.Fault], p
 
 
 def _symbols(data: Data, header: CoffHeader) -> List[Symbol]:
-    coff = records.laid_out(CoffHeader)(*header)
+    coff = _laid_out.laid_out(CoffHeader)(*header)
     return list(_walk(data, records.NamedSymbol, "symbol", lambda calls, address, length, *to: calls.goblin_pe_raw_next_symbols(
         address, length, c.byref(coff), *to), c.c_size_t()))
 
 
 def kind(data: Data) -> Kind:
-    """What a file is, by its first two bytes."""
+    """What a file is, by its first bytes."""
     with memoryview(data) as view, _held(view) as (calls, address, length):
-        return Kind(calls.goblin_pe_raw_kind(address, length))
+        return Kind(calls.goblin_pe_raw_kind_of(address, length))
 
 
 class Damage(NamedTuple):
@@ -195,7 +196,7 @@ class Pe:
         self.sections: List[Section] = [rows.section(s) for s in tables.records("sections")]
         self._mapping = _records_of(self.sections)
         self._stub = c.string_at(tables.dos_stub.bytes, tables.dos_stub.length)  # (it need not lie in the file)
-        self.rich_entries: List[RichMetadata] = [records.read(RichMetadata, entry) for entry in tables.records("rich_entries")]
+        self.rich_entries: List[RichMetadata] = [_laid_out.read(RichMetadata, entry) for entry in tables.records("rich_entries")]
         self.import_table = State(file.imports.state)
         self.imports: List[Import] = [rows.imported(x) for x in tables.records("imports")]
         self.export_table = State(file.exports.state)
@@ -245,7 +246,7 @@ class Pe:
         the address itself where the options say that addresses are offsets. It can lie past the file's end. OverflowError
         is raised where the address has more than 64 bits or a sign."""
         offset = c.c_size_t()
-        is_found = _LIB.goblin_pe_raw_find_offset(c.byref(self._image(records.NOWHERE, 0)), _size(rva), c.byref(offset))
+        is_found = _LIB.goblin_pe_raw_find_offset(c.byref(self._image(_laid_out.NOWHERE, 0)), _size(rva), c.byref(offset))
         return offset.value if is_found else None
 
     def text_at(self, rva: int) -> Optional[bytes]:
@@ -293,7 +294,7 @@ class Pe:
         """What strict mode would refuse of the file, part by part."""
         d = records.Damage()
         with memoryview(self._bytes()) as view, _held(view) as (calls, address, length):
-            _test(calls.goblin_pe_raw_damage(address, length, c.byref(self._options), c.byref(d)))
+            _test(calls.goblin_pe_raw_read_damage(address, length, c.byref(self._options), c.byref(d)))
         return Damage(_refusal(d.dos_stub), _refusal(d.section_names), _refusal(d.imports), _refusal(d.exports),
                       _refusal(d.relocations), d.left_out_libraries, d.left_out_entries)
 
@@ -350,11 +351,11 @@ class Pe:
             raise ValueError("permissive mode replaced the DOS stub, so the headers can't be written at their places")
         count, none = 16 if self.optional_header else 0, DataDirectory(0, 0)
         directories = (records.Directory * 16)(*(
-            records.Directory(0, records.record_of(DataDirectory, self.data_directories.get(index, none)), index in self.data_directories)
+            records.Directory(0, _laid_out.record_of(DataDirectory, self.data_directories.get(index, none)), index in self.data_directories)
             for index in range(16)))
         file = records.File(
-            optional_header=records.record_of(OptionalHeader, optional), directories=count,
-            dos_header=records.record_of(DosHeader, self.dos_header), coff_header=records.record_of(CoffHeader, coff))
+            optional_header=_laid_out.record_of(OptionalHeader, optional), directories=count,
+            dos_header=_laid_out.record_of(DosHeader, self.dos_header), coff_header=_laid_out.record_of(CoffHeader, coff))
         size, written = self.dos_header.pe_pointer + 512, c.c_size_t()
         room = (c.c_uint8 * size)()
         _test(_LIB.goblin_pe_raw_write_header(c.byref(file), directories, count, self._stub, len(self._stub), room, size, c.byref(written)))
@@ -364,7 +365,8 @@ class Pe:
 
 class ObjectFile:
     """An object that was read: ObjectFile(data, how); of the Options only is_permissive counts. A file that is refused
-    raises Refused.
+    raises Refused. No machine is tested, so a file that is no object may be read as one with sections that make no sense:
+    ask `kind` before.
 
     coff_header: the header.
     sections, symbols: lists of Section and of Symbol.
@@ -393,11 +395,11 @@ class Te:
     """
 
     def __init__(self, data: Data):
-        header, sections = records.laid_out(TeHeader)(), _room(records.Section, 255)
+        header, sections = _laid_out.laid_out(TeHeader)(), _room(records.Section, 255)
         with memoryview(data) as view, _held(view) as (calls, address, length), view.cast("B") as in_bytes:
             _test(calls.goblin_pe_raw_read_te(address, length, c.byref(header), sections, 255))
             rows = _Rows(in_bytes, address)
-            self.header: TeHeader = records.read(TeHeader, header)
+            self.header: TeHeader = _laid_out.read(TeHeader, header)
             self.sections: List[Section] = [rows.section(s) for s in sections[: self.header.number_of_sections]]
 
     def __repr__(self) -> str:

@@ -8,6 +8,7 @@ from typing import Any, Callable, Iterator, List, Sequence
 
 from ._described import described
 from . import Export, ObjectFile, Options, Pe, Refused, State, Te
+from .constants import MAGIC_64
 
 
 def shown(text: bytes) -> str:
@@ -41,7 +42,7 @@ def image(pe: Pe) -> Iterator[str]:
     for s in pe.sections:
         yield "section va=%#x vsize=%#x raw=%#x ptr=%#x name=%s" % (
             s.virtual_address, s.virtual_size, s.size_of_raw_data, s.pointer_to_raw_data, shown(s.name))
-    size = 8 if pe.optional_header and pe.optional_header.standard_fields.magic == 0x20B else 4
+    size = 8 if pe.optional_header and pe.optional_header.standard_fields.magic == MAGIC_64 else 4
     yield heading("imports", pe.import_table, pe.imports)
     for x in pe.imports:
         name = shown(x.name) if x.name is not None else "ORDINAL %d" % x.ordinal

@@ -20,7 +20,7 @@ class Refused(ValueError):
     that has no name here is an int."""
 
     __module__ = "goblin_pe"
-    _CAUSES: Dict[int, Any] = {Status.MALFORMED: Cause, Status.TOO_SHORT: Counted, Status.BAD_READ: ReadFault}
+    _CAUSES: Dict[int, Any] = {Status.MALFORMED: Cause, Status.BUFFER_TOO_SHORT: Counted, Status.READ: ReadFault}
 
     def __init__(self, status: int, cause: int = 0, first: int = 0, second: int = 0):
         super().__init__(text_of(records.Fault(status, cause, first, second)))

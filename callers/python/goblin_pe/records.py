@@ -1,391 +1,417 @@
-"""The library's records. Their fields are those of the proved records, in the same order; callers/layout.py compares
-them, and goblin_pe.h says of each field what it is.
+"""The library's records, and its calls. callers/generate.py makes this file of what the proved crates declare.
 
-Headers are named tuples, which nobody can change. What lies in memory is a record with the same fields (`laid_out`);
-a header that stands in a record is read as its named tuple."""
+Headers are named tuples, which nobody can change."""
 import ctypes as c
-import functools
-import operator
-from typing import Annotated, Any, Dict, List, NamedTuple, Tuple, Type, TypeVar
+from typing import Annotated, Any, Dict, List, NamedTuple, Tuple
 
-# The types of fields: what Python sees of each, and how it lies in memory.
-U8 = Annotated[int, c.c_uint8]
-U16 = Annotated[int, c.c_uint16]
-U32 = Annotated[int, c.c_uint32]
-U64 = Annotated[int, c.c_uint64]
-I16 = Annotated[int, c.c_int16]
-Size = Annotated[int, c.c_size_t]
-Address = Annotated[int, c.c_void_p]
-Flag = Annotated[bool, c.c_bool]
-Bytes2 = Annotated[Tuple[int, ...], c.c_uint8 * 2]
-Bytes3 = Annotated[Tuple[int, ...], c.c_uint8 * 3]
-Bytes4 = Annotated[Tuple[int, ...], c.c_uint8 * 4]
-Bytes6 = Annotated[Tuple[int, ...], c.c_uint8 * 6]
-Bytes8 = Annotated[Tuple[int, ...], c.c_uint8 * 8]
-Bytes10 = Annotated[Tuple[int, ...], c.c_uint8 * 10]
-Words4 = Annotated[Tuple[int, ...], c.c_uint16 * 4]
-Words10 = Annotated[Tuple[int, ...], c.c_uint16 * 10]
+from ._laid_out import Address, HandedOver, Record, header, record, tables, to
+
+# The version of the interface that is declared here.
+INTERFACE = 3
 
 
-class Record(c.Structure):
-    """A record of the library's."""
-
-
-_Kind = TypeVar("_Kind")
-
-# Of each header the record, and what takes all fields of one.
-_RECORDS: Dict[Any, Any] = {}
-_FIELDS: Dict[Any, Any] = {}
-
-
-def laid_out(kind: Any) -> Any:
-    """What lies in memory: of a header its record, of a record itself."""
-    return _RECORDS.get(kind, kind)
-
-
-def read(header: Type[_Kind], record: Any) -> _Kind:
-    """The header that stands in its record."""
-    return header(*_FIELDS[header](record))
-
-
-def test_widths(values: Any, stored: Any) -> None:
-    """Raises OverflowError where the fields of a record do not hold the values that were put into them: a number that does
-    not fit its field is cut."""
-    if values != stored:
-        raise OverflowError("a number does not fit its field: %r" % (values,))
-
-
-def record_of(kind: Any, header: Any) -> Any:
-    """The record of a header. OverflowError is raised where a number does not fit its field."""
-    record = laid_out(kind)(*header)
-    test_widths(header, read(kind, record))
-    return record
-
-
-def _converted(convert: Any, field: Any) -> property:
-    # a field whose value is another one than ctypes gives
-    return property(lambda record: convert(field.__get__(record)), field.__set__)
-
-
-def _record(kind: _Kind) -> _Kind:
-    # a record with the fields that it names, in their order; what stands there of headers is read as such
-    hints: Dict[str, Any] = kind.__annotations__
-    setattr(kind, "_fields_", [(name, laid_out(getattr(hint, "__metadata__", [hint])[0])) for name, hint in hints.items()])
-    for name, hint in hints.items():
-        if hint in _RECORDS:
-            setattr(kind, name, _converted(functools.partial(read, hint), getattr(kind, name)))
-    return kind
-
-
-def _header(kind: _Kind) -> _Kind:
-    # a header, and its record; of the types of its fields, users see Python's alone
-    hints: Dict[str, Any] = kind.__annotations__
-    record: Any = _record(type("Record", (Record,), {"__annotations__": dict(hints)}))
-    _RECORDS[kind], _FIELDS[kind] = record, operator.attrgetter(*hints)
-    for name, field in record._fields_:
-        if issubclass(field, c.Array):
-            setattr(record, name, _converted(tuple, getattr(record, name)))
-    hints.update((name, hint.__origin__) for name, hint in hints.items() if hint not in _RECORDS)
-    return kind
-
-
-@_record
+@record
 class Text(Record):
-    """Bytes of the file that was read."""
+    """Bytes of the file; not ended by a NUL.
+
+    bytes: The first of them.
+    length: How many there are.
+    """
 
     bytes: Address
-    length: Size
+    length: Annotated[int, c.c_size_t]
 
 
-@_record
-class Options(Record):
-    """What a call does and leaves out."""
+@header
+class AuxFunctionDefinition(NamedTuple):
+    """What follows a symbol that defines a function.
 
-    is_permissive: Flag
-    resolve_rva: Flag
-    rounds_raw_pointers: Flag
-    parse_imports: Flag
+    Source: PE Format, "Auxiliary Format 1: Function Definitions". Numbers are as stored; the record
+    has 18 bytes, and `at` gives a field's offset in it.
+
+    tag_index: The index in the symbol table of the function's start, a record of class
+        `IMAGE_SYM_CLASS_FUNCTION`, at 0.
+    total_size: The size of the function's code, in bytes, at 4.
+    pointer_to_line_number: The file offset of the function's first line number, at 8; 0 where it
+        has none.
+    pointer_to_next_function: The index in the symbol table of the next function's record, at 12; 0
+        where this is the last.
+    unused: Not used, at 16.
+    """
+
+    tag_index: Annotated[int, c.c_uint32]
+    total_size: Annotated[int, c.c_uint32]
+    pointer_to_line_number: Annotated[int, c.c_uint32]
+    pointer_to_next_function: Annotated[int, c.c_uint32]
+    unused: Annotated[Tuple[int, ...], c.c_uint8 * 2]
 
 
-@_record
+@header
+class AuxBeginAndEndFunction(NamedTuple):
+    """What follows a symbol of a function's start or end.
+
+    Source: PE Format, "Auxiliary Format 2: .bf and .ef Symbols". Numbers are as stored; the record
+    has 18 bytes, and `at` gives a field's offset in it.
+
+    unused1: Not used, at 0.
+    line_number: The line in the source file, counted from 1, at 4.
+    unused2: Not used, at 6.
+    pointer_to_next_function: At 12, only for a start: the index in the symbol table of the next
+        function's start, 0 where this is the last.
+    unused3: Not used, at 16.
+    """
+
+    unused1: Annotated[Tuple[int, ...], c.c_uint8 * 4]
+    line_number: Annotated[int, c.c_uint16]
+    unused2: Annotated[Tuple[int, ...], c.c_uint8 * 6]
+    pointer_to_next_function: Annotated[int, c.c_uint32]
+    unused3: Annotated[Tuple[int, ...], c.c_uint8 * 2]
+
+
+@header
+class AuxWeakExternal(NamedTuple):
+    """What follows a symbol that another may replace.
+
+    Source: PE Format, "Auxiliary Format 3: Weak Externals". Numbers are as stored; the record has
+    18 bytes, and `at` gives a field's offset in it.
+
+    tag_index: The index in the symbol table of the symbol that is taken where this one is not
+        found, at 0.
+    characteristics: Where this one is looked for, an `IMAGE_WEAK_EXTERN_SEARCH_*`, at 4.
+    unused: Not used, at 8.
+    """
+
+    tag_index: Annotated[int, c.c_uint32]
+    characteristics: Annotated[int, c.c_uint32]
+    unused: Annotated[Tuple[int, ...], c.c_uint8 * 10]
+
+
+@header
+class AuxSectionDefinition(NamedTuple):
+    """What follows a symbol that defines a section.
+
+    Source: PE Format, "Auxiliary Format 5: Section Definitions". Numbers are as stored; the record
+    has 18 bytes, and `at` gives a field's offset in it.
+
+    length: The size of the section's data, in bytes, at 0: the same as in its section record.
+    number_of_relocations: How many relocations the section has, at 4.
+    number_of_line_numbers: How many line numbers the section has, at 6.
+    checksum: The checksum of COMDAT data, at 8.
+    number: The number, counted from 1, of the section that this one is taken with, at 12; it counts
+        if `selection` is `IMAGE_COMDAT_SELECT_ASSOCIATIVE`.
+    selection: Which of several COMDAT sections of one name is taken, an `IMAGE_COMDAT_SELECT_*`, at
+        14.
+    unused: Not used, at 15.
+    """
+
+    length: Annotated[int, c.c_uint32]
+    number_of_relocations: Annotated[int, c.c_uint16]
+    number_of_line_numbers: Annotated[int, c.c_uint16]
+    checksum: Annotated[int, c.c_uint32]
+    number: Annotated[int, c.c_uint16]
+    selection: Annotated[int, c.c_uint8]
+    unused: Annotated[Tuple[int, ...], c.c_uint8 * 3]
+
+
+@record
 class Fault(Record):
-    """Why a call gave no value, in numbers."""
+    """Why a call gave no value, in numbers; the status 0 is that it gave one.
 
-    status: U32
-    cause: U32
-    first: U64
-    second: U64
+    status: What kind of refusal it is, by the numbers of `Status`; 0 where nothing is refused.
+    cause: By the status a `Cause`, a `Counted` or a `ReadFault`; else 0.
+    first: The first number of the cause, else 0.
+    second: The second number of the cause, else 0.
+    """
 
-
-@_header
-class DosHeader(NamedTuple):
-    """The header of a DOS program, which a PE file begins with."""
-
-    signature: U16
-    bytes_on_last_page: U16
-    pages_in_file: U16
-    relocations: U16
-    size_of_header_in_paragraphs: U16
-    minimum_extra_paragraphs_needed: U16
-    maximum_extra_paragraphs_needed: U16
-    initial_relative_ss: U16
-    initial_sp: U16
-    checksum: U16
-    initial_ip: U16
-    initial_relative_cs: U16
-    file_address_of_relocation_table: U16
-    overlay_number: U16
-    reserved: Words4
-    oem_id: U16
-    oem_info: U16
-    reserved2: Words10
-    pe_pointer: U32
+    status: Annotated[int, c.c_uint32]
+    cause: Annotated[int, c.c_uint32]
+    first: Annotated[int, c.c_uint64]
+    second: Annotated[int, c.c_uint64]
 
 
-@_header
-class CoffHeader(NamedTuple):
-    """The header of a COFF file, or of the COFF part of an image."""
+@record
+class Options(Record):
+    """What a call does and leaves out.
 
-    machine: U16
-    number_of_sections: U16
-    time_date_stamp: U32
-    pointer_to_symbol_table: U32
-    number_of_symbol_table: U32
-    size_of_optional_header: U16
-    characteristics: U16
+    is_permissive: Whether damaged parts are passed over.
+    resolve_rva: Whether an address is mapped to a file offset by the sections; where not, it is the
+        offset.
+    rounds_raw_pointers: Whether the raw pointer of a section is rounded down to 512, as the Windows
+        loader does, for addresses and for its data; where not, it is taken as stored.
+    parse_imports: Whether the imports are read; where not, their table is absent.
+    """
+
+    is_permissive: Annotated[bool, c.c_bool]
+    resolve_rva: Annotated[bool, c.c_bool]
+    rounds_raw_pointers: Annotated[bool, c.c_bool]
+    parse_imports: Annotated[bool, c.c_bool]
 
 
-@_header
+@header
 class StandardFields(NamedTuple):
-    """The standard fields of an optional header of either width."""
+    """The standard fields of an optional header of either width.
 
-    magic: U16
-    major_linker_version: U8
-    minor_linker_version: U8
-    size_of_code: U64
-    size_of_initialized_data: U64
-    size_of_uninitialized_data: U64
-    address_of_entry_point: U32
-    base_of_code: U64
-    base_of_data: U32
+    Source: PE Format, "Optional Header Standard Fields (Image Only)". `at` gives a field's offset
+    from the front of the optional header, in both widths.
+
+    magic: What the optional header is, at 0: `MAGIC_32` or `MAGIC_64`. Only this says the width of
+        the header and of import entries.
+    major_linker_version: The linker's major version, at 2.
+    minor_linker_version: The linker's minor version, at 3.
+    size_of_code: The size of the code, in bytes, at 4: the sum of all code sections.
+    size_of_initialized_data: The size of the initialized data, in bytes, at 8: the sum of all such
+        sections.
+    size_of_uninitialized_data: The size of the uninitialized data, in bytes, at 12: the sum of all
+        such sections.
+    address_of_entry_point: The address of the entry point, relative to the image's base, at 16; 0
+        where there is none, as in some libraries. The loader starts there, in whatever section it
+        lies.
+    base_of_code: The address at which the code begins, relative to the image's base, at 20.
+    base_of_data: The address at which the data begins, relative to the image's base, at 24 in an
+        image for 32 bits; 0 in one for 64 bits.
+    """
+
+    magic: Annotated[int, c.c_uint16]
+    major_linker_version: Annotated[int, c.c_uint8]
+    minor_linker_version: Annotated[int, c.c_uint8]
+    size_of_code: Annotated[int, c.c_uint64]
+    size_of_initialized_data: Annotated[int, c.c_uint64]
+    size_of_uninitialized_data: Annotated[int, c.c_uint64]
+    address_of_entry_point: Annotated[int, c.c_uint32]
+    base_of_code: Annotated[int, c.c_uint64]
+    base_of_data: Annotated[int, c.c_uint32]
 
 
-@_header
+@header
 class WindowsFields(NamedTuple):
-    """The Windows fields of an optional header of either width."""
+    """The Windows fields of an optional header for 64 bits.
 
-    image_base: U64
-    section_alignment: U32
-    file_alignment: U32
-    major_operating_system_version: U16
-    minor_operating_system_version: U16
-    major_image_version: U16
-    minor_image_version: U16
-    major_subsystem_version: U16
-    minor_subsystem_version: U16
-    win32_version_value: U32
-    size_of_image: U32
-    size_of_headers: U32
-    check_sum: U32
-    subsystem: U16
-    dll_characteristics: U16
-    size_of_stack_reserve: U64
-    size_of_stack_commit: U64
-    size_of_heap_reserve: U64
-    size_of_heap_commit: U64
-    loader_flags: U32
-    number_of_rva_and_sizes: U32
+    Source: PE Format, "Optional Header Windows-Specific Fields (Image Only)". Numbers are as
+    stored; the record has 88 bytes, and `at` gives a field's offset in it. It begins at 24 in the
+    optional header.
+
+    image_base: The address at which the image is best loaded, a multiple of 64 KiB, at 0. Where the
+        loader takes another, it applies the base relocations.
+    section_alignment: The alignment of sections in memory, in bytes, at 8: at least the file
+        alignment, mostly a page.
+    file_alignment: The alignment of the raw data of sections in the file, in bytes, at 12: a power
+        of two, mostly 512. The mapping of addresses to file offsets goes by it.
+    major_operating_system_version: The major version of the system that the image needs, at 16.
+    minor_operating_system_version: The minor version of the system that the image needs, at 18.
+    major_image_version: The image's major version, at 20.
+    minor_image_version: The image's minor version, at 22.
+    major_subsystem_version: The major version of the subsystem that the image needs, at 24.
+    minor_subsystem_version: The minor version of the subsystem that the image needs, at 26.
+    win32_version_value: Reserved, 0, at 28.
+    size_of_image: The size of the image in memory with all headers, in bytes, at 32: how much the
+        loader reserves, a multiple of the section alignment.
+    size_of_headers: The size of all headers together, in bytes, rounded up to the file alignment,
+        at 36. The loader maps this much of the file's front at the image's base.
+    check_sum: The image's checksum, at 40. The loader tests that of drivers and of what is loaded
+        at boot; no reader does.
+    subsystem: The subsystem that runs the image, an `IMAGE_SUBSYSTEM_*` (PE Format, "Windows
+        Subsystem"), at 44.
+    dll_characteristics: What the loader may and has to do, as bits `IMAGE_DLLCHARACTERISTICS_*` (PE
+        Format, "DLL Characteristics"), at 46: whether it may move the image, and which guards it
+        turns on.
+    size_of_stack_reserve: How much of the stack to reserve, in bytes, at 48.
+    size_of_stack_commit: How much of the stack to commit, in bytes, at 56; the rest follows page by
+        page.
+    size_of_heap_reserve: How much of the heap to reserve, in bytes, at 64.
+    size_of_heap_commit: How much of the heap to commit, in bytes, at 72; the rest follows page by
+        page.
+    loader_flags: Reserved, 0, at 80.
+    number_of_rva_and_sizes: How many data directories follow, at 84. Readers take at most sixteen;
+        directories past this number are not there, whatever bytes follow.
+    """
+
+    image_base: Annotated[int, c.c_uint64]
+    section_alignment: Annotated[int, c.c_uint32]
+    file_alignment: Annotated[int, c.c_uint32]
+    major_operating_system_version: Annotated[int, c.c_uint16]
+    minor_operating_system_version: Annotated[int, c.c_uint16]
+    major_image_version: Annotated[int, c.c_uint16]
+    minor_image_version: Annotated[int, c.c_uint16]
+    major_subsystem_version: Annotated[int, c.c_uint16]
+    minor_subsystem_version: Annotated[int, c.c_uint16]
+    win32_version_value: Annotated[int, c.c_uint32]
+    size_of_image: Annotated[int, c.c_uint32]
+    size_of_headers: Annotated[int, c.c_uint32]
+    check_sum: Annotated[int, c.c_uint32]
+    subsystem: Annotated[int, c.c_uint16]
+    dll_characteristics: Annotated[int, c.c_uint16]
+    size_of_stack_reserve: Annotated[int, c.c_uint64]
+    size_of_stack_commit: Annotated[int, c.c_uint64]
+    size_of_heap_reserve: Annotated[int, c.c_uint64]
+    size_of_heap_commit: Annotated[int, c.c_uint64]
+    loader_flags: Annotated[int, c.c_uint32]
+    number_of_rva_and_sizes: Annotated[int, c.c_uint32]
 
 
-@_header
+@header
 class OptionalHeader(NamedTuple):
-    """The optional header."""
+    """The optional header without its data directories; zeros where there is none.
+
+    standard_fields: The standard fields, whose magic is 0 where there is no optional header.
+    windows_fields: The Windows fields; of an image for 32 bits as they are of one for 64 bits.
+    """
 
     standard_fields: StandardFields
     windows_fields: WindowsFields
 
 
-@_header
-class DataDirectory(NamedTuple):
-    """Where a table of an image lies."""
-
-    virtual_address: U32
-    size: U32
-
-
-@_record
-class Directory(Record):
-    """An entry of the table of data directories."""
-
-    end: Size
-    directory: DataDirectory
-    is_present: Flag
-
-
-@_header
-class TeHeader(NamedTuple):
-    """The header of a Terse Executable."""
-
-    signature: U16
-    machine: U16
-    number_of_sections: U8
-    subsystem: U8
-    stripped_size: U16
-    entry_point: U32
-    base_of_code: U32
-    image_base: U64
-    reloc_dir: DataDirectory
-    debug_dir: DataDirectory
-
-
-@_header
-class RichMetadata(NamedTuple):
-    """An entry of a Rich header: a tool, and how often it was used."""
-
-    build: U16
-    product: U16
-    use_count: U32
-
-
-@_record
-class RichHeader(Record):
-    """The Rich header."""
-
-    entries: Size
-    padding_size: Size
-    rest: Fault
-    key: U32
-    start_offset: U32
-    end_offset: U32
-    is_present: Flag
-
-
-@_record
-class Section(Record):
-    """A section, as its record describes it."""
-
-    real_name: Text
-    name: Bytes8
-    virtual_size: U32
-    virtual_address: U32
-    size_of_raw_data: U32
-    pointer_to_raw_data: U32
-    pointer_to_relocations: U32
-    pointer_to_linenumbers: U32
-    number_of_relocations: U16
-    number_of_linenumbers: U16
-    characteristics: U32
-    has_real_name: Flag
-
-
-@_record
-class Import(Record):
-    """An import."""
-
-    name: Text
-    dll: Text
-    slot_rva: Size
-    rva: Size
-    slot: Size
-    ordinal: U16
-    is_by_name: Flag
-    reserved: U8
-    reserved2: U32
-
-
-@_record
-class ImportPosition(Record):
-    """Where a walk over imports goes on."""
-
-    record: Size
-    slot: Size
-
-
-@_record
-class Export(Record):
-    """An export."""
-
-    name: Text
-    forward_lib: Text
-    forward_name: Text
-    forward_ordinal: Size
-    ordinal: Size
-    hint: Size
-    offset: Size
-    rva: Size
-    has_name: Flag
-    has_offset: Flag
-    forwards: U8
-    reserved: U8
-    reserved2: U32
-
-
-@_record
-class ExportAddress(Record):
-    """An entry of the export address table."""
-
-    rva: U32
-    forwards: Flag
-
-
-@_header
-class ExportDirectoryTable(NamedTuple):
-    """The record that an image's exports begin with."""
-
-    export_flags: U32
-    time_date_stamp: U32
-    major_version: U16
-    minor_version: U16
-    name_rva: U32
-    ordinal_base: U32
-    address_table_entries: U32
-    number_of_name_pointers: U32
-    export_address_table_rva: U32
-    name_pointer_rva: U32
-    ordinal_table_rva: U32
-
-
-@_record
-class ExportDirectory(Record):
-    """The record of the exports."""
-
-    name: Text
-    table: ExportDirectoryTable
-    has_name: Flag
-
-
-@_record
-class Block(Record):
-    """A block of base relocations, for one page of the image in memory."""
-
-    words: Text
-    rva: U32
-    size: U32
-
-
-@_record
+@record
 class Table(Record):
-    """A table of the file."""
+    """A table of the file.
 
-    count: Size
-    state: U32
+    count: How many entries it has, whatever the room.
+    state: How it stands, by the numbers of `State`.
+    """
+
+    count: Annotated[int, c.c_size_t]
+    state: Annotated[int, c.c_uint32]
 
 
-@_record
+@record
 class BaseRelocations(Record):
-    """The base relocations."""
+    """The base relocations.
+
+    blocks: The blocks.
+    rest: Why the rest that follows the blocks is no block; its status is 0 where there is no rest.
+    """
 
     blocks: Table
     rest: Fault
 
 
-@_record
+@record
+class RichHeader(Record):
+    """The Rich header; zeros where there is none.
+
+    entries: How many entries there are.
+    padding_size: The size of the padding before the entries, in bytes.
+    rest: Why the rest that follows the entries is no entry; its status is 0 where there is no rest.
+    key: The key, with which each stored word is the exclusive or.
+    start_offset: The file offset of the first marker, `DanS` under the key.
+    end_offset: The file offset of the second marker, `Rich`.
+    is_present: Whether there is a Rich header.
+    """
+
+    entries: Annotated[int, c.c_size_t]
+    padding_size: Annotated[int, c.c_size_t]
+    rest: Fault
+    key: Annotated[int, c.c_uint32]
+    start_offset: Annotated[int, c.c_uint32]
+    end_offset: Annotated[int, c.c_uint32]
+    is_present: Annotated[bool, c.c_bool]
+
+
+@header
+class DosHeader(NamedTuple):
+    """The header of a DOS program, which a PE file begins with.
+
+    Source: PE Format, "MS-DOS Stub (Image Only)"; the fields are those of a DOS executable. Numbers
+    are as stored, little-endian in a file; the record has 64 bytes, and `at` gives a field's file
+    offset. A loader of PE files looks only at the signature and the pointer.
+
+    signature: `MZ`, at 0x00.
+    bytes_on_last_page: How many bytes of the last page are used, at 0x02.
+    pages_in_file: How many pages of 512 bytes the program has, at 0x04.
+    relocations: How many relocations there are, at 0x06.
+    size_of_header_in_paragraphs: The size of the header in paragraphs of 16 bytes, at 0x08.
+    minimum_extra_paragraphs_needed: The least memory that the program needs after it, in
+        paragraphs, at 0x0A.
+    maximum_extra_paragraphs_needed: The most memory that the program asks for after it, in
+        paragraphs, at 0x0C.
+    initial_relative_ss: The stack segment at the start, relative to the program, at 0x0E.
+    initial_sp: The stack pointer at the start, at 0x10.
+    checksum: The checksum, at 0x12.
+    initial_ip: The instruction pointer at the start, at 0x14.
+    initial_relative_cs: The code segment at the start, relative to the program, at 0x16.
+    file_address_of_relocation_table: The file offset of the relocations, at 0x18.
+    overlay_number: The overlay's number, at 0x1A.
+    reserved: Reserved, at 0x1C.
+    oem_id: The maker's identifier, at 0x24.
+    oem_info: What the maker says, at 0x26.
+    reserved2: Reserved, at 0x28.
+    pe_pointer: The file offset of the PE signature, at 0x3C. It may lie anywhere in the file, even
+        inside the DOS header, and need not be aligned; a whole header is read in strict mode only
+        where this is at least 0x40.
+    """
+
+    signature: Annotated[int, c.c_uint16]
+    bytes_on_last_page: Annotated[int, c.c_uint16]
+    pages_in_file: Annotated[int, c.c_uint16]
+    relocations: Annotated[int, c.c_uint16]
+    size_of_header_in_paragraphs: Annotated[int, c.c_uint16]
+    minimum_extra_paragraphs_needed: Annotated[int, c.c_uint16]
+    maximum_extra_paragraphs_needed: Annotated[int, c.c_uint16]
+    initial_relative_ss: Annotated[int, c.c_uint16]
+    initial_sp: Annotated[int, c.c_uint16]
+    checksum: Annotated[int, c.c_uint16]
+    initial_ip: Annotated[int, c.c_uint16]
+    initial_relative_cs: Annotated[int, c.c_uint16]
+    file_address_of_relocation_table: Annotated[int, c.c_uint16]
+    overlay_number: Annotated[int, c.c_uint16]
+    reserved: Annotated[Tuple[int, ...], c.c_uint16 * 4]
+    oem_id: Annotated[int, c.c_uint16]
+    oem_info: Annotated[int, c.c_uint16]
+    reserved2: Annotated[Tuple[int, ...], c.c_uint16 * 10]
+    pe_pointer: Annotated[int, c.c_uint32]
+
+
+@header
+class CoffHeader(NamedTuple):
+    """The header of a COFF file, or of the COFF part of an image.
+
+    Source: PE Format, "COFF File Header (Object and Image)". Numbers are as stored; the record has
+    20 bytes, and `at` gives a field's offset in it. An object begins with it; in an image it
+    follows the PE signature.
+
+    machine: The machine that the file is for, a `COFF_MACHINE_*`, at 0. No reader looks at it: the
+        width of an image is what the magic of its optional header says.
+    number_of_sections: How many section records follow the optional header, at 2. The Windows
+        loader takes at most 96.
+    time_date_stamp: When the file was made, in seconds since the start of 1970, at 4; or what its
+        maker put there, such as a hash.
+    pointer_to_symbol_table: The file offset of the symbol table, at 8; 0 where there is none, as in
+        most images. The string table follows the symbol table.
+    number_of_symbol_table: How many records the symbol table has, the auxiliary ones too, at 12.
+    size_of_optional_header: The size of the optional header, in bytes, at 16; 0 where there is
+        none, as in an object. Only this says where the section table begins; it says nothing about
+        the optional header's own layout.
+    characteristics: What kind of file it is, as bits `IMAGE_FILE_*` (PE Format, "Characteristics"),
+        at 18.
+    """
+
+    machine: Annotated[int, c.c_uint16]
+    number_of_sections: Annotated[int, c.c_uint16]
+    time_date_stamp: Annotated[int, c.c_uint32]
+    pointer_to_symbol_table: Annotated[int, c.c_uint32]
+    number_of_symbol_table: Annotated[int, c.c_uint32]
+    size_of_optional_header: Annotated[int, c.c_uint16]
+    characteristics: Annotated[int, c.c_uint16]
+
+
+@record
 class File(Record):
-    """The file as a whole."""
+    """The file as a whole.
+
+    optional_header: The optional header.
+    directories: How many data directories there are, whatever the room: sixteen, or none where
+        there is no optional header. Records past them are not filled.
+    sections: How many sections there are.
+    imports: The imports.
+    exports: The exports.
+    relocations: The base relocations.
+    rich_header: The Rich header.
+    dos_header: The DOS header.
+    coff_header: The COFF header.
+    """
 
     optional_header: OptionalHeader
-    directories: Size
-    sections: Size
+    directories: Annotated[int, c.c_size_t]
+    sections: Annotated[int, c.c_size_t]
     imports: Table
     exports: Table
     relocations: BaseRelocations
@@ -394,177 +420,519 @@ class File(Record):
     coff_header: CoffHeader
 
 
-@_record
-class Object(Record):
-    """An object as a whole."""
+@header
+class DataDirectory(NamedTuple):
+    """Where a table of an image lies.
 
-    sections: Size
-    coff_header: CoffHeader
+    Source: PE Format, "Optional Header Data Directories (Image Only)". Numbers are as stored; the
+    record has 8 bytes, and `at` gives a field's offset in it.
 
+    virtual_address: The table's address, relative to the image's base, at 0. That of the
+        certificates is a file offset, since they are not loaded.
+    size: The table's size in bytes, at 4. An import directory ends at its own last record, and a
+        value at an address by its own type, whatever the size; of an export directory the size says
+        which addresses are forwarders, of base relocations where the blocks end.
+    """
 
-@_record
-class Symbol(Record):
-    """A symbol, as its record describes it."""
-
-    name: Bytes8
-    value: U32
-    section_number: I16
-    typ: U16
-    storage_class: U8
-    number_of_aux_symbols: U8
+    virtual_address: Annotated[int, c.c_uint32]
+    size: Annotated[int, c.c_uint32]
 
 
-@_record
-class NamedSymbol(Record):
-    """A symbol with its name and its auxiliary records."""
+@record
+class Directory(Record):
+    """An entry of the table of data directories.
+
+    end: Where the entry's record ends, in bytes from the front of the optional header; 0 where
+        there is no entry.
+    directory: Where what it leads to lies; zeros where there is no entry.
+    is_present: Whether there is such an entry, and not all of it is 0.
+    """
+
+    end: Annotated[int, c.c_size_t]
+    directory: DataDirectory
+    is_present: Annotated[bool, c.c_bool]
+
+
+@header
+class RichMetadata(NamedTuple):
+    """An entry of a Rich header: a tool, and how often it was used.
+
+    Source: not documented by Microsoft; the layout is what linkers write. Numbers are as stored;
+    the record has 8 bytes, and `at` gives a field's offset in it. In a file its two words are
+    stored under the header's key.
+
+    build: The build of the tool, at 0.
+    product: Which tool it is, at 2.
+    use_count: How many files it made, at 4.
+    """
+
+    build: Annotated[int, c.c_uint16]
+    product: Annotated[int, c.c_uint16]
+    use_count: Annotated[int, c.c_uint32]
+
+
+@record
+class Section(Record):
+    """A section, as its record describes it.
+
+    Source: PE Format, "Section Table (Section Headers)".
+
+    real_name: The name from the string table, where there is one; a name of more than eight bytes
+        stands there.
+    name: The eight bytes of the name, padded with NULs.
+    virtual_size: The section's size in memory, in bytes: what the raw data lacks of it is zeros.
+    virtual_address: The section's address in memory, relative to the image's base.
+    size_of_raw_data: The size of the section's data in the file, in bytes; in an image rounded up,
+        so it may be above the virtual size.
+    pointer_to_raw_data: The file offset of the section's data, as stored.
+    pointer_to_relocations: The file offset of the section's relocations, 0 where it has none.
+    pointer_to_linenumbers: The file offset of the section's line numbers, 0 where it has none.
+    number_of_relocations: How many relocations the section has, as its record says.
+    number_of_linenumbers: How many line numbers the section has.
+    characteristics: What the section holds and how it may be used, as bits `IMAGE_SCN_*`; the
+        loader protects its pages by them.
+    has_real_name: Whether the section has a name from the string table.
+    """
+
+    real_name: Text
+    name: Annotated[Tuple[int, ...], c.c_uint8 * 8]
+    virtual_size: Annotated[int, c.c_uint32]
+    virtual_address: Annotated[int, c.c_uint32]
+    size_of_raw_data: Annotated[int, c.c_uint32]
+    pointer_to_raw_data: Annotated[int, c.c_uint32]
+    pointer_to_relocations: Annotated[int, c.c_uint32]
+    pointer_to_linenumbers: Annotated[int, c.c_uint32]
+    number_of_relocations: Annotated[int, c.c_uint16]
+    number_of_linenumbers: Annotated[int, c.c_uint16]
+    characteristics: Annotated[int, c.c_uint32]
+    has_real_name: Annotated[bool, c.c_bool]
+
+
+@record
+class Import(Record):
+    """An import.
+
+    name: The name that is imported, where the import is by name.
+    dll: The name of the library; empty where permissive mode could not read it.
+    slot_rva: The address (not the file offset) of its own entry in the address table, where the
+        loader puts the address of what is imported.
+    rva: The address of the hint and the name; 0 of an import by ordinal.
+    slot: The index of its entry, in the file, in the lookup table and in the address table. Entries
+        that are left out count.
+    ordinal: The ordinal; of an import by name, the hint, at which index of the library's names the
+        loader looks first.
+    is_by_name: Whether the import is by name.
+    reserved: Zero. With `reserved2` it stands where padding would be, so that each byte of the
+        record is defined.
+    reserved2: Zero.
+    """
 
     name: Text
-    auxiliary: Text
-    index: Size
-    symbol: Symbol
-    has_name: Flag
+    dll: Text
+    slot_rva: Annotated[int, c.c_size_t]
+    rva: Annotated[int, c.c_size_t]
+    slot: Annotated[int, c.c_size_t]
+    ordinal: Annotated[int, c.c_uint16]
+    is_by_name: Annotated[bool, c.c_bool]
+    reserved: Annotated[int, c.c_uint8]
+    reserved2: Annotated[int, c.c_uint32]
 
 
-@_header
-class AuxFunctionDefinition(NamedTuple):
-    """What follows a symbol that defines a function."""
+@record
+class Export(Record):
+    """An export.
 
-    tag_index: U32
-    total_size: U32
-    pointer_to_line_number: U32
-    pointer_to_next_function: U32
-    unused: Bytes2
+    name: The export's name, where it can be read.
+    forward_lib: Of a forwarder the library, without its ending.
+    forward_name: Of a forwarder by name the name in that library.
+    forward_ordinal: Of a forwarder by ordinal the ordinal in that library.
+    ordinal: Its own ordinal: the index of its address, and the ordinal base added.
+    hint: The index of its name pointer: what imports by name give as a hint.
+    offset: The file offset of `rva`, where it has one; else 0. Where the options say that addresses
+        are offsets, `rva` itself.
+    rva: The export's address, relative to the image's base; of a forwarder that of its text.
+    has_name: Whether the name can be read.
+    has_offset: Whether `rva` has a file offset: a section maps it and the file alignment is a power
+        of two, or the options say that addresses are offsets.
+    forwards: What it forwards to, by the numbers of `Forwards`.
+    reserved: Zero. With `reserved2` it stands where padding would be, so that each byte of the
+        record is defined.
+    reserved2: Zero.
+    """
 
-
-@_header
-class AuxBeginAndEndFunction(NamedTuple):
-    """What follows a symbol of a function's start or end."""
-
-    unused1: Bytes4
-    line_number: U16
-    unused2: Bytes6
-    pointer_to_next_function: U32
-    unused3: Bytes2
-
-
-@_header
-class AuxWeakExternal(NamedTuple):
-    """What follows a symbol that another may replace."""
-
-    tag_index: U32
-    characteristics: U32
-    unused: Bytes10
-
-
-@_header
-class AuxSectionDefinition(NamedTuple):
-    """What follows a symbol that defines a section."""
-
-    length: U32
-    number_of_relocations: U16
-    number_of_line_numbers: U16
-    checksum: U32
-    number: U16
-    selection: U8
-    unused: Bytes3
+    name: Text
+    forward_lib: Text
+    forward_name: Text
+    forward_ordinal: Annotated[int, c.c_size_t]
+    ordinal: Annotated[int, c.c_size_t]
+    hint: Annotated[int, c.c_size_t]
+    offset: Annotated[int, c.c_size_t]
+    rva: Annotated[int, c.c_size_t]
+    has_name: Annotated[bool, c.c_bool]
+    has_offset: Annotated[bool, c.c_bool]
+    forwards: Annotated[int, c.c_uint8]
+    reserved: Annotated[int, c.c_uint8]
+    reserved2: Annotated[int, c.c_uint32]
 
 
-@_header
-class Relocation(NamedTuple):
-    """A relocation of a COFF object: which bytes of a section a linker changes, and how."""
+@record
+class ExportAddress(Record):
+    """An entry of the export address table. Its index and the ordinal base are the ordinal that it
+    stands for.
 
-    virtual_address: U32
-    symbol_table_index: U32
-    typ: U16
+    rva: The address, relative to the image's base; of a forwarder that of its text; 0 where the
+        ordinal is not used.
+    forwards: Whether it is a forwarder: its address lies in the export directory.
+    """
+
+    rva: Annotated[int, c.c_uint32]
+    forwards: Annotated[bool, c.c_bool]
 
 
-@_record
+@record
+class Block(Record):
+    """A block of base relocations, for one page of the image in memory.
+
+    Source: PE Format, "Base Relocation Block".
+
+    words: The words, of two bytes each: the type, an `IMAGE_REL_BASED_*`, in the high four bits,
+        and in the low twelve the offset in the page, in bytes. A byte that is left is no word.
+    rva: The page's address, relative to the image's base, to which each offset is added.
+    size: The size of the block with its head, in bytes.
+    """
+
+    words: Text
+    rva: Annotated[int, c.c_uint32]
+    size: Annotated[int, c.c_uint32]
+
+
+@header
+class ExportDirectoryTable(NamedTuple):
+    """The record that an image's exports begin with.
+
+    Source: PE Format, "Export Directory Table". Numbers are as stored; the record has 40 bytes, and
+    `at` gives a field's offset in it. Addresses are relative to the image's base.
+
+    export_flags: Reserved, 0, at 0.
+    time_date_stamp: When the exports were made, in seconds since the start of 1970, at 4.
+    major_version: The major version, at 8. It is the maker's own.
+    minor_version: The minor version, at 10.
+    name_rva: The address of the library's name, at 12.
+    ordinal_base: The ordinal of the first entry of the address table, at 16; mostly 1. It is added
+        to an index to make an ordinal, and counts in no table.
+    address_table_entries: How many entries the address table has, at 20.
+    number_of_name_pointers: How many entries the name pointer table has, and as many has the
+        ordinal table, at 24.
+    export_address_table_rva: The address of the address table, at 28.
+    name_pointer_rva: The address of the name pointer table, at 32.
+    ordinal_table_rva: The address of the ordinal table, at 36.
+    """
+
+    export_flags: Annotated[int, c.c_uint32]
+    time_date_stamp: Annotated[int, c.c_uint32]
+    major_version: Annotated[int, c.c_uint16]
+    minor_version: Annotated[int, c.c_uint16]
+    name_rva: Annotated[int, c.c_uint32]
+    ordinal_base: Annotated[int, c.c_uint32]
+    address_table_entries: Annotated[int, c.c_uint32]
+    number_of_name_pointers: Annotated[int, c.c_uint32]
+    export_address_table_rva: Annotated[int, c.c_uint32]
+    name_pointer_rva: Annotated[int, c.c_uint32]
+    ordinal_table_rva: Annotated[int, c.c_uint32]
+
+
+@record
+class ExportDirectory(Record):
+    """What the export directory says of the library; zeros where the exports are not read.
+
+    name: The library's own name, as it was linked, where there is a text at its address.
+    table: The record itself.
+    has_name: Whether there is a text at the name's address.
+    """
+
+    name: Text
+    table: ExportDirectoryTable
+    has_name: Annotated[bool, c.c_bool]
+
+
+class Tables(HandedOver):
+    """The tables of an image. Each that is not empty is a block of memory of its own, and the texts
+    in it are in the file's bytes.
+
+    rich_entries: The entries of the Rich header.
+    sections: The sections.
+    imports: The imports.
+    exports: The exports, in the order of their name pointers.
+    export_addresses: The entries of the export address table: that at index i has the ordinal i
+        plus the ordinal base.
+    blocks: The blocks of base relocations.
+    export_directory: What the export directory says; zeros where the exports are not read.
+    dos_stub: The DOS stub, which is written with a header: bytes of the file, or where permissive
+        mode could not read them a stub of the library's own. It is no block of memory, and never
+        freed.
+    """
+
+    KINDS = {"rich_entries": ("rich_entry_count", RichMetadata), "sections": ("section_count", Section), "imports": ("import_count", Import), "exports": ("export_count", Export), "export_addresses": ("export_address_count", ExportAddress), "blocks": ("block_count", Block)}
+    _fields_ = [*tables(KINDS), ("export_directory", ExportDirectory), ("dos_stub", Text)]
+
+
+@record
+class ImportPosition(Record):
+    """Where a walk over imports goes on; zeros are the beginning. It may be kept, and copied.
+
+    record: The file offset of a library's record; the greatest number once the end has been
+        reached, also of a file without imports.
+    slot: The file offset of the slot that is read next, or 0 before the library's first.
+    """
+
+    record: Annotated[int, c.c_size_t]
+    slot: Annotated[int, c.c_size_t]
+
+
+@record
 class Damage(Record):
-    """What strict mode would refuse of an image, part by part, each for itself."""
+    """What strict mode would refuse of a file, part by part: for each part a fault of the status 0
+    where strict mode would read it, or the file has no such part; else why not.
+
+    dos_stub: The DOS stub.
+    section_names: The names of the sections.
+    imports: The imports, if they are asked for.
+    exports: The exports.
+    relocations: The base relocations: their directory, not its blocks.
+    left_out_libraries: How many libraries permissive mode leaves out of the imports: those without
+        an address table.
+    left_out_entries: How many entries of the other libraries it leaves out.
+    """
 
     dos_stub: Fault
     section_names: Fault
     imports: Fault
     exports: Fault
     relocations: Fault
-    left_out_libraries: Size
-    left_out_entries: Size
+    left_out_libraries: Annotated[int, c.c_size_t]
+    left_out_entries: Annotated[int, c.c_size_t]
 
 
-@_record
+@record
 class Range(Record):
-    """A range of the file."""
+    """A range of the file.
 
-    offset: Size
-    length: Size
+    offset: The file offset of its first byte.
+    length: How many bytes it has: at least one.
+    """
 
-
-@_record
-class Image(Record):
-    """What maps the addresses of an image."""
-
-    bytes: Text
-    sections: Address
-    section_count: Size
-    file_alignment: U32
-    options: Options
-
-
-@_record
-class SectionData(Record):
-    """The data of a section."""
-
-    bytes: Text
-    zeros: Size
-
-
-# Where there are no bytes and no records: the library wants pointers that are not null.
-_NOWHERE = c.create_string_buffer(8)
-NOWHERE = c.addressof(_NOWHERE)
-
-_free = c.CDLL(None).free
-_free.restype, _free.argtypes = None, [c.c_void_p]
-
-
-class HandedOver(c.Structure):
-    """Tables that the library hands over, each a block of memory of its own where it is not empty. They are
-    empty before, and freed at the end of a `with`."""
-
-    KINDS: Dict[str, Any] = {}
-
-    def __init__(self) -> None:
-        super().__init__(*(it for kind in self.KINDS.values() for it in (c.cast(NOWHERE, c.POINTER(laid_out(kind))), 0)))
-
-    def records(self, name: str) -> List[Any]:
-        """The records of a table, good until it is freed."""
-        found: List[Any] = getattr(self, name)[: getattr(self, name + "_count")]
-        return found
-
-    def __enter__(self) -> "HandedOver":
-        return self
-
-    def __exit__(self, *error: object) -> None:
-        for name in self.KINDS:
-            if getattr(self, name + "_count"):
-                _free(getattr(self, name))
-
-
-def _tables(kinds: Dict[str, Any]) -> List[Any]:
-    # each table is a pointer and a count
-    return [it for name, kind in kinds.items() for it in ((name, c.POINTER(laid_out(kind))), (name + "_count", c.c_size_t))]
-
-
-class Tables(HandedOver):
-    """The tables of an image, the record of its exports and its DOS stub."""
-
-    KINDS = {"rich_entries": RichMetadata, "sections": Section, "imports": Import, "exports": Export,
-             "export_addresses": ExportAddress, "blocks": Block}
-    MORE = {"export_directory": ExportDirectory, "dos_stub": Text}
-    _fields_ = [*_tables(KINDS), *MORE.items()]
+    offset: Annotated[int, c.c_size_t]
+    length: Annotated[int, c.c_size_t]
 
 
 class Ranges(HandedOver):
-    """Ranges of the file."""
+    """Ranges of the file: a block of memory of its own, or none where there is no range.
 
-    KINDS = {"ranges": Range}
-    _fields_ = _tables(KINDS)
+    ranges: The ranges.
+    """
+
+    KINDS = {"ranges": ("range_count", Range)}
+    _fields_ = [*tables(KINDS)]
+
+
+@record
+class Image(Record):
+    """An image, by what maps its addresses.
+
+    bytes: The file's bytes.
+    sections: The records of its sections, in the order of the section table. No call looks at more
+        of them than `virtual_address`, `virtual_size`, `pointer_to_raw_data` and
+        `size_of_raw_data`; all else may be zeros.
+    file_alignment: Its file alignment, in bytes.
+    options: Whether addresses are mapped, and by which rule for raw pointers; all else is not
+        looked at.
+    """
+
+    bytes: Text
+    sections: Address
+    section_count: Annotated[int, c.c_size_t]
+    file_alignment: Annotated[int, c.c_uint32]
+    options: Options
+
+
+@record
+class SectionData(Record):
+    """The data of a section, as it is in memory.
+
+    bytes: The bytes that the file has of it.
+    zeros: How many zeros follow them.
+    """
+
+    bytes: Text
+    zeros: Annotated[int, c.c_size_t]
+
+
+@record
+class Object(Record):
+    """An object as a whole.
+
+    sections: How many sections there are, whatever the room.
+    coff_header: The COFF header.
+    """
+
+    sections: Annotated[int, c.c_size_t]
+    coff_header: CoffHeader
+
+
+@header
+class Symbol(NamedTuple):
+    """A symbol, as its record describes it.
+
+    Source: PE Format, "COFF Symbol Table". Numbers are as stored; a record has 18 bytes, and `at`
+    gives a field's offset in it.
+
+    name: The eight bytes of the name, padded with NULs, at 0. Where the first is 0, the name is in
+        the string table, at the number in the last four, which counts from the table's length
+        field.
+    value: What the symbol stands for, by its section and class, at 8: mostly an offset in its
+        section, in bytes.
+    section_number: The number of its section, counted from 1, at 12; or `IMAGE_SYM_UNDEFINED` (0),
+        `IMAGE_SYM_ABSOLUTE` (-1) or `IMAGE_SYM_DEBUG` (-2).
+    typ: Its type, at 14: an `IMAGE_SYM_TYPE_*` in the low four bits, an `IMAGE_SYM_DTYPE_*` above
+        them. Microsoft's tools store 0x20 of a function, else 0.
+    storage_class: Its class, an `IMAGE_SYM_CLASS_*`, at 16.
+    number_of_aux_symbols: How many auxiliary records follow it, at 17. The next symbol follows
+        these.
+    """
+
+    name: Annotated[Tuple[int, ...], c.c_uint8 * 8]
+    value: Annotated[int, c.c_uint32]
+    section_number: Annotated[int, c.c_int16]
+    typ: Annotated[int, c.c_uint16]
+    storage_class: Annotated[int, c.c_uint8]
+    number_of_aux_symbols: Annotated[int, c.c_uint8]
+
+
+@record
+class NamedSymbol(Record):
+    """A symbol with its name and the bytes of its auxiliary records.
+
+    name: The name, from the record or the string table, where it can be read.
+    auxiliary: The records that follow it and say more, 18 bytes each: as many as it says, or fewer
+        where the table ends before.
+    index: The index of its record in the symbol table, which also counts auxiliary records.
+    symbol: The symbol, as its record describes it.
+    has_name: Whether the name can be read.
+    """
+
+    name: Text
+    auxiliary: Text
+    index: Annotated[int, c.c_size_t]
+    symbol: Symbol
+    has_name: Annotated[bool, c.c_bool]
+
+
+@header
+class Relocation(NamedTuple):
+    """A relocation of a COFF object: which bytes of a section a linker changes, and how.
+
+    Source: PE Format, "COFF Relocations (Object Only)". Numbers are as stored; the record has 10
+    bytes, and `at` gives a field's offset in it.
+
+    virtual_address: Where the bytes that are changed begin, at 0: their offset in the section, in
+        bytes, plus the section's own address, which is mostly 0. Of the first relocation of a
+        section with `IMAGE_SCN_LNK_NRELOC_OVFL` it is the number of all.
+    symbol_table_index: The index in the symbol table of the symbol whose address is put there, at
+        4.
+    typ: How it is put there, at 8: an `IMAGE_REL_*` of the machine that the COFF header names.
+    """
+
+    virtual_address: Annotated[int, c.c_uint32]
+    symbol_table_index: Annotated[int, c.c_uint32]
+    typ: Annotated[int, c.c_uint16]
+
+
+@header
+class TeHeader(NamedTuple):
+    """The header of a Terse Executable.
+
+    Source: UEFI Platform Initialization Specification, volume 1, "TE Image". Numbers are as stored,
+    but for the four that are adjusted when it is read; the record has 40 bytes, and `at` gives a
+    field's offset in it. It replaces the headers of a PE file and keeps what a loader of firmware
+    needs of them; its addresses still count the bytes that were stripped.
+
+    signature: `VZ`, at 0. No reader tests it.
+    machine: The machine that the file is for, a `COFF_MACHINE_*`, at 2.
+    number_of_sections: How many section records follow, at 4.
+    subsystem: The subsystem that runs the image, at 5.
+    stripped_size: How many bytes were stripped from the front of the PE file, at 6. This header
+        replaces them, so everything after it moved forward by this minus 40.
+    entry_point: The address of the entry point, relative to the image's base, at 8; in a header
+        that was parsed, adjusted.
+    base_of_code: The address at which the code begins, relative to the image's base, at 12; in a
+        header that was parsed, adjusted.
+    image_base: The address at which the image is best loaded, at 16; as stored.
+    reloc_dir: Where the base relocations lie, at 24; in a header that was parsed, with the address
+        adjusted.
+    debug_dir: Where the debug data lies, at 32; in a header that was parsed, with the address
+        adjusted.
+    """
+
+    signature: Annotated[int, c.c_uint16]
+    machine: Annotated[int, c.c_uint16]
+    number_of_sections: Annotated[int, c.c_uint8]
+    subsystem: Annotated[int, c.c_uint8]
+    stripped_size: Annotated[int, c.c_uint16]
+    entry_point: Annotated[int, c.c_uint32]
+    base_of_code: Annotated[int, c.c_uint32]
+    image_base: Annotated[int, c.c_uint64]
+    reloc_dir: DataDirectory
+    debug_dir: DataDirectory
+
+
+# The calls: what each answers and takes.
+CALLS: Dict[str, Tuple[Any, List[Any]]] = {
+    "goblin_pe_raw_read_aux_function_definition":
+        (c.c_bool, [c.c_void_p, c.c_size_t, to(AuxFunctionDefinition)]),
+    "goblin_pe_raw_read_aux_begin_and_end_function":
+        (c.c_bool, [c.c_void_p, c.c_size_t, to(AuxBeginAndEndFunction)]),
+    "goblin_pe_raw_read_aux_weak_external":
+        (c.c_bool, [c.c_void_p, c.c_size_t, to(AuxWeakExternal)]),
+    "goblin_pe_raw_read_aux_section_definition":
+        (c.c_bool, [c.c_void_p, c.c_size_t, to(AuxSectionDefinition)]),
+    "goblin_pe_raw_read_aux_file":
+        (c.c_bool, [c.c_void_p, c.c_size_t, to(Text)]),
+    "goblin_pe_raw_fault_text":
+        (c.c_size_t, [to(Fault), c.c_void_p, c.c_size_t]),
+    "goblin_pe_interface":
+        (c.c_uint32, []),
+    "goblin_pe_raw_kind_of":
+        (c.c_uint32, [c.c_void_p, c.c_size_t]),
+    "goblin_pe_raw_open":
+        (Fault, [c.c_void_p, c.c_size_t, to(Options), to(File), to(Directory), c.c_size_t, to(Tables)]),
+    "goblin_pe_raw_next_imports":
+        (Fault, [c.c_void_p, c.c_size_t, to(Options), to(ImportPosition), to(Import), c.c_size_t, to(c.c_size_t)]),
+    "goblin_pe_raw_next_exports":
+        (Fault, [c.c_void_p, c.c_size_t, to(Options), to(c.c_size_t), to(Export), c.c_size_t, to(c.c_size_t)]),
+    "goblin_pe_raw_read_damage":
+        (Fault, [c.c_void_p, c.c_size_t, to(Options), to(Damage)]),
+    "goblin_pe_raw_footprint":
+        (Fault, [c.c_void_p, c.c_size_t, to(Options), to(Ranges)]),
+    "goblin_pe_raw_find_offset":
+        (c.c_bool, [to(Image), c.c_size_t, to(c.c_size_t)]),
+    "goblin_pe_raw_text_at":
+        (Fault, [to(Image), c.c_size_t, to(Text)]),
+    "goblin_pe_raw_bytes_at":
+        (Fault, [to(Image), c.c_size_t, c.c_size_t, to(Text)]),
+    "goblin_pe_raw_read_section_data":
+        (Fault, [to(Image), to(Section), to(SectionData)]),
+    "goblin_pe_raw_read_object":
+        (Fault, [c.c_void_p, c.c_size_t, to(Options), to(Object), to(Section), c.c_size_t]),
+    "goblin_pe_raw_next_symbols":
+        (Fault, [c.c_void_p, c.c_size_t, to(CoffHeader), to(c.c_size_t), to(NamedSymbol), c.c_size_t, to(c.c_size_t)]),
+    "goblin_pe_raw_read_relocations":
+        (Fault, [c.c_void_p, c.c_size_t, to(Section), to(Relocation), c.c_size_t, to(c.c_size_t)]),
+    "goblin_pe_raw_read_te":
+        (Fault, [c.c_void_p, c.c_size_t, to(TeHeader), to(Section), c.c_size_t]),
+    "goblin_pe_raw_write_header":
+        (Fault, [to(File), to(Directory), c.c_size_t, c.c_void_p, c.c_size_t, c.c_void_p, c.c_size_t, to(c.c_size_t)]),
+    "goblin_pe_raw_write_section":
+        (Fault, [to(Section), c.c_void_p, c.c_size_t, to(c.c_size_t)]),
+    "goblin_pe_raw_set_name_offset":
+        (Fault, [to(Section), c.c_size_t]),
+}

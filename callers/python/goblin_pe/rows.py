@@ -4,7 +4,7 @@ import operator
 import struct
 from typing import Any, Dict, List, NamedTuple, Optional, Tuple, Union
 
-from . import records
+from . import _laid_out, records
 from ._library import LIB, Data, held
 from ._refused import test
 from .numbers import Forwards
@@ -54,12 +54,12 @@ class Section(NamedTuple):
     def relocations(self, file: Data) -> List[Relocation]:
         """Its relocations in the object. Refused is raised where the file is too short for them, and where they begin at or
         past its end, even if there are none."""
-        count, kind = c.c_size_t(), records.laid_out(Relocation)
+        count, kind = c.c_size_t(), _laid_out.laid_out(Relocation)
         with memoryview(file) as view, held(view) as (calls, address, length):
             for _ in range(2):
                 found, record = room(kind, count.value), record_of(self)
                 test(calls.goblin_pe_raw_read_relocations(address, length, c.byref(record), found, count.value, c.byref(count)))
-        return [records.read(Relocation, it) for it in found[: count.value]]
+        return [_laid_out.read(Relocation, it) for it in found[: count.value]]
 
 
 class Import(NamedTuple):
@@ -127,15 +127,16 @@ class Symbol(NamedTuple):
     def aux(self, kind: Any) -> Any:
         """The first auxiliary record as one of the kinds AuxFunctionDefinition, AuxBeginAndEndFunction, AuxWeakExternal and
         AuxSectionDefinition, by the class of the symbol; None where it has none."""
-        record = records.laid_out(kind)()
+        record = _laid_out.laid_out(kind)()
         is_there = AUX_CALLS[kind](self.auxiliary, len(self.auxiliary), c.byref(record))
-        return records.read(kind, record) if is_there else None
+        return _laid_out.read(kind, record) if is_there else None
 
     def aux_file(self) -> Optional[bytes]:
-        """The name of a source file in the auxiliary records of a symbol of class 103; None where it has none."""
+        """The name of a source file in the auxiliary records of a symbol of class IMAGE_SYM_CLASS_FILE; None where it has
+        none."""
         name = records.Text()
         with memoryview(self.auxiliary) as view, held(view) as (calls, address, length):
-            is_there = calls.goblin_pe_raw_aux_file(address, length, c.byref(name))
+            is_there = calls.goblin_pe_raw_read_aux_file(address, length, c.byref(name))
             return Rows(view, address).text(name) if is_there else None
 
 
@@ -148,17 +149,17 @@ class Range(NamedTuple):
 
 # The calls that read auxiliary records.
 AUX_CALLS: Dict[Any, Any] = {
-    AuxFunctionDefinition: LIB.goblin_pe_raw_aux_function_definition,
-    AuxBeginAndEndFunction: LIB.goblin_pe_raw_aux_begin_and_end_function,
-    AuxWeakExternal: LIB.goblin_pe_raw_aux_weak_external,
-    AuxSectionDefinition: LIB.goblin_pe_raw_aux_section_definition,
+    AuxFunctionDefinition: LIB.goblin_pe_raw_read_aux_function_definition,
+    AuxBeginAndEndFunction: LIB.goblin_pe_raw_read_aux_begin_and_end_function,
+    AuxWeakExternal: LIB.goblin_pe_raw_read_aux_weak_external,
+    AuxSectionDefinition: LIB.goblin_pe_raw_read_aux_section_definition,
 }
 
 # The numbers in the record of a section.
 _NUMBERS = operator.attrgetter(*Section._fields[1:-1])
 
 # Where there is no text.
-_NO_TEXT = records.Text(records.NOWHERE, 0)
+_NO_TEXT = records.Text(_laid_out.NOWHERE, 0)
 
 
 def record_of(s: Section) -> records.Section:
@@ -166,7 +167,7 @@ def record_of(s: Section) -> records.Section:
     if len(s.raw_name) > 8:
         raise ValueError("a raw_name has at most eight bytes: %r" % (s.raw_name,))
     record = records.Section(_NO_TEXT, tuple(s.raw_name.ljust(8, b"\0")), *s[1:-1], False)
-    records.test_widths(s[1:-1], _NUMBERS(record))
+    _laid_out.test_widths(s[1:-1], _NUMBERS(record))
     return record
 
 
@@ -174,8 +175,8 @@ def data_of(s: Section, file: Data, options: records.Options) -> SectionData:
     """The data of a section in the file, from where the options have its raw pointer."""
     found = records.SectionData()
     with memoryview(file) as view, held(view) as (calls, address, length), view.cast("B") as in_bytes:
-        image = records.Image(records.Text(address, length), records.NOWHERE, 0, 0, options)
-        test(calls.goblin_pe_raw_section_data(c.byref(image), c.byref(record_of(s)), c.byref(found)))
+        image = records.Image(records.Text(address, length), _laid_out.NOWHERE, 0, 0, options)
+        test(calls.goblin_pe_raw_read_section_data(c.byref(image), c.byref(record_of(s)), c.byref(found)))
         return SectionData(Rows(in_bytes, address).text(found.bytes), found.zeros)
 
 
@@ -226,5 +227,4 @@ class Rows:
     def symbol(self, s: records.NamedSymbol) -> Symbol:
         """The row of a symbol."""
         name = self.text(s.name) if s.has_name else None
-        numbers = (getattr(s.symbol, field) for field in Symbol._fields[2:-1])
-        return Symbol._make((s.index, name, *numbers, self.text(s.auxiliary)))
+        return Symbol._make((s.index, name, *s.symbol[1:], self.text(s.auxiliary)))

@@ -1,5 +1,6 @@
 //! Lists a file as pe_list does: list [--permissive] FILE. With --symbols the symbols of an object, and
 //! with --te the header of a Terse Executable, as beside the samples.
+use goblin_pe::constants::MAGIC_64;
 use goblin_pe::{Forwarder, Object, OptionalHeader, Options, Part, Pe, Te};
 use std::error::Error;
 
@@ -27,9 +28,9 @@ fn heading(label: &str, part: Part, count: usize) -> String {
 }
 
 fn image(bytes: &[u8], is_permissive: bool) -> Result<String, goblin_pe::Error> {
-    let options = Options {
-        is_permissive,
-        ..Options::default()
+    let options = match is_permissive {
+        true => Options::permissive(),
+        false => Options::default(),
     };
     let pe = Pe::read(bytes, &options)?;
     let coff = pe.coff_header();
@@ -51,7 +52,7 @@ fn image(bytes: &[u8], is_permissive: bool) -> Result<String, goblin_pe::Error> 
         );
     }
     text += &heading("imports", pe.import_table(), pe.imports().len());
-    let is_wide = |it: &OptionalHeader| it.standard_fields.magic == 0x20b;
+    let is_wide = |it: &OptionalHeader| it.standard_fields.magic == MAGIC_64;
     let size = if pe.optional_header().is_some_and(is_wide) {
         8
     } else {

@@ -14,7 +14,7 @@ pub struct Footprint(raw::Ranges<'static>);
 
 impl Footprint {
     pub(crate) fn of(bytes: &[u8], options: &Options) -> Result<Footprint, Error> {
-        let mut ranges = raw::Ranges::EMPTY;
+        let mut ranges = raw::Ranges::default();
         Error::test(raw::footprint(bytes, options, &mut ranges))?;
         Ok(Footprint(ranges))
     }

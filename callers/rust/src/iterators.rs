@@ -232,7 +232,7 @@ macro_rules! walks {
                 let (bytes, options) = (self.bytes, &self.options);
                 let batches = self.batches.as_mut()?;
                 if batches.is_taken() {
-                    let filled = batches.fill(FIRST, raw::$record::EMPTY, |position, records, count| {
+                    let filled = batches.fill(FIRST, raw::$record::default(), |position, records, count| {
                         $call(bytes, options, position, records, count)
                     });
                     if let Err(error) = filled {
@@ -287,7 +287,7 @@ impl<'a> Symbols<'a> {
         // (each call reads the whole string table)
         self.batches.fill(
             BATCH,
-            raw::NamedSymbol::EMPTY,
+            raw::NamedSymbol::default(),
             |position, records, count| raw::next_symbols(bytes, header, position, records, count),
         )
     }

@@ -36,6 +36,7 @@
 #![deny(unsafe_code)]
 #![warn(missing_docs)]
 
+pub mod constants;
 mod error;
 mod footprint;
 mod iterators;
@@ -45,6 +46,8 @@ mod object;
 mod pe;
 #[allow(unsafe_code)]
 mod raw;
+#[allow(unsafe_code)]
+mod records;
 mod rows;
 mod te;
 mod text;
@@ -58,7 +61,7 @@ pub use iterators::{
 pub use numbers::{Cause, Counted, DirectoryType, ErrorKind, Kind, Part, ReadFault};
 pub use object::Object;
 pub use pe::Pe;
-pub use raw::{
+pub use records::{
     AuxBeginAndEndFunction, AuxFunctionDefinition, AuxSectionDefinition, AuxWeakExternal,
     CoffHeader, DataDirectory, DosHeader, ExportDirectoryTable, OptionalHeader, Options,
     Relocation, RichMetadata, StandardFields, TeHeader, WindowsFields,
@@ -70,7 +73,7 @@ pub use rows::{
 pub use te::Te;
 pub use text::Text;
 
-/// What a file is, by its first two bytes.
+/// What a file is, by its first bytes.
 ///
 /// ```no_run
 /// use goblin_pe::{Kind, Object, Options, Pe};
@@ -79,7 +82,7 @@ pub use text::Text;
 /// match goblin_pe::kind(&bytes) {
 ///     Kind::Image => println!("{:?}", Pe::read(&bytes, &Options::default())?),
 ///     Kind::Object => println!("{:?}", Object::read(&bytes, &Options::default())?),
-///     _ => println!("neither"),
+///     other => println!("{other:?}"),
 /// }
 /// # Ok::<(), std::io::Error>(())
 /// ```

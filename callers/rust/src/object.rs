@@ -31,7 +31,9 @@ pub struct Object<'a> {
 }
 
 impl<'a> Object<'a> {
-    /// Reads an object that lies in memory; of the options only the mode counts.
+    /// Reads an object that lies in memory; of the options only the mode counts. No machine is tested,
+    /// so a file that is no object may be read as one with sections that make no sense: ask
+    /// [`kind`](crate::kind) before.
     ///
     /// # Errors
     /// Why it was refused.
@@ -45,7 +47,7 @@ impl<'a> Object<'a> {
     pub fn read(bytes: &'a [u8], options: &Options) -> Result<Object<'a>, Error> {
         let mut object = raw::Object::default();
         Error::test(raw::read_object(bytes, options, &mut object, &mut []))?;
-        let mut sections = records(raw::Section::EMPTY, object.sections)?;
+        let mut sections = records(raw::Section::default(), object.sections)?;
         Error::test(raw::read_object(bytes, options, &mut object, &mut sections))?;
         Ok(Object {
             bytes,
@@ -59,7 +61,7 @@ impl<'a> Object<'a> {
     /// ```no_run
     /// # let bytes = [];
     /// let object = goblin_pe::Object::read(&bytes, &goblin_pe::Options::default())?;
-    /// let is_for_x64 = object.coff_header().machine == 0x8664;
+    /// let is_for_x64 = object.coff_header().machine == goblin_pe::constants::COFF_MACHINE_X86_64;
     /// # Ok::<(), goblin_pe::Error>(())
     /// ```
     pub fn coff_header(&self) -> &CoffHeader {

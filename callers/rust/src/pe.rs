@@ -65,7 +65,7 @@ impl<'a> Pe<'a> {
             options: *options,
             file: raw::File::default(),
             directories: [raw::Directory::default(); 16],
-            tables: raw::Tables::empty(),
+            tables: raw::Tables::default(),
         };
         Error::test(raw::open(
             bytes,
@@ -94,7 +94,7 @@ impl<'a> Pe<'a> {
     /// ```no_run
     /// # let bytes = [];
     /// let pe = goblin_pe::Pe::read(&bytes, &goblin_pe::Options::default())?;
-    /// let is_library = pe.coff_header().characteristics & 0x2000 != 0;
+    /// let is_library = pe.coff_header().characteristics & goblin_pe::constants::IMAGE_FILE_DLL != 0;
     /// # Ok::<(), goblin_pe::Error>(())
     /// ```
     pub fn coff_header(&self) -> &CoffHeader {
@@ -278,22 +278,14 @@ impl<'a> Pe<'a> {
     /// ```no_run
     /// # use goblin_pe::{Options, Pe};
     /// # let bytes = [];
-    /// let options = Options {
-    ///     parse_imports: false,
-    ///     ..Options::default()
-    /// };
-    /// let pe = Pe::read(&bytes, &options)?;
+    /// let pe = Pe::read(&bytes, &Options::default().with_parse_imports(false))?;
     /// for import in pe.walk_imports().take(1_000_000) {
     ///     println!("{}", import?.name);
     /// }
     /// # Ok::<(), goblin_pe::Error>(())
     /// ```
     pub fn walk_imports(&self) -> WalkImports<'a> {
-        let options = Options {
-            parse_imports: true,
-            ..self.options
-        };
-        WalkImports::of(self.bytes, options)
+        WalkImports::of(self.bytes, self.options.with_parse_imports(true))
     }
 
     /// How the exports stand.
@@ -495,7 +487,7 @@ impl<'a> Pe<'a> {
     /// # Ok::<(), goblin_pe::Error>(())
     /// ```
     pub fn text_at(&self, rva: usize) -> Result<Text<'a>, Error> {
-        let mut text = raw::Slice::EMPTY;
+        let mut text = raw::Slice::default();
         Error::test(raw::text_at(&self.image(), rva, &mut text))?;
         Ok(Text(text.get()))
     }
@@ -515,7 +507,7 @@ impl<'a> Pe<'a> {
     /// # Ok::<(), goblin_pe::Error>(())
     /// ```
     pub fn bytes_at(&self, rva: usize, size: usize) -> Result<&'a [u8], Error> {
-        let mut bytes = raw::Slice::EMPTY;
+        let mut bytes = raw::Slice::default();
         Error::test(raw::bytes_at(&self.image(), rva, size, &mut bytes))?;
         Ok(bytes.get())
     }

@@ -25,6 +25,7 @@ use std::fmt;
 /// # Ok::<(), goblin_pe::Error>(())
 /// ```
 #[derive(Clone, Copy, Debug, PartialEq, Eq, PartialOrd, Ord, Hash)]
+#[non_exhaustive]
 pub struct Header<'a> {
     /// The DOS header.
     pub dos_header: DosHeader,
@@ -104,6 +105,7 @@ pub(crate) fn section_table(dos_header: &DosHeader, coff_header: &CoffHeader) ->
 
 /// What strict mode would refuse of an image, part by part, each for itself: `None` is no damage.
 #[derive(Clone, Copy, Debug, PartialEq, Eq, Hash)]
+#[non_exhaustive]
 pub struct Damage {
     /// Of the DOS stub and the Rich header in it.
     pub dos_stub: Option<Error>,
@@ -160,6 +162,7 @@ impl From<raw::Damage> for Damage {
 
 /// The Rich header, which says by which tools a file was made.
 #[derive(Clone, Copy, Debug, PartialEq, Eq, PartialOrd, Ord, Hash)]
+#[non_exhaustive]
 pub struct RichHeader {
     /// The key, with which each stored word is the exclusive or.
     pub key: u32,
@@ -182,6 +185,7 @@ pub struct RichHeader {
 /// # Ok::<(), goblin_pe::Error>(())
 /// ```
 #[derive(Clone, Copy, Debug, PartialEq, Eq, PartialOrd, Ord, Hash)]
+#[non_exhaustive]
 pub struct Section<'a> {
     /// The name from the string table, else the eight bytes up to the first NUL.
     pub name: Text<'a>,
@@ -242,7 +246,7 @@ impl<'a> Section<'a> {
             number_of_relocations: self.number_of_relocations,
             number_of_linenumbers: self.number_of_linenumbers,
             characteristics: self.characteristics,
-            ..raw::Section::EMPTY
+            ..raw::Section::default()
         }
     }
 
@@ -272,7 +276,7 @@ impl<'a> Section<'a> {
         &self,
         image: &raw::Image<'_, 'b>,
     ) -> Result<(&'b [u8], usize), Error> {
-        let mut data = raw::SectionData::EMPTY;
+        let mut data = raw::SectionData::default();
         Error::test(raw::section_data(image, &self.record(), &mut data))?;
         Ok((data.bytes.get(), data.zeros))
     }
@@ -404,6 +408,7 @@ impl fmt::Display for Imported<'_> {
 
 /// An import.
 #[derive(Clone, Copy, Debug, PartialEq, Eq, PartialOrd, Ord, Hash)]
+#[non_exhaustive]
 pub struct Import<'a> {
     /// What is imported: a name or an ordinal.
     pub name: Imported<'a>,
@@ -460,6 +465,7 @@ pub enum Forwarder<'a> {
 
 /// An export.
 #[derive(Clone, Copy, Debug, PartialEq, Eq, PartialOrd, Ord, Hash)]
+#[non_exhaustive]
 pub struct Export<'a> {
     /// The name; `None` where no text stands at its address.
     pub name: Option<Text<'a>>,
@@ -487,7 +493,7 @@ impl<'a> From<&raw::Export<'a>> for Export<'a> {
             offset: x.has_offset.then_some(x.offset),
             rva: x.rva,
             forwarder: match Forwards::try_from(u32::from(x.forwards)) {
-                Ok(Forwards::Nothing) => None,
+                Ok(Forwards::None) => None,
                 Ok(Forwards::Name) => Some(Forwarder::Name { lib, export }),
                 _ => Some(Forwarder::Ordinal { lib, ordinal }),
             },
@@ -497,6 +503,7 @@ impl<'a> From<&raw::Export<'a>> for Export<'a> {
 
 /// An entry of the export address table, with or without a name.
 #[derive(Clone, Copy, Debug, PartialEq, Eq, PartialOrd, Ord, Hash)]
+#[non_exhaustive]
 pub struct ExportAddress {
     /// The ordinal.
     pub ordinal: usize,
@@ -509,6 +516,7 @@ pub struct ExportAddress {
 
 /// The record of the exports.
 #[derive(Clone, Copy, Debug, PartialEq, Eq, PartialOrd, Ord, Hash)]
+#[non_exhaustive]
 pub struct ExportDirectory<'a> {
     /// The name with which the library was linked; `None` where no text stands at its address.
     pub name: Option<Text<'a>>,
@@ -518,6 +526,7 @@ pub struct ExportDirectory<'a> {
 
 /// A block of base relocations, for one page of the image in memory.
 #[derive(Clone, Copy, Debug, PartialEq, Eq, PartialOrd, Ord, Hash)]
+#[non_exhaustive]
 pub struct Block<'a> {
     /// The page's address, relative to the image's base, to which each offset is added.
     pub rva: u32,
@@ -557,6 +566,7 @@ impl<'a> From<&raw::Block<'a>> for Block<'a> {
 
 /// A symbol of an image or an object.
 #[derive(Clone, Copy, Debug, PartialEq, Eq, PartialOrd, Ord, Hash)]
+#[non_exhaustive]
 pub struct Symbol<'a> {
     /// The index of its record in the symbol table, which also counts auxiliary records.
     pub index: usize,
@@ -638,7 +648,7 @@ impl<'a> Symbol<'a> {
         raw::aux_section_definition(self.auxiliary)
     }
 
-    /// The name of a source file, of a symbol of class 103.
+    /// The name of a source file, of a symbol of class `IMAGE_SYM_CLASS_FILE`.
     ///
     /// ```no_run
     /// # let bytes = [];

@@ -40,7 +40,7 @@ impl<'a> Te<'a> {
     /// ```
     pub fn read(bytes: &'a [u8]) -> Result<Te<'a>, Error> {
         let mut header = TeHeader::default();
-        let mut sections = records(raw::Section::EMPTY, u8::MAX.into())?;
+        let mut sections = records(raw::Section::default(), u8::MAX.into())?;
         Error::test(raw::read_te(bytes, &mut header, &mut sections))?;
         sections.truncate(header.number_of_sections.into());
         Ok(Te {

@@ -1,7 +1,7 @@
 //! Reads samples, and what is no image.
 use goblin_pe::{
-    Cause, DirectoryType, ErrorKind, ExportAddress, Forwarder, Imported, Kind, Object, Options,
-    Part, Pe, ReadFault, Te, Text,
+    Cause, DirectoryType, ErrorKind, Forwarder, Imported, Kind, Object, Options, Part, Pe,
+    ReadFault, Te, Text,
 };
 
 fn sample(name: &str) -> Vec<u8> {
@@ -114,18 +114,12 @@ fn addresses_are_mapped() {
     assert_eq!(pe.find_offset(0x1020), Some(0x420));
     assert_eq!(pe.find_offset(0x9000), None);
     // unmapped: the address itself
-    let options = Options {
-        resolve_rva: false,
-        ..Options::permissive()
-    };
+    let options = Options::permissive().with_resolve_rva(false);
     let pe = Pe::read(&bytes, &options).unwrap();
     assert_eq!(pe.find_offset(0x9000), Some(0x9000));
     // by the rule of the Windows loader: from the raw pointer rounded down to 512
     let bytes = sample("align16_x64.dll");
-    let options = Options {
-        rounds_raw_pointers: true,
-        ..Options::permissive()
-    };
+    let options = Options::permissive().with_rounds_raw_pointers(true);
     let pe = Pe::read(&bytes, &options).unwrap();
     let section = pe.sections().next().unwrap();
     let pointer = section.pointer_to_raw_data as usize;
@@ -142,10 +136,7 @@ fn place(bytes: &[u8], part: &[u8]) -> usize {
 #[test]
 fn the_data_of_a_section_begins_where_its_address_is_mapped() {
     let mut bytes = sample("align16_x64.dll");
-    let options = Options {
-        rounds_raw_pointers: true,
-        ..Options::permissive()
-    };
+    let options = Options::permissive().with_rounds_raw_pointers(true);
     let table = Pe::read(&bytes, &options).unwrap().header().section_table();
     bytes[table + 20] |= 0x10; // (the raw pointer of the first)
     let pe = Pe::read(&bytes, &options).unwrap();
@@ -205,10 +196,7 @@ fn walks_give_what_is_listed() {
         let exports: Vec<_> = pe.walk_exports().map(Result::unwrap).collect();
         assert!(pe.imports().eq(imports.iter().copied()), "{name}");
         assert!(pe.exports().eq(exports), "{name}");
-        let options = Options {
-            parse_imports: false,
-            ..Options::default()
-        };
+        let options = Options::default().with_parse_imports(false);
         let unlisted = Pe::read(&bytes, &options).unwrap();
         assert_eq!(unlisted.imports().len(), 0);
         assert!(unlisted.walk_imports().map(Result::unwrap).eq(imports));
@@ -231,10 +219,7 @@ fn a_walk_ends_with_the_refusal_of_a_read() {
     bytes[record + 12..record + 16].copy_from_slice(&0x9000u32.to_le_bytes());
     let refused = Pe::read(&bytes, &options).err();
     assert_eq!(refused.unwrap().named_cause(), Some(Cause::Unmapped));
-    let options = Options {
-        parse_imports: false,
-        ..options
-    };
+    let options = options.with_parse_imports(false);
     let pe = Pe::read(&bytes, &options).unwrap();
     let mut walk = pe.walk_imports();
     assert_eq!(walk.next().unwrap().err(), refused);
@@ -258,12 +243,10 @@ fn exports_are_found_by_name_and_by_ordinal() {
     for export in pe.exports() {
         assert_eq!(pe.find_export(export.name.unwrap()), Some(export));
         let found = pe.find_export_by_ordinal(export.ordinal).unwrap();
-        let wanted = ExportAddress {
-            ordinal: export.ordinal,
-            rva: export.rva as u32,
-            forwards: export.forwarder.is_some(),
-        };
-        assert_eq!(found, wanted);
+        assert_eq!(
+            (found.ordinal, found.rva as usize, found.forwards),
+            (export.ordinal, export.rva, export.forwarder.is_some())
+        );
     }
     assert_eq!(pe.find_export("nothing"), None);
     let past = base + pe.export_addresses().len();
@@ -344,6 +327,7 @@ fn kinds_are_told_by_the_first_bytes() {
     for (name, kind) in kinds {
         assert_eq!(goblin_pe::kind(&sample(name)), kind);
     }
+    assert_eq!(goblin_pe::kind(b"!<arch>\n"), Kind::Archive);
     assert_eq!(goblin_pe::kind(b"\0\0"), Kind::Unknown);
     assert_eq!(goblin_pe::kind(b"M"), Kind::Unknown);
 }

@@ -11,7 +11,7 @@ pub use goblin_base::{
     container, endian, error, permissive, read, strtab,
 };
 pub use goblin_pe_export::export;
-pub use goblin_pe_head::{header, optional_header};
+pub use goblin_pe_head::{characteristic, dll_characteristic, header, optional_header, subsystem};
 pub use goblin_pe_import::import;
 pub use goblin_pe_sect::{
     address_map, data_directories, options, relocation, section_table, table, utils, windows,

@@ -22,7 +22,7 @@ use goblin_pe_records::image::PeText;
 /// Puts what the first record says of a function's definition into `definition`, and answers
 /// whether there is a record: 18 bytes. If not, nothing is changed.
 #[unsafe(no_mangle)]
-pub extern "C" fn goblin_pe_raw_aux_function_definition(
+pub extern "C" fn goblin_pe_raw_read_aux_function_definition(
     bytes: &[u8],
     definition: &mut AuxFunctionDefinition,
 ) -> bool
@@ -36,7 +36,7 @@ pub extern "C" fn goblin_pe_raw_aux_function_definition(
 /// Puts what the first record says of a function's start or end into `function`, and answers
 /// whether there is a record: 18 bytes. If not, nothing is changed.
 #[unsafe(no_mangle)]
-pub extern "C" fn goblin_pe_raw_aux_begin_and_end_function(
+pub extern "C" fn goblin_pe_raw_read_aux_begin_and_end_function(
     bytes: &[u8],
     function: &mut AuxBeginAndEndFunction,
 ) -> bool
@@ -50,7 +50,7 @@ pub extern "C" fn goblin_pe_raw_aux_begin_and_end_function(
 /// Puts what the first record says of a weak external into `external`, and answers whether there is
 /// a record: 18 bytes. If not, nothing is changed.
 #[unsafe(no_mangle)]
-pub extern "C" fn goblin_pe_raw_aux_weak_external(
+pub extern "C" fn goblin_pe_raw_read_aux_weak_external(
     bytes: &[u8],
     external: &mut AuxWeakExternal,
 ) -> bool
@@ -63,7 +63,7 @@ pub extern "C" fn goblin_pe_raw_aux_weak_external(
 /// Puts what the first record says of a section's definition into `definition`, and answers whether
 /// there is a record: 18 bytes. If not, nothing is changed.
 #[unsafe(no_mangle)]
-pub extern "C" fn goblin_pe_raw_aux_section_definition(
+pub extern "C" fn goblin_pe_raw_read_aux_section_definition(
     bytes: &[u8],
     definition: &mut AuxSectionDefinition,
 ) -> bool
@@ -88,7 +88,7 @@ fn text_record<'a>(text: Option<&'a str>) -> Option<PeText<'a>>
 /// those of the name are not UTF-8. Nothing is then changed.
 #[unsafe(no_mangle)]
 #[tactic(auto, using(goblin_pe_records::proofs::Puts::puts_view))]
-pub extern "C" fn goblin_pe_raw_aux_file<'a>(bytes: &'a [u8], name: &mut PeText<'a>) -> bool
+pub extern "C" fn goblin_pe_raw_read_aux_file<'a>(bytes: &'a [u8], name: &mut PeText<'a>) -> bool
     ensures { Puts text_view result (bounded_text_at bytes.now 0 (length bytes.now)) name.old
         name.new }
 {

@@ -35,12 +35,10 @@ pub extern "C" fn goblin_pe_interface() -> u32
     3
 }
 
-/// What a file is, by its first two bytes alone, as a [`Kind`](goblin_pe_records::kind::Kind): 1 an
-/// image, if they are `MZ`; 2 an object, if they are the number of a machine that the library has a
-/// constant for, other than that of any machine, 0; 3 a Terse Executable, if they are `VZ`; else 0.
-/// It does not tell whether the file can be read.
+/// What a file is, by its first bytes alone, as a [`Kind`](goblin_pe_records::kind::Kind). It does not
+/// tell whether the file can be read.
 #[unsafe(no_mangle)]
-pub extern "C" fn goblin_pe_raw_kind(bytes: &[u8]) -> u32
+pub extern "C" fn goblin_pe_raw_kind_of(bytes: &[u8]) -> u32
     ensures { result ≡ kind_number (kind_of bytes.now) }
 {
     kind::kind_of(bytes) as u32
@@ -152,7 +150,7 @@ pub extern "C" fn goblin_pe_raw_next_exports<'a>(
 /// (the status 5), this only of a file that has more than 96 sections, and room for as many as its
 /// header says. After a refusal nothing is changed.
 #[unsafe(no_mangle)]
-pub extern "C" fn goblin_pe_raw_damage(
+pub extern "C" fn goblin_pe_raw_read_damage(
     alloc: Global,
     bytes: &[u8],
     options: &PeOptions,

@@ -77,7 +77,7 @@ pub extern "C" fn goblin_pe_raw_bytes_at<'a>(
 /// A read is refused (the status 4) where the bytes run past the end of the file, or begin past it,
 /// even where there are none: by the cause 1 if they begin at or past it, else by 2.
 #[unsafe(no_mangle)]
-pub extern "C" fn goblin_pe_raw_section_data<'a>(
+pub extern "C" fn goblin_pe_raw_read_section_data<'a>(
     image: &PeImage<'a>,
     section: &PeSection,
     contents: &mut PeSectionData<'a>,

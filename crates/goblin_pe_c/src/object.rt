@@ -22,7 +22,8 @@ use goblin_pe_records::symbol::{PeNamedSymbol, read_symbols};
 use std::alloc::Global;
 
 /// Reads an object, which begins with a COFF header: says in `object` what it is, and fills the
-/// records of its sections as far as there is room. Its symbols are a call of their own. After a
+/// records of its sections as far as there is room. No machine is tested, so a file that is no object
+/// may be read as one with sections that make no sense. Its symbols are a call of their own. After a
 /// refusal nothing is changed; memory is refused (the status 5) only where the header says that
 /// there are sections, and the file has room for as many.
 #[unsafe(no_mangle)]

@@ -28,12 +28,14 @@ use goblin_pe_records::room::make_room;
 use goblin_pe_sect::address_map::Finder;
 use std::alloc::Global;
 
-// How an export names what it stands for in another library.
+/// What an export forwards to.
 #[derive(Copy, Clone)]
 enum Forwards {
-    // It stands for nothing there.
+    /// It is no forwarder.
     None = 0,
+    /// An export of another library, by its name.
     Name = 1,
+    /// An export of another library, by its ordinal.
     Ordinal = 2,
 }
 
@@ -63,7 +65,7 @@ pub struct PeExport<'a> {
     /// Whether `rva` has a file offset: a section maps it and the file alignment is a power of two,
     /// or the options say that addresses are offsets.
     pub has_offset: bool,
-    /// 0 no forwarder, 1 a forwarder by name, 2 a forwarder by ordinal.
+    /// What it forwards to, by the numbers of [`Forwards`].
     pub forwards: u8,
     /// Zero. With `reserved2` it stands where padding would be, so that each byte of the record is
     /// defined.

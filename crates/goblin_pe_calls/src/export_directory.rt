@@ -16,10 +16,10 @@ use std::alloc::Global;
 #[repr(C)]
 #[derive(Copy, Clone)]
 pub struct PeExportAddress {
-    /// The address of an export, relative to the image's base; of a forwarder that of its text. 0
-    /// stands for an ordinal that is not used.
+    /// The address, relative to the image's base; of a forwarder that of its text; 0 where the
+    /// ordinal is not used.
     pub rva: u32,
-    /// Whether it is a forwarder's: whether it lies in the export directory.
+    /// Whether it is a forwarder: its address lies in the export directory.
     pub forwards: bool,
 }
 

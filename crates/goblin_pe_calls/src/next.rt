@@ -24,14 +24,14 @@ use goblin_pe::options::ParseOptions;
 use goblin_pe::{FileImports, Layout, Part, Result, ResultOf};
 use std::alloc::Global;
 
-/// A position in the imports of a file; zeros are the beginning.
+/// Where a walk over imports goes on; zeros are the beginning. It may be kept, and copied.
 #[repr(C)]
 #[derive(Copy, Clone)]
 pub struct PeImportPosition {
-    /// The file offset of a library's record in the import directory; the greatest number once the
-    /// end has been reached, of a file without imports, too.
+    /// The file offset of a library's record; the greatest number once the end has been reached, also
+    /// of a file without imports.
     pub record: usize,
-    /// The file offset of the slot in its lookup table that is read next, or 0 before the first.
+    /// The file offset of the slot that is read next, or 0 before the library's first.
     pub slot: usize,
 }
 

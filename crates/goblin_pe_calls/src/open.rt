@@ -38,7 +38,8 @@ use goblin_pe_records::rich::{PeRichHeader, entry_records};
 use goblin_pe_records::section::{PeSection, section_records};
 use std::alloc::Global;
 
-/// The tables of a file, each a block of memory of its own, or none where it is empty.
+/// The tables of an image. Each that is not empty is a block of memory of its own, and the texts in it
+/// are in the file's bytes.
 #[repr(C)]
 #[derive(Copy, Clone)]
 pub struct PeTables<'a> {
@@ -48,16 +49,17 @@ pub struct PeTables<'a> {
     pub sections: &'a [PeSection<'a>],
     /// The imports.
     pub imports: &'a [PeImport<'a>],
-    /// The exports.
+    /// The exports, in the order of their name pointers.
     pub exports: &'a [PeExport<'a>],
-    /// The entries of the export address table.
+    /// The entries of the export address table: that at index i has the ordinal i plus the ordinal
+    /// base.
     pub export_addresses: &'a [PeExportAddress],
     /// The blocks of base relocations.
     pub blocks: &'a [PeBlock<'a>],
     /// What the export directory says; zeros where the exports are not read.
     pub export_directory: PeExportDirectory<'a>,
-    /// The DOS stub: in the file, or where permissive mode replaced it the library's own. It is no
-    /// block of memory, and not freed.
+    /// The DOS stub, which is written with a header: bytes of the file, or where permissive mode
+    /// could not read them a stub of the library's own. It is no block of memory, and never freed.
     pub dos_stub: &'a [u8],
 }
 

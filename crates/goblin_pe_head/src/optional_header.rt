@@ -29,9 +29,14 @@ use goblin_base::{
 use goblin_pe_sect::DataDirectories;
 use goblin_pe_sect::data_directories::SIZEOF_DATA_DIRECTORY;
 
+mod magic;
 mod standard_fields;
 mod windows_fields;
 
+pub use magic::{
+    IMAGE_NT_OPTIONAL_HDR32_MAGIC, IMAGE_NT_OPTIONAL_HDR64_MAGIC, IMAGE_ROM_OPTIONAL_HDR_MAGIC,
+    MAGIC_32, MAGIC_64,
+};
 pub use standard_fields::{
     SIZEOF_STANDARD_FIELDS_32, SIZEOF_STANDARD_FIELDS_64, StandardFields, StandardFields32,
     StandardFields64,
@@ -40,25 +45,6 @@ pub use windows_fields::{
     OFFSET_WINDOWS_FIELDS_32_CHECKSUM, OFFSET_WINDOWS_FIELDS_64_CHECKSUM, SIZEOF_WINDOWS_FIELDS_32,
     SIZEOF_WINDOWS_FIELDS_64, WindowsFields, WindowsFields32, WindowsFields64,
 };
-
-/// The magic of an optional header for 32 bits.
-pub const MAGIC_32: u16 = 0x10B;
-/// The magic of an optional header for 64 bits.
-pub const MAGIC_64: u16 = 0x20B;
-/// The magic of an optional header for 32 bits, by its name in the Windows headers.
-pub const IMAGE_NT_OPTIONAL_HDR32_MAGIC: u16 = 0x10B;
-/// The magic of an optional header for 64 bits, by its name in the Windows headers.
-pub const IMAGE_NT_OPTIONAL_HDR64_MAGIC: u16 = 0x20B;
-/// The magic of a ROM image. No reader takes it.
-pub const IMAGE_ROM_OPTIONAL_HDR_MAGIC: u16 = 0x107;
-
-const _: () = prove!(
-    MAGIC_32 == 0x10B
-        && MAGIC_64 == 0x20B
-        && IMAGE_NT_OPTIONAL_HDR32_MAGIC == 0x10B
-        && IMAGE_NT_OPTIONAL_HDR64_MAGIC == 0x20B
-        && IMAGE_ROM_OPTIONAL_HDR_MAGIC == 0x107
-);
 
 /// The optional header of an image of either width.
 ///

@@ -1,6 +1,6 @@
--- What a file is, by its first two bytes.
+-- What a file is, by its first bytes.
 use Rattle.std.specs.List.{list_any}
-use Rattle.std.specs.Prelude.{ℕ, ◌==◌, if◌then◌else◌, nat_eq, List, [], ◌∷◌}
+use Rattle.std.specs.Prelude.{ℕ, Bool, false, ◌==◌, ◌&&◌, if◌then◌else◌, nat_eq, nat_le, List, [], ◌∷◌}
 use Rattle.std.specs.Prelude.{Option, None, Some}
 use Rattle.goblin_base.specs.declared.endian.Endian.TheVariants.{Little}
 use Rattle.goblin_base.specs.Bytes.{number_at}
@@ -13,6 +13,9 @@ kind_number kind.Unknown = 0
 kind_number kind.Image = 1
 kind_number kind.Object = 2
 kind_number kind.Te = 3
+kind_number kind.Archive = 4
+kind_number kind.ImportObject = 5
+kind_number kind.BigObject = 6
 
 -- The machines that a COFF header names, but for 0, any machine.
 -- Source: PE Format, "Machine Types", and of some the Windows headers.
@@ -35,6 +38,36 @@ abbrev pub kind_by : Option ℕ → Kind
 kind_by None = kind.Unknown
 kind_by (Some magic) = kind_with magic
 
--- the kind of a file
+-- this number, if there is one
+abbrev pub is_number : Option ℕ → ℕ → Bool
+is_number None number = false
+is_number (Some found) number = found == number
+
+-- the n bytes at p are there, and are this number
+abbrev pub has_number : ℕ → List ℕ → ℕ → ℕ → Bool
+has_number n bytes p number = is_number (number_at Little n bytes p) number
+
+-- The identifier of big objects, {D1BAA1C7-BAEE-4BA9-AF20-FAF66AA4DCB8}, in the 16 bytes at 12.
+-- Source: the Windows headers, ANON_OBJECT_HEADER_BIGOBJ.
+abbrev pub is_big : List ℕ → Bool
+is_big bytes =
+    has_number 8 bytes 12 0x4BA9BAEED1BAA1C7 && has_number 8 bytes 20 0xB8DCA46AF6FA20AF
+
+-- The kind by the version, of what begins with 0 and 0xFFFF.
+-- Source: PE Format, "Import Header"; the Windows headers, ANON_OBJECT_HEADER.
+abbrev pub anonymous_by : Bool → Option ℕ → Kind
+anonymous_by is_big None = kind.Unknown
+anonymous_by is_big (Some version) =
+    if version == 0 then kind.ImportObject
+    else if nat_le 2 version && is_big then kind.BigObject
+    else kind.Unknown
+
+abbrev pub anonymous_kind : List ℕ → Kind
+anonymous_kind bytes = anonymous_by (is_big bytes) (number_at Little 2 bytes 4)
+
+-- the kind of a file: `!<arch>` and a line feed, 0 and 0xFFFF, or by the first two bytes
 abbrev pub kind_of : List ℕ → Kind
-kind_of bytes = kind_by (number_at Little 2 bytes 0)
+kind_of bytes =
+    if has_number 8 bytes 0 0xA3E686372613C21 then kind.Archive
+    else if has_number 4 bytes 0 0xFFFF0000 then anonymous_kind bytes
+    else kind_by (number_at Little 2 bytes 0)

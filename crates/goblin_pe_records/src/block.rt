@@ -15,11 +15,13 @@ use goblin_pe_sect::relocation::{RelocationBlock, RelocationData};
 use std::alloc::Global;
 
 /// A block of base relocations, for one page of the image in memory.
+///
+/// Source: PE Format, "Base Relocation Block".
 #[repr(C)]
 #[derive(Copy, Clone)]
 pub struct PeBlock<'a> {
-    /// The words, of two bytes each: the type in the high four bits, and in the low twelve the
-    /// offset in the page, in bytes. A byte that is left is no word.
+    /// The words, of two bytes each: the type, an `IMAGE_REL_BASED_*`, in the high four bits, and in
+    /// the low twelve the offset in the page, in bytes. A byte that is left is no word.
     pub words: &'a [u8],
     /// The page's address, relative to the image's base, to which each offset is added.
     pub rva: u32,

@@ -14,8 +14,7 @@ pub struct PeDirectory {
     /// Where the entry's record ends, in bytes from the front of the optional header; 0 where there
     /// is no entry.
     pub end: usize,
-    /// Where what it leads to lies; zeros where there is no entry. An import directory ends at its
-    /// own last record, whatever the size.
+    /// Where what it leads to lies; zeros where there is no entry.
     pub directory: DataDirectory,
     /// Whether there is such an entry, and not all of it is 0.
     pub is_present: bool,

@@ -32,15 +32,21 @@ fn item_at<T: Copy>(table: &[T], index: u32) -> Option<T>
     table.get(index as usize).copied()
 }
 
-// What the status of a fault says.
+/// What kind of refusal it is. A later version may add numbers, here and to the causes, but changes
+/// none.
 #[derive(Copy, Clone)]
 enum Status {
-    // Nothing is refused.
+    /// Nothing is refused.
     Ok = 0,
+    /// The bytes are not what the format says: the cause is a [`Cause`](CauseNumber).
     Malformed = 1,
+    /// An optional header has the magic number `first`, neither of the two that are read.
     BadMagic = 2,
+    /// The file is too short for `first` entries: the cause is a [`Counted`].
     BufferTooShort = 3,
+    /// A read at an offset was refused: the cause is a [`ReadFault`](ReadRefusal).
     Read = 4,
+    /// Memory was asked for and refused.
     Memory = 5,
 }
 
@@ -63,13 +69,16 @@ impl Status {
     }
 }
 
-// What a file can be too short for.
+/// What a file is too short for.
 #[derive(Copy, Clone)]
 enum Counted {
-    // Something else, which the text calls entries.
+    /// Something else, which the text calls entries.
     Other = 0,
+    /// Section records.
     Sections = 1,
+    /// Entries of the export name pointer table.
     NamePointers = 2,
+    /// Entries of the export address table.
     AddressTableEntries = 3,
 }
 
@@ -81,11 +90,14 @@ const COUNTED: [Counted; 4] = [
     Counted::AddressTableEntries,
 ];
 
-// Why a read was refused.
+/// Why a read was refused.
 #[derive(Copy, Clone)]
 enum ReadRefusal {
+    /// It begins at or past the end.
     BadOffset = 1,
+    /// There are not enough bytes from there on.
     TooBig = 2,
+    /// The bytes are not UTF-8.
     BadInput = 3,
 }
 
@@ -96,14 +108,92 @@ const READ_REFUSALS: [ReadRefusal; 3] = [
     ReadRefusal::BadInput,
 ];
 
+/// What is wrong with a file. `first` and `second` are the two numbers of the cause; offsets are file
+/// offsets in bytes.
+#[derive(Copy, Clone)]
+enum CauseNumber {
+    /// A message of a caller's own, in Rattle alone.
+    Message = 1,
+    /// The file is too short for the DOS signature.
+    NoDosSignature = 2,
+    /// The file begins with `first` in place of the DOS signature.
+    DosMagic = 3,
+    /// The file is too short for the DOS header.
+    NoPePointer = 4,
+    /// The file has no four bytes at offset `first`, where the PE signature is placed.
+    NoPeSignature = 5,
+    /// `first` stands where the PE signature is placed.
+    PeMagic = 6,
+    /// The PE signature is placed at offset `first`, before 0x40, where the DOS stub begins.
+    StubBeforeStart = 7,
+    /// The DOS stub would pass the file's `first` bytes: it would end at offset `second`.
+    StubPastEnd = 8,
+    /// The DOS stub has the marker `Rich` with a key, but under that key no marker `DanS`.
+    NoDans = 9,
+    /// The data of the Rich header would begin at `first` and end at `second`, not after it, in
+    /// bytes counted from offset 0x40.
+    RichBounds = 10,
+    /// The header of a Terse Executable says that `first` bytes were stripped, fewer than its
+    /// own 40.
+    StrippedSize = 11,
+    /// The length of a string table is below 4, the size of the field that says it.
+    CoffLength = 12,
+    /// No kind of data directory has the index `first`.
+    DirectoryIndex = 13,
+    /// There are `first` data directories, more than sixteen.
+    DirectoryCount = 14,
+    /// The bytes after the slash of a section's indirect name are not UTF-8.
+    NameText = 15,
+    /// A section's indirect name has a character that is no digit of base 64.
+    NameBase64 = 16,
+    /// A section's name has no decimal number after its slash.
+    NameDecimal = 17,
+    /// No section name can hold `first`, an offset in a string table.
+    NameOffset = 18,
+    /// A symbol's name: no text stands at offset `first` of the string table, or the stored
+    /// number is `first`, below 4.
+    SymbolName = 19,
+    /// A string table at offset `first`, of `second` bytes, would pass the file.
+    StringTable = 20,
+    /// A Windows field of 64 bits has a value that does not fit 32.
+    FieldTooWide = 21,
+    /// The address `first` has no file offset.
+    Unmapped = 22,
+    /// No text stands at offset `first`, to which the address of a name is mapped.
+    NameRead = 23,
+    /// The two bytes of a hint would pass the file at offset `first`.
+    HintEntry = 24,
+    /// A lookup table of imports meets the file's end at offset `first`, before its last entry.
+    LookupEnd = 25,
+    /// An import directory meets the file's end at offset `first`, before its last record.
+    ImportRecordEnd = 26,
+    /// An export directory's record would pass the file at offset `first`.
+    ExportTable = 27,
+    /// A forwarder's text has no dot, or nothing after its first dot.
+    Forwarder = 28,
+    /// A forwarder's text has no decimal number below 2^32 after its `#`.
+    ForwarderOrdinal = 29,
+    /// A base relocation directory at offset `first`, of `second` bytes, would pass the file,
+    /// or begins at or past its end.
+    RelocRange = 30,
+    /// A base relocation block says that it has `first` bytes, below the 8 of its own head.
+    BlockSize = 31,
+    /// The words of a base relocation block, `second` bytes at `first` from the directory's
+    /// front, would pass the directory, or begin at its end.
+    BlockRange = 32,
+    /// A sum or a product of offsets passes 64 bits.
+    Overflow = 33,
+    /// A library of imports made by hand has `first` entries, but `second` slots.
+    SlotCount = 34,
+}
+
 /// Why a call gave no value, in numbers; the status 0 is that it gave one.
 #[repr(C)]
 #[derive(Copy, Clone)]
 pub struct PeFault {
-    /// 0 nothing is refused, 1 a cause, 2 a magic number, 3 too short, 4 a read, 5 memory.
+    /// What kind of refusal it is, by the numbers of [`Status`]; 0 where nothing is refused.
     pub status: u32,
-    /// By the status: which cause or which refusal of a read, from 1 on, or what the file is too
-    /// short for, from 0 on; else 0.
+    /// By the status a [`Cause`](CauseNumber), a [`Counted`] or a [`ReadFault`](ReadRefusal); else 0.
     pub cause: u32,
     /// The first number of the cause, else 0.
     pub first: u64,
@@ -172,40 +262,92 @@ fn cause_numbers(cause: &Cause) -> PeFault
         → refusal_text result ≡ Some (error_text (Malformed cause.now)) }
 {
     match cause {
-        Cause::Message(_) => malformed(1, 0, 0),
-        Cause::NoDosSignature => malformed(2, 0, 0),
-        Cause::DosMagic(magic) => malformed(3, u64::from(*magic), 0),
-        Cause::NoPePointer => malformed(4, 0, 0),
-        Cause::NoPeSignature(offset) => malformed(5, *offset as u64, 0),
-        Cause::PeMagic(magic) => malformed(6, u64::from(*magic), 0),
-        Cause::StubBeforeStart(offset) => malformed(7, u64::from(*offset), 0),
-        Cause::StubPastEnd(length, end) => malformed(8, *length as u64, *end as u64),
-        Cause::NoDans => malformed(9, 0, 0),
-        Cause::RichBounds(begin, end) => malformed(10, *begin as u64, *end as u64),
-        Cause::StrippedSize(size) => malformed(11, u64::from(*size), 0),
-        Cause::CoffLength => malformed(12, 0, 0),
-        Cause::DirectoryIndex(index) => malformed(13, *index as u64, 0),
-        Cause::DirectoryCount(count) => malformed(14, *count as u64, 0),
-        Cause::NameText => malformed(15, 0, 0),
-        Cause::NameBase64 => malformed(16, 0, 0),
-        Cause::NameDecimal => malformed(17, 0, 0),
-        Cause::NameOffset(offset) => malformed(18, *offset as u64, 0),
-        Cause::SymbolName(offset) => malformed(19, u64::from(*offset), 0),
-        Cause::StringTable(offset, length) => malformed(20, *offset as u64, *length as u64),
-        Cause::FieldTooWide => malformed(21, 0, 0),
-        Cause::Unmapped(rva) => malformed(22, *rva as u64, 0),
-        Cause::NameRead(offset) => malformed(23, *offset as u64, 0),
-        Cause::HintEntry(offset) => malformed(24, *offset as u64, 0),
-        Cause::LookupEnd(offset) => malformed(25, *offset as u64, 0),
-        Cause::ImportRecordEnd(offset) => malformed(26, *offset as u64, 0),
-        Cause::ExportTable(offset) => malformed(27, *offset as u64, 0),
-        Cause::Forwarder => malformed(28, 0, 0),
-        Cause::ForwarderOrdinal => malformed(29, 0, 0),
-        Cause::RelocRange(offset, size) => malformed(30, *offset as u64, u64::from(*size)),
-        Cause::BlockSize(size) => malformed(31, u64::from(*size), 0),
-        Cause::BlockRange(begin, size) => malformed(32, *begin as u64, *size as u64),
-        Cause::Overflow => malformed(33, 0, 0),
-        Cause::SlotCount(entries, slots) => malformed(34, *entries as u64, *slots as u64),
+        Cause::Message(_) => malformed(CauseNumber::Message as u32, 0, 0),
+        Cause::NoDosSignature => malformed(CauseNumber::NoDosSignature as u32, 0, 0),
+        Cause::DosMagic(magic) => malformed(CauseNumber::DosMagic as u32, u64::from(*magic), 0),
+        Cause::NoPePointer => malformed(CauseNumber::NoPePointer as u32, 0, 0),
+        Cause::NoPeSignature(offset) => malformed(
+            CauseNumber::NoPeSignature as u32,
+            *offset as u64,
+            0,
+        ),
+        Cause::PeMagic(magic) => malformed(CauseNumber::PeMagic as u32, u64::from(*magic), 0),
+        Cause::StubBeforeStart(offset) => malformed(
+            CauseNumber::StubBeforeStart as u32,
+            u64::from(*offset),
+            0,
+        ),
+        Cause::StubPastEnd(length, end) => malformed(
+            CauseNumber::StubPastEnd as u32,
+            *length as u64,
+            *end as u64,
+        ),
+        Cause::NoDans => malformed(CauseNumber::NoDans as u32, 0, 0),
+        Cause::RichBounds(begin, end) => malformed(
+            CauseNumber::RichBounds as u32,
+            *begin as u64,
+            *end as u64,
+        ),
+        Cause::StrippedSize(size) => malformed(
+            CauseNumber::StrippedSize as u32,
+            u64::from(*size),
+            0,
+        ),
+        Cause::CoffLength => malformed(CauseNumber::CoffLength as u32, 0, 0),
+        Cause::DirectoryIndex(index) => malformed(
+            CauseNumber::DirectoryIndex as u32,
+            *index as u64,
+            0,
+        ),
+        Cause::DirectoryCount(count) => malformed(
+            CauseNumber::DirectoryCount as u32,
+            *count as u64,
+            0,
+        ),
+        Cause::NameText => malformed(CauseNumber::NameText as u32, 0, 0),
+        Cause::NameBase64 => malformed(CauseNumber::NameBase64 as u32, 0, 0),
+        Cause::NameDecimal => malformed(CauseNumber::NameDecimal as u32, 0, 0),
+        Cause::NameOffset(offset) => malformed(CauseNumber::NameOffset as u32, *offset as u64, 0),
+        Cause::SymbolName(offset) => malformed(
+            CauseNumber::SymbolName as u32,
+            u64::from(*offset),
+            0,
+        ),
+        Cause::StringTable(offset, length) => malformed(
+            CauseNumber::StringTable as u32,
+            *offset as u64,
+            *length as u64,
+        ),
+        Cause::FieldTooWide => malformed(CauseNumber::FieldTooWide as u32, 0, 0),
+        Cause::Unmapped(rva) => malformed(CauseNumber::Unmapped as u32, *rva as u64, 0),
+        Cause::NameRead(offset) => malformed(CauseNumber::NameRead as u32, *offset as u64, 0),
+        Cause::HintEntry(offset) => malformed(CauseNumber::HintEntry as u32, *offset as u64, 0),
+        Cause::LookupEnd(offset) => malformed(CauseNumber::LookupEnd as u32, *offset as u64, 0),
+        Cause::ImportRecordEnd(offset) => malformed(
+            CauseNumber::ImportRecordEnd as u32,
+            *offset as u64,
+            0,
+        ),
+        Cause::ExportTable(offset) => malformed(CauseNumber::ExportTable as u32, *offset as u64, 0),
+        Cause::Forwarder => malformed(CauseNumber::Forwarder as u32, 0, 0),
+        Cause::ForwarderOrdinal => malformed(CauseNumber::ForwarderOrdinal as u32, 0, 0),
+        Cause::RelocRange(offset, size) => malformed(
+            CauseNumber::RelocRange as u32,
+            *offset as u64,
+            u64::from(*size),
+        ),
+        Cause::BlockSize(size) => malformed(CauseNumber::BlockSize as u32, u64::from(*size), 0),
+        Cause::BlockRange(begin, size) => malformed(
+            CauseNumber::BlockRange as u32,
+            *begin as u64,
+            *size as u64,
+        ),
+        Cause::Overflow => malformed(CauseNumber::Overflow as u32, 0, 0),
+        Cause::SlotCount(entries, slots) => malformed(
+            CauseNumber::SlotCount as u32,
+            *entries as u64,
+            *slots as u64,
+        ),
     }
 }
 

@@ -13,9 +13,11 @@ use goblin_pe_head::header::{CoffHeader, DosHeader};
 pub enum State {
     /// The file has no such table, or it was not asked for.
     Absent = 0,
-    /// It was read.
+    /// It was read, and may be empty.
     Read = 1,
-    /// It is refused and was passed over, as permissive mode does.
+    /// It is refused, and permissive mode passed over that. Imports never are: in permissive mode they
+    /// count as read, with what could be read of them, perhaps nothing; what that leaves out, the
+    /// damage of the file tells.
     Refused = 2,
 }
 
@@ -25,8 +27,7 @@ pub enum State {
 pub struct PeTable {
     /// How many entries it has, whatever the room.
     pub count: usize,
-    /// How it stands, as a [`State`]: 0 the file has no such table, 1 it was read, 2 it is refused
-    /// and was passed over.
+    /// How it stands, by the numbers of [`State`].
     pub state: u32,
 }
 
@@ -49,9 +50,9 @@ pub struct PeFile {
     /// The optional header.
     pub optional_header: PeOptionalHeader,
     /// How many data directories there are, whatever the room: sixteen, or none where there is no
-    /// optional header.
+    /// optional header. Records past them are not filled.
     pub directories: usize,
-    /// How many sections there are, whatever the room.
+    /// How many sections there are.
     pub sections: usize,
     /// The imports.
     pub imports: PeTable,

@@ -9,9 +9,9 @@ use goblin_pe_head::optional_header::{OptionalHeader, StandardFields, WindowsFie
 #[repr(C)]
 #[derive(Copy, Clone)]
 pub struct PeOptionalHeader {
-    /// The standard fields: what any loader of COFF files wants to know.
+    /// The standard fields, whose magic is 0 where there is no optional header.
     pub standard_fields: StandardFields,
-    /// The Windows fields.
+    /// The Windows fields; of an image for 32 bits as they are of one for 64 bits.
     pub windows_fields: WindowsFields,
 }
 

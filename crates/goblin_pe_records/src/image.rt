@@ -22,7 +22,9 @@ use goblin_base::{Cause, Error, Result};
 pub struct PeImage<'a> {
     /// The file's bytes.
     pub bytes: &'a [u8],
-    /// The records of its sections, in the order of the section table.
+    /// The records of its sections, in the order of the section table. No call looks at more of them
+    /// than `virtual_address`, `virtual_size`, `pointer_to_raw_data` and `size_of_raw_data`; all else
+    /// may be zeros.
     pub sections: &'a [PeSection<'a>],
     /// Its file alignment, in bytes.
     pub file_alignment: u32,
@@ -30,11 +32,11 @@ pub struct PeImage<'a> {
     pub options: PeOptions,
 }
 
-/// Bytes of a file; of a text those before its NUL.
+/// Bytes of the file; not ended by a NUL.
 #[repr(C)]
 #[derive(Copy, Clone)]
 pub struct PeText<'a> {
-    /// The bytes.
+    /// The first of them.
     pub bytes: &'a [u8],
 }
 

@@ -2,6 +2,7 @@
 
 ghost use Rattle.std.specs.Prelude.{◌≡◌};
 ghost use Rattle.goblin_pe_records.specs.Options.{options_of};
+ghost use Rattle.goblin_pe_sect.specs.Options.{default_options};
 
 use goblin_pe_sect::options::{ParseMode, ParseOptions, RawPointerRule};
 
@@ -18,6 +19,19 @@ pub struct PeOptions {
     pub rounds_raw_pointers: bool,
     /// Whether the imports are read; where not, their table is absent.
     pub parse_imports: bool,
+}
+
+/// The options where a caller says none: strictly, with addresses mapped by the sections from their
+/// raw pointers as stored, and imports. Callers of all languages take them from here.
+pub fn default_options() -> PeOptions
+    ensures { options_of result ≡ default_options }
+{
+    PeOptions {
+        is_permissive: false,
+        resolve_rva: true,
+        rounds_raw_pointers: false,
+        parse_imports: true,
+    }
 }
 
 /// The options that a caller says.

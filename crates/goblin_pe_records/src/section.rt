@@ -15,6 +15,8 @@ use goblin_pe_sect::section_table::{SectionRecords, SectionTable};
 use std::alloc::Global;
 
 /// A section, as its record describes it.
+///
+/// Source: PE Format, "Section Table (Section Headers)".
 #[repr(C)]
 #[derive(Copy, Clone)]
 pub struct PeSection<'a> {

@@ -149,10 +149,7 @@ type Said = Vec<String>;
 
 /// What this library says, and the file offset of the import directory; or the refusal.
 fn ours(file: &[u8]) -> Result<(Said, Option<usize>), goblin_pe::Error> {
-    let options = Options {
-        rounds_raw_pointers: true,
-        ..Options::default()
-    };
+    let options = Options::default().with_rounds_raw_pointers(true);
     let pe = Pe::read(file, &options)?;
     let mut said: Said = pe.sections().map(|s| section_line!(s.name.0, s)).collect();
     // goblin counts the entries that were kept, this library those of the file

@@ -38,7 +38,7 @@ pub(crate) const SIZEOF_DOS_HEADER: usize = 64;
 #[repr(C)]
 #[derive(Debug, PartialEq, Copy, Clone, Default)]
 pub struct DosHeader {
-    /// [`DOS_MAGIC`], at 0x00.
+    /// `MZ`, at 0x00.
     pub signature: u16,
     /// How many bytes of the last page are used, at 0x02.
     pub bytes_on_last_page: u16,

@@ -33,13 +33,13 @@ const SIZEOF_TE_HEADER: usize = 40;
 /// The header of a Terse Executable.
 ///
 /// Source: UEFI Platform Initialization Specification, volume 1, "TE Image". Numbers are as stored,
-/// but for the four that [`TeHeader::parse`] adjusts; the record has 40 bytes, and `at` gives a
+/// but for the four that are adjusted when it is read; the record has 40 bytes, and `at` gives a
 /// field's offset in it. It replaces the headers of a PE file and keeps what a loader of firmware
 /// needs of them; its addresses still count the bytes that were stripped.
 #[repr(C)]
 #[derive(Debug, PartialEq, Copy, Clone, Default)]
 pub struct TeHeader {
-    /// [`TE_MAGIC`], at 0. No reader tests it.
+    /// `VZ`, at 0. No reader tests it.
     pub signature: u16,
     /// The machine that the file is for, a `COFF_MACHINE_*`, at 2.
     pub machine: u16,

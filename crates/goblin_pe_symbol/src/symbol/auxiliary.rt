@@ -285,7 +285,7 @@ pub struct AuxSectionDefinition {
     /// The checksum of COMDAT data, at 8.
     pub checksum: u32,
     /// The number, counted from 1, of the section that this one is taken with, at 12; it counts if
-    /// [`Self::selection`] is `IMAGE_COMDAT_SELECT_ASSOCIATIVE`.
+    /// `selection` is `IMAGE_COMDAT_SELECT_ASSOCIATIVE`.
     pub number: u16,
     /// Which of several COMDAT sections of one name is taken, an `IMAGE_COMDAT_SELECT_*`, at 14.
     pub selection: u8,

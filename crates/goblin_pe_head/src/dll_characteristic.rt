@@ -1,0 +1,40 @@
+//! What the loader may do with an image, and has to, as bits of an optional header.
+//!
+//! Source: PE Format, "DLL Characteristics".
+
+/// The image can be moved within the whole address space of 64 bits.
+pub const IMAGE_DLLCHARACTERISTICS_HIGH_ENTROPY_VA: u16 = 0x0020;
+/// The image can be moved when it is loaded.
+pub const IMAGE_DLLCHARACTERISTICS_DYNAMIC_BASE: u16 = 0x0040;
+/// The loader has to check the image's signature.
+pub const IMAGE_DLLCHARACTERISTICS_FORCE_INTEGRITY: u16 = 0x0080;
+/// The image runs where data can't be executed.
+pub const IMAGE_DLLCHARACTERISTICS_NX_COMPAT: u16 = 0x0100;
+/// The image is not isolated, though it could be.
+pub const IMAGE_DLLCHARACTERISTICS_NO_ISOLATION: u16 = 0x0200;
+/// The image has no structured exception handlers.
+pub const IMAGE_DLLCHARACTERISTICS_NO_SEH: u16 = 0x0400;
+/// The image may not be bound.
+pub const IMAGE_DLLCHARACTERISTICS_NO_BIND: u16 = 0x0800;
+/// The image has to run in an AppContainer.
+pub const IMAGE_DLLCHARACTERISTICS_APPCONTAINER: u16 = 0x1000;
+/// The image is a driver of the Windows Driver Model.
+pub const IMAGE_DLLCHARACTERISTICS_WDM_DRIVER: u16 = 0x2000;
+/// The image supports Control Flow Guard.
+pub const IMAGE_DLLCHARACTERISTICS_GUARD_CF: u16 = 0x4000;
+/// The image knows of terminal servers.
+pub const IMAGE_DLLCHARACTERISTICS_TERMINAL_SERVER_AWARE: u16 = 0x8000;
+
+const _: () = prove!(
+    IMAGE_DLLCHARACTERISTICS_HIGH_ENTROPY_VA == 0x0020
+        && IMAGE_DLLCHARACTERISTICS_DYNAMIC_BASE == 0x0040
+        && IMAGE_DLLCHARACTERISTICS_FORCE_INTEGRITY == 0x0080
+        && IMAGE_DLLCHARACTERISTICS_NX_COMPAT == 0x0100
+        && IMAGE_DLLCHARACTERISTICS_NO_ISOLATION == 0x0200
+        && IMAGE_DLLCHARACTERISTICS_NO_SEH == 0x0400
+        && IMAGE_DLLCHARACTERISTICS_NO_BIND == 0x0800
+        && IMAGE_DLLCHARACTERISTICS_APPCONTAINER == 0x1000
+        && IMAGE_DLLCHARACTERISTICS_WDM_DRIVER == 0x2000
+        && IMAGE_DLLCHARACTERISTICS_GUARD_CF == 0x4000
+        && IMAGE_DLLCHARACTERISTICS_TERMINAL_SERVER_AWARE == 0x8000
+);
