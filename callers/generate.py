@@ -462,6 +462,7 @@ impl Options {
 const _: () = {
 %s};
 
+#[rustfmt::skip]
 unsafe extern "C" {
 %s}
 """

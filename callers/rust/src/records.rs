@@ -1054,6 +1054,7 @@ const _: () = {
     assert!(offset_of!(TeHeader, debug_dir) == 32);
 };
 
+#[rustfmt::skip]
 unsafe extern "C" {
     pub fn goblin_pe_raw_read_aux_function_definition(
         bytes: *const u8,
@@ -1135,8 +1136,11 @@ unsafe extern "C" {
         ranges: &mut Ranges<'_>,
     ) -> Fault;
 
-    pub fn goblin_pe_raw_find_offset(image: &Image<'_, '_>, rva: usize, offset: &mut usize)
-    -> bool;
+    pub fn goblin_pe_raw_find_offset(
+        image: &Image<'_, '_>,
+        rva: usize,
+        offset: &mut usize,
+    ) -> bool;
 
     pub fn goblin_pe_raw_text_at<'a>(
         image: &Image<'_, 'a>,
