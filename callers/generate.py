@@ -130,6 +130,8 @@ def record_of(doc: str, text: str) -> Declared:
     """A record. Of bytes alone the pointer and the length stand in it."""
     (name,) = read(r"pub struct (\w+)(?:<'a>)? \{\n", text)
     items = [Item(field, type_of(it), said) for field, it, said in rows_of(text, r"pub (\w+): (.+),")]
+    if any(it.type.is_written or it.type.is_reference and it.type.form not in ("text", "table") for it in items):
+        raise Refused("a reference in the record " + name)
     if name == "PeText":
         items = [items[0]._replace(type=Type("pointer")), Item("length", Type("number", "usize"), "How many there are.")]
     return Declared(named(name), doc, items, is_own=name.startswith("Pe"))

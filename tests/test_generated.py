@@ -15,6 +15,8 @@ UNKNOWN = [
     ("a private field", RECORD % "number: u32,"),
     ("a field of a crate", RECORD % "pub(crate) number: u32,"),
     ("a pointer", RECORD % "pub more: *const u8,"),
+    ("a reference", RECORD % "pub fault: &'a PeFault,"),
+    ("a slice that is written", RECORD % "pub room: &'a mut [u8],"),
     ("a number that C has not", RECORD % "pub number: u128,"),
     ("an array of records", RECORD % "pub faults: [PeFault; 2],"),
     ("an option", RECORD % "pub number: Option<u32>,"),
