@@ -1,6 +1,6 @@
 -- What the callers count.
-use Rattle.std.specs.Prelude.{ℕ, ◌-◌, ◌^◌, suc, min, List, [], ◌∷◌, Option, count_by, drop, length}
-use Rattle.std.specs.Option.{option_map}
+use Rattle.std.specs.Prelude.{ℕ, Bool, ◌-◌, ◌^◌, suc, min, List, [], ◌∷◌, Option, count_by, drop, length}
+use Rattle.std.specs.Option.{is_some, option_map}
 use Rattle.std.specs.Str.{bytes_eq}
 use Rattle.goblin_pe.specs.declared.export.ExportAddressTableEntry.{ExportAddressTableEntry}
 use Rattle.goblin_pe.specs.declared.export.ExportAddressTableEntry.TheVariants.{ExportRVA}
@@ -9,6 +9,7 @@ use Rattle.goblin_pe.specs.declared.whole.Part.{Part}
 use Rattle.goblin_pe.specs.declared.whole.Part.TheVariants as part
 use Rattle.goblin_pe.specs.declared.options.ParseMode.TheVariants.{Permissive}
 use Rattle.goblin_pe.specs.declared.options.ParseOptions.{ParseOptions}
+use Rattle.goblin_pe.specs.ExportRecords.{ExportRow, ExportTables}
 use Rattle.goblin_pe.specs.Imports.{ImportValue}
 use Rattle.goblin_pe.specs.Options.{default_options}
 use Rattle.goblin_pe.specs.Reading.{Reading}
@@ -47,6 +48,16 @@ abbrev pub rich_entry_count : Reading (Option ℕ)
 rich_entry_count =
     mapped (option_map (λ r. length (metadata_items r.key (drop r.padding_size r.bytes))))
     rich_header
+
+-- an export stands for one of another library
+abbrev pub is_reexport : ExportRow → Bool
+is_reexport row = is_some row.reexport
+
+-- how many exports of a part do, 0 where it was not read
+abbrev pub reexport_count : Part (ExportTables × List ExportRow) → ℕ
+reexport_count part.Absent = 0
+reexport_count (part.Read read) = count_by is_reexport read.1
+reexport_count part.Refused = 0
 
 -- how many entries of an address table lead to a forwarder
 abbrev pub forwarder_count : List ExportAddressTableEntry → ℕ

@@ -1,7 +1,7 @@
 //! A caller of `goblin_pe` alone: neither its code nor its clauses name a crate below.
 #![tactic(auto)]
 
-ghost use Rattle.std.specs.Prelude.{◌≡◌, ◌↔◌, ◌*◌, [], IfErr, IfOk, IsSome, IsTrue, false};
+ghost use Rattle.std.specs.Prelude.{◌≡◌, ◌↔◌, ◌*◌, [], IfErr, IfOk, IsSome, IsTrue, count_by, false};
 ghost use Rattle.std.specs.Prelude.{length, option_map, slice_get};
 ghost use Rattle.std.specs.List.{Contains};
 ghost use Rattle.goblin_pe.specs.AddressReadings.{data_at};
@@ -10,6 +10,7 @@ ghost use Rattle.goblin_pe.specs.Answers.{Answers, IsMemory, IsSliceFault, Write
 ghost use Rattle.goblin_pe.specs.BaseRelocations.{block_items, relocation_bytes, word_items};
 ghost use Rattle.goblin_pe.specs.CoffHeader.{coff_fields, coff_header};
 ghost use Rattle.goblin_pe.specs.DataDirectories.{present_from};
+ghost use Rattle.goblin_pe.specs.ExportWalks.{exports_left};
 ghost use Rattle.goblin_pe.specs.Layouts.{IsFileImportsCause, file_imports_left, layout_map};
 ghost use Rattle.goblin_pe.specs.Layouts.{layout_places};
 ghost use Rattle.goblin_pe.specs.Mapping.{file_offset};
@@ -20,16 +21,18 @@ ghost use Rattle.goblin_pe.specs.Reads.{mapped};
 ghost use Rattle.goblin_pe.specs.Record.{ReadsBack, encoding, record_over};
 ghost use Rattle.goblin_pe.specs.Relocations.{relocations_left};
 ghost use Rattle.goblin_pe.specs.Symbols.{symbols_in, table_bytes};
-ghost use Rattle.goblin_pe.specs.Whole.{import_list};
+ghost use Rattle.goblin_pe.specs.Whole.{export_part, import_list};
 ghost use Rattle.goblin_pe.specs.declared.endian.Endian.{Endian};
 ghost use Rattle.goblin_pe.specs.declared.error.CauseOf.TheVariants.{Message};
 ghost use Rattle.goblin_pe.specs.declared.error.ErrorOf.TheVariants.{Malformed};
 ghost use Rattle.goblin_pe_caller.specs.Counts.{count_from, entry_count, forwarder_count};
-ghost use Rattle.goblin_pe_caller.specs.Counts.{import_count, part_count, rich_entry_count};
+ghost use Rattle.goblin_pe_caller.specs.Counts.{import_count, is_reexport, part_count};
+ghost use Rattle.goblin_pe_caller.specs.Counts.{reexport_count, rich_entry_count};
 
 use goblin_pe::data_directories::{DataDirectories, DataDirectory};
 use goblin_pe::export::{
     ExportAddressTable, ExportAddressTableEntry, ExportNamePointerTable, ExportOrdinalTable,
+    Exports,
 };
 use goblin_pe::header::{CoffHeader, RichHeader};
 use goblin_pe::options::{ParseMode, ParseOptions};
@@ -152,6 +155,38 @@ fn count_of<'a, 'm, 'e>(imports: FileImports<'a, 'm, 'e>, library: &str) -> Resu
         }
     }
     Ok(count)
+}
+
+/// How many exports of a file stand for those of other libraries; 0 where its exports are absent or
+/// refused. They are walked over one by one, without memory.
+///
+/// # Errors
+/// As [`Layout::exports`].
+#[tactic(auto, unfolding(goblin_pe::specs::Whole::part_map))]
+pub fn count_reexports(layout: &Layout) -> Result<usize>
+    ensures { let m = layout_map layout.now in
+        Reads (λ n. n) result
+        (mapped reexport_count (export_part m.opts (offset_of m) (layout_places layout.now)))
+        layout.now.bytes.now }
+{
+    match layout.exports()? {
+        Part::Absent => Ok(0),
+        Part::Read(exports) => Ok(reexports_of(exports)),
+        Part::Refused => Ok(0),
+    }
+}
+
+// The same of the exports that a walk gives.
+fn reexports_of(exports: Exports) -> usize
+    ensures { result ≡ count_by (λ x. is_reexport x.row) (exports_left exports.entry) }
+{
+    let mut count = 0;
+    'exports: for export in exports {
+        if export.export.reexport.is_some() {
+            count += 1;
+        }
+    }
+    count
 }
 
 /// A refusal with a text of the caller's.
