@@ -52,7 +52,11 @@ fn layout_forwarders(layout: &Layout) -> Result<usize>
 fn count(exports: Exports) -> usize
     ensures { result ≡ count_by (λ x. is_forwarder x.row) (exports_left exports.entry) }
 {
-    exports
-        .filter(|export| export.export.reexport.is_some())
-        .count()
+    let mut count = 0;
+    'exports: for export in exports {
+        if export.export.reexport.is_some() {
+            count += 1;
+        }
+    }
+    count
 }

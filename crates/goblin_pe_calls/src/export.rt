@@ -2,12 +2,11 @@
 
 ghost use Rattle.std.specs.Prelude.{◌≡◌, ◌≤◌, ◌<◌, ◌+◌, ◌++◌, ◌∷◌, [], IfErr, IfOk, IfSome, OnErr, OnOk};
 ghost use Rattle.std.specs.Prelude.{IsSomeAnd, None, Some, length, map, vec_capacity, vec_len};
-ghost use Rattle.std.specs.Iterator.{YieldsFirstBy};
 ghost use Rattle.goblin_base.specs.Answers.{GivesOrMemory, IsMemory};
 ghost use Rattle.goblin_base.specs.Reading.{ReadsOrMemory};
 ghost use Rattle.goblin_pe.specs.Reads.{mapped};
 ghost use Rattle.goblin_pe_sect.specs.Addresses.{map_of, offset_of};
-ghost use Rattle.goblin_pe_export.specs.ExportWalks.{KeepsOver, exports_left, walked_export};
+ghost use Rattle.goblin_pe_export.specs.ExportWalks.{exports_left, walked_export};
 ghost use Rattle.goblin_pe_export.specs.ExportWalks.{walked_tables};
 ghost use Rattle.goblin_pe_export.specs.Forwarders.{forwarder_value};
 ghost use Rattle.goblin_pe.specs.Layouts.{layout_map, layout_places};
@@ -205,16 +204,6 @@ fn push_export<'a>(
     Ok(())
 }
 
-/// The export that comes next. Loops call this, as `next` itself has a clause more than its trait,
-/// and a loop that calls it is then not proved.
-#[inline(always)]
-pub fn next_export<'a, 'm>(exports: &mut Exports<'a, 'm>) -> Option<WalkedExport<'a>>
-    ensures steps { YieldsFirstBy walked_export exports_left exports.old result exports.new }
-    ensures over { KeepsOver exports.old exports.new }
-{
-    exports.next()
-}
-
 // The records of the exports that a walk gives. Those that are plain, and for which there is room,
 // come by a loop of their own, in which nothing can be refused and all goes in line.
 fn records_of<'a, 'm>(
@@ -233,7 +222,7 @@ fn records_of<'a, 'm>(
         .unwrap_or(MOST_FIRST)
         .clamp(1, MOST_FIRST);
     let mut records = Vec::new(alloc);
-    'exports: while let Some(export) = next_export(&mut exports) {
+    'exports: while let Some(export) = exports.next() {
         push_export(&mut records, bytes, &export, expected)?;
         'room: while records.len() < records.capacity() {
             let Some(export) = exports.next_plain() else {

@@ -15,7 +15,7 @@ ghost use Rattle.goblin_pe_calls.specs.Batches.{position_numbers, position_said,
 ghost use Rattle.goblin_pe_calls.specs.Exports.{export_said, export_view};
 ghost use Rattle.goblin_pe_calls.specs.Imports.{import_said, import_view};
 
-use crate::export::{PeExport, next_export, plain_record, put_export};
+use crate::export::{PeExport, plain_record, put_export};
 use crate::import::{PeImport, put_import};
 use goblin_pe::export::Exports;
 use goblin_pe::header::Header;
@@ -247,7 +247,7 @@ fn fill_exports<'a, 'm>(
 {
     let mut count = 0;
     'exports: while count < records.len() {
-        let Some(export) = next_export(exports) else {
+        let Some(export) = exports.next() else {
             return count;
         };
         put_export(&mut records[count], bytes, &export);

@@ -1,6 +1,7 @@
 -- The walk over the exports of an image: what is still to come.
 use Rattle.std.specs.Prelude.{◌≡◌, ℕ, ◌+◌, ◌-◌, ◌/◌, List, Option, filter_map, length}
 use Rattle.std.specs.Prelude.{option_map, slice_get, unwrap_or}
+use Rattle.std.specs.Iterator.{YieldsFirstBy}
 use Rattle.std.specs.List.{range_with_len}
 use Rattle.goblin_pe_sect.specs.Addresses.{MapOfAddresses, map_of, offset_of}
 use Rattle.goblin_pe_export.specs.ExportRecords.{ExportRow, ExportTables, tables_in}
@@ -62,6 +63,10 @@ IsOver bytes m walk = (walk.bytes.now ≡ bytes) × (map_of walk.finder ≡ m)
 abbrev pub KeepsOver : Exports → Exports → Type 0
 KeepsOver s t =
     IsOver s.bytes.now (map_of s.finder) t × (walked_tables t ≡ walked_tables s)
+
+-- A call of `next` gives the next export; it keeps what is walked over.
+abbrev pub GivesExport : Exports → Option WalkedExport → Exports → Type 0
+GivesExport s result t = YieldsFirstBy walked_export exports_left s result t × KeepsOver s t
 
 -- no more than this comes
 abbrev pub exports_bound : Exports → ℕ

@@ -1,15 +1,15 @@
 //! A walk over the exports of an image.
 
-ghost use Rattle.std.specs.Prelude.{◌≡◌, ◌≤◌, ◌+◌, ⊤, IfOk, IfSome, MatchOption, None, Some, length};
+ghost use Rattle.std.specs.Prelude.{◌≡◌, ◌≤◌, ◌+◌, IfOk, IfSome, MatchOption, None, Some, length};
 ghost use Rattle.std.specs.Prelude.{map, option_map, slice_get};
-ghost use Rattle.std.specs.Iterator.{MakesProgress, UpTo, YieldsFirstBy, at_most};
+ghost use Rattle.std.specs.Iterator.{UpTo, YieldsFirstBy, at_most};
 ghost use Rattle.std.specs.Iterator.SizeHint.{IsWithinCount};
 ghost use Rattle.goblin_base.specs.Reading.{Reads};
 ghost use Rattle.goblin_pe_sect.specs.Addresses.{map_of, offset_of};
 ghost use Rattle.goblin_pe_export.specs.ExportReadings.{export_read};
 ghost use Rattle.goblin_pe_export.specs.ExportRecords.{tables_in};
-ghost use Rattle.goblin_pe_export.specs.ExportWalks.{IsOver, KeepsOver, exports_at, exports_bound};
-ghost use Rattle.goblin_pe_export.specs.ExportWalks.{NumberedExport, exports_left, numbered_export};
+ghost use Rattle.goblin_pe_export.specs.ExportWalks.{GivesExport, IsOver, KeepsOver, exports_at};
+ghost use Rattle.goblin_pe_export.specs.ExportWalks.{NumberedExport, exports_bound, exports_left, numbered_export};
 ghost use Rattle.goblin_pe_export.specs.ExportWalks.{numbered_from, walked_export, walked_tables};
 
 use crate::export::Export;
@@ -241,17 +241,12 @@ impl<'a, 'm> Exports<'a, 'm> {
 impl<'a, 'm> Iterator for Exports<'a, 'm> {
     type Item = WalkedExport<'a>;
 
-    ghost next_gives = { YieldsFirstBy walked_export exports_left };
+    ghost next_gives = { GivesExport };
 
     ghost remaining = { λ walk. at_most (exports_bound walk) };
 
     #[inline(always)]
-    fn next(&mut self) -> Option<WalkedExport<'a>>
-        ensures steps { YieldsFirstBy walked_export exports_left self.old result self.new }
-        ensures goes { MakesProgress (λ _. ⊤) (λ walk. at_most (exports_bound walk))
-            self.old result self.new }
-        ensures over { KeepsOver self.old self.new }
-    {
+    fn next(&mut self) -> Option<WalkedExport<'a>> {
         'pointers: for index in self.next..self.tables.pointers() {
             self.next = index + 1;
             let finder = &mut self.finder;

@@ -4,7 +4,7 @@ use Rattle.goblin_pe_calls.proofs.next.fill_exports.Goals as goal
 
 pub plain-init : goal.plain-init
 plain-init c =
-    (exports-more c.args.exports.now c.args.records.now c.exports.exports c.exports.records c.exports.count c.exports.invariant c.in-Some.export c.next_export.new.exports c.put_export.new.place c.in-Some.ensures.steps c.in-Some.ensures.over c.exports-test.true c.put_export.ensures, omega arith)
+    (exports-more c.args.exports.now c.args.records.now c.exports.exports c.exports.records c.exports.count c.exports.invariant c.in-Some.export c.next.new.self c.put_export.new.place c.in-Some.ensures.steps.0 c.in-Some.ensures.steps.1 c.exports-test.true c.put_export.ensures, omega arith)
 
 pub plain-preserved : goal.plain-preserved
 plain-preserved c =

@@ -28,11 +28,14 @@ pub returns-in-Some-clause-steps : goal.returns-in-Some-clause-steps
 returns-in-Some-clause-steps c =
     let before = c.pointers.invariant in
     let count = ap (λ (t : ExportTables). length t.export_name_pointer_table) before.over.1 in
-    before.left
-    ∙ from_export _ _ _ c.pointers.index _ (omega (arith, c.pointers-test.true, c.pointers-index-end.ensures, count))
-    (sym c.export_at.ensures.value ∙ ap (option_map walked_export) c.in-Some.is)
-    ∙ ap (λ (m : AddressMap). walked_export c.in-Some.export ∷ numbered_from (offset_of (map_of m)) c.pointers.self.bytes.now (tables_in c.pointers.self.tables) (c.pointers.index + 1))
-    (sym c.export_at.ensures.same)
+    let same = c.export_at.ensures.same in (
+      before.left
+          ∙ from_export _ _ _ c.pointers.index _ (omega (arith, c.pointers-test.true, c.pointers-index-end.ensures, count))
+          (sym c.export_at.ensures.value ∙ ap (option_map walked_export) c.in-Some.is)
+          ∙ ap (λ (m : AddressMap). walked_export c.in-Some.export ∷ numbered_from (offset_of (map_of m)) c.pointers.self.bytes.now (tables_in c.pointers.self.tables) (c.pointers.index + 1))
+          (sym same),
+      ((before.over.0.0, ap map_of same ∙ before.over.0.1), before.over.1),
+    )
 
 pub returns-in-Some-clause-goes : goal.returns-in-Some-clause-goes
 returns-in-Some-clause-goes c =
@@ -52,4 +55,4 @@ returns-clause-steps c =
     let count = ap (λ (t : ExportTables). length t.export_name_pointer_table) before.over.1 in
     let past = from_end _ _ _ c.pointers.index (omega (arith, c.pointers-test.false, c.pointers-index-end.ensures, count)) in
     let none = from_end _ _ _ c.pointers.self.next (omega (arith, before.at, c.pointers-test.false, c.pointers-index-end.ensures, count)) in
-    (before.left ∙ past, none)
+    ((before.left ∙ past, none), before.over)
