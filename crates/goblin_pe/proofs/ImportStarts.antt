@@ -19,7 +19,7 @@ use Rattle.goblin_pe.specs.declared.whole.Part.{Part}
 use Rattle.goblin_pe.specs.declared.whole.Part.TheVariants as part
 use Rattle.goblin_pe.specs.declared.whole.imports.FileImports.{FileImports}
 use Rattle.goblin_pe.specs.declared.whole.imports.FileImports.TheVariants.{Narrow, Wide}
-use Rattle.goblin_pe.specs.LayoutPositions.{GivesFirst, GivesFrom, IsAfterFileImport, IsImportWalk}
+use Rattle.goblin_pe.specs.LayoutPositions.{GivesFirst, GivesFrom, IsImportWalk, file_position}
 use Rattle.goblin_pe.specs.LayoutPositions.{PartGives, StartsAt, import_start, start_by, start_in}
 use Rattle.goblin_pe.specs.Layouts.{GivesFileImport, IsFileImportsCause, file_imports_left}
 use Rattle.goblin_pe.specs.Whole.{TablePlaces}
@@ -89,6 +89,11 @@ module _ (m : MapOfAddresses) (places : TablePlaces) (bytes : List ℕ) (d : Dat
 
 -- ---- a walk from there on
 
+-- a walk that has just given an import is between two entries of a library
+abbrev pub IsAfterFileImport : List ℕ → Option (Result WalkedImport ErrorOf) → FileImports → Type 0
+IsAfterFileImport bytes result imports =
+    IfSome result (λ r. IfOk r (λ import. IsInTable bytes (file_position imports)))
+
 -- a call of `next`, whatever the entries are
 pub file-given : (s : FileImports) (r : Option (Result WalkedImport ErrorOf)) (t : FileImports)
     → GivesFileImport s r t
@@ -126,3 +131,10 @@ file-kept m magic bytes (Wide s) r (Wide t) given walk =
     ((walk.0, over, kept.0), after-again bytes r t over.0 kept.1)
 file-kept m magic bytes (Narrow s) r (Wide t) given walk = absurd given
 file-kept m magic bytes (Wide s) r (Narrow t) given walk = absurd given
+
+-- a walk that has given no import has ended
+pub file-ended : (s t : FileImports) → GivesFileImport s None t → file_position t ≡ None
+file-ended (Narrow s) (Narrow t) given = given.4
+file-ended (Wide s) (Wide t) given = given.4
+file-ended (Narrow s) (Wide t) given = absurd given
+file-ended (Wide s) (Narrow t) given = absurd given

@@ -11,5 +11,6 @@ pub mod SectionNames
 pub mod SectionRoom
 pub mod SoundFiles
 pub mod TableRuns
+pub mod TakenTables
 pub mod TwinParts
 pub mod Walked

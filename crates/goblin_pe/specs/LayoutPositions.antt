@@ -1,5 +1,5 @@
 -- The imports of a file from a position on.
-use Rattle.std.specs.Prelude.{◌≡◌, ℕ, ⊤, Bool, List, Option, Some, None, Result, Ok, Err, IfOk, IfSome}
+use Rattle.std.specs.Prelude.{◌≡◌, ℕ, ⊤, Bool, List, Option, Some, None, Result, Ok, Err}
 use Rattle.std.specs.Prelude.{IsSomeAnd}
 use Rattle.goblin_base.specs.declared.error.ErrorOf.{ErrorOf}
 use Rattle.goblin_base.specs.Reading.{Reading}
@@ -11,9 +11,8 @@ use Rattle.goblin_pe_sect.specs.Addresses.{MapOfAddresses, map_of, offset_of, re
 use Rattle.goblin_pe_import.specs.ImportLookup.{entries_32, entries_64}
 use Rattle.goblin_pe_import.specs.ImportPositions.{IsFaultAt, first_import}
 use Rattle.goblin_pe_import.specs.Imports.{ImportValue}
-use Rattle.goblin_pe_import.specs.ImportWalks.{HasPosition, IsInTable, IsOver, imports_at, position_of}
+use Rattle.goblin_pe_import.specs.ImportWalks.{HasPosition, IsOver, imports_at, position_of}
 use Rattle.goblin_pe_import.specs.declared.import.imports.ImportPosition.{ImportPosition}
-use Rattle.goblin_pe_import.specs.declared.import.imports.WalkedImport.{WalkedImport}
 use Rattle.goblin_pe.specs.declared.whole.Part.{Part}
 use Rattle.goblin_pe.specs.declared.whole.Part.TheVariants.{Absent, Refused}
 use Rattle.goblin_pe.specs.declared.whole.Part.TheVariants as part
@@ -53,11 +52,6 @@ IsImportWalk m magic bytes (Narrow imports) =
     (entry_format magic ≡ entries_32) × IsOver bytes m imports × HasPosition entries_32 imports
 IsImportWalk m magic bytes (Wide imports) =
     (entry_format magic ≡ entries_64) × IsOver bytes m imports × HasPosition entries_64 imports
-
--- a walk that has just given an import is between two entries of a library
-abbrev pub IsAfterFileImport : List ℕ → Option (Result WalkedImport ErrorOf) → FileImports → Type 0
-IsAfterFileImport bytes result imports =
-    IfSome result (λ r. IfOk r (λ import. IsInTable bytes (file_position imports)))
 
 -- The walk gives what comes from a position on.
 pub record GivesFrom (m : MapOfAddresses) (magic : ℕ) (bytes : List ℕ)

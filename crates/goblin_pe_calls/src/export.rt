@@ -1,7 +1,7 @@
 //! The records of exports.
 
 ghost use Rattle.std.specs.Prelude.{◌≡◌, ◌≤◌, ◌<◌, ◌+◌, ◌++◌, ◌∷◌, [], IfErr, IfOk, IfSome, OnErr, OnOk};
-ghost use Rattle.std.specs.Prelude.{IsSomeAnd, None, Some, length, map, vec_capacity, vec_len};
+ghost use Rattle.std.specs.Prelude.{◌/◌, IsSomeAnd, None, Some, length, map, max, vec_capacity, vec_len};
 ghost use Rattle.goblin_base.specs.Answers.{GivesOrMemory, IsMemory};
 ghost use Rattle.goblin_base.specs.Reading.{ReadsOrMemory};
 ghost use Rattle.goblin_pe.specs.Reads.{mapped};
@@ -196,6 +196,10 @@ fn push_export<'a>(
         GivesOrMemory (λ _. map export_view records.new.items) result
         (map export_view records.old.items ++ made) }
     ensures room { OnOk result (HasLittleRoom records.old → HasLittleRoom records.new) }
+    ensures more { OnOk result (vec_capacity records.old ≡ vec_len records.old
+        → vec_capacity records.new ≡ vec_len records.old + max expected (vec_len records.old / 2)) }
+    ensures same { OnOk result (vec_len records.old < vec_capacity records.old
+        → vec_capacity records.new ≡ vec_capacity records.old) }
 {
     make_room(records, expected)?;
     push_within(records, bytes, export);

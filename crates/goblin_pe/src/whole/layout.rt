@@ -16,13 +16,12 @@ ghost use Rattle.goblin_pe.specs.Layouts.{IsExportWalk, IsFileImportsCause, IsLa
 ghost use Rattle.goblin_pe.specs.Layouts.{file_imports_left, layout_map, layout_places};
 ghost use Rattle.goblin_pe.specs.Layouts.{walked_exports};
 ghost use Rattle.goblin_pe.specs.SectionRoom.{TakesIndex, TakesSections};
-ghost use Rattle.goblin_pe.specs.Whole.{AreListed, IfRead, export_part, import_list, listed_view};
+ghost use Rattle.goblin_pe.specs.Whole.{AreListed, IfRead, export_part, import_list};
 ghost use Rattle.goblin_pe.specs.Whole.{part_map, relocation_part, section_table_offset};
-ghost use Rattle.goblin_pe.specs.Whole.{sections_after, table_parts};
+ghost use Rattle.goblin_pe.specs.Whole.{sections_after};
 
 use crate::export::Exports;
 use crate::import::{ImportPosition, LeftOut};
-use crate::whole::listed::ListedTables;
 use crate::whole::places::Places;
 use crate::whole::{FileImports, Part};
 use goblin_base::{Result, ResultOf};
@@ -109,7 +108,7 @@ pub(super) fn sections_of(
 impl<'a, 'h> Layout<'a, 'h> {
     /// Refuses the sections of a file with this header where [`Whole::read`](crate::Whole::read)
     /// does, and prepares what maps its addresses. Memory is taken only for an index of more than 96
-    /// sections.
+    /// sections, by whose windows addresses are mapped.
     ///
     /// # Errors
     /// As [`CoffHeader::sections_with_opts`](goblin_pe_head::CoffHeader::sections_with_opts), but
@@ -129,7 +128,7 @@ impl<'a, 'h> Layout<'a, 'h> {
         ensures first { let count = header.now.coff_header.number_of_sections in
             length bytes.now / 40 < count → IsErrAnd result (IsTooManySections count bytes.now) }
         ensures grown { IfErr result
-            (λ e. IsMemory e → TakesIndex header.now.coff_header.number_of_sections bytes.now) }
+            (λ e. IsMemory e → TakesIndex opts.now bytes.now (header_value header.now)) }
     {
         let records = section_records(bytes, header, opts)?;
         let places = Places::of(&header.optional_header);
@@ -290,19 +289,5 @@ impl<'a, 'h> Layout<'a, 'h> {
             result ≡ left_out_of m.opts (offset_of m) (layout_places self.now) self.now.bytes.now }
     {
         self.places.left_out(self.bytes, &self.address_map)
-    }
-
-    // The lists of all tables.
-    pub(super) fn listed(
-        &self,
-        alloc: Global,
-        sections: &[SectionTable],
-    ) -> Result<ListedTables<'a>>
-        ensures { let m = layout_map self.now in
-            ReadsOrMemory listed_view result
-            (table_parts m.opts (offset_of m) (layout_places self.now)) self.now.bytes.now }
-    {
-        self.places
-            .listed(alloc, self.bytes, &self.address_map, sections)
     }
 }
