@@ -1,7 +1,8 @@
 //! A caller of `goblin_pe` alone: neither its code nor its clauses name a crate below.
 #![tactic(auto)]
 
-ghost use Rattle.std.specs.Prelude.{◌≡◌, ◌↔◌, ◌*◌, [], IfErr, IfOk, IsSome, IsTrue, count_by, false};
+ghost use Rattle.std.specs.Prelude.{◌≡◌, ◌↔◌, ◌*◌, [], IfErr, IfOk, IsSome, IsTrue, count_by};
+ghost use Rattle.std.specs.Prelude.{false};
 ghost use Rattle.std.specs.Prelude.{length, option_map, slice_get};
 ghost use Rattle.std.specs.List.{Contains};
 ghost use Rattle.goblin_pe.specs.AddressReadings.{data_at};

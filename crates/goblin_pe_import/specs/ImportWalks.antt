@@ -367,8 +367,8 @@ imports_bound it = walk_bound it.walk
 abbrev pub IsWalkFault : Walk → ErrorOf → Type 0
 IsWalkFault w e = (reads_strictly (map_of w.finder) ≡ true) × ¬ IsMemory e
 
--- A call of `next` gives the next import, or such an error, or else has ended the walk; it keeps the
--- position and what is walked over.
+-- A call of `next` gives the next import, or such an error, or else has ended the walk; it keeps
+-- the position and what is walked over.
 abbrev pub GivesImport : {T : Type 0} → Format EntryValue → Imports T
     → Option (Result WalkedImport ErrorOf) → Imports T → Type 0
 GivesImport format s result t =

@@ -11,7 +11,8 @@ ghost use Rattle.readings.specs.Reads.{mapped};
 ghost use Rattle.goblin_pe_sect.specs.Options.{default_options, is_strict};
 ghost use Rattle.goblin_pe_sect.specs.Addresses.{TakesMap, map_by, map_of, offset_of};
 ghost use Rattle.goblin_pe_sect.specs.Addresses.{reads_strictly};
-ghost use Rattle.goblin_pe_import.specs.ImportDirectory.{KeepsImports, TakesLibraries, TakesLibrary};
+ghost use Rattle.goblin_pe_import.specs.ImportDirectory.{KeepsImports, TakesLibraries};
+ghost use Rattle.goblin_pe_import.specs.ImportDirectory.{TakesLibrary};
 ghost use Rattle.goblin_pe_import.specs.ImportReadings as reading;
 
 use goblin_base::{Cause, Endian, Error, Record, ResultOf, is_passed_over};

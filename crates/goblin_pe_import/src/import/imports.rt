@@ -1,7 +1,8 @@
 //! A walk over all imports of an image.
 
 ghost use Rattle.std.specs.Prelude.{◌≡◌, ◌&&◌, ◌+◌, ◌-◌, ◌<◌, ◌≤◌, ◌^◌, ◌∷◌, ◌++◌, [], IfErr, IfOk, IfSome};
-ghost use Rattle.std.specs.Prelude.{MatchOption, MatchResult, None, Some, false, is_none, length, not, option_map, true};
+ghost use Rattle.std.specs.Prelude.{MatchOption, MatchResult, None, Some, false, is_none, length};
+ghost use Rattle.std.specs.Prelude.{not, option_map, true};
 ghost use Rattle.std.specs.Prelude.{if◌then◌else◌, IsSome, IsSomeAnd, IsOk, Ok};
 ghost use Rattle.std.specs.Iterator.{UpTo, at_most};
 ghost use Rattle.std.specs.Iterator.SizeHint.{IsWithinCount};

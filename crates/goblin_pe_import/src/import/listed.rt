@@ -247,8 +247,8 @@ fn push_entries<'a, 'e>(
     Ok(())
 }
 
-// Appends the imports from a library, whose address table has entries of `size` bytes; there is room
-// for all.
+// Appends the imports from a library, whose address table has entries of `size` bytes; there is
+// room for all.
 fn push_imports<'a, 'e>(
     alloc: Global,
     imports: &mut Vec<Import<'a>>,
