@@ -14,8 +14,8 @@ use Rattle.goblin_pe.specs.ImportEntries.LookupEntry.{ByName, ByOrdinal}
 use Rattle.goblin_pe.specs.ImportLookup.{entry_view}
 use Rattle.goblin_pe.specs.ImportWalks.{walked_value}
 use Rattle.goblin_pe.specs.Imports.{ImportValue, import_of}
-use Rattle.goblin_pe.specs.Layouts.{GivesFileImport, IsFileImportsCause, file_imports_left}
-use Rattle.goblin_pe.proofs.ImportStarts.{file-given}
+use Rattle.goblin_pe.specs.LayoutPositions.{GivesFileImport}
+use Rattle.goblin_pe.specs.Layouts.{IsFileImportsCause, file_imports_left}
 use Rattle.goblin_pe.proofs.Walked.{AtMade, made-all, made-more, made-start, walked-fault}
 use Rattle.goblin_pe_caller.specs.Counts.{count_from}
 
@@ -64,7 +64,7 @@ module _ (library : List ℕ) (start : FileImports) where
       at-next : (more : ℕ) → more ≡ count_from library (h.items ++ walked_value x ∷ []) → AtCount next more
       at-next more said = record {
         items = h.items ++ walked_value x ∷ [];
-        at = made-more file_imports_left IsFileImportsCause (λ x. x) start now h.items h.at walked_value next r (file-given now (Some r) next given).0 x is _ refl;
+        at = made-more file_imports_left IsFileImportsCause (λ x. x) start now h.items h.at walked_value next r given.0 x is _ refl;
         said = said;
       }
 
@@ -78,11 +78,11 @@ module _ (library : List ℕ) (start : FileImports) where
     -- all imports have come
     pub count-all : GivesFileImport now None next → option_map (count_from library) (all_of (file_imports_left start)) ≡ Some count
     count-all given =
-        let all = mapped-same (all_of (file_imports_left start)) (made-all file_imports_left IsFileImportsCause (λ x. x) start now h.items h.at walked_value next (file-given now None next given).0) in
+        let all = mapped-same (all_of (file_imports_left start)) (made-all file_imports_left IsFileImportsCause (λ x. x) start now h.items h.at walked_value next given.0) in
         ap (option_map (count_from library)) all ∙ ap (λ (n : ℕ). Some n) (sym h.said)
 
     -- they end with a refusal
     pub count-fault : (r : Result WalkedImport ErrorOf) → GivesFileImport now (Some r) next → (e : ErrorOf) → r ≡ Err e → (option_map (count_from library) (all_of (file_imports_left start)) ≡ None) × IsFileImportsCause start e
     count-fault r given e is =
-        let fault = walked-fault file_imports_left IsFileImportsCause start now (record { items = h.at.items; at = h.at.at }) walked_value next r (file-given now (Some r) next given).0 e is in
+        let fault = walked-fault file_imports_left IsFileImportsCause start now (record { items = h.at.items; at = h.at.at }) walked_value next r given.0 e is in
         (ap (option_map (count_from library)) fault.0, fault.1)
