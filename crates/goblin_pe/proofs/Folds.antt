@@ -15,8 +15,8 @@ use Rattle.goblin_pe_import.specs.ImportLookup.{entry_view}
 use Rattle.goblin_pe_import.specs.Imports.{ImportValue, import_of}
 use Rattle.goblin_pe_import.specs.declared.import.imports.WalkedImport.{WalkedImport}
 use Rattle.goblin_pe.specs.declared.whole.imports.FileImports.{FileImports}
-use Rattle.goblin_pe.specs.Layouts.{GivesFileImport, IsFileImportsCause, file_imports_left}
-use Rattle.goblin_pe.proofs.ImportStarts.{file-given}
+use Rattle.goblin_pe.specs.LayoutPositions.{GivesFileImport}
+use Rattle.goblin_pe.specs.Layouts.{IsFileImportsCause, file_imports_left}
 use Rattle.goblin_pe.proofs.Walked.{AtMade, made-all, made-fault, made-more, made-start}
 
 mapped-same : {A : Type 0} (o : Option (List A)) {xs : List A} → option_map (map (λ x. x)) o ≡ Some xs → o ≡ Some xs
@@ -41,20 +41,20 @@ module _ {B : Type 0} (gather : List ImportValue → B) (start now next : FileIm
   pub gathers_more : (r : Result WalkedImport ErrorOf) (x : WalkedImport) (more : B) → GivesFileImport now (Some r) next → r ≡ Ok x → more ≡ gather (h.items ++ walked_value x ∷ []) → Gathers gather start next more
   gathers_more r x more given is said = record {
     items = h.items ++ walked_value x ∷ [];
-    at = made-more file_imports_left IsFileImportsCause (λ x. x) start now h.items h.at walked_value next r (file-given now (Some r) next given).0 x is _ refl;
+    at = made-more file_imports_left IsFileImportsCause (λ x. x) start now h.items h.at walked_value next r given.0 x is _ refl;
     said = said;
   }
 
   -- all imports have come
   pub gathers_all : GivesFileImport now None next → option_map gather (all_of (file_imports_left start)) ≡ Some value
   gathers_all given =
-      let all = mapped-same (all_of (file_imports_left start)) (made-all file_imports_left IsFileImportsCause (λ x. x) start now h.items h.at walked_value next (file-given now None next given).0) in
+      let all = mapped-same (all_of (file_imports_left start)) (made-all file_imports_left IsFileImportsCause (λ x. x) start now h.items h.at walked_value next given.0) in
       ap (option_map gather) all ∙ ap (λ (b : B). Some b) (sym h.said)
 
   -- they end with a refusal
   pub gathers_fault : (r : Result WalkedImport ErrorOf) (e : ErrorOf) → GivesFileImport now (Some r) next → r ≡ Err e → (option_map gather (all_of (file_imports_left start)) ≡ None) × IsFileImportsCause start e
   gathers_fault r e given is =
-      let fault = made-fault file_imports_left IsFileImportsCause (λ x. x) start now h.items h.at walked_value next r (file-given now (Some r) next given).0 e is in
+      let fault = made-fault file_imports_left IsFileImportsCause (λ x. x) start now h.items h.at walked_value next r given.0 e is in
       (ap (option_map gather) (unmapped-same (all_of (file_imports_left start)) fault.0), fault.1)
 
 -- the library of an import that a walk gives

@@ -29,8 +29,8 @@ use Rattle.goblin_pe.specs.declared.whole.Part.TheVariants as part
 use Rattle.goblin_pe.specs.declared.whole.imports.FileImports.{FileImports}
 use Rattle.goblin_pe.specs.Layouts.{IsFileImportsCause, file_imports_left}
 use Rattle.goblin_pe.specs.Whole.{TablePlaces, entry_format, import_list, import_part, part_map}
-use Rattle.goblin_pe.specs.Whole.{AreListed, collected_imports, import_parts, listed_imports, part_of}
-use Rattle.goblin_pe.proofs.KeptImports.{part-kept}
+use Rattle.goblin_pe.specs.Whole.{AreListed, collected_imports, import_parts, part_of}
+use Rattle.goblin_pe.proofs.KeptImports.{listed_imports, part-kept}
 use Rattle.goblin_pe.proofs.ListedImports.{data-listed}
 
 -- ---- permissive mode refuses no import data

@@ -10,8 +10,9 @@ use Rattle.goblin_pe_sect.specs.declared.data_directories.DataDirectory.{DataDir
 use Rattle.goblin_pe_sect.specs.declared.options.ParseOptions.{ParseOptions}
 use Rattle.goblin_pe_sect.specs.Options.{is_strict}
 use Rattle.goblin_pe_sect.specs.Addresses.{MapOfAddresses, map_of, offset_of, reads_strictly}
+use Rattle.goblin_pe_import.specs.ImportLookup.{entries_32, entries_64}
 use Rattle.goblin_pe_import.specs.ImportPositions.{first_import}
-use Rattle.goblin_pe_import.specs.ImportWalks.{IsAfterImport, IsInTable, IsOver, position_of, walked_value}
+use Rattle.goblin_pe_import.specs.ImportWalks.{GivesImport, IsAfterImport, IsInTable, IsOver, position_of, walked_value}
 use Rattle.goblin_pe_import.specs.declared.import.imports.ImportPosition.{ImportPosition}
 use Rattle.goblin_pe_import.specs.declared.import.imports.Imports.{Imports}
 use Rattle.goblin_pe_import.specs.declared.import.imports.WalkedImport.{WalkedImport}
@@ -19,9 +20,9 @@ use Rattle.goblin_pe.specs.declared.whole.Part.{Part}
 use Rattle.goblin_pe.specs.declared.whole.Part.TheVariants as part
 use Rattle.goblin_pe.specs.declared.whole.imports.FileImports.{FileImports}
 use Rattle.goblin_pe.specs.declared.whole.imports.FileImports.TheVariants.{Narrow, Wide}
-use Rattle.goblin_pe.specs.LayoutPositions.{GivesFirst, GivesFrom, IsAfterFileImport, IsImportWalk}
+use Rattle.goblin_pe.specs.LayoutPositions.{GivesFileImport, GivesFirst, GivesFrom, IsImportWalk}
 use Rattle.goblin_pe.specs.LayoutPositions.{PartGives, StartsAt, import_start, start_by, start_in}
-use Rattle.goblin_pe.specs.Layouts.{GivesFileImport, IsFileImportsCause, file_imports_left}
+use Rattle.goblin_pe.specs.Layouts.{IsFileImportsCause, file_imports_left}
 use Rattle.goblin_pe.specs.Whole.{TablePlaces}
 
 -- ---- where the imports start
@@ -89,20 +90,6 @@ module _ (m : MapOfAddresses) (places : TablePlaces) (bytes : List ℕ) (d : Dat
 
 -- ---- a walk from there on
 
--- a call of `next`, whatever the entries are
-pub file-given : (s : FileImports) (r : Option (Result WalkedImport ErrorOf)) (t : FileImports)
-    → GivesFileImport s r t
-    → GivesNext walked_value file_imports_left IsFileImportsCause s r t
-    × IfSome r (λ r. IfErr r (λ e. ¬ IsMemory e))
-file-given (Narrow s) None (Narrow t) given = (given.0, tt)
-file-given (Narrow s) (Some (Ok x)) (Narrow t) given = (given.0, tt)
-file-given (Narrow s) (Some (Err e)) (Narrow t) given = (given.0, given.2.1)
-file-given (Wide s) None (Wide t) given = (given.0, tt)
-file-given (Wide s) (Some (Ok x)) (Wide t) given = (given.0, tt)
-file-given (Wide s) (Some (Err e)) (Wide t) given = (given.0, given.2.1)
-file-given (Narrow s) r (Wide t) given = absurd given
-file-given (Wide s) r (Narrow t) given = absurd given
-
 over-again : {T : Type 0} (bytes : List ℕ) (m : MapOfAddresses) (s t : Imports T)
     → IsOver bytes m s → IsOver s.walk.bytes.now (map_of s.walk.finder) t → IsOver bytes m t
 over-again bytes m s t over again = (again.0 ∙ over.0, again.1 ∙ over.1)
@@ -112,17 +99,45 @@ after-again : {T : Type 0} (bytes : List ℕ) (r : Option (Result WalkedImport E
     → IfSome r (λ r. IfOk r (λ x. IsInTable bytes (position_of t)))
 after-again bytes r t is after = subst (λ (b : List ℕ). IfSome r (λ r. IfOk r (λ x. IsInTable b (position_of t)))) is after
 
--- it keeps what is walked over, and is in a table after an import
-pub file-kept : (m : MapOfAddresses) (magic : ℕ) (bytes : List ℕ) (s : FileImports)
-    (r : Option (Result WalkedImport ErrorOf)) (t : FileImports) → GivesFileImport s r t
-    → IsImportWalk m magic bytes s → IsImportWalk m magic bytes t × IsAfterFileImport bytes r t
-file-kept m magic bytes (Narrow s) r (Narrow t) given walk =
-    let kept = given.1 walk.2 in
-    let over = over-again bytes m s t walk.1 given.3 in
-    ((walk.0, over, kept.0), after-again bytes r t over.0 kept.1)
-file-kept m magic bytes (Wide s) r (Wide t) given walk =
-    let kept = given.1 walk.2 in
-    let over = over-again bytes m s t walk.1 given.3 in
-    ((walk.0, over, kept.0), after-again bytes r t over.0 kept.1)
-file-kept m magic bytes (Narrow s) r (Wide t) given walk = absurd given
-file-kept m magic bytes (Wide s) r (Narrow t) given walk = absurd given
+narrow-next : (s t : Imports ℕ) (r : Option (Result WalkedImport ErrorOf))
+    → GivesImport entries_32 s r t
+    → GivesNext walked_value file_imports_left IsFileImportsCause (Narrow s) r (Narrow t)
+    × IfSome r (λ r. IfErr r (λ e. ¬ IsMemory e))
+narrow-next s t None given = (given.0, tt)
+narrow-next s t (Some (Ok x)) given = (given.0, tt)
+narrow-next s t (Some (Err e)) given = (given.0, given.2.1)
+
+wide-next : (s t : Imports ℕ) (r : Option (Result WalkedImport ErrorOf))
+    → GivesImport entries_64 s r t
+    → GivesNext walked_value file_imports_left IsFileImportsCause (Wide s) r (Wide t)
+    × IfSome r (λ r. IfErr r (λ e. ¬ IsMemory e))
+wide-next s t None given = (given.0, tt)
+wide-next s t (Some (Ok x)) given = (given.0, tt)
+wide-next s t (Some (Err e)) given = (given.0, given.2.1)
+
+-- a call of `next` of the walk over entries of one width is one of the walk over a file's imports
+pub narrow_given : (s t : Imports ℕ) (r : Option (Result WalkedImport ErrorOf))
+    → GivesImport entries_32 s r t → GivesFileImport (Narrow s) r (Narrow t)
+narrow_given s t r given =
+    let next = narrow-next s t r given in (
+      next.0,
+      λ m magic bytes walk.
+          (let kept = given.1 walk.2 in
+          let over = over-again bytes m s t walk.1 given.3 in
+          ((walk.0, over, kept.0), after-again bytes r t over.0 kept.1)),
+      next.1,
+      given.4,
+    )
+
+pub wide_given : (s t : Imports ℕ) (r : Option (Result WalkedImport ErrorOf))
+    → GivesImport entries_64 s r t → GivesFileImport (Wide s) r (Wide t)
+wide_given s t r given =
+    let next = wide-next s t r given in (
+      next.0,
+      λ m magic bytes walk.
+          (let kept = given.1 walk.2 in
+          let over = over-again bytes m s t walk.1 given.3 in
+          ((walk.0, over, kept.0), after-again bytes r t over.0 kept.1)),
+      next.1,
+      given.4,
+    )

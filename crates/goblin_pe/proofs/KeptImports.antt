@@ -19,8 +19,18 @@ use Rattle.goblin_pe_import.proofs.Imports.{imported_at}
 use Rattle.goblin_pe.specs.declared.whole.Part.{Part}
 use Rattle.goblin_pe.specs.declared.whole.Part.TheVariants.{Absent, Refused}
 use Rattle.goblin_pe.specs.declared.whole.Part.TheVariants as part
-use Rattle.goblin_pe.specs.Whole.{HasList, TablePlaces, entry_format, imports_part, listed_imports}
+use Rattle.goblin_pe.specs.Whole.{TablePlaces, entry_format, imports_part}
 use Rattle.goblin_pe.specs.Whole.{part_map, part_of, part_then}
+
+-- the imports of import data that a list can be made from
+unfoldable pub listed_imports : ℕ → Part (List ImportedLibrary) → Part (List ImportValue)
+listed_imports magic libraries =
+    part_map (λ l. unwrap_or (imports_of (entry_format magic).width l) []) libraries
+
+-- a list of imports can be made from import data
+abbrev pub HasList : ParseOptions → TablePlaces → Part (List ImportedLibrary) → Type 0
+HasList opts places libraries =
+    imports_part opts places libraries ≡ Some (listed_imports places.magic libraries)
 
 there-is : {A : Type 0} (o : Option (List A)) → IsSome o → o ≡ Some (unwrap_or o [])
 there-is None there = absurd cc

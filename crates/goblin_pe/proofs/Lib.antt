@@ -25,4 +25,5 @@ pub mod SectionNames
 pub mod SectionRoom
 pub mod SoundFiles
 pub mod TableRuns
+pub mod TakenTables
 pub mod TwinParts

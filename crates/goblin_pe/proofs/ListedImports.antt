@@ -14,7 +14,8 @@ use Rattle.goblin_pe_import.proofs.ListedImports.{imports_of-there}
 use Rattle.goblin_pe.specs.declared.whole.Part.{Part}
 use Rattle.goblin_pe.specs.declared.whole.Part.TheVariants.{Absent, Refused}
 use Rattle.goblin_pe.specs.declared.whole.Part.TheVariants as part
-use Rattle.goblin_pe.specs.Whole.{HasList, TablePlaces, entry_format, import_part, imports_part, listed_imports, part_at, part_map, part_of, part_then}
+use Rattle.goblin_pe.proofs.KeptImports.{HasList, listed_imports}
+use Rattle.goblin_pe.specs.Whole.{TablePlaces, entry_format, import_part, imports_part, part_at, part_map, part_of, part_then}
 
 part-there : {A : Type 0} (strict : Bool) (table : Option (List A)) → IsSome table → part_of strict table ≡ Some (part.Read (unwrap_or table []))
 unfolding part_of

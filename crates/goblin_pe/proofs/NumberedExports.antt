@@ -8,15 +8,22 @@ use Rattle.goblin_pe_sect.specs.Options.{is_strict}
 use Rattle.goblin_pe_head.specs.HeaderReadings.{pe_header}
 use Rattle.goblin_pe_export.specs.ExportReadings.{export_data, export_read}
 use Rattle.goblin_pe_export.specs.ExportRecords.{ExportRow, ExportTables}
-use Rattle.goblin_pe_export.specs.ExportWalks.{numbered_from}
+use Rattle.goblin_pe_export.specs.ExportWalks.{NumberedExport, numbered_from}
 use Rattle.goblin_pe_export.proofs.ExportWalk.{read_walked}
 use Rattle.goblin_pe.specs.declared.whole.Part.{Part}
 use Rattle.goblin_pe.specs.declared.whole.Part.TheVariants.{Absent, Refused}
 use Rattle.goblin_pe.specs.declared.whole.Part.TheVariants as part
 use Rattle.goblin_pe.proofs.Parts.{part_map-twice}
-use Rattle.goblin_pe.specs.Whole.{WholeFile, export_part, numbered_exports, offset_by}
+use Rattle.goblin_pe.specs.Whole.{WholeFile, export_part, offset_by}
 use Rattle.goblin_pe.specs.Whole.{part_at, part_map, part_of, places_in}
 use Rattle.goblin_pe.specs.Whole.{sections_after, table_parts, whole_file, whole_with}
+
+-- the exports of a file, each with its numbers: those of the tables that its export directory leads
+-- to
+abbrev pub numbered_exports : ParseOptions → List ℕ → WholeFile → Part (List NumberedExport)
+numbered_exports opts bytes w =
+    let offset_of = offset_by opts w.sections (places_in w.header.optional_header) in
+    part_map (λ tables. numbered_from offset_of bytes tables 0) w.export_data
 
 first-of : {A B : Type 0} (a : Option A) (b : Option B) (x : A × B) → pair_of a b ≡ Some x
     → a ≡ Some x.0

@@ -13,6 +13,7 @@ use Rattle.readings.specs.Reads.{each, mapped}
 use Rattle.goblin_pe_sect.specs.declared.options.ParseOptions.{ParseOptions}
 use Rattle.goblin_pe_sect.specs.Addresses.{AreMany, MapOfAddresses, map_by}
 use Rattle.goblin_pe_sect.specs.Options.{is_strict}
+use Rattle.goblin_pe_sect.specs.WindowIndex.{HasPieces}
 use Rattle.goblin_pe_sect.specs.SectionReadings.{section_at}
 use Rattle.goblin_pe_sect.specs.SectionTable.{Section, unnamed}
 use Rattle.goblin_pe_sect.proofs.AddressMaps.{unnamed_map}
@@ -70,13 +71,15 @@ records_counted strict h bytes records made =
     as_many h.coff_header.number_of_sections (λ i. section_at strict (symbols_end h.coff_header) (section_table_offset h + 40 * i)) bytes records made
 
 -- where they fit their file and are many, an index of them takes memory
-pub takes_index : (strict : Bool) (h : PeHeader) (bytes : List ℕ) (records : List Section)
-    → option_map (map unnamed) ((sections_after strict h).value bytes) ≡ Some records
-    → (length bytes / 40 < h.coff_header.number_of_sections → ⊥) → AreMany (length records)
-    → TakesIndex h.coff_header.number_of_sections bytes
-takes_index strict h bytes records made fit many =
+pub takes_index : (opts : ParseOptions) (h : PeHeader) (bytes : List ℕ) (records : List Section)
+    → option_map (map unnamed) ((sections_after (is_strict opts.parse_mode) h).value bytes) ≡ Some records
+    → (length bytes / 40 < h.coff_header.number_of_sections → ⊥)
+    → HasPieces opts (places_in h.optional_header).file_alignment → AreMany (length records)
+    → TakesIndex opts bytes h
+takes_index opts h bytes records made fit pieces many =
     let enough : ¬ (length bytes / 40 < h.coff_header.number_of_sections) = fit in
-    (omega (arith, many, records_counted strict h bytes records made), omega arith)
+    let counted = records_counted (is_strict opts.parse_mode) h bytes records made in
+    (pieces, omega (arith, many, counted), omega arith)
 
 -- ---- the map of addresses
 

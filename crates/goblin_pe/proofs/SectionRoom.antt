@@ -1,6 +1,6 @@
 -- Too many sections for a file are told before memory is asked for, so want of memory tells that there is room.
 use Rattle.std.proofs.Common.{◌≡◌, ◌∙◌, ◌<◌, ◌+◌, ◌*◌, List, [], ℕ, zero, suc, Bool, ap, arith, length, sym}
-use Rattle.std.specs.Prelude.{◌/◌, codes, IfErr, IfSome, IsErrAnd, IsSome, IsSomeAnd, Option, None, Some, Result, Ok, Err}
+use Rattle.std.specs.Prelude.{◌/◌, codes, IfErr, IsErrAnd, IsSomeAnd, Some, Result, Ok, Err}
 use Rattle.goblin_base.specs.declared.error.ErrorOf.{ErrorOf}
 use Rattle.goblin_base.specs.declared.error.ErrorOf.TheVariants.{Memory}
 use Rattle.goblin_base.specs.Answers.{IsMemory, IsTooShort}
@@ -16,7 +16,7 @@ use Rattle.goblin_pe_sect.specs.SectionTable.{Section}
 use Rattle.goblin_pe_head.specs.CoffHeader.{symbols_end}
 use Rattle.goblin_pe_head.specs.CoffReadings.{sections_at, with_room}
 use Rattle.goblin_pe.specs.Whole.{section_table_offset, sections_after}
-use Rattle.goblin_pe.specs.SectionRoom.{HasRoom, HasRoomFor, TakesSections}
+use Rattle.goblin_pe.specs.SectionRoom.{HasRoomFor, TakesSections}
 
 short_none : (n room : ℕ) (kind : List ℕ) (e : ErrorOf) → IsMemory e → IsTooShort n kind room e → ⊥
 short_none n room kind (Memory m) h fault = fault
@@ -35,23 +35,11 @@ pub te_sections_take : (bytes : List ℕ) (p : ℕ) (h : TeHeader) (e : ErrorOf)
     → (IsMemory e → 0 < h.number_of_sections) → IsMemory e → IsSomeAnd ((te_header p).value bytes) (λ header. TakesSections header.number_of_sections bytes)
 te_sections_take bytes p h e is first grown memory = rw is (sections_take h.number_of_sections bytes e first grown memory)
 
-pub whole_takes : (header : Option PeHeader) (bytes : List ℕ) (e : ErrorOf)
-    → IfSome header (λ h. length bytes / 40 < h.coff_header.number_of_sections → IsTooManySections h.coff_header.number_of_sections bytes e)
-    → (IsMemory e → IsSome header) → IsMemory e → IsSomeAnd header (HasRoom bytes)
-whole_takes None bytes e first grown memory = absurd (cc (grown memory))
-whole_takes (Some h) bytes e first grown memory = has_room h.coff_header.number_of_sections bytes e first memory
-
 -- the same of answers
 pub sections_answer_takes : {A : Type 0} (n : ℕ) (bytes : List ℕ) (result : Result A ErrorOf) → (length bytes / 40 < n → IsErrAnd result (IsTooManySections n bytes))
     → IfErr result (λ e. IsMemory e → 0 < n) → IfErr result (λ e. IsMemory e → TakesSections n bytes)
 sections_answer_takes n bytes (Ok x) first grown = tt
 sections_answer_takes n bytes (Err e) first grown = sections_take n bytes e first grown
-
-pub whole_answer_takes : {A : Type 0} (header : Option PeHeader) (bytes : List ℕ) (result : Result A ErrorOf)
-    → IfSome header (λ h. length bytes / 40 < h.coff_header.number_of_sections → IsErrAnd result (IsTooManySections h.coff_header.number_of_sections bytes))
-    → IfErr result (λ e. IsMemory e → IsSome header) → IfErr result (λ e. IsMemory e → IsSomeAnd header (HasRoom bytes))
-whole_answer_takes header bytes (Ok x) first grown = tt
-whole_answer_takes header bytes (Err e) first grown = whole_takes header bytes e first grown
 
 -- a table that has sections has a count of them
 counted : (n : ℕ) (read : ℕ → Reading Section) (bytes : List ℕ) (s : List Section) → (with_room n (each read n)).value bytes ≡ Some s → 0 < length s → 0 < n
@@ -63,3 +51,12 @@ counted (suc n) read bytes s found some = omega arith
 pub sections_counted : (strict : Bool) (h : PeHeader) (bytes : List ℕ) (s : List Section) → (sections_after strict h).value bytes ≡ Some s → 0 < length s → 0 < h.coff_header.number_of_sections
 unfolding sections_after sections_at
 sections_counted strict h bytes s found some = counted h.coff_header.number_of_sections (λ i. section_at strict (symbols_end h.coff_header) (section_table_offset h + 40 * i)) bytes s found some
+
+-- sections that were read, where there is one, took memory
+pub sections_taken : (strict : Bool) (h : PeHeader) (bytes : List ℕ) (s : List Section)
+    → (sections_after strict h).value bytes ≡ Some s
+    → (length bytes / 40 < h.coff_header.number_of_sections → ⊥) → 0 < length s
+    → TakesSections h.coff_header.number_of_sections bytes
+sections_taken strict h bytes s found fit some =
+    let enough : ¬ (length bytes / 40 < h.coff_header.number_of_sections) = fit in
+    (sections_counted strict h bytes s found some, omega arith)

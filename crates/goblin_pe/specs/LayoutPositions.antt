@@ -1,8 +1,10 @@
 -- The imports of a file from a position on.
-use Rattle.std.specs.Prelude.{◌≡◌, ℕ, ⊤, Bool, List, Option, Some, None, Result, Ok, Err, IfOk, IfSome}
-use Rattle.std.specs.Prelude.{IsSomeAnd}
+use Rattle.std.specs.Prelude.{◌≡◌, ℕ, ⊤, Bool, List, Option, Some, None, Result, Ok, Err}
+use Rattle.std.specs.Prelude.{IfErr, IfOk, IfSome, IsSomeAnd, MatchOption}
 use Rattle.goblin_base.specs.declared.error.ErrorOf.{ErrorOf}
+use Rattle.goblin_base.specs.Answers.{IsMemory}
 use Rattle.goblin_base.specs.Reading.{Reading}
+use Rattle.readings.specs.Walks.{GivesNext}
 use Rattle.readings.specs.Reads.{given, mapped, pick}
 use Rattle.goblin_pe_sect.specs.declared.data_directories.DataDirectory.{DataDirectory}
 use Rattle.goblin_pe_sect.specs.declared.options.ParseOptions.{ParseOptions}
@@ -12,6 +14,7 @@ use Rattle.goblin_pe_import.specs.ImportLookup.{entries_32, entries_64}
 use Rattle.goblin_pe_import.specs.ImportPositions.{IsFaultAt, first_import}
 use Rattle.goblin_pe_import.specs.Imports.{ImportValue}
 use Rattle.goblin_pe_import.specs.ImportWalks.{HasPosition, IsInTable, IsOver, imports_at, position_of}
+use Rattle.goblin_pe_import.specs.ImportWalks.{walked_value}
 use Rattle.goblin_pe_import.specs.declared.import.imports.ImportPosition.{ImportPosition}
 use Rattle.goblin_pe_import.specs.declared.import.imports.WalkedImport.{WalkedImport}
 use Rattle.goblin_pe.specs.declared.whole.Part.{Part}
@@ -58,6 +61,23 @@ IsImportWalk m magic bytes (Wide imports) =
 abbrev pub IsAfterFileImport : List ℕ → Option (Result WalkedImport ErrorOf) → FileImports → Type 0
 IsAfterFileImport bytes result imports =
     IfSome result (λ r. IfOk r (λ import. IsInTable bytes (file_position imports)))
+
+-- a walk that has given no import has ended, and has no position
+abbrev pub IsAtFileEnd : Option (Result WalkedImport ErrorOf) → FileImports → Type 0
+IsAtFileEnd result imports =
+    let position = file_position imports in
+    MatchOption result (position ≡ None) (λ r. IfErr r (λ e. position ≡ None))
+
+-- A call of `next` gives the next import, or an error that is never Memory, or else has ended the
+-- walk; it keeps what is walked over.
+abbrev pub GivesFileImport : FileImports → Option (Result WalkedImport ErrorOf) → FileImports
+    → Type 0
+GivesFileImport s result t =
+    GivesNext walked_value file_imports_left IsFileImportsCause s result t
+    × ((m : MapOfAddresses) (magic : ℕ) (bytes : List ℕ) → IsImportWalk m magic bytes s
+    → IsImportWalk m magic bytes t × IsAfterFileImport bytes result t)
+    × IfSome result (λ r. IfErr r (λ e. ¬ IsMemory e))
+    × IsAtFileEnd result t
 
 -- The walk gives what comes from a position on.
 pub record GivesFrom (m : MapOfAddresses) (magic : ℕ) (bytes : List ℕ)

@@ -11,14 +11,13 @@ use Rattle.goblin_pe_export.specs.ExportRecords.{ExportRow, ExportTables}
 use Rattle.goblin_pe_export.specs.ExportWalks.{IsOver, exports_left, numbered_from, walked_tables}
 use Rattle.goblin_pe_import.specs.ImportLookup.{entries_32, entries_64}
 use Rattle.goblin_pe_import.specs.Imports.{ImportValue}
-use Rattle.goblin_pe_import.specs.ImportWalks.{GivesImport, IsImportsCause, imports_bound, imports_left}
+use Rattle.goblin_pe_import.specs.ImportWalks.{IsImportsCause, imports_bound, imports_left}
 use Rattle.goblin_pe.specs.declared.whole.Part.{Part}
 use Rattle.goblin_pe.specs.declared.whole.Part.TheVariants.{Absent, Refused}
 use Rattle.goblin_pe.specs.declared.whole.Part.TheVariants as part
 use Rattle.goblin_pe.specs.declared.whole.imports.FileImports.{FileImports}
 use Rattle.goblin_pe.specs.declared.whole.imports.FileImports.TheVariants.{Narrow, Wide}
 use Rattle.goblin_pe.specs.declared.whole.layout.Layout.{Layout}
-use Rattle.goblin_pe_import.specs.declared.import.imports.WalkedImport.{WalkedImport}
 use Rattle.goblin_pe_sect.specs.Options.{is_strict}
 use Rattle.goblin_pe_sect.specs.SectionTable.{Section}
 use Rattle.goblin_pe_head.specs.PeHeader.{header_value}
@@ -76,13 +75,6 @@ IsFileImportsCause (Wide imports) e = IsImportsCause entries_64 imports e
 abbrev pub file_imports_bound : FileImports → ℕ
 file_imports_bound (Narrow imports) = imports_bound imports
 file_imports_bound (Wide imports) = imports_bound imports
-
--- a call of `next` gives the next import
-abbrev pub GivesFileImport : FileImports → Option (Result WalkedImport ErrorOf) → FileImports
-    → Type 0
-GivesFileImport (Narrow s) result (Narrow t) = GivesImport entries_32 s result t
-GivesFileImport (Wide s) result (Wide t) = GivesImport entries_64 s result t
-GivesFileImport s result t = ⊥
 
 -- ---- the walk over the exports
 

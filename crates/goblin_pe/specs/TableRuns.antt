@@ -17,7 +17,7 @@ use Rattle.goblin_pe.specs.declared.laws.order.TablesOf.{TablesOf}
 use Rattle.goblin_pe_sect.specs.Addresses.{TakesMap}
 use Rattle.goblin_pe_export.specs.ExportReadings.{export_read}
 use Rattle.goblin_pe_export.specs.Exports.{HasEntries, export_data, export_read_view}
-use Rattle.goblin_pe_import.specs.ImportDirectory.{HasRecords}
+use Rattle.goblin_pe_import.specs.ImportDirectory.{TakesLibraries}
 use Rattle.goblin_pe_import.specs.ImportLookup.{EntryValue, KeepsEntries, entry_view}
 use Rattle.goblin_pe_import.specs.ImportReadings.{import_data}
 use Rattle.goblin_pe_import.specs.LookupReadings.{lookup_table}
@@ -55,7 +55,8 @@ pub record AreGrown {D : Type 0} (format : Format EntryValue) (strict : Bool) (o
   pub imports : IfErr tables.imports
       (λ e.
       IsMemory e
-      → IsSomeAnd (offset_of request.imports.virtual_address) (HasRecords bytes)
+      → IsSomeAnd (offset_of request.imports.virtual_address)
+      (TakesLibraries strict format offset_of bytes)
       ⊎ TakesMap opts sections alignment)
   pub exports : IfErr tables.exports
       (λ e.

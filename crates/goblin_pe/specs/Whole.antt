@@ -1,7 +1,7 @@
 -- A whole file: its header, its sections, and the tables that its directories lead to.
-use Rattle.std.specs.Prelude.{◌≡◌, ℕ, ◌+◌, ◌==◌, Bool, true, false, if◌then◌else◌, List, [], Option}
+use Rattle.std.specs.Prelude.{◌≡◌, ℕ, ◌+◌, ◌==◌, Bool, true, false, if◌then◌else◌, List, Option}
 use Rattle.std.specs.Prelude.{Some, None, Result, Ok, Err, Vec, IsSomeAnd}
-use Rattle.std.specs.Prelude.{map, option_map, unwrap_or}
+use Rattle.std.specs.Prelude.{map, option_map}
 use Rattle.std.specs.List.{flat_map}
 use Rattle.std.specs.Global.{Global}
 use Rattle.std.specs.declared.alloc.AllocError.{AllocError}
@@ -33,7 +33,6 @@ use Rattle.goblin_pe.specs.declared.whole.listed.ListedTables.{ListedTables}
 use Rattle.goblin_pe.specs.declared.whole.places.Places.{Places}
 use Rattle.goblin_pe_export.specs.ExportReadings.{export_read}
 use Rattle.goblin_pe_export.specs.ExportRecords.{ExportRow, ExportTables, export_read_view}
-use Rattle.goblin_pe_export.specs.ExportWalks.{NumberedExport, numbered_from}
 use Rattle.goblin_pe_import.specs.ImportEntries.{EntryValue}
 use Rattle.goblin_pe_import.specs.ImportLookup.{entries_32, entries_64}
 use Rattle.goblin_pe_import.specs.ImportReadings.{import_data}
@@ -72,6 +71,12 @@ abbrev pub IfRead : {A : Type 0} → (A → Type 0) → Part A → Type 0
 IfRead Holds Absent = Unit {0}
 IfRead Holds (part.Read table) = Holds table
 IfRead Holds Refused = Unit {0}
+
+-- it was read, and this holds of it
+abbrev pub IsReadAnd : {A : Type 0} → (A → Type 0) → Part A → Type 0
+IsReadAnd Holds Absent = ⊥
+IsReadAnd Holds (part.Read table) = Holds table
+IsReadAnd Holds Refused = ⊥
 
 -- What becomes of a table that was asked for: it is read; if it is refused, strict mode refuses the
 -- file and permissive mode marks it refused; refused memory refuses the file in both.
@@ -266,12 +271,6 @@ whole_after opts h =
 unfoldable pub whole_file : ParseOptions → Reading WholeFile
 whole_file opts = pe_header (is_strict opts.parse_mode) >>= λ h. whole_after opts h
 
--- the exports of a file, each with its numbers: those of the tables that its export directory leads to
-abbrev pub numbered_exports : ParseOptions → List ℕ → WholeFile → Part (List NumberedExport)
-numbered_exports opts bytes w =
-    let offset_of = offset_by opts w.sections (places_in w.header.optional_header) in
-    part_map (λ tables. numbered_from offset_of bytes tables 0) w.export_data
-
 -- ---- what a caller makes of a file, of each import and of the export tables
 
 -- what is made of the imports that were read with their libraries
@@ -317,11 +316,6 @@ collected_file import_of exports_of w = record {
 abbrev pub items_part : {A : Type 0} → Part (Vec A Global) → Part (List A)
 items_part part = part_map (λ v. v.items) part
 
--- the imports of import data that a list can be made from
-unfoldable pub listed_imports : ℕ → Part (List ImportedLibrary) → Part (List ImportValue)
-listed_imports magic libraries =
-    part_map (λ l. unwrap_or (imports_of (entry_format magic).width l) []) libraries
-
 -- import data and its imports, as their reader returns them
 abbrev pub import_read_view : Part (List ImportedLibrary) × Part (Vec ImportValue Global)
     → Part (List ImportedLibrary) × Part (List ImportValue)
@@ -333,8 +327,3 @@ listed_view t = (
   (import_read_view t.imports, part_map export_read_view t.exports),
   part_map relocation_bytes t.relocations,
 )
-
--- a list of imports can be made from import data
-abbrev pub HasList : ParseOptions → TablePlaces → Part (List ImportedLibrary) → Type 0
-HasList opts places libraries =
-    imports_part opts places libraries ≡ Some (listed_imports places.magic libraries)

@@ -1,6 +1,6 @@
 //! A whole file: its header, its sections, and the tables that its directories lead to.
 
-ghost use Rattle.std.specs.Prelude.{◌≡◌, ◌<◌, ◌/◌, IfErr, IfSome, IsErrAnd, IsSome, length};
+ghost use Rattle.std.specs.Prelude.{◌≡◌, ◌<◌, ◌/◌, IfErr, IfSome, IsErrAnd, IsSomeAnd, length};
 ghost use Rattle.goblin_base.specs.Answers.{IsMemory};
 ghost use Rattle.goblin_base.specs.Reading.{Reads, ReadsOrMemory};
 ghost use Rattle.goblin_pe_sect.specs.AddressReadings.{text_at_address};
@@ -8,6 +8,7 @@ ghost use Rattle.goblin_pe_sect.specs.Options.{is_strict};
 ghost use Rattle.goblin_pe_head.specs.HeaderReadings.{pe_header};
 ghost use Rattle.goblin_pe_head.specs.CoffHeader.{IsTooManySections};
 ghost use Rattle.goblin_pe_sect.specs.Addresses.{map_by, offset_of};
+ghost use Rattle.goblin_pe.specs.SectionRoom.{TakesLists};
 ghost use Rattle.goblin_pe.specs.Whole.{places_in, whole_file};
 
 use crate::export::{Export, ExportData};
@@ -104,7 +105,7 @@ impl<'a> Whole<'a> {
     /// As [`Header::parse_with_opts`]; as
     /// [`CoffHeader::sections_with_opts`](goblin_pe_head::CoffHeader::sections_with_opts); in
     /// strict mode as the readers of the tables; [`Error::Memory`] if memory is refused, in both
-    /// modes, and never of a file whose header is refused.
+    /// modes, and only of a file that has sections, or a table of which something is kept.
     #[tactic(auto, unfolding(crate::specs::Whole::whole_file, crate::specs::Whole::whole_with, crate::specs::Whole::part_map), using(goblin_pe_head::proofs::HeaderFaults::header_there))]
     pub fn read(alloc: Global, bytes: &'a [u8], opts: &ParseOptions) -> Result<Whole<'a>>
         ensures value { ReadsOrMemory (λ x. x) result (whole_file opts.now) bytes.now }
@@ -114,7 +115,8 @@ impl<'a> Whole<'a> {
             length bytes.now / 40 < count → IsErrAnd result (IsTooManySections count bytes.now)) }
         ensures grown { IfErr result
             (λ e.
-            IsMemory e → IsSome ((pe_header (is_strict opts.now.parse_mode)).value bytes.now)) }
+            IsMemory e → IsSomeAnd ((pe_header (is_strict opts.now.parse_mode)).value bytes.now)
+            (TakesLists opts.now bytes.now)) }
     {
         let header = Header::parse_with_opts(bytes, opts)?;
         let sections = sections_of(alloc, bytes, &header, opts)?;

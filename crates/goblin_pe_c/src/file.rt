@@ -7,7 +7,8 @@ ghost use Rattle.goblin_pe.specs.Whole.{layout, whole_file};
 ghost use Rattle.goblin_pe_calls.specs.Batches.{ExportBatch, GivesBatch, GivesExports, GivesImports};
 ghost use Rattle.goblin_pe_calls.specs.Batches.{ImportBatch, IsExportsFault, IsImportsFault};
 ghost use Rattle.goblin_pe_records.specs.Calls.{ReadsInto, Reported};
-ghost use Rattle.goblin_pe_calls.specs.Damages.{TakesIndexBy, TellsDamage};
+ghost use Rattle.goblin_pe.specs.SectionRoom.{TakesIndex};
+ghost use Rattle.goblin_pe_calls.specs.Damages.{TellsDamage};
 ghost use Rattle.goblin_pe_calls.specs.Footprints.{Lists};
 ghost use Rattle.goblin_pe_calls.specs.Growth.{TakesRecords};
 ghost use Rattle.goblin_pe_records.specs.Kinds.{kind_number, kind_of};
@@ -158,7 +159,7 @@ pub extern "C" fn goblin_pe_raw_read_damage(
 ) -> PeFault
     ensures { let opts = options_of options.now in
         Reported result
-        (ReadsInto (pe_header (is_strict opts.parse_mode)) (TakesIndexBy bytes.now) (layout opts)
+        (ReadsInto (pe_header (is_strict opts.parse_mode)) (TakesIndex opts bytes.now) (layout opts)
         bytes.now
         (λ l. TellsDamage opts l.0 l.1 bytes.now damage.new) (damage.new ≡ damage.old)) }
 {

@@ -19,14 +19,15 @@ use Rattle.goblin_pe.specs.ImportWalks.{GivesImport, IsImportsCause, IsInTable, 
 use Rattle.goblin_pe.specs.ImportWalks.{IsOver, walked_value}
 use Rattle.goblin_pe.specs.LayoutPositions.{IsImportWalk, PartGives, StartsAt}
 use Rattle.goblin_pe.specs.LayoutPositions.{file_imports_at, file_position, import_start, start_by}
-use Rattle.goblin_pe.specs.Layouts.{GivesFileImport, IsFileImportsCause, file_imports_left}
+use Rattle.goblin_pe.specs.LayoutPositions.{GivesFileImport}
+use Rattle.goblin_pe.specs.Layouts.{IsFileImportsCause, file_imports_left}
 use Rattle.goblin_pe.specs.Whole.{TablePlaces}
 use Rattle.goblin_pe.specs.declared.whole.Part.{Part}
 use Rattle.goblin_pe.specs.declared.whole.Part.TheVariants.{Absent, Refused}
 use Rattle.goblin_pe.specs.declared.whole.Part.TheVariants as part
 use Rattle.goblin_pe.specs.declared.whole.imports.FileImports.{FileImports}
 use Rattle.goblin_pe.specs.declared.whole.imports.FileImports.TheVariants.{Narrow, Wide}
-use Rattle.goblin_pe.proofs.ImportStarts.{file-given, start-there, start-value}
+use Rattle.goblin_pe.proofs.ImportStarts.{start-there, start-value}
 use Rattle.goblin_pe_calls.specs.declared.import.PeImport.{PeImport}
 use Rattle.goblin_pe_calls.specs.declared.next.PeImportPosition.{PeImportPosition}
 use Rattle.goblin_pe_calls.specs.Batches.{AtBatch, ImportBatch, IsImportsFault, FillsHere, FillsLibrary, GivesImports, GoesOn, HasImports, IsBatch, IsEnd, IsRefusedNext, imports_from, imports_in}
@@ -328,7 +329,7 @@ module _ (m : MapOfAddresses) (places : TablePlaces) (bytes : List ℕ) (start :
         → GoesOn m places bytes q next → count < length records → import_view r ≡ import_said (walked_value x)
         → AtImports next q (set records count r) (count + 1)
     imports-more x next q r given goes within says =
-        let one = (file-given now (Some (Ok x)) next given).0 in
+        let one = given.0 in
         record {
           values = h.values ++ walked_value x ∷ [];
           at = batch-more import_view import_said old h.values records count (walked_value x) r h.at within says;
@@ -343,7 +344,7 @@ module _ (m : MapOfAddresses) (places : TablePlaces) (bytes : List ℕ) (start :
         → FillsLibrary next last (set records count r) new (count + 1) end → GoesOn m places bytes q last
         → AtImports last q new end
     library-more x next last q r new end gives within says fills goes =
-        let one = (file-given now (Some (Ok x)) next gives).0 in
+        let one = gives.0 in
         let values = h.values ++ walked_value x ∷ [] in
         let at = batch-more import_view import_said old h.values records count (walked_value x) r h.at within says in
         let walk = walk-more file_imports_left IsFileImportsCause start now h.values h.walk walked_value next x one in
@@ -405,7 +406,7 @@ module _ (m : MapOfAddresses) (places : TablePlaces) (bytes : List ℕ) (start :
         → q ≡ position_numbers None → count < length records → AreGiven q records count
     imports-end next q given goes numbers within =
         let same = h.at.same in
-        let none = (file-given now None next given).0 in
+        let none = given.0 in
         all-given q [] none.0 (goes.left ∙ ap (λ (items : List (Option ImportValue)). Some items) none.1) (inr (before-end [] refl))
         (λ first refused. absurd refused) (λ none within. numbers)
         (λ none. absurd (omega (arith, same, within, none)))
@@ -414,7 +415,7 @@ module _ (m : MapOfAddresses) (places : TablePlaces) (bytes : List ℕ) (start :
     pub imports-refused : (e : ErrorOf) (next : FileImports) → GivesFileImport now (Some (Err e)) next → count ≢ 0
         → AreGiven p records count
     imports-refused e next given some =
-        let one = (file-given now (Some (Err e)) next given).0 in
+        let one = given.0 in
         all-given p (None ∷ []) one.0 (h.goes.left ∙ ap (λ (items : List (Option ImportValue)). Some items) one.0)
         (inr (before-refused (None ∷ []) refl)) (λ none refused. absurd (some none)) (λ none within. absurd (cc none))
         (λ none. stay none)
@@ -428,7 +429,7 @@ module _ (m : MapOfAddresses) (places : TablePlaces) (bytes : List ℕ) (start :
 
     pub imports-fault : (e : ErrorOf) (next : FileImports) → GivesFileImport now (Some (Err e)) next → count ≡ 0 → IsRefused e
     imports-fault e next given none =
-        let one = (file-given now (Some (Err e)) next given).0 in
+        let one = given.0 in
         let at : AtBatch import_view import_said old h.values records 0 = subst (AtBatch import_view import_said old h.values records) none h.at in
         record {
           next = refused h.values refl one.0;

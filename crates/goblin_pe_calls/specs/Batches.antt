@@ -34,7 +34,7 @@ use Rattle.goblin_pe.specs.declared.whole.imports.FileImports.TheVariants.{Narro
 use Rattle.goblin_pe_calls.specs.declared.export.PeExport.{PeExport}
 use Rattle.goblin_pe_calls.specs.declared.import.PeImport.{PeImport}
 use Rattle.goblin_pe_calls.specs.declared.next.PeImportPosition.{PeImportPosition}
-use Rattle.goblin_pe_calls.specs.Damages.{TakesIndexBy}
+use Rattle.goblin_pe.specs.SectionRoom.{TakesIndex}
 use Rattle.goblin_pe_calls.specs.Exports.{export_said, export_view}
 use Rattle.goblin_pe_records.specs.Filled.{Filled}
 use Rattle.goblin_pe_calls.specs.Imports.{import_said, import_view}
@@ -221,5 +221,5 @@ GivesBatch opts bytes Gives IsFault Left (Err e) =
     (¬ IsMemory e → FirstFault ((layout opts).value bytes) ((layout opts).IsCause bytes)
     (λ l. IsFault (map_in opts l) (places_in l.0.optional_header)) e)
     × (IsMemory e → IsSomeAnd ((pe_header (is_strict opts.parse_mode)).value bytes)
-    (TakesIndexBy bytes))
+    (TakesIndex opts bytes))
     × Left

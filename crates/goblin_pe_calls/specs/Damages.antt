@@ -5,7 +5,6 @@ use Rattle.goblin_pe_sect.specs.declared.options.ParseOptions.{ParseOptions}
 use Rattle.goblin_pe_sect.specs.SectionTable.{Section}
 use Rattle.goblin_pe.specs.Damages.{IsDamaged}
 use Rattle.goblin_pe.specs.PeHeader.{PeHeader}
-use Rattle.goblin_pe.specs.SectionRoom.{TakesIndex}
 use Rattle.goblin_pe.specs.declared.whole.damage.Damage.{Damage}
 use Rattle.goblin_pe_calls.specs.declared.damage.PeDamage.{PeDamage}
 use Rattle.goblin_pe_records.specs.declared.fault.PeFault.{PeFault}
@@ -32,7 +31,3 @@ damage_record d = record {
 abbrev pub TellsDamage : ParseOptions → PeHeader → List Section → List ℕ → PeDamage → Type 0
 TellsDamage opts h sections bytes told =
     (d : Damage) × IsDamaged opts h sections bytes d × (told ≡ damage_record d)
-
--- memory is taken for an index of the sections of a file with this header
-abbrev pub TakesIndexBy : List ℕ → PeHeader → Type 0
-TakesIndexBy bytes h = TakesIndex h.coff_header.number_of_sections bytes

@@ -5,7 +5,8 @@ ghost use Rattle.goblin_pe_sect.specs.Options.{is_strict};
 ghost use Rattle.goblin_pe_head.specs.HeaderReadings.{pe_header};
 ghost use Rattle.goblin_pe.specs.Whole.{layout};
 ghost use Rattle.goblin_pe_records.specs.Calls.{ReadsInto};
-ghost use Rattle.goblin_pe_calls.specs.Damages.{TakesIndexBy, TellsDamage, damage_record, part_fault};
+ghost use Rattle.goblin_pe.specs.SectionRoom.{TakesIndex};
+ghost use Rattle.goblin_pe_calls.specs.Damages.{TellsDamage, damage_record, part_fault};
 
 use goblin_pe::options::ParseOptions;
 use goblin_pe::{Damage, Error, Result, Whole};
@@ -65,7 +66,7 @@ fn damage_record(damage: &Damage) -> PeDamage
 /// # Errors
 /// What these options refuse of the header or the sections, and memory; nothing is then changed.
 pub fn tell(alloc: Global, bytes: &[u8], opts: &ParseOptions, damage: &mut PeDamage) -> Result<()>
-    ensures { ReadsInto (pe_header (is_strict opts.now.parse_mode)) (TakesIndexBy bytes.now)
+    ensures { ReadsInto (pe_header (is_strict opts.now.parse_mode)) (TakesIndex opts.now bytes.now)
         (layout opts.now) bytes.now
         (λ l. TellsDamage opts.now l.0 l.1 bytes.now damage.new) (damage.new ≡ damage.old) result }
 {

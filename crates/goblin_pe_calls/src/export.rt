@@ -1,7 +1,9 @@
 //! The records of exports.
 
-ghost use Rattle.std.specs.Prelude.{◌≡◌, ◌≤◌, ◌<◌, ◌+◌, ◌++◌, ◌∷◌, [], IfErr, IfOk, IfSome, OnErr, OnOk};
-ghost use Rattle.std.specs.Prelude.{IsSomeAnd, None, Some, length, map, vec_capacity, vec_len};
+ghost use Rattle.std.specs.Prelude.{◌≡◌, ◌≤◌, ◌<◌, ◌+◌, ◌++◌, ◌∷◌, [], IfErr, IfOk, IfSome, OnErr};
+ghost use Rattle.std.specs.Prelude.{OnOk};
+ghost use Rattle.std.specs.Prelude.{◌/◌, IsSomeAnd, None, Some, length, map, max, vec_capacity};
+ghost use Rattle.std.specs.Prelude.{vec_len};
 ghost use Rattle.goblin_base.specs.Answers.{GivesOrMemory, IsMemory};
 ghost use Rattle.goblin_base.specs.Reading.{ReadsOrMemory};
 ghost use Rattle.goblin_pe.specs.Reads.{mapped};
@@ -13,7 +15,8 @@ ghost use Rattle.goblin_pe.specs.Layouts.{layout_map, layout_places};
 ghost use Rattle.goblin_pe.specs.Whole.{collected_exports, export_part, part_map};
 ghost use Rattle.goblin_pe_records.specs.Blocked.{HasLittleRoom};
 ghost use Rattle.goblin_pe_calls.specs.Blocked.{HasLittleRoomIn, HaveLittleRoom};
-ghost use Rattle.goblin_pe_calls.specs.Exports.{export_said, export_view, export_views, exports_said};
+ghost use Rattle.goblin_pe_calls.specs.Exports.{export_said, export_view, export_views};
+ghost use Rattle.goblin_pe_calls.specs.Exports.{exports_said};
 ghost use Rattle.goblin_pe_calls.specs.Exports.{exports_view, read_said, said_without_forwarder};
 ghost use Rattle.goblin_pe_calls.specs.Exports.{unread_said};
 ghost use Rattle.goblin_pe_calls.specs.Growth.{HasExports};
@@ -198,6 +201,10 @@ fn push_export<'a>(
         GivesOrMemory (λ _. map export_view records.new.items) result
         (map export_view records.old.items ++ made) }
     ensures room { OnOk result (HasLittleRoom records.old → HasLittleRoom records.new) }
+    ensures more { OnOk result (vec_capacity records.old ≡ vec_len records.old
+        → vec_capacity records.new ≡ vec_len records.old + max expected (vec_len records.old / 2)) }
+    ensures same { OnOk result (vec_len records.old < vec_capacity records.old
+        → vec_capacity records.new ≡ vec_capacity records.old) }
 {
     make_room(records, expected)?;
     push_within(records, bytes, export);

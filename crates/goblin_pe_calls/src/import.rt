@@ -1,7 +1,7 @@
 //! The records of imports.
 
 ghost use Rattle.std.specs.Prelude.{◌≡◌, ◌<◌, ◌+◌, ◌++◌, ◌∷◌, [], IfErr, IfOk, IfSome, OnErr, OnOk, length, map};
-ghost use Rattle.std.specs.Prelude.{vec_capacity, vec_len};
+ghost use Rattle.std.specs.Prelude.{◌/◌, max, vec_capacity, vec_len};
 ghost use Rattle.std.specs.Prelude.{option_map};
 ghost use Rattle.goblin_base.specs.Answers.{AnswersOrMemory, GivesOrMemory, IsMemory, all_of};
 ghost use Rattle.goblin_base.specs.Reading.{ReadsOrMemory};
@@ -140,6 +140,10 @@ fn push_import<'a, 'e>(
         GivesOrMemory (λ _. map import_view records.new.items) result
         (map import_view records.old.items ++ made) }
     ensures room { OnOk result (HasLittleRoom records.old → HasLittleRoom records.new) }
+    ensures more { OnOk result (vec_capacity records.old ≡ vec_len records.old
+        → vec_capacity records.new ≡ vec_len records.old + max 4 (vec_len records.old / 2)) }
+    ensures same { OnOk result (vec_len records.old < vec_capacity records.old
+        → vec_capacity records.new ≡ vec_capacity records.old) }
 {
     make_room(records, FIRST_ROOM)?;
     push_within(records, bytes, import);

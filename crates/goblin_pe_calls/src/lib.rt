@@ -3,10 +3,11 @@
 //! the records and the calls that need no imports and no exports. The crate `goblin_pe_c` has all of
 //! these as calls for C, which tell a refusal as numbers.
 //!
-//! A call borrows the caller's bytes. Each text in a record is a slice of those bytes, so no text
-//! is copied. The tables of a whole file, and the ranges of the bytes on which it depends, are
-//! handed over as memory that the caller frees; the other calls fill the caller's records, or write
-//! to its bytes. Headers and tables have the libraries' own records where these are plain.
+//! A call borrows the caller's bytes. Each text in a record is a slice of those bytes, as tests
+//! check, so no text is copied. The tables of a whole file, and the ranges of the bytes on which it
+//! depends, are handed over as memory that the caller frees; the other calls fill the caller's
+//! records, or write to its bytes. Headers and tables have the libraries' own records where these
+//! are plain.
 #![tactic(auto)]
 
 pub mod block;

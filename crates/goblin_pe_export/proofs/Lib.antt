@@ -1,5 +1,4 @@
 pub mod ExportDirectoryRoundTrip
-mod ExportGrowths
 mod ExportRanges
 mod ExportRoom
 mod ExportRows

@@ -16,19 +16,11 @@ use Rattle.goblin_pe_export.specs.ExportReadings as reading
 abbrev pub export_data : (ℕ → Option ℕ) → DataDirectory → List ℕ → Option ExportTables
 export_data offset_of d bytes = (reading.export_data offset_of d).value bytes
 
--- a record counts entries of a table
+-- a table has entries
 abbrev pub HasEntries : ExportTables → Type 0
 HasEntries tables =
-    let t = tables.export_directory_table in
-    (0 < t.number_of_name_pointers) ⊎ (0 < t.address_table_entries)
-
--- where a table has entries, the record counts some
-abbrev pub AreCounted : ExportTables → Type 0
-AreCounted tables =
-    let t = tables.export_directory_table in
-    (0 < length tables.export_name_pointer_table → 0 < t.number_of_name_pointers)
-    × (0 < length tables.export_ordinal_table → 0 < t.number_of_name_pointers)
-    × (0 < length tables.export_address_table → 0 < t.address_table_entries)
+    (0 < length tables.export_name_pointer_table)
+    ⊎ ((0 < length tables.export_ordinal_table) ⊎ (0 < length tables.export_address_table))
 
 -- the row of the name pointer at index x
 abbrev pub export_row : (ℕ → Option ℕ) → List ℕ → ExportTables → ℕ → Option ExportRow

@@ -17,7 +17,7 @@ use Rattle.goblin_pe_import.specs.ImportReadings.{libraries_at, record_here}
 use Rattle.goblin_pe_import.specs.ImportRecords.{lookup_offset}
 use Rattle.goblin_pe_import.specs.LookupReadings.{lookup_table}
 use Rattle.goblin_pe_import.specs.ImportWalks.{GivesImport, IsCauseAt, IsCauseBy, IsEntriesCause, IsLaterCause, IsOver}
-use Rattle.goblin_pe_import.specs.ImportWalks.{IsAfterImport}
+use Rattle.goblin_pe_import.specs.ImportWalks.{IsAfterImport, IsAtEnd}
 use Rattle.goblin_pe_import.specs.ImportWalks.{IsNamedCause, IsPlaced, IsRecordCause, IsRecordsCause, IsWalkCause}
 use Rattle.goblin_pe_import.specs.ImportWalks.{IsWalkFault, addresses_of, begin_at, entries_from, library_name}
 use Rattle.goblin_pe_import.specs.ImportWalks.{untested_table, walk_left, walked_value}
@@ -95,8 +95,9 @@ pub import-given : {T : Type 0} (format : Format EntryValue) (s t : Imports T)
     (result : Option (Result WalkedImport ErrorOf))
     → GivesNext walked_value (walk_left format) (IsWalkCause format) s.walk result t.walk
     → (IsPlaced format s.walk → IsPlaced format t.walk × IsAfterImport result t)
-    → IsOver s.walk.bytes.now (map_of s.walk.finder) t → GivesImport format s result t
-import-given format s t None given placed over = (given, placed, tt, over)
-import-given format s t (Some (Ok import)) given placed over = (given, placed, tt, over)
-import-given format s t (Some (Err e)) given placed over =
-    (given, placed, walk-fault format s.walk e given.2, over)
+    → IsOver s.walk.bytes.now (map_of s.walk.finder) t → IsAtEnd result t
+    → GivesImport format s result t
+import-given format s t None given placed over ended = (given, placed, tt, over, ended)
+import-given format s t (Some (Ok import)) given placed over ended = (given, placed, tt, over, tt)
+import-given format s t (Some (Err e)) given placed over ended =
+    (given, placed, walk-fault format s.walk e given.2, over, ended)

@@ -2,9 +2,9 @@
 use Rattle.std.proofs.Common.{◌≡◌, ◌<◌, ◌≤◌, ℕ, zero, suc, ◌+◌, Bool, true, false, not, List, [], ◌∷◌, ◌++◌, length, Option, Some, None, arith, refl, sym, ap, subst, inl, ◌∙◌, append-nil, append_assoc}
 use Rattle.std.specs.List.{position_or_len}
 use Rattle.std.proofs.lemmas.Bool.{not-false, not-true}
-use Rattle.std.specs.Prelude.{IsSomeAnd, map, get_or, slice_get, option_map}
-use Rattle.std.proofs.lemmas.List.Sums.{sum_by-cons}
-use Rattle.std.proofs.lemmas.Option.{slice_get-get_or, slice_get-map, slice_get_within}
+use Rattle.std.specs.Prelude.{IsSomeAnd, drop, map, get_or, slice_get, option_map}
+use Rattle.std.proofs.lemmas.List.Sums.{sum_by-cons, sum_by-drop_more}
+use Rattle.std.proofs.lemmas.Option.{get_or_from_slice_get, slice_get-get_or, slice_get-map, slice_get_within}
 use Rattle.goblin_base.specs.declared.error.ErrorOf.TheVariants.{Malformed}
 use Rattle.goblin_base.specs.declared.error.CauseOf.TheVariants.{SlotCount}
 use Rattle.goblin_base.specs.Tables.{each_below, join}
@@ -128,3 +128,9 @@ entries-counted (x ∷ xs) (suc i) library is =
     let rest = entries-counted xs i library is in
     let all = sum_by-cons (λ (l : ImportedLibrary). length (kept_entries l)) x xs in
     omega (arith, rest, all)
+
+-- the entries of the libraries from one on are its own and those of the later ones
+pub entries-left : (libraries : List ImportedLibrary) (i : ℕ) (library : ImportedLibrary) → slice_get libraries i ≡ Some library → kept_count (drop i libraries) ≡ length (kept_entries library) + kept_count (drop (i + 1) libraries)
+entries-left libraries i library is =
+    sum_by-drop_more (λ (l : ImportedLibrary). length (kept_entries l)) libraries i library (slice_get_within libraries i library is)
+    ∙ ap (λ (l : ImportedLibrary). length (kept_entries l) + kept_count (drop (i + 1) libraries)) (get_or_from_slice_get libraries i library library is)

@@ -38,13 +38,13 @@ use Rattle.goblin_pe_import.specs.ImportRecords.{ImportedLibrary, import_record,
 use Rattle.goblin_pe_import.specs.Imports.{ImportValue, import_at, import_of, imports_by, kept_imports}
 use Rattle.goblin_pe_import.specs.ImportWalks.{IsCauseAt, KeptValue, addresses_of}
 use Rattle.goblin_pe_import.specs.ImportWalks.{begin_at, entries_from, imports_at, imports_from}
-use Rattle.goblin_pe_import.specs.ImportWalks.{in_two, kept_at, kept_import, library_items}
+use Rattle.goblin_pe_import.specs.ImportWalks.{kept_at, kept_import, library_items}
 use Rattle.goblin_pe_import.specs.ImportWalks.{library_name}
 use Rattle.goblin_pe_import.specs.LookupReadings.{kept_entry}
 use Rattle.goblin_pe_import.proofs.ImportBound.{kept_entry-few}
 use Rattle.goblin_pe_import.proofs.ImportsWalk.{in_two_if, listed}
 use Rattle.goblin_pe_import.proofs.ListedImports.{address-low}
-use Rattle.goblin_pe_import.proofs.LookupWalk.{by_index, in_slot}
+use Rattle.goblin_pe_import.proofs.LookupWalk.{by_index, in_slot, in_two}
 use Rattle.goblin_pe_import.proofs.PermissiveReads.{entry-never, name_strict}
 
 -- ---- one more import

@@ -12,8 +12,8 @@ use Rattle.goblin_base.specs.Tables.{Format, or_left_out}
 use Rattle.goblin_base.proofs.SlotTables.{reads}
 use Rattle.goblin_base.proofs.Steps.{unmapped}
 use Rattle.readings.specs.Reads.{given, pair_of, pick}
-use Rattle.readings.specs.Walks.{IsSlotCause, from_slot, refusal_of, until_refused}
-use Rattle.readings.proofs.Walks.{cause-slot, slot-end, slot-going, slot-last, slot-missing, slot-once}
+use Rattle.readings.specs.Walks.{from_slot, refusal_of, until_refused}
+use Rattle.readings.proofs.Walks.{IsSlotCause, cause-slot, slot-end, slot-going, slot-last, slot-missing, slot-once}
 use Rattle.readings.proofs.Walks.{walk-slot}
 use Rattle.goblin_pe_import.specs.declared.import.directory_entry.ImportDirectoryEntry.{ImportDirectoryEntry}
 use Rattle.goblin_pe_import.specs.declared.import.imports.ImportPosition.{ImportPosition}
@@ -28,9 +28,9 @@ use Rattle.goblin_pe_import.specs.ImportWalks.{IsLaterCause, IsNamedCause, IsRec
 use Rattle.goblin_pe_import.specs.ImportWalks.{KeptValue, addresses_of, begin_at, bound_at, bound_by}
 use Rattle.goblin_pe_import.specs.ImportWalks.{entries_from, imports_at, one_if, records_bound, slots_bound}
 use Rattle.goblin_pe_import.specs.ImportWalks.{walk_bound}
-use Rattle.goblin_pe_import.specs.ImportWalks.{imports_by_slot, imports_from, imports_in, in_two}
+use Rattle.goblin_pe_import.specs.ImportWalks.{imports_by_slot, imports_from, imports_in}
 use Rattle.goblin_pe_import.specs.ImportWalks.{later_items, library_items, library_name, untested_table}
-use Rattle.goblin_pe_import.proofs.LookupWalk.{lookup_walked}
+use Rattle.goblin_pe_import.proofs.LookupWalk.{in_two, lookup_walked}
 use Rattle.goblin_pe_import.proofs.PermissiveReads.{name_strict}
 
 -- ---- values that may be missing

@@ -17,3 +17,4 @@ pub mod Modes
 pub mod PermissiveReads
 pub mod PlainEntries
 mod SlotSums
+pub mod TakenLibraries

@@ -14,16 +14,19 @@ use Rattle.goblin_pe_import.specs.ImportEntries.{EntryValue, LookupEntry, entry_
 use Rattle.goblin_pe_import.specs.declared.import.lookup_table.SyntheticImportLookupTableEntry.{SyntheticImportLookupTableEntry}
 use Rattle.goblin_pe_import.specs.ImportLookup.{entry_view, kept_view}
 use Rattle.goblin_pe_import.specs.ImportWalks.{IsEntriesCause, KeptValue, entries_from, entry_items, kept_at}
-use Rattle.goblin_pe_import.specs.ImportWalks.{in_two}
-use Rattle.readings.specs.Walks.{IsSlotCause, IsWalkOf, from_slot, end_items, items_at, items_of, table_walk}
+use Rattle.readings.specs.Walks.{IsWalkOf, from_slot, end_items, items_at, items_of, table_walk}
 use Rattle.readings.specs.Walks.{until_refused}
 use Rattle.goblin_pe_import.specs.LookupReadings.{kept_entry, lookup_entry_at}
 use Rattle.goblin_pe_import.specs.LookupReadings.{lookup_with_slots}
 use Rattle.goblin_pe_import.proofs.ImportBound.{kept_entry-few}
 use Rattle.goblin_pe_import.proofs.PermissiveReads.{entry-never}
 use Rattle.readings.proofs.WalkValues.{walk-value}
-use Rattle.readings.proofs.Walks.{cause-slot, concat_below-same, slot-end, slot-going, slot-last}
+use Rattle.readings.proofs.Walks.{IsSlotCause, cause-slot, concat_below-same, slot-end, slot-going, slot-last}
 use Rattle.readings.proofs.Walks.{slot-missing, until_refused-later, until_refused-made, walk-slot}
+
+-- the kept entries, and the indexes of their slots
+abbrev pub in_two : List KeptValue → List LookupEntry × List ℕ
+in_two kept = (map (λ k. k.entry) kept, map (λ k. k.slot) kept)
 
 module _ (strict : Bool) (format : Format EntryValue) (offset_of : ℕ → Option ℕ)
     (bytes : List ℕ) (o : ℕ) where

@@ -2,7 +2,7 @@
 use Rattle.std.specs.Prelude.{◌≡◌, ℕ, ◌+◌, ◌-◌, ◌*◌, ◌/◌, ◌≤◌, ◌<◌, Bool, ◌&&◌, not, true, false}
 use Rattle.std.specs.Prelude.{if◌then◌else◌, List, [], ◌∷◌, ◌++◌, map, length, Option, Some, None}
 use Rattle.std.specs.Prelude.{option_map, unwrap_or, is_none, Result, Ok, Err, IfErr, IfOk, IfSome}
-use Rattle.std.specs.Prelude.{IsSomeAnd}
+use Rattle.std.specs.Prelude.{IsSomeAnd, MatchOption}
 use Rattle.goblin_base.specs.declared.error.ErrorOf.{ErrorOf}
 use Rattle.goblin_base.specs.Answers.{FirstFault, IsMemory, all_of}
 use Rattle.goblin_base.specs.Reading.{Reading}
@@ -72,10 +72,6 @@ abbrev pub place_after : ℕ → Option (Result KeptEntry ErrorOf) → Option �
 place_after width None = None
 place_after width (Some (Ok kept)) = Some (kept.place + width)
 place_after width (Some (Err e)) = None
-
--- the kept entries, and the indexes of their slots
-abbrev pub in_two : List KeptValue → List LookupEntry × List ℕ
-in_two kept = (map (λ k. k.entry) kept, map (λ k. k.slot) kept)
 
 -- ---- the imports of a library
 
@@ -358,6 +354,11 @@ abbrev pub IsAfterImport : {T : Type 0} → Option (Result WalkedImport ErrorOf)
 IsAfterImport result it =
     IfSome result (λ r. IfOk r (λ import. IsInTable it.walk.bytes.now (position_of it)))
 
+-- a walk that has given no import has ended, and has no position
+abbrev pub IsAtEnd : {T : Type 0} → Option (Result WalkedImport ErrorOf) → Imports T → Type 0
+IsAtEnd result it =
+    MatchOption result (position_of it ≡ None) (λ r. IfErr r (λ e. position_of it ≡ None))
+
 -- no more than this comes
 abbrev pub imports_bound : {T : Type 0} → Imports T → ℕ
 imports_bound it = walk_bound it.walk
@@ -366,8 +367,8 @@ imports_bound it = walk_bound it.walk
 abbrev pub IsWalkFault : Walk → ErrorOf → Type 0
 IsWalkFault w e = (reads_strictly (map_of w.finder) ≡ true) × ¬ IsMemory e
 
--- A call of `next` gives the next import, or such an error; it keeps the position and what is walked
--- over.
+-- A call of `next` gives the next import, or such an error, or else has ended the walk; it keeps
+-- the position and what is walked over.
 abbrev pub GivesImport : {T : Type 0} → Format EntryValue → Imports T
     → Option (Result WalkedImport ErrorOf) → Imports T → Type 0
 GivesImport format s result t =
@@ -375,6 +376,7 @@ GivesImport format s result t =
     × (HasPosition format s → HasPosition format t × IsAfterImport result t)
     × IfSome result (λ r. IfErr r (IsWalkFault s.walk))
     × IsOver s.walk.bytes.now (map_of s.walk.finder) t
+    × IsAtEnd result t
 
 -- the walk at another place of the library that it is in
 abbrev pub moved : Walk → ℕ → Walk

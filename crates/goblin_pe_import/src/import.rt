@@ -11,7 +11,8 @@ ghost use Rattle.readings.specs.Reads.{mapped};
 ghost use Rattle.goblin_pe_sect.specs.Options.{default_options, is_strict};
 ghost use Rattle.goblin_pe_sect.specs.Addresses.{TakesMap, map_by, map_of, offset_of};
 ghost use Rattle.goblin_pe_sect.specs.Addresses.{reads_strictly};
-ghost use Rattle.goblin_pe_import.specs.ImportDirectory.{HasRecords};
+ghost use Rattle.goblin_pe_import.specs.ImportDirectory.{KeepsImports, TakesLibraries};
+ghost use Rattle.goblin_pe_import.specs.ImportDirectory.{TakesLibrary};
 ghost use Rattle.goblin_pe_import.specs.ImportReadings as reading;
 
 use goblin_base::{Cause, Endian, Error, Record, ResultOf, is_passed_over};
@@ -71,9 +72,12 @@ fn kept_library<'a, 'e, T: Bitfield<'a>>(
     entry: ImportDirectoryEntry,
     address_map: &AddressMap,
 ) -> ResultOf<'e, Option<SyntheticImportDirectoryEntry<'a>>>
-    ensures { let m = map_of address_map.now in
+    ensures value { let m = map_of address_map.now in
         ReadsOrMemory option_to_list result
         (reading.kept_library (reads_strictly m) T.format (offset_of m) entry) bytes.now }
+    ensures grown { let m = map_of address_map.now in
+        IfErr result (λ e. IsMemory e
+        → KeepsImports (reads_strictly m) T.format (offset_of m) bytes.now entry) }
 {
     match SyntheticImportDirectoryEntry::parse_by::<T>(alloc, bytes, entry, address_map) {
         Ok(library) => Ok(Some(library)),
@@ -89,10 +93,13 @@ fn add_library<'a, 'e, T: Bitfield<'a>>(
     entry: ImportDirectoryEntry,
     address_map: &AddressMap,
 ) -> ResultOf<'e, ()>
-    ensures { let m = map_of address_map.now in
+    ensures value { let m = map_of address_map.now in
         ReadsOrMemory (λ _. libraries.new.items) result
         (mapped (λ more. libraries.old.items ++ more)
         (reading.kept_library (reads_strictly m) T.format (offset_of m) entry)) bytes.now }
+    ensures grown { let m = map_of address_map.now in
+        IfErr result (λ e. IsMemory e
+        → TakesLibrary (reads_strictly m) T.format (offset_of m) bytes.now entry) }
 {
     let alloc = *libraries.allocator();
     let library = kept_library::<T>(alloc, bytes, entry, address_map)?;
@@ -112,7 +119,9 @@ fn libraries<'a, 'e, T: Bitfield<'a>>(
     ensures value { let m = map_of address_map.now in
         ReadsOrMemory (λ v. v.items) result
         (reading.libraries_at (reads_strictly m) T.format (offset_of m) offset) bytes.now }
-    ensures grown { IfErr result (λ e. IsMemory e → HasRecords bytes.now offset) }
+    ensures grown { let m = map_of address_map.now in
+        IfErr result (λ e. IsMemory e
+        → TakesLibraries (reads_strictly m) T.format (offset_of m) bytes.now offset) }
 {
     let mut libraries = Vec::new(alloc);
     let mut place = offset;
@@ -153,7 +162,8 @@ impl<'a> ImportData<'a> {
             IfErr result
             (λ e.
             IsMemory e
-            → IsSomeAnd (offset_of m directory.virtual_address) (HasRecords bytes.now)
+            → IsSomeAnd (offset_of m directory.virtual_address)
+            (TakesLibraries true T.format (offset_of m) bytes.now)
             ⊎ TakesMap default_options sections.now file_alignment) }
     {
         let opts = ParseOptions::default();
@@ -173,7 +183,7 @@ impl<'a> ImportData<'a> {
     /// no file offset, and with [`Cause::ImportRecordEnd`] if it reaches the end of the file; and
     /// as [`SyntheticImportDirectoryEntry::parse_with_opts`] of a record. In both modes
     /// [`Error::Memory`] if memory is refused; it is asked for only if addresses are mapped by
-    /// sections or the directory has a record.
+    /// sections or the directory has a record of which something is kept.
     pub fn parse_with_opts<'e, T: Bitfield<'a>>(
         alloc: Global,
         bytes: &'a [u8],
@@ -191,7 +201,8 @@ impl<'a> ImportData<'a> {
             IfErr result
             (λ e.
             IsMemory e
-            → IsSomeAnd (offset_of m directory.virtual_address) (HasRecords bytes.now)
+            → IsSomeAnd (offset_of m directory.virtual_address)
+            (TakesLibraries (reads_strictly m) T.format (offset_of m) bytes.now)
             ⊎ TakesMap opts.now sections.now file_alignment) }
     {
         let address_map = AddressMap::prepare(alloc, sections, file_alignment, opts)?;
@@ -219,7 +230,8 @@ impl<'a> ImportData<'a> {
             IfErr result
             (λ e.
             IsMemory e
-            → IsSomeAnd (offset_of m directory.virtual_address) (HasRecords bytes.now)) }
+            → IsSomeAnd (offset_of m directory.virtual_address)
+            (TakesLibraries (reads_strictly m) T.format (offset_of m) bytes.now)) }
     {
         let rva = directory.virtual_address;
         let Some(offset) = directory_offset(rva, &mut Finder::of(address_map)) else {

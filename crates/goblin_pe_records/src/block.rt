@@ -1,6 +1,8 @@
 //! The records of base relocation blocks.
 
-ghost use Rattle.std.specs.Prelude.{◌≡◌, ◌<◌, ◌++◌, ◌∷◌, [], IfErr, IfOk, OnErr, OnOk, length, map};
+ghost use Rattle.std.specs.Prelude.{◌≡◌, ◌<◌, ◌+◌, ◌/◌, ◌++◌, ◌∷◌, [], IfErr, IfOk, OnErr, OnOk};
+ghost use Rattle.std.specs.Prelude.{length};
+ghost use Rattle.std.specs.Prelude.{map, max, vec_capacity, vec_len};
 ghost use Rattle.goblin_base.specs.Answers.{IsMemory};
 ghost use Rattle.goblin_pe_sect.specs.BaseRelocations.{block_items, block_value, relocation_bytes};
 ghost use Rattle.goblin_pe_records.specs.Blocked.{HasLittleRoom};
@@ -59,6 +61,10 @@ fn push_block<'a>(records: &mut Vec<PeBlock<'a>>, block: PeBlock<'a>) -> Result<
     ensures refused { IfErr result IsMemory }
     ensures items { OnOk result (records.new.items ≡ records.old.items ++ block.entry ∷ []) }
     ensures room { OnOk result (HasLittleRoom records.old → HasLittleRoom records.new) }
+    ensures more { OnOk result (vec_capacity records.old ≡ vec_len records.old
+        → vec_capacity records.new ≡ vec_len records.old + max 4 (vec_len records.old / 2)) }
+    ensures same { OnOk result (vec_len records.old < vec_capacity records.old
+        → vec_capacity records.new ≡ vec_capacity records.old) }
 {
     make_room(records, FIRST_ROOM)?;
     records.push_reserved(block);

@@ -2,9 +2,9 @@
 //! records of headers, sections, symbols, relocations and refusals, and the functions that fill them,
 //! or write what they say.
 //!
-//! Each text in a record is a slice of the caller's bytes, so no text is copied. The crate
-//! `goblin_pe_calls` reads whole files into these records and its own. It needs the readers of imports
-//! and exports; this crate does not, and is proved beside them.
+//! Each text in a record is a slice of the caller's bytes, as tests check, so no text is copied.
+//! The crate `goblin_pe_calls` reads whole files into these records and its own. It needs the
+//! readers of imports and exports; this crate does not, and is proved beside them.
 #![tactic(auto)]
 
 pub mod block;

@@ -1,7 +1,8 @@
 //! Where addresses lie in the file, by the windows of the sections.
 
-ghost use Rattle.std.specs.Prelude.{◌≡◌, ◌↔◌, ◌<◌, ℕ, IfErr, IfOk, IsTrue, length};
+ghost use Rattle.std.specs.Prelude.{◌≡◌, ◌↔◌, ◌<◌, ℕ, IfErr, IfOk, IsTrue, length, vec_capacity};
 ghost use Rattle.goblin_base.specs.Answers.{GivesOrMemory, IsMemory};
+ghost use Rattle.goblin_pe_sect.specs.declared.address_map.Windows.TheVariants.{Walked};
 ghost use Rattle.goblin_pe_sect.specs.Mapping.{file_offset};
 ghost use Rattle.goblin_base.specs.declared.permissive.ParseMode.TheVariants.{Permissive};
 ghost use Rattle.goblin_pe_sect.specs.Addresses.{AreMany, IsIndexed, KeepsWindowsAlone, TakesMap};
@@ -70,11 +71,12 @@ fn index_of<'e>(
 // The sections of records, without their names from the string table.
 fn listed<'e>(alloc: Global, records: SectionRecords) -> ResultOf<'e, Vec<SectionTable>>
     ensures made { GivesOrMemory (λ v. v.items) result (section_records records.entry) }
+    ensures room { IfOk result (λ v. vec_capacity v ≡ length (section_records records.entry)) }
 {
     let count = records.len();
     let mut sections = Vec::with_capacity(alloc, count)?;
     'records: for i in 0..count {
-        sections.push(records.at(i))?;
+        sections.push_reserved(records.at(i));
     }
     Ok(sections)
 }
@@ -148,6 +150,8 @@ impl<'s> AddressMap<'s> {
         ensures made { GivesOrMemory map_of result
             (map_by opts.now (section_records records.entry) file_alignment) }
         ensures few { IfOk result (λ m. WalksFew m.opts m.windows) }
+        ensures walked { let count = length (section_records records.entry) in
+            IfOk result (λ m. ¬ AreMany count → m.windows ≡ Walked records.entry file_alignment) }
         ensures grown { let count = length (section_records records.entry) in
             IfErr result (λ e. HasPieces opts.now file_alignment × AreMany count) }
     {

@@ -30,6 +30,8 @@ const _: () = prove!(SIZEOF_DATA_DIRECTORY == 8);
 /// How many entries the table has.
 pub const NUM_DATA_DIRECTORIES: usize = 16;
 
+const _: () = prove!(NUM_DATA_DIRECTORIES == 16);
+
 // The kinds of directories, each at its index.
 const KINDS: [DataDirectoryType; 15] = [
     DataDirectoryType::ExportTable,

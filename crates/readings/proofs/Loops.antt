@@ -1,12 +1,13 @@
 -- The loop that reads a table of slots: what it answers at each way out, value and cause at once.
 use Rattle.std.proofs.Common.{◌≡◌, ◌<◌, ◌≤◌, ◌+◌, ℕ, Bool, true, false, cond}
 use Rattle.std.proofs.Common.{Option, Some, None, List, [], ◌∷◌, ◌++◌, ap, ◌∙◌, refl, inl, inr}
+use Rattle.std.proofs.Common.{IsSomeAnd, subst, sym}
 use Rattle.goblin_base.specs.declared.error.ErrorOf.{ErrorOf}
 use Rattle.goblin_base.specs.Answers.{◌>>=◌}
 use Rattle.goblin_base.specs.Footprints.{Range}
 use Rattle.goblin_base.specs.Reading.{Reading}
 use Rattle.goblin_base.specs.Tables.{SlotFormat, ends_table, is_kept, kept_slots, made_of}
-use Rattle.goblin_base.specs.Tables.{slot_table, stop}
+use Rattle.goblin_base.specs.Tables.{slot_at, slot_table, stop}
 use Rattle.goblin_base.proofs.SlotTables.{AtKept, AtSlot, at-end, at-last, at-missing}
 use Rattle.goblin_base.proofs.SlotTables.{at-missing_first, at-next, at-refused, at-start}
 use Rattle.goblin_base.proofs.SlotTables.{at-refused_cause, kept-all, kept-next, kept-start}
@@ -101,6 +102,16 @@ module _ {V A : Type 0} (slots : SlotFormat V) (piece : V → Reading (List A)) 
     read-more v r z =
         stop-after slots bytes o h.at.index h.wide h.at.before
         (ap (ends_table slots.is_last) (ap (reads slots bytes) h.at.here ∙ r) ∙ z)
+
+    -- something holds of the entry of a slot before the stop
+    pub read-takes : (P : V → Type 0) (v : V) → reads slots bytes place ≡ Some v
+        → slots.is_last v ≡ false → P v
+        → (i : ℕ) × (i < stop slots bytes o) × IsSomeAnd (slot_at slots bytes o i) P
+    read-takes P v r z holds = (
+      h.at.index,
+      read-more v r z,
+      subst (λ (s : Option V). IsSomeAnd s P) (sym (ap (reads slots bytes) h.at.here ∙ r)) holds,
+    )
 
   module _ (place slot : ℕ) (xs : List A) (kept : List ℕ)
       (h : AtReadSlot slots piece bytes o place slot xs kept) where

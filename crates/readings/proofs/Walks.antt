@@ -13,8 +13,19 @@ use Rattle.goblin_base.proofs.Below.{least-before}
 use Rattle.goblin_base.proofs.SlotTables.{ends, reads, stop-after, stop-is}
 use Rattle.readings.specs.Reads.{table}
 use Rattle.readings.proofs.Loops.{read-missing, read-refused, read-start, value_of}
-use Rattle.readings.specs.Walks.{IsSlotCause, end_items, from_slot, items_at, table_walk}
+use Rattle.readings.specs.Walks.{end_items, from_slot, items_at, table_walk}
 use Rattle.readings.specs.Walks.{until_refused}
+
+-- ---- causes
+
+-- which cause is true if what comes from one slot on is refused
+abbrev pub IsSlotCause : {V A : Type 0} → Bool → (V → Bool) → (V → Option A)
+    → (IsMissing : ErrorOf → Type 0) → (V → ErrorOf → Type 0) → (IsLater : ErrorOf → Type 0)
+    → Option V → ErrorOf → Type 0
+IsSlotCause needs_end is_last piece IsMissing IsCause IsLater None e =
+    (needs_end ≡ true) × IsMissing e
+IsSlotCause needs_end is_last piece IsMissing IsCause IsLater (Some entry) e =
+    (is_last entry ≡ false) × FirstFault (piece entry) (IsCause entry) (λ _. IsLater) e
 
 -- ---- lists
 

@@ -1,9 +1,9 @@
 -- Walks: items that come one by one, of which at most the last is a refusal.
-use Rattle.std.specs.Prelude.{◌≡◌, ℕ, Bool, true, false, ◌&&◌, not, if◌then◌else◌, List, [], ◌∷◌, ◌++◌}
+use Rattle.std.specs.Prelude.{◌≡◌, ℕ, Bool, ◌&&◌, not, if◌then◌else◌, List, [], ◌∷◌, ◌++◌}
 use Rattle.std.specs.Prelude.{map, Option, Some, None, Result, Ok, Err, option_map}
 use Rattle.std.specs.Option.{is_some}
 use Rattle.goblin_base.specs.declared.error.ErrorOf.{ErrorOf}
-use Rattle.goblin_base.specs.Answers.{FirstFault, all_of}
+use Rattle.goblin_base.specs.Answers.{all_of}
 use Rattle.goblin_base.specs.Reading.{Reading}
 use Rattle.goblin_base.specs.Tables.{SlotFormat, concat_below, slot_at, slot_place, stop}
 
@@ -52,15 +52,6 @@ abbrev pub from_slot : {V B : Type 0} → Bool → (V → Bool) → (V → List 
 from_slot needs_end is_last items later None = if needs_end then None ∷ [] else []
 from_slot needs_end is_last items later (Some entry) =
     if is_last entry then [] else until_refused (items entry ++ later)
-
--- which cause is true if this is refused
-abbrev pub IsSlotCause : {V A : Type 0} → Bool → (V → Bool) → (V → Option A)
-    → (IsMissing : ErrorOf → Type 0) → (V → ErrorOf → Type 0) → (IsLater : ErrorOf → Type 0)
-    → Option V → ErrorOf → Type 0
-IsSlotCause needs_end is_last piece IsMissing IsCause IsLater None e =
-    (needs_end ≡ true) × IsMissing e
-IsSlotCause needs_end is_last piece IsMissing IsCause IsLater (Some entry) e =
-    (is_last entry ≡ false) × FirstFault (piece entry) (IsCause entry) (λ _. IsLater) e
 
 -- ---- a walk
 

@@ -10,7 +10,7 @@ ghost use Rattle.goblin_pe_head.specs.PeHeader.{header_value};
 ghost use Rattle.goblin_pe_sect.specs.Addresses.{map_by, offset_of};
 ghost use Rattle.goblin_pe.specs.Modes.{ReadsInModes, in_mode, in_permissive_mode};
 ghost use Rattle.goblin_pe.specs.TableRuns.{AreGrown, AreInModes};
-ghost use Rattle.goblin_pe.specs.SectionRoom.{HasRoom};
+ghost use Rattle.goblin_pe.specs.SectionRoom.{TakesLists};
 ghost use Rattle.goblin_pe.specs.Whole.{whole_file};
 
 use crate::header::Header;
@@ -47,7 +47,6 @@ pub fn mode_header<'a>(
 }
 
 // A whole file in a mode.
-#[tactic(auto, using(crate::proofs::SectionRoom::whole_answer_takes))]
 fn whole_in<'a>(
     alloc: Global,
     bytes: &'a [u8],
@@ -59,7 +58,8 @@ fn whole_in<'a>(
     ensures grown { IfErr result
         (λ e.
         IsMemory e
-        → IsSomeAnd ((pe_header (is_strict mode)).value bytes.now) (HasRoom bytes.now)) }
+        → IsSomeAnd ((pe_header (is_strict mode)).value bytes.now)
+        (TakesLists (in_mode mode opts.now) bytes.now)) }
 {
     Whole::read(alloc, bytes, &opts.with_parse_mode(mode))
 }
@@ -79,9 +79,11 @@ pub fn mode_whole<'a>(
         (whole_file (in_mode Strict opts.now)) (whole_file (in_mode Permissive opts.now)) bytes.now
         result }
     ensures strict_grown { IfErr result.0
-        (λ e. IsMemory e → IsSomeAnd ((pe_header true).value bytes.now) (HasRoom bytes.now)) }
+        (λ e. IsMemory e → IsSomeAnd ((pe_header true).value bytes.now)
+        (TakesLists (in_mode Strict opts.now) bytes.now)) }
     ensures permissive_grown { IfErr result.1
-        (λ e. IsMemory e → IsSomeAnd ((pe_header false).value bytes.now) (HasRoom bytes.now)) }
+        (λ e. IsMemory e → IsSomeAnd ((pe_header false).value bytes.now)
+        (TakesLists (in_mode Permissive opts.now) bytes.now)) }
 {
     let strict = whole_in(alloc, bytes, ParseMode::Strict, opts);
     let permissive = whole_in(alloc, bytes, ParseMode::Permissive, opts);

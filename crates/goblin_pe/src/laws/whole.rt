@@ -5,7 +5,7 @@ ghost use Rattle.goblin_base.specs.Answers.{IsMemory};
 ghost use Rattle.goblin_base.specs.Reading.{TwinsOrMemory};
 ghost use Rattle.goblin_pe_sect.specs.Options.{is_strict};
 ghost use Rattle.goblin_pe_head.specs.HeaderReadings.{pe_header};
-ghost use Rattle.goblin_pe.specs.SectionRoom.{HasRoom};
+ghost use Rattle.goblin_pe.specs.SectionRoom.{TakesLists};
 ghost use Rattle.goblin_pe.specs.Whole.{whole_file};
 
 use crate::options::ParseOptions;
@@ -21,7 +21,7 @@ use std::alloc::Global;
 ///
 /// # Errors
 /// For each file as [`Whole::read`].
-#[tactic(auto, using(goblin_base::proofs::Readings::twins_or_memory, crate::proofs::SectionRoom::whole_answer_takes))]
+#[tactic(auto, using(goblin_base::proofs::Readings::twins_or_memory))]
 pub fn twin_whole<'a>(
     alloc: Global,
     a: &'a [u8],
@@ -32,11 +32,13 @@ pub fn twin_whole<'a>(
     ensures first_grown { IfErr result.0
         (λ e.
         IsMemory e
-        → IsSomeAnd ((pe_header (is_strict opts.now.parse_mode)).value a.now) (HasRoom a.now)) }
+        → IsSomeAnd ((pe_header (is_strict opts.now.parse_mode)).value a.now)
+        (TakesLists opts.now a.now)) }
     ensures second_grown { IfErr result.1
         (λ e.
         IsMemory e
-        → IsSomeAnd ((pe_header (is_strict opts.now.parse_mode)).value b.now) (HasRoom b.now)) }
+        → IsSomeAnd ((pe_header (is_strict opts.now.parse_mode)).value b.now)
+        (TakesLists opts.now b.now)) }
 {
     let first = Whole::read(alloc, a, opts);
     let second = Whole::read(alloc, b, opts);

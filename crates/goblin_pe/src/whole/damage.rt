@@ -110,7 +110,7 @@ fn file_damage(alloc: Global, bytes: &[u8], opts: &ParseOptions) -> Result<Damag
     ensures grown { IfErr result
         (λ e.
         IsMemory e → IsSomeAnd ((pe_header (is_strict opts.now.parse_mode)).value bytes.now)
-        (λ h. TakesIndex h.coff_header.number_of_sections bytes.now)) }
+        (TakesIndex opts.now bytes.now)) }
 {
     let header = Header::parse_with_opts(bytes, opts)?;
     let layout = Layout::of(alloc, bytes, &header, opts)?;
@@ -147,7 +147,7 @@ impl Whole<'_> {
         ensures grown { IfErr result
             (λ e.
             IsMemory e → IsSomeAnd ((pe_header (is_strict opts.now.parse_mode)).value bytes.now)
-            (λ h. TakesIndex h.coff_header.number_of_sections bytes.now)) }
+            (TakesIndex opts.now bytes.now)) }
     {
         file_damage(alloc, bytes, opts)
     }

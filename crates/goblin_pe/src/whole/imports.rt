@@ -5,10 +5,9 @@ ghost use Rattle.std.specs.Iterator.{UpTo, at_most};
 ghost use Rattle.std.specs.Iterator.SizeHint.{IsWithinCount};
 ghost use Rattle.goblin_base.specs.declared.error.ErrorOf.{ErrorOf};
 ghost use Rattle.goblin_pe_sect.specs.Addresses.{MapOfAddresses, map_of};
-ghost use Rattle.goblin_pe.specs.LayoutPositions.{IsFileFaultAt, IsImportWalk, file_imports_at};
-ghost use Rattle.goblin_pe.specs.LayoutPositions.{file_map, file_position};
-ghost use Rattle.goblin_pe.specs.Layouts.{GivesFileImport, IsFileImportsCause, file_imports_bound};
-ghost use Rattle.goblin_pe.specs.Layouts.{file_imports_left};
+ghost use Rattle.goblin_pe.specs.LayoutPositions.{GivesFileImport, IsFileFaultAt, IsImportWalk};
+ghost use Rattle.goblin_pe.specs.LayoutPositions.{file_imports_at, file_map, file_position};
+ghost use Rattle.goblin_pe.specs.Layouts.{IsFileImportsCause, file_imports_bound, file_imports_left};
 
 use crate::import::{ImportPosition, Imports, WalkedImport};
 use goblin_base::ResultOf;
@@ -67,6 +66,7 @@ impl<'a, 'm, 'e> Iterator for FileImports<'a, 'm, 'e> {
     ghost remaining = { λ it. at_most (file_imports_bound it) };
 
     #[inline(always)]
+    #[tactic(auto, using(crate::proofs::ImportStarts::narrow_given, crate::proofs::ImportStarts::wide_given))]
     fn next(&mut self) -> Option<ResultOf<'e, WalkedImport<'a>>> {
         match self {
             FileImports::Narrow(imports) => imports.next(),

@@ -108,7 +108,7 @@ pub(super) fn sections_of(
 impl<'a, 'h> Layout<'a, 'h> {
     /// Refuses the sections of a file with this header where [`Whole::read`](crate::Whole::read)
     /// does, and prepares what maps its addresses. Memory is taken only for an index of more than 96
-    /// sections.
+    /// sections, by whose windows addresses are mapped.
     ///
     /// # Errors
     /// As [`CoffHeader::sections_with_opts`](goblin_pe_head::CoffHeader::sections_with_opts), but
@@ -128,7 +128,7 @@ impl<'a, 'h> Layout<'a, 'h> {
         ensures first { let count = header.now.coff_header.number_of_sections in
             length bytes.now / 40 < count → IsErrAnd result (IsTooManySections count bytes.now) }
         ensures grown { IfErr result
-            (λ e. IsMemory e → TakesIndex header.now.coff_header.number_of_sections bytes.now) }
+            (λ e. IsMemory e → TakesIndex opts.now bytes.now (header_value header.now)) }
     {
         let records = section_records(bytes, header, opts)?;
         let places = Places::of(&header.optional_header);

@@ -1,13 +1,17 @@
 //! The tables that a file's data directories lead to, as lists.
 
-ghost use Rattle.std.specs.Prelude.{◌≡◌};
-ghost use Rattle.goblin_base.specs.Answers.{AnswersOrMemory};
+ghost use Rattle.std.specs.Prelude.{◌≡◌, ◌<◌, IfErr, IfOk, IsSomeAnd};
+ghost use Rattle.goblin_base.specs.Answers.{AnswersOrMemory, IsMemory};
 ghost use Rattle.goblin_base.specs.Reading.{ReadsOrMemory};
 ghost use Rattle.goblin_pe_sect.specs.Addresses.{IsIndexed, map_of, offset_of, reads_strictly};
 ghost use Rattle.goblin_pe_export.specs.ExportReadings.{export_read};
 ghost use Rattle.goblin_pe_export.specs.ExportRecords.{export_read_view};
+ghost use Rattle.goblin_pe_export.specs.Exports.{HasEntries, TakesRoomFor, export_data};
+ghost use Rattle.goblin_pe_import.specs.ImportDirectory.{TakesLibraries};
 ghost use Rattle.goblin_pe_import.specs.ImportReadings.{import_data};
-ghost use Rattle.goblin_pe_import.specs.Imports.{IsImportsFault, imports_of};
+ghost use Rattle.goblin_pe_import.specs.Imports.{IsImportsFault, imports_of, kept_count};
+ghost use Rattle.goblin_pe.specs.SectionRoom.{TakesExports, TakesImports, TakesTables};
+ghost use Rattle.goblin_pe.specs.Whole.{IsReadAnd};
 ghost use Rattle.goblin_pe.specs.Whole.{IsImportsPartFault, entry_format, export_part, import_part};
 ghost use Rattle.goblin_pe.specs.Whole.{import_parts, import_read_view, imports_part, items_part};
 ghost use Rattle.goblin_pe.specs.Whole.{listed_view, part_map, table_parts, table_places};
@@ -32,11 +36,15 @@ impl Places {
         directory: DataDirectory,
         address_map: &AddressMap,
     ) -> Result<ImportData<'a>>
-        ensures { let m = map_of address_map.now in
+        ensures made { let m = map_of address_map.now in
             let format = entry_format self.now.magic in
             let rva = directory.virtual_address in
             ReadsOrMemory (λ x. x) result
             (import_data (reads_strictly m) format (offset_of m) rva) bytes.now }
+        ensures grown { let m = map_of address_map.now in
+            let format = entry_format self.now.magic in
+            IfErr result (λ e. IsMemory e → IsSomeAnd (offset_of m directory.virtual_address)
+            (TakesLibraries (reads_strictly m) format (offset_of m) bytes.now)) }
     {
         if self.has_narrow_entries() {
             ImportData::parse_by::<u32>(alloc, bytes, directory, address_map)
@@ -46,16 +54,19 @@ impl Places {
     }
 
     // The import data, if it was asked for.
-    #[tactic(auto, unfolding(crate::specs::Whole::import_part), using(crate::proofs::Parts::becomes_same))]
+    #[tactic(auto, unfolding(crate::specs::Whole::import_part), using(crate::proofs::Parts::becomes_same, crate::proofs::TakenTables::becomes_taken))]
     fn import_data<'a>(
         &self,
         alloc: Global,
         bytes: &'a [u8],
         address_map: &AddressMap,
     ) -> Result<Part<ImportData<'a>>>
-        ensures { let m = map_of address_map.now in
+        ensures made { let m = map_of address_map.now in
             let places = table_places self.now in
             ReadsOrMemory (λ x. x) result (import_part m.opts (offset_of m) places) bytes.now }
+        ensures grown { let m = map_of address_map.now in
+            IfErr result
+            (λ e. IsMemory e → TakesImports m (table_places self.now) bytes.now) }
     {
         let opts = address_map.opts();
         match self.imports {
@@ -76,9 +87,10 @@ impl Places {
         libraries: &ImportData<'a>,
         sections: &[SectionTable],
     ) -> Result<Vec<Import<'a>>>
-        ensures { AnswersOrMemory (λ v. v.items) result
+        ensures made { AnswersOrMemory (λ v. v.items) result
             (imports_of (entry_format self.now.magic).width libraries.now)
             (IsImportsFault libraries.now) }
+        ensures grown { IfErr result (λ e. IsMemory e → 0 < kept_count libraries.now) }
     {
         if self.has_narrow_entries() {
             Import::parse::<u32>(alloc, bytes, libraries, sections)
@@ -88,7 +100,7 @@ impl Places {
     }
 
     // The list of imports.
-    #[tactic(auto, unfolding(crate::specs::Whole::imports_part, crate::specs::Whole::part_then, crate::specs::Whole::part_map), using(crate::proofs::Parts::becomes_answered))]
+    #[tactic(auto, unfolding(crate::specs::Whole::imports_part, crate::specs::Whole::part_then, crate::specs::Whole::part_map), using(crate::proofs::Parts::becomes_answered, crate::proofs::TakenTables::becomes_taken))]
     fn imports<'a>(
         &self,
         alloc: Global,
@@ -97,9 +109,11 @@ impl Places {
         sections: &[SectionTable],
         opts: &ParseOptions,
     ) -> Result<Part<Vec<Import<'a>>>>
-        ensures { AnswersOrMemory items_part result
+        ensures made { AnswersOrMemory items_part result
             (imports_part opts.now (table_places self.now) import_data.now)
             (IsImportsPartFault import_data.now) }
+        ensures grown { IfErr result (λ e. IsMemory e
+            → IsReadAnd (λ libraries. 0 < kept_count libraries) import_data.now) }
     {
         match import_data {
             Part::Absent => Ok(Part::Absent),
@@ -117,10 +131,13 @@ impl Places {
         address_map: &AddressMap,
         sections: &[SectionTable],
     ) -> Result<ImportRead<'a>>
-        ensures { let m = map_of address_map.now in
+        ensures made { let m = map_of address_map.now in
             let places = table_places self.now in
             ReadsOrMemory import_read_view result (import_parts m.opts (offset_of m) places)
             bytes.now }
+        ensures grown { let m = map_of address_map.now in
+            IfErr result
+            (λ e. IsMemory e → TakesImports m (table_places self.now) bytes.now) }
     {
         let import_data = self.import_data(alloc, bytes, address_map)?;
         let imports = self.imports(alloc, bytes, &import_data, sections, address_map.opts())?;
@@ -135,10 +152,13 @@ impl Places {
         bytes: &'a [u8],
         address_map: &AddressMap,
     ) -> Result<Part<ExportRead<'a>>>
-        ensures { let m = map_of address_map.now in
+        ensures made { let m = map_of address_map.now in
             let places = table_places self.now in
             ReadsOrMemory (part_map export_read_view) result
             (export_part m.opts (offset_of m) places) bytes.now }
+        ensures grown { let m = map_of address_map.now in
+            IfErr result
+            (λ e. IsMemory e → TakesExports m (table_places self.now) bytes.now) }
     {
         let Some(directory) = self.exports else {
             return Ok(Part::Absent);
@@ -160,9 +180,12 @@ impl Places {
         sections: &[SectionTable],
     ) -> Result<ListedTables<'a>>
         requires { IsIndexed address_map.now }
-        ensures { let m = map_of address_map.now in
+        ensures made { let m = map_of address_map.now in
             let places = table_places self.now in
             ReadsOrMemory listed_view result (table_parts m.opts (offset_of m) places) bytes.now }
+        ensures grown { let m = map_of address_map.now in
+            IfErr result
+            (λ e. IsMemory e → TakesTables m (table_places self.now) bytes.now) }
     {
         let imports = self.import_parts(alloc, bytes, address_map, sections)?;
         let exports = self.exports(alloc, bytes, address_map)?;
@@ -196,8 +219,12 @@ fn exports_of<'a>(
     directory: DataDirectory,
     address_map: &AddressMap,
 ) -> Result<ExportRead<'a>>
-    ensures { let m = map_of address_map.now in
+    ensures made { let m = map_of address_map.now in
         ReadsOrMemory export_read_view result (export_read (offset_of m) directory) bytes.now }
+    ensures grown { let m = map_of address_map.now in
+        IfErr result (λ e. IsMemory e
+        → IsSomeAnd (export_data (offset_of m) directory bytes.now) HasEntries) }
+    ensures room { IfOk result (λ read. TakesRoomFor 32 read.1) }
 {
     let data = ExportData::parse_by(alloc, bytes, directory, address_map)?;
     let exports = Export::parse_by(alloc, bytes, &data, address_map)?;

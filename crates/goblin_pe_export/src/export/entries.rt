@@ -8,7 +8,6 @@ ghost use Rattle.goblin_base.specs.Reading.{Reads};
 ghost use Rattle.goblin_pe_sect.specs.Addresses.{map_of, offset_of};
 ghost use Rattle.goblin_pe_export.specs.ExportReadings as reading;
 ghost use Rattle.goblin_pe_export.specs.ExportRecords.{ExportTables, tables_in};
-ghost use Rattle.goblin_pe_export.specs.Exports.{AreCounted};
 
 use crate::export::tables::{
     ExportAddressTable, ExportAddressTableEntry, ExportDirectoryTable, ExportNamePointerTable,
@@ -90,7 +89,6 @@ impl<'a> TablesInFile<'a> {
         ensures value { let m = map_of finder.old in
             let tables = reading.export_tables (offset_of m) directory table in
             tables.value bytes.now ≡ Some (tables_in result) }
-        ensures counted { AreCounted (tables_in result) }
         ensures same { finder.new ≡ finder.old }
     {
         let names = table.number_of_name_pointers;
@@ -122,7 +120,6 @@ impl<'a> TablesInFile<'a> {
     ) -> Result<TablesInFile<'a>>
         ensures value { let m = map_of finder.old in
             Reads tables_in result (reading.export_data (offset_of m) directory) bytes.now }
-        ensures counted { IfOk result (λ t. AreCounted (tables_in t)) }
         ensures same { finder.new ≡ finder.old }
     {
         let Some(offset) = finder.offset_of(directory.virtual_address) else {

@@ -58,7 +58,7 @@ pub fn read_exports<'a>(
 ///
 /// # Errors
 /// For each file as [`ExportData::parse_with_opts`] and [`Export::parse_with_opts`]; memory is
-/// asked for only if the record counts entries or addresses are mapped by sections.
+/// asked for only if a table has an entry or addresses are mapped by sections.
 #[tactic(auto, using(goblin_base::proofs::Readings::twins_or_memory))]
 pub fn twin_exports<'a>(
     alloc: Global,

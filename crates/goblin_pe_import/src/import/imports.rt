@@ -1,8 +1,9 @@
 //! A walk over all imports of an image.
 
 ghost use Rattle.std.specs.Prelude.{◌≡◌, ◌&&◌, ◌+◌, ◌-◌, ◌<◌, ◌≤◌, ◌^◌, ◌∷◌, ◌++◌, [], IfErr, IfOk, IfSome};
-ghost use Rattle.std.specs.Prelude.{MatchResult, None, Some, false, is_none, length, not, option_map, true};
-ghost use Rattle.std.specs.Prelude.{if◌then◌else◌, IsSomeAnd, IsOk, Ok};
+ghost use Rattle.std.specs.Prelude.{MatchOption, MatchResult, None, Some, false, is_none, length};
+ghost use Rattle.std.specs.Prelude.{not, option_map, true};
+ghost use Rattle.std.specs.Prelude.{if◌then◌else◌, IsSome, IsSomeAnd, IsOk, Ok};
 ghost use Rattle.std.specs.Iterator.{UpTo, at_most};
 ghost use Rattle.std.specs.Iterator.SizeHint.{IsWithinCount};
 ghost use Rattle.std.specs.List.{flat_map};
@@ -169,7 +170,8 @@ fn slots_bound(bytes: &[u8], place: Option<usize>) -> usize
 
 // No more imports come from the record at an offset on than this, if it fits.
 fn records_bound(bytes: &[u8], offset: usize) -> Option<usize>
-    ensures { IfSome result (λ n. n ≡ records_bound bytes.now offset) }
+    ensures value { IfSome result (λ n. n ≡ records_bound bytes.now offset) }
+    ensures fits { records_bound bytes.now offset < 2 ^ 64 → IsSome result }
 {
     let records = bytes.len().saturating_sub(offset) + 1;
     (bytes.len() + 2).checked_mul(records)
@@ -177,7 +179,8 @@ fn records_bound(bytes: &[u8], offset: usize) -> Option<usize>
 
 // No more imports come from a position on than this, if it fits.
 fn bound_at(bytes: &[u8], position: Option<ImportPosition>) -> Option<usize>
-    ensures { IfSome result (λ n. n ≡ bound_at bytes.now position) }
+    ensures value { IfSome result (λ n. n ≡ bound_at bytes.now position) }
+    ensures fits { bound_at bytes.now position < 2 ^ 64 → IsSome result }
 {
     let Some(at) = position else {
         return Some(0);
@@ -336,7 +339,8 @@ impl<'a, 'm> Walk<'a, 'm> {
 
     // No more imports come than this, if it fits.
     fn bound(&self) -> Option<usize>
-        ensures { IfSome result (λ n. n ≡ walk_bound self.now) }
+        ensures value { IfSome result (λ n. n ≡ walk_bound self.now) }
+        ensures fits { walk_bound self.now < 2 ^ 64 → IsSome result }
     {
         let untested = usize::from(self.untested.is_some());
         let slots = slots_bound(self.bytes, self.place) + untested;
@@ -385,6 +389,8 @@ impl<'a, 'm> Walk<'a, 'm> {
         ensures bytes { self.new.bytes.now ≡ self.old.bytes.now }
         ensures finder { self.new.finder ≡ self.old.finder }
         ensures fewer { IfSome result (λ r. walk_bound self.new < walk_bound self.old) }
+        ensures ended { let position = position_by self.new.place self.new.next in
+            MatchOption result (position ≡ None) (λ r. IfErr r (λ e. position ≡ None)) }
     {
         'libraries: loop {
             match next_kept::<T>(self.bytes, self.offset, self.place, &mut self.finder) {
@@ -573,6 +579,7 @@ impl<'a, 'm, 'e, T: Bitfield<'a>> Iterator for Imports<'a, 'm, 'e, T> {
     fn size_hint(&self) -> (usize, Option<usize>)
         ensures lower { IsWithinCount result.0 (at_most (imports_bound self.now)) }
         ensures upper { IfSome result.1 (UpTo (at_most (imports_bound self.now))) }
+        ensures fits { imports_bound self.now < 2 ^ 64 → IsSome result.1 }
     {
         (0, self.walk.bound())
     }

@@ -1,6 +1,6 @@
 //! The list of imports.
 
-ghost use Rattle.std.specs.Prelude.{◌≡◌, ◌<◌, ◌≤◌, ◌⊎◌, ◌++◌, ◌∷◌, [], IfErr, IfOk, None, OnErr};
+ghost use Rattle.std.specs.Prelude.{◌≡◌, ◌+◌, ◌<◌, ◌≤◌, ◌++◌, ◌∷◌, [], IfErr, IfOk, None, OnErr};
 ghost use Rattle.std.specs.Prelude.{OnOk, false, length, map, min, option_map, string_bytes, true};
 ghost use Rattle.std.specs.Prelude.{vec_capacity, vec_len};
 ghost use Rattle.std.specs.Option.{option_copied};
@@ -114,6 +114,7 @@ impl<'a> Import<'a> {
         ensures counted { IfErr result
             (λ e. IsMemory e → first_without_slots import_data.now ≡ None) }
         ensures grown { IfErr result (λ e. IsMemory e → 0 < kept_count import_data.now) }
+        ensures room { IfOk result (λ v. vec_capacity v ≡ kept_count import_data.now) }
         ensures bound { IfOk result (λ v. AreFew T.format import_data.now v.items) }
     {
         Ok(imports_of(alloc, &import_data.import_data, T::size_of())?)
@@ -167,7 +168,7 @@ fn count_of(libraries: &[SyntheticImportDirectoryEntry]) -> usize
     count
 }
 
-// Appends the import of an entry.
+// Appends the import of an entry, for which there is room.
 #[tactic(auto, unfolding(crate::specs::Imports::import_of))]
 fn push_entry<'a, 'e>(
     alloc: Global,
@@ -178,18 +179,20 @@ fn push_entry<'a, 'e>(
     offset: usize,
     size: usize,
 ) -> ResultOf<'e, ()>
+    requires { vec_len imports.old < vec_capacity imports.old }
     ensures added { OnOk result
         (imports.new.items
         ≡ imports.old.items ++ import_of dll.now slot offset size (entry_view entry.now) ∷ []) }
     ensures refused { IfErr result IsMemory }
     ensures grown { OnErr result
-        (((import_of dll.now slot offset size (entry_view entry.now)).is_borrowed ≡ false)
-        ⊎ (vec_capacity imports.old ≤ vec_len imports.old)) }
+        ((import_of dll.now slot offset size (entry_view entry.now)).is_borrowed ≡ false) }
+    ensures counted { OnOk result (vec_len imports.new ≡ vec_len imports.old + 1) }
+    ensures same { vec_capacity imports.new ≡ vec_capacity imports.old }
 {
     match entry {
         SyntheticImportLookupTableEntry::OrdinalNumber(ordinal) => {
             let name = ordinal_name(alloc, *ordinal)?;
-            imports.push(Import {
+            imports.push_reserved(Import {
                 name: CowStr::Owned(name),
                 dll,
                 ordinal: *ordinal,
@@ -197,10 +200,10 @@ fn push_entry<'a, 'e>(
                 rva: 0,
                 size,
                 slot,
-            })?;
+            });
         }
         SyntheticImportLookupTableEntry::HintNameTableRVA((rva, named)) => {
-            imports.push(Import {
+            imports.push_reserved(Import {
                 name: CowStr::Borrowed(named.name),
                 dll,
                 ordinal: named.hint,
@@ -208,14 +211,14 @@ fn push_entry<'a, 'e>(
                 rva: *rva as usize,
                 size,
                 slot,
-            })?;
+            });
         }
     }
     Ok(())
 }
 
 // Appends the imports of a table's entries, each in its slot of `size` bytes of the address table
-// at `rva`.
+// at `rva`; there is room for all.
 fn push_entries<'a, 'e>(
     alloc: Global,
     imports: &mut Vec<Import<'a>>,
@@ -225,11 +228,14 @@ fn push_entries<'a, 'e>(
     rva: u32,
     size: usize,
 ) -> ResultOf<'e, ()>
-    requires { length slots.now ≡ length entries.now }
+    requires slots { length slots.now ≡ length entries.now }
+    requires room { vec_len imports.old + length entries.now ≤ vec_capacity imports.old }
     ensures value { let made = imports_by size dll.now rva (map entry_view entries.now) slots.now in
         AnswersOrMemory (λ _. imports.new.items) result
         (option_map (λ more. imports.old.items ++ more) made) IsOverflow }
     ensures grown { IfErr result (λ e. IsMemory e → 0 < length entries.now) }
+    ensures counted { OnOk result (vec_len imports.new ≡ vec_len imports.old + length entries.now) }
+    ensures same { OnOk result (vec_capacity imports.new ≡ vec_capacity imports.old) }
 {
     'entries: for (position, entry) in entries.iter().enumerate() {
         let slot = slots[position];
@@ -241,18 +247,24 @@ fn push_entries<'a, 'e>(
     Ok(())
 }
 
-// Appends the imports from a library, whose address table has entries of `size` bytes.
+// Appends the imports from a library, whose address table has entries of `size` bytes; there is
+// room for all.
 fn push_imports<'a, 'e>(
     alloc: Global,
     imports: &mut Vec<Import<'a>>,
     library: &SyntheticImportDirectoryEntry<'a>,
     size: usize,
 ) -> ResultOf<'e, ()>
-    requires { has_slots library.now ≡ true }
+    requires slots { has_slots library.now ≡ true }
+    requires room { vec_len imports.old + length (kept_entries library.now)
+        ≤ vec_capacity imports.old }
     ensures value { AnswersOrMemory (λ _. imports.new.items) result
         (option_map (λ made. imports.old.items ++ made) (library_imports size library.now))
         IsOverflow }
     ensures grown { IfErr result (λ e. IsMemory e → 0 < length (kept_entries library.now)) }
+    ensures counted { OnOk result
+        (vec_len imports.new ≡ vec_len imports.old + length (kept_entries library.now)) }
+    ensures same { OnOk result (vec_capacity imports.new ≡ vec_capacity imports.old) }
 {
     push_entries(
         alloc,
@@ -276,6 +288,7 @@ fn imports_of<'a, 'e>(
         (IsImportsFault libraries.now) }
     ensures counted { IfErr result (λ e. IsMemory e → first_without_slots libraries.now ≡ None) }
     ensures grown { IfErr result (λ e. IsMemory e → 0 < kept_count libraries.now) }
+    ensures room { IfOk result (λ v. vec_capacity v ≡ kept_count libraries.now) }
 {
     if let Some(library) = first_without_slots(libraries) {
         let entries = kept_entries(library).len();

@@ -4,7 +4,7 @@ ghost use Rattle.std.specs.Prelude.{◌⊎◌, IfErr, IsSomeAnd, map};
 ghost use Rattle.goblin_base.specs.Answers.{IsMemory};
 ghost use Rattle.goblin_base.specs.Reading.{TwinsOrMemory};
 ghost use Rattle.goblin_pe_sect.specs.Addresses.{TakesMap, map_by, offset_of, reads_strictly};
-ghost use Rattle.goblin_pe_import.specs.ImportDirectory.{HasRecords};
+ghost use Rattle.goblin_pe_import.specs.ImportDirectory.{TakesLibraries};
 ghost use Rattle.goblin_pe_import.specs.ImportLookup.{KeepsEntries, entry_view};
 ghost use Rattle.goblin_pe_import.specs.ImportReadings.{import_data};
 ghost use Rattle.goblin_pe_import.specs.LookupReadings.{lookup_table};
@@ -99,13 +99,15 @@ pub fn twin_imports<'a, 'e, T: Bitfield<'a>>(
         IfErr result.0
         (λ e.
         IsMemory e
-        → IsSomeAnd (offset_of m directory.virtual_address) (HasRecords a.now)
+        → IsSomeAnd (offset_of m directory.virtual_address)
+        (TakesLibraries (reads_strictly m) T.format (offset_of m) a.now)
         ⊎ TakesMap opts.now sections.now file_alignment) }
     ensures second_grown { let m = map_by opts.now sections.now file_alignment in
         IfErr result.1
         (λ e.
         IsMemory e
-        → IsSomeAnd (offset_of m directory.virtual_address) (HasRecords b.now)
+        → IsSomeAnd (offset_of m directory.virtual_address)
+        (TakesLibraries (reads_strictly m) T.format (offset_of m) b.now)
         ⊎ TakesMap opts.now sections.now file_alignment) }
 {
     let first = ImportData::parse_with_opts::<T>(

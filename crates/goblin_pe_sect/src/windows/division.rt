@@ -5,7 +5,7 @@
 //! its owner.
 
 ghost use Rattle.std.specs.Prelude.{◌≡◌, ◌+◌, ◌*◌, ◌<◌, ◌≤◌, ◌∷◌, ℕ, [], ◌++◌, length, IsTrue, IfOk};
-ghost use Rattle.std.specs.Prelude.{None, Some};
+ghost use Rattle.std.specs.Prelude.{None, Some, vec_capacity};
 ghost use Rattle.goblin_pe_sect.specs.WindowDivision.{HasRoom, IsDivision};
 ghost use Rattle.goblin_pe_sect.specs.WindowIndex.{begins_of, owners_of};
 
@@ -22,6 +22,7 @@ fn push_piece(pieces: &mut Vec<Piece>, begin: usize, owner: Option<Owner>)
     ensures begins { begins_of pieces.new.items ≡ begins_of pieces.old.items ++ begin ∷ [] }
     ensures owners { owners_of pieces.new.items ≡ owners_of pieces.old.items ++ owner ∷ [] }
     ensures room { (n : ℕ) → HasRoom pieces.old (n + 1) → HasRoom pieces.new n }
+    ensures same { vec_capacity pieces.new ≡ vec_capacity pieces.old }
 {
     pieces.push_reserved(Piece::new(begin, owner));
 }
@@ -39,6 +40,7 @@ fn push_window(pieces: &mut Vec<Piece>, end: usize, window: Window)
     ensures owners { window.begin ≤ end → owners_of pieces.new.items
         ≡ owners_of pieces.old.items ++ Some window.owner ∷ [] }
     ensures room { (n : ℕ) → HasRoom pieces.old (n + 2) → HasRoom pieces.new n }
+    ensures same { vec_capacity pieces.new ≡ vec_capacity pieces.old }
 {
     if end < window.begin {
         push_piece(pieces, end, None);
@@ -58,7 +60,9 @@ fn push_in_order(
     requires aligned { 0 < file_alignment }
     requires empty { pieces.old.items ≡ [] }
     requires room { HasRoom pieces.old (2 * length sections.now + 1) }
-    ensures { IsTrue result → IsDivision opts.now sections.now file_alignment pieces.new.items }
+    ensures made { IsTrue result
+        → IsDivision opts.now sections.now file_alignment pieces.new.items }
+    ensures same { vec_capacity pieces.new ≡ vec_capacity pieces.old }
 {
     let mut end = 0;
     'sections: for (index, section) in sections.iter().enumerate() {
@@ -84,8 +88,10 @@ fn division_of_any(
     file_alignment: u32,
     opts: &ParseOptions,
 ) -> Result<Vec<Piece>, AllocError>
-    requires { 0 < file_alignment }
-    ensures { IfOk result (λ v. IsDivision opts.now sections.now file_alignment v.items) }
+    requires aligned { 0 < file_alignment }
+    requires room { 2 * length sections.now + 1 ≤ vec_capacity pieces }
+    ensures made { IfOk result (λ v. IsDivision opts.now sections.now file_alignment v.items) }
+    ensures same { IfOk result (λ v. vec_capacity v ≡ vec_capacity pieces) }
 {
     let begins = cuts_of(alloc, sections, file_alignment)?;
     put_pieces(alloc, &begins, sections, file_alignment, opts, &mut pieces)?;
@@ -101,7 +107,8 @@ pub(super) fn division_of(
     opts: &ParseOptions,
 ) -> Result<Vec<Piece>, AllocError>
     requires { 0 < file_alignment }
-    ensures { IfOk result (λ v. IsDivision opts.now sections.now file_alignment v.items) }
+    ensures made { IfOk result (λ v. IsDivision opts.now sections.now file_alignment v.items) }
+    ensures room { IfOk result (λ v. vec_capacity v ≡ 2 * length sections.now + 1) }
 {
     let mut pieces = Vec::with_capacity(alloc, 2 * sections.len() + 1)?;
     if push_in_order(&mut pieces, sections, file_alignment, opts) {

@@ -4,8 +4,9 @@
 //! some of them, and passes them on to its halves, so the steps grow like n log n.
 
 ghost use Rattle.std.specs.Prelude.{◌≡◌, ◌+◌, ◌^◌, ◌<◌, ◌≤◌, ◌++◌, IfOk, OnOk, map, find, filter};
-ghost use Rattle.std.specs.Prelude.{position};
+ghost use Rattle.std.specs.Prelude.{length, position, vec_capacity, vec_len};
 ghost use Rattle.std.specs.List.Sorted.{IsStrictlyIncreasing};
+ghost use Rattle.goblin_pe_sect.specs.WindowDivision.{HasRoom};
 ghost use Rattle.goblin_pe_sect.specs.WindowIndex.{begins_of, first_owner, owners_of};
 ghost use Rattle.goblin_pe_sect.specs.WindowStretches.{window_covers, window_meets};
 ghost use Rattle.goblin_pe_sect.specs.WindowStretches.{owner_among, piece_among, section_window_at};
@@ -153,18 +154,16 @@ fn piece_at(begin: usize, windows: &[Window]) -> Piece
 }
 
 // Adds the piece that begins at each address, by a walk over the windows for each.
-fn push_each_piece(
-    begins: &[usize],
-    windows: &[Window],
-    pieces: &mut Vec<Piece>,
-) -> Result<(), AllocError>
-    ensures { OnOk result
-        (pieces.new.items ≡ pieces.old.items ++ map (piece_among windows.now) begins.now) }
+fn push_each_piece(begins: &[usize], windows: &[Window], pieces: &mut Vec<Piece>)
+    requires { HasRoom pieces.old (length begins.now) }
+    ensures made { pieces.new.items
+        ≡ pieces.old.items ++ map (piece_among windows.now) begins.now }
+    ensures counted { vec_len pieces.new ≡ vec_len pieces.old + length begins.now }
+    ensures same { vec_capacity pieces.new ≡ vec_capacity pieces.old }
 {
     'pieces: for begin in begins {
-        pieces.push(piece_at(*begin, windows))?;
+        pieces.push_reserved(piece_at(*begin, windows));
     }
-    Ok(())
 }
 
 // Adds the piece that begins at each address: halves of the pieces, each with the windows that may
@@ -175,20 +174,24 @@ fn push_pieces(
     windows: &[Window],
     pieces: &mut Vec<Piece>,
 ) -> Result<(), AllocError>
-    requires { IsRising begins.now }
-    ensures { OnOk result
+    requires rising { IsRising begins.now }
+    requires room { HasRoom pieces.old (length begins.now) }
+    ensures made { OnOk result
         (pieces.new.items ≡ pieces.old.items ++ map (piece_among windows.now) begins.now) }
+    ensures counted { OnOk result (vec_len pieces.new ≡ vec_len pieces.old + length begins.now) }
+    ensures same { OnOk result (vec_capacity pieces.new ≡ vec_capacity pieces.old) }
 {
     if begins.is_empty() {
         return Ok(());
     }
     if windows.len() <= FEW {
-        return push_each_piece(begins, windows, pieces);
+        push_each_piece(begins, windows, pieces);
+        return Ok(());
     }
     let count = begins.len();
     let first = begins[0];
     if count == 1 {
-        pieces.push(piece_at(first, windows))?;
+        pieces.push_reserved(piece_at(first, windows));
         return Ok(());
     }
     let near = nearby(alloc, first, begins[count - 1], windows)?;
@@ -210,9 +213,11 @@ pub(super) fn put_pieces(
 ) -> Result<(), AllocError>
     requires aligned { 0 < file_alignment }
     requires rising { IsStrictlyIncreasing begins.now }
+    requires room { length begins.now ≤ vec_capacity pieces.old }
     ensures begins { OnOk result (begins_of pieces.new.items ≡ begins.now) }
     ensures owners { OnOk result
         (owners_of pieces.new.items ≡ map (first_owner opts.now sections.now file_alignment) begins.now) }
+    ensures same { OnOk result (vec_capacity pieces.new ≡ vec_capacity pieces.old) }
 {
     let windows = windows_of(alloc, sections, file_alignment, opts)?;
     pieces.clear();

@@ -1,8 +1,8 @@
 use Rattle.std.proofs.Common.{◌<◌, ◌^◌, ◌+◌, None, Some, Ok, Result, length, set, arith, subst}
 use Rattle.goblin_base.specs.declared.error.ErrorOf.{ErrorOf}
 use Rattle.goblin_pe_import.specs.declared.import.imports.WalkedImport.{WalkedImport}
-use Rattle.goblin_pe.specs.Layouts.{GivesFileImport, layout_map, layout_places}
-use Rattle.goblin_pe.proofs.ImportStarts.{file-given, file-kept}
+use Rattle.goblin_pe.specs.LayoutPositions.{GivesFileImport}
+use Rattle.goblin_pe.specs.Layouts.{layout_map, layout_places}
 use Rattle.goblin_pe_calls.proofs.ImportBatches.{goes-after, goes-end, imports-end, imports-full, imports-refused, library-kept}
 use Rattle.goblin_pe_calls.proofs.ImportBatches.{library-more}
 use Rattle.goblin_pe_calls.proofs.next.fill_imports.Goals as goal
@@ -18,7 +18,7 @@ imports-preserved c =
     let last = c.fill_library-count.new.imports in
     let x = c.in-Some-Ok.import in
     let is = subst (λ (r : Result WalkedImport ErrorOf). GivesFileImport now (Some r) next) c.in-Some-Ok.field-0-is c.in-Some-Ok.ensures.steps in
-    let kept = file-kept m places.magic bytes now (Some (Ok x)) next is c.imports.invariant.goes.walk in
+    let kept = is.1 m places.magic bytes c.imports.invariant.goes.walk in
     let fills = c.fill_library-count.ensures.filled in
     let there = library-kept m places.magic bytes next last (set c.imports.records c.imports.count c.put_import.new.place) c.fill_library-count.new.records (c.imports.count + 1) c.fill_library-count.result fills kept.0 kept.1 in
     let fits = c.bytes.type_inv in
@@ -42,8 +42,8 @@ returns-in-None-clause-filled c =
     let places = layout_places l in
     let now = c.imports.imports in
     let next = c.next.new.self in
-    let kept = file-kept m places.magic l.bytes.now now None next c.in-None.ensures.steps c.imports.invariant.goes.walk in
-    let none = (file-given now None next c.in-None.ensures.steps).0 in
+    let kept = c.in-None.ensures.steps.1 m places.magic l.bytes.now c.imports.invariant.goes.walk in
+    let none = c.in-None.ensures.steps.0 in
     let goes = goes-end m places l.bytes.now c.position_record-in-None.result next kept.0 c.imports.invariant.goes.asked none.1 c.position_record-in-None.ensures in
     let given = imports-end m places l.bytes.now c.args.imports c.args.position.now c.args.records.now now c.imports.position c.imports.records c.imports.count c.imports.invariant next c.position_record-in-None.result c.in-None.ensures.steps goes c.position_record-in-None.ensures c.imports-test.true in
     (given.batch, given.later, given.next, given.ended, given.stays)

@@ -23,7 +23,7 @@ returns-in_err-layout c =
     let h = header_value c.args.header.now in
     let found = c.requires in
     let error = err_from_is_err_and c.from_residual.result c.from_residual.ensures.1 in
-    let counted_some : IsMemory c.in_err-layout.field-0.0 → 0 < h.coff_header.number_of_sections = λ memory. omega (arith, (c.in_err-layout.ensures.grown memory).0) in
+    let counted_some : IsMemory c.in_err-layout.field-0.0 → 0 < h.coff_header.number_of_sections = λ memory. omega (arith, (c.in_err-layout.ensures.grown memory).1) in
     rw (error.1, error.2) (
       λ other. (let refused = c.in_err-layout.ensures.value other in sections-refused opts bytes h found _ (unmapped _ _ refused.0, refused.1)),
       λ memory. takes-records opts bytes h found

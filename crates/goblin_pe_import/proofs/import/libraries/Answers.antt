@@ -1,9 +1,9 @@
-use Rattle.std.proofs.Common.{true, false, arith, lit≤, refl}
+use Rattle.std.proofs.Common.{true, false, lit≤, refl}
 use Rattle.std.proofs.lemmas.Result.{err_from_is_err_and}
 use Rattle.goblin_base.specs.declared.error.ErrorOf.TheVariants.{Malformed}
 use Rattle.goblin_base.specs.declared.error.CauseOf.TheVariants.{ImportRecordEnd}
 use Rattle.goblin_base.proofs.Steps.{mapped, unmapped}
-use Rattle.readings.proofs.Loops.{read-end, read-last, read-missing, read-more, read-next, read-refused, read-start}
+use Rattle.readings.proofs.Loops.{read-end, read-last, read-missing, read-next, read-refused, read-start, read-takes}
 use Rattle.goblin_pe_import.specs.ImportReadings.{record_here}
 use Rattle.goblin_pe_import.proofs.Imports.{opposite}
 use Rattle.goblin_pe_import.proofs.Modes.{strict, permissive}
@@ -22,13 +22,13 @@ returns-in_err-add_library-clause-value g c =
     let e = err_from_is_err_and c.from_residual.result c.from_residual.ensures.1 in
     let going = opposite _ _ false c.is_possibly_valid.ensures c.if-not-is_possibly_valid.false in
     rw (e.1, e.2) (λ memory.
-    let refused = c.in_err-add_library.ensures memory in
+    let refused = c.in_err-add_library.ensures.value memory in
     read-refused _ _ _ _ _ _ c.records.invariant _ record_here _ _ c.in-Ok.ensures going (unmapped _ _ refused.0, refused.1))
 
 pub records-preserved : goal.records-preserved
 records-preserved g c =
     let going = opposite _ _ false c.is_possibly_valid.ensures c.if-not-is_possibly_valid.false in
-    let m = mapped _ _ _ c.in_ok-add_library.ensures in
+    let m = mapped _ _ _ c.in_ok-add_library.ensures.value in
     rw (← m.made) (read-next _ _ _ _ _ _ c.records.invariant _ _ c.in-Ok.ensures going m.is)
 
 pub returns-clause-value : goal.returns-clause-value
@@ -43,5 +43,5 @@ returns-clause-value g c =
 pub returns-in_err-add_library-clause-grown : goal.returns-in_err-add_library-clause-grown
 returns-in_err-add_library-clause-grown g c =
     let e = err_from_is_err_and c.from_residual.result c.from_residual.ensures.1 in
-    let more = read-more _ _ _ _ _ _ c.records.invariant _ c.in-Ok.ensures (opposite _ _ false c.is_possibly_valid.ensures c.if-not-is_possibly_valid.false) in
-    rw (e.1, e.2) (λ _. omega (arith, more))
+    let going = opposite _ _ false c.is_possibly_valid.ensures c.if-not-is_possibly_valid.false in
+    rw (e.1, e.2) (λ memory. read-takes _ _ _ _ _ _ c.records.invariant _ _ c.in-Ok.ensures going (c.in_err-add_library.ensures.grown memory))

@@ -32,17 +32,19 @@ sections-preserved c =
           record {
             order = order;
             room = rw w.pieces-is (w.push_window.ensures.room left (omega (arith, c.sections.invariant.room)));
+            same = rw w.pieces-is (w.push_window.ensures.same ∙ c.sections.invariant.same);
           }
       | else-window w ↦
           let empty : read_size s c.args.file_alignment ≡ 0 = omega (arith, w.if-window.false, begin, end) in
           rw (w.pieces-is, w.end-is) (record {
             order = in_order_empty _ _ _ _ _ _ _ s c.sections.invariant.order here empty;
             room = omega (arith, c.sections.invariant.room);
+            same = c.sections.invariant.same;
           })
     ]
 
-pub returns : goal.returns
-returns c = λ yes. record {
+pub returns-clause-made : goal.returns-clause-made
+returns-clause-made c = λ yes. record {
   cut = rw c.push_piece.ensures.begins (cut_in_order _ _ _ _ _ _ _ c.sections.invariant.order (omega arith));
   near = near_in_order _ _ _ _ _ _ _ c.sections.invariant.order (omega arith);
   owned = rw (c.push_piece.ensures.begins, c.push_piece.ensures.owners) (owners_in_order _ _ _ _ _ _ _ c.sections.invariant.order (omega arith));

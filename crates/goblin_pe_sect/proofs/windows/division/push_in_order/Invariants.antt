@@ -1,4 +1,5 @@
-use Rattle.std.proofs.Common.{◌+◌, ◌-◌, ◌*◌, length}
+use Rattle.std.proofs.Common.{◌≡◌, ◌+◌, ◌-◌, ◌*◌, length}
+use Rattle.std.specs.Prelude.{vec_capacity}
 use Rattle.goblin_pe_sect.specs.WindowDivision.{HasRoom}
 use Rattle.goblin_pe_sect.specs.WindowIndex.{begins_of, owners_of}
 use Rattle.goblin_pe_sect.proofs.InOrder.{AreInOrder}
@@ -8,4 +9,5 @@ abbrev pub invariant-sections : goal.invariant-sections
 invariant-sections l = record {
   order : AreInOrder l.fn.opts l.fn.file_alignment l.fn.sections (begins_of l.pieces.items) (owners_of l.pieces.items) l.end l.index;
   room : HasRoom l.pieces (2 * (length l.fn.sections - l.index) + 1);
+  same : vec_capacity l.pieces ≡ vec_capacity l.fn.pieces;
 }

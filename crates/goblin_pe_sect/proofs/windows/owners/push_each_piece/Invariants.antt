@@ -1,6 +1,10 @@
-use Rattle.std.proofs.Common.{◌≡◌, ◌++◌, map, take}
+use Rattle.std.proofs.Common.{◌≡◌, ◌+◌, ◌++◌, map, take}
+use Rattle.std.specs.Prelude.{vec_capacity, vec_len}
 use Rattle.goblin_pe_sect.specs.WindowStretches.{piece_among}
 use Rattle.goblin_pe_sect.proofs.windows.owners.push_each_piece.Given as goal
 
 abbrev pub invariant-pieces : goal.invariant-pieces
-invariant-pieces l = l.pieces.items ≡ l.fn.pieces.items ++ map (piece_among l.fn.windows) (take l.begin-index l.fn.begins)
+invariant-pieces l =
+    (l.pieces.items ≡ l.fn.pieces.items ++ map (piece_among l.fn.windows) (take l.begin-index l.fn.begins))
+    × (vec_len l.pieces ≡ vec_len l.fn.pieces + l.begin-index)
+    × (vec_capacity l.pieces ≡ vec_capacity l.fn.pieces)
