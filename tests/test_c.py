@@ -168,8 +168,8 @@ class Loader(Case):
     def test_what_is_mapped_is_told(self):
         self.assertEqual(self.resolved([], 0), [
             "image.exe for machine 0x8664 at 0x180010000", "section at 0x1000: 512 bytes and 1536 zeros",
-            "section at 0x2000: 512 bytes and 0 zeros", "section at 0x3000: 512 bytes and 0 zeros",
-            "Fruit.dll for machine 0x8664 at 0x180010000", "section at 0x1000: 512 bytes and 0 zeros",
+            "section at 0x2000: 20 bytes and 0 zeros", "section at 0x3000: 14 bytes and 0 zeros",
+            "Fruit.dll for machine 0x8664 at 0x180010000", "section at 0x1000: 127 bytes and 0 zeros",
             "relocation at 0x1000: 0x180011000", "relocation at 0x1008: 0x180011001", "relocation at 0x1010: 0x180011002",
             "3 base relocations"])
 
@@ -178,11 +178,37 @@ class Loader(Case):
         The blocks end in a word of padding."""
         blocks = struct.pack("<2I2H2I4H", 0, 12, 0x303C, 0, 0x1000, 16, 0x3000, 0x3004, 0, 0)
         image = self.written("narrow.dll", images.sample(
-            (0x74, struct.pack("<I", 0x400000)), (0x90, struct.pack("<2I", 0x2000, 0x200)), (0xB8, bytes(16)),
+            (0x74, struct.pack("<2I", 0x400000, 0x1000)), (0x90, struct.pack("<2I", 0x2000, 0x200)), (0xB8, bytes(16)),
             (0xE0, struct.pack("<2I", 0x1020, len(blocks))), (0x200, struct.pack("<2I", 0x401234, 0xFFFF8000)), (0x220, blocks)))
         self.assertEqual(succeed([built("loader"), image]).splitlines(), [
             "narrow.dll for machine 0x14c at 0x410000", "section at 0x1000: 256 bytes and 0 zeros",
             "relocation at 0x3c: 0x10040", "relocation at 0x1000: 0x411234", "relocation at 0x1004: 0x8000", "3 base relocations"])
+
+    def test_raw_pointers_are_rounded_where_sections_are_aligned_to_pages(self):
+        """Those of the sections with the numbers and the imports; what is told is the same."""
+        image = images.importer([(b"fruit.dll", [b"Apple"])], relocated=3)
+        past = images.with_parts(image, (0x15C, struct.pack("<I", 0x210)), (0x184, struct.pack("<I", 0x5FF)))
+        wanted, told = (succeed([built("loader"), self.written("image.exe", it), self.library]) for it in (image, past))
+        self.assertEqual(told, wanted)
+        self.assertIn("fruit.dll Apple: 0x180013010 in the slot at 0x2050", told)
+
+    def test_an_image_whose_sections_are_not_aligned_to_pages_is_one_view(self):
+        """Its raw pointers are no multiples of 512, and are not rounded: what it exports is found."""
+        self.library = SAMPLES / "align16_x64.dll"
+        data = self.library.read_bytes()
+        header = int.from_bytes(data[0x3C:0x40], "little")
+        base, = struct.unpack_from("<Q", data, header + 0x30)
+        size, = struct.unpack_from("<I", data, header + 0x50)
+        told = self.resolved([(b"align16_x64.dll", [b"answer"])], 0)
+        self.assertIn(f"one flat view of {min(len(data), size)} bytes", told)
+        self.assertEqual(told[-1], f"align16_x64.dll answer: {base + 0x10220:#x} in the slot at 0x2058")
+
+    def test_an_image_whose_relocations_are_stripped_is_not_moved(self):
+        image = bytearray(images.importer([(b"fruit.dll", [b"Apple"])], relocated=3))
+        image[0x56] |= 1
+        told = succeed([built("loader"), self.written("image.exe", image), self.library]).splitlines()
+        self.assertEqual(told[0], "image.exe for machine 0x8664 at 0x180000000")
+        self.assertEqual(told[told.index("0 base relocations") + 1:], ["fruit.dll Apple: 0x180013010 in the slot at 0x2050"])
 
     def test_imports_by_name_and_by_ordinal(self):
         self.assert_resolves([(b"FRUIT.DLL", [b"Elder", 10, 11, b"Apple"])], 0, [
@@ -347,7 +373,10 @@ class Reuse(Case):
         data, text, program = BY_NAME.read_bytes(), CALLERS / "build", SAMPLES / "program_x64.exe"
         no_header = self.written("no_header.dll", data[:140] + bytes(2) + data[142:])
         no_exports = self.written("no_exports.dll", images.without_directory(data, 0))
-        self.files = [program, text, *sorted(SAMPLES.glob("*.dll")), no_header, no_exports, text, program]
+        # (of a library, of an import whose hint ends with the file, and of an export)
+        no_names = self.written("no_names.dll", images.sample(
+            (0x20C, struct.pack("<I", 0x9000)), (0x240, struct.pack("<I", 0x10FE)), (0x2D0, struct.pack("<I", 0x9000))))
+        self.files = [program, text, *sorted(SAMPLES.glob("*.dll")), no_header, no_exports, no_names, text, program]
         self.command = [built("reuse", "-std=c99"), *self.files]
         self.kinds = [*IMAGES, *OBJECTS, *TERSE]
         self.loaded = [self.written("image.exe", images.importer([(b"fruit.dll", [b"Apple", 1])], relocated=3)),

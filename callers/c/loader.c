@@ -1,9 +1,10 @@
-/* Loads an image as the Windows loader does, up to the point where its code would run: loader IMAGE LIBRARY...
-   It maps the headers and the sections into memory, applies the base relocations for an address 64 KiB above the
-   preferred one, and resolves each import against the libraries, which it opens the same way. It tells what it finds,
-   and what stands in memory after each relocation. A library stands for the imports whose library has the name of its
-   file, with or without the ending .dll. Forwarders are followed through the libraries. The status is 0 where all is
-   resolved. */
+/* Loads an image up to the point where its code would run: loader IMAGE LIBRARY... As the Windows loader does, it maps
+   the headers and the sections into memory, these from their raw pointers rounded down to 512 and up to their virtual
+   sizes; an image whose sections are not aligned to pages it maps as one flat view of the file. It applies the base
+   relocations for an address 64 KiB above the preferred one, where an image whose relocations are stripped stays, and
+   resolves each import against the libraries, which it opens the same way. It tells what it finds, and what stands in
+   memory after each relocation. A library stands for the imports whose library has the name of its file, with or
+   without the ending .dll. Forwarders are followed through the libraries. The status is 0 where all is resolved. */
 #include "goblin_pe.h"
 
 #include <ctype.h>
@@ -17,6 +18,12 @@
 
 /* An import goes through no more forwarders: they may lead in a ring. */
 #define MOST_FORWARDERS 8
+
+/* The size of a page. */
+#define PAGE 4096
+
+/* The bit of a COFF header that says that an image has no base relocations, IMAGE_FILE_RELOCS_STRIPPED. */
+#define RELOCS_STRIPPED 1
 
 struct module {
     const char *name;
@@ -38,6 +45,17 @@ struct wanted {
     size_t hint;
     bool is_by_name;
 };
+
+static const struct goblin_pe_windows_fields *fields_of(const struct module *m)
+{
+    return &m->file.optional_header.windows_fields;
+}
+
+/* Whether each section is mapped by itself; where not, the file is one flat view. */
+static bool is_in_pages(const struct module *m)
+{
+    return fields_of(m)->section_alignment >= PAGE;
+}
 
 static bool is_wide(const struct module *m)
 {
@@ -95,30 +113,61 @@ static bool read_file(struct module *m, const char *path)
     return m->bytes;
 }
 
-/* Maps the headers and each section; what the file lacks of these is zeros already. */
+static size_t least(size_t a, size_t b)
+{
+    return a < b ? a : b;
+}
+
+/* Maps a section: of its raw data no more than its virtual size, where it has one. What the file lacks of it is zeros
+   already. */
+static struct goblin_pe_fault map_section(struct module *m, const struct goblin_pe_section *s)
+{
+    struct goblin_pe_section_data data;
+    struct goblin_pe_fault fault = goblin_pe_read_section_data(&m->image, s, &data);
+    if (fault.status != GOBLIN_PE_STATUS_OK)
+        return fault;
+    size_t size = s->virtual_size ? least(data.bytes.length, s->virtual_size) : data.bytes.length;
+    size = least(size, m->size - least(s->virtual_address, m->size));
+    if (size)
+        memcpy(m->mapped + s->virtual_address, data.bytes.bytes, size);
+    printf("section at 0x%x: %zu bytes and %zu zeros\n", s->virtual_address, size, data.zeros);
+    return fault;
+}
+
+/* Maps the headers and each section, or the file as one view. */
 static int map(struct module *m)
 {
-    const struct goblin_pe_windows_fields *fields = &m->file.optional_header.windows_fields;
-    size_t headers = fields->size_of_headers < m->length ? fields->size_of_headers : m->length;
-    m->size = fields->size_of_image;
-    m->base = fields->image_base + 0x10000;
+    size_t front = is_in_pages(m) ? fields_of(m)->size_of_headers : m->length;
+    m->size = fields_of(m)->size_of_image;
     m->mapped = m->size > MOST_BYTES ? NULL : calloc(m->size + 1, 1);
-    if (!m->mapped || headers > m->size)
+    if (!m->mapped)
         return fprintf(stderr, "%s: it can't be mapped\n", m->name), 1;
-    memcpy(m->mapped, m->bytes, headers);
+    front = least(least(front, m->length), m->size);
+    memcpy(m->mapped, m->bytes, front);
+    if (!is_in_pages(m))
+        return printf("one flat view of %zu bytes\n", front), 0;
     for (size_t i = 0; i < m->tables.section_count; i++) {
-        const struct goblin_pe_section *s = &m->tables.sections[i];
-        struct goblin_pe_section_data data;
-        struct goblin_pe_fault fault = goblin_pe_read_section_data(&m->image, s, &data);
+        struct goblin_pe_fault fault = map_section(m, &m->tables.sections[i]);
         if (fault.status != GOBLIN_PE_STATUS_OK)
             return refused(m, fault);
-        size_t end = m->size - (s->virtual_address < m->size ? s->virtual_address : m->size);
-        size_t size = data.bytes.length < end ? data.bytes.length : end;
-        if (size)
-            memcpy(m->mapped + s->virtual_address, data.bytes.bytes, size);
-        printf("section at 0x%x: %zu bytes and %zu zeros\n", s->virtual_address, size, data.zeros);
     }
     return 0;
+}
+
+/* Opens an image with raw pointers rounded where its sections are aligned to pages, which a first look tells. */
+static struct goblin_pe_fault open_image(struct module *m)
+{
+    static const struct goblin_pe_options look = { .is_permissive = true };
+    struct goblin_pe_options options = GOBLIN_PE_DEFAULT_OPTIONS;
+    struct goblin_pe_fault fault = goblin_pe_open(m->bytes, m->length, &look, &m->file, NULL, 0, &m->tables);
+    if (fault.status != GOBLIN_PE_STATUS_OK)
+        return fault;
+    goblin_pe_free(&m->tables);
+    options.rounds_raw_pointers = is_in_pages(m);
+    fault = goblin_pe_open(m->bytes, m->length, &options, &m->file, NULL, 0, &m->tables);
+    if (fault.status == GOBLIN_PE_STATUS_OK)
+        m->image = goblin_pe_image_of(m->bytes, m->length, &options, &m->file, &m->tables);
+    return fault;
 }
 
 static int open_module(struct module *m, const char *path)
@@ -126,12 +175,11 @@ static int open_module(struct module *m, const char *path)
     struct goblin_pe_fault fault;
     if (!read_file(m, path))
         return fprintf(stderr, "%s: it can't be read\n", path), 1;
-    fault = goblin_pe_open(m->bytes, m->length, NULL, &m->file, NULL, 0, &m->tables);
+    fault = open_image(m);
     if (fault.status != GOBLIN_PE_STATUS_OK)
         return refused(m, fault);
-    m->image = goblin_pe_image_of(m->bytes, m->length, NULL, &m->file, &m->tables);
-    printf("%s for machine 0x%x at 0x%" PRIx64 "\n", m->name, m->file.coff_header.machine,
-           m->file.optional_header.windows_fields.image_base + 0x10000);
+    m->base = fields_of(m)->image_base + (m->file.coff_header.characteristics & RELOCS_STRIPPED ? 0 : 0x10000);
+    printf("%s for machine 0x%x at 0x%" PRIx64 "\n", m->name, m->file.coff_header.machine, m->base);
     return map(m);
 }
 
@@ -139,9 +187,9 @@ static int open_module(struct module *m, const char *path)
    stands there then. */
 static int relocate(struct module *m)
 {
-    uint64_t moved = m->base - m->file.optional_header.windows_fields.image_base;
+    uint64_t moved = m->base - fields_of(m)->image_base;
     size_t count = 0;
-    for (size_t i = 0; i < m->tables.block_count; i++) {
+    for (size_t i = 0; moved && i < m->tables.block_count; i++) {
         const struct goblin_pe_block *block = &m->tables.blocks[i];
         for (size_t j = 0; j + 1 < block->words.length; j += 2) {
             unsigned word = (unsigned)number_at(block->words.bytes + j, 2), type = word >> 12;

@@ -1,6 +1,7 @@
 /* Opens each file with the same records, as a scanner does: reuse FILE... The status is 0 where each file is
-   read or refused, what is told of a file is its own, all that points into it does, a walk of two records at a
-   time gives what is listed, and the header is written as it was read. The records hold anything at first. */
+   read or refused, what is told of a file is its own, all that points into it does, in both modes, a walk of two
+   records at a time gives what is listed, and the header is written as it was read. The records hold anything at
+   first. No text of the files is empty. */
 #include "goblin_pe.h"
 
 #include <stdio.h>
@@ -16,16 +17,23 @@ static bool is_in_file(struct goblin_pe_text text)
     return offset <= length && text.length <= length - offset;
 }
 
+/* Whether a text lies in the file, or is absent, or one that permissive mode could not read: such a text has no bytes,
+   and points at the file's first. */
+static bool is_text(struct goblin_pe_text text)
+{
+    return text.length ? is_in_file(text) : text.bytes == bytes;
+}
+
 static bool is_export_in_file(const struct goblin_pe_export *x)
 {
-    return is_in_file(x->name) && is_in_file(x->forward_lib) && is_in_file(x->forward_name);
+    return is_text(x->name) && is_text(x->forward_lib) && is_text(x->forward_name);
 }
 
 static bool is_section_in_file(const struct goblin_pe_section *s)
 {
     const struct goblin_pe_image whole = { .bytes = { bytes, length } };
     struct goblin_pe_section_data data;
-    return is_in_file(s->real_name) &&
+    return is_text(s->real_name) &&
            (goblin_pe_read_section_data(&whole, s, &data).status != GOBLIN_PE_STATUS_OK || is_in_file(data.bytes));
 }
 
@@ -35,12 +43,24 @@ static bool are_in_file(const struct goblin_pe_tables *tables)
     for (size_t i = 0; i < tables->section_count; i++)
         are_right &= is_section_in_file(&tables->sections[i]);
     for (size_t i = 0; i < tables->import_count; i++)
-        are_right &= is_in_file(tables->imports[i].name) && is_in_file(tables->imports[i].dll);
+        are_right &= is_text(tables->imports[i].name) && is_text(tables->imports[i].dll);
     for (size_t i = 0; i < tables->export_count; i++)
         are_right &= is_export_in_file(&tables->exports[i]);
     for (size_t i = 0; i < tables->block_count; i++)
         are_right &= is_in_file(tables->blocks[i].words);
-    return are_right && is_in_file(tables->export_directory.name);
+    return are_right && is_text(tables->export_directory.name);
+}
+
+/* Whether all that points into the file does so in permissive mode, where the file is read. */
+static bool is_permissively_in_file(struct goblin_pe_file *file, struct goblin_pe_tables *tables)
+{
+    struct goblin_pe_options options = GOBLIN_PE_DEFAULT_OPTIONS;
+    options.is_permissive = true;
+    if (goblin_pe_open(bytes, length, &options, file, NULL, 0, tables).status != GOBLIN_PE_STATUS_OK)
+        return true;
+    bool is_right = are_in_file(tables);
+    goblin_pe_free(tables);
+    return is_right;
 }
 
 /* Whether the ranges of the footprint lie in the file, each behind a byte that is in none. */
@@ -139,6 +159,8 @@ int main(int argc, char **argv)
             return 3;
         length = fread(bytes, 1, sizeof bytes, from);
         fclose(from);
+        if (!is_permissively_in_file(&file, &tables))
+            return 8;
         struct goblin_pe_fault fault = goblin_pe_open(bytes, length, NULL, &file, directories, 16, &tables);
         if (fault.status != GOBLIN_PE_STATUS_OK)
             continue;
