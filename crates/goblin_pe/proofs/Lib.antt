@@ -19,6 +19,7 @@ pub mod KeptImports
 pub mod Layouts
 pub mod ListedImports
 pub mod NumberedExports
+pub mod NumberedFootprints
 pub mod Parts
 pub mod PermissiveReads
 pub mod SectionNames

@@ -1,7 +1,6 @@
 -- The exports of a file are the rows of those with their numbers.
 use Rattle.std.proofs.Common.{◌≡◌, ◌∙◌, ℕ, List, map, Bool, true, false, Option, Some, None, refl, sym, ap, subst}
 use Rattle.goblin_base.proofs.Steps.{mapped, same_value, step}
-use Rattle.readings.specs.Reads.{pair_of}
 use Rattle.goblin_pe_sect.specs.declared.data_directories.DataDirectory.{DataDirectory}
 use Rattle.goblin_pe_sect.specs.declared.options.ParseOptions.{ParseOptions}
 use Rattle.goblin_pe_sect.specs.Options.{is_strict}
@@ -13,6 +12,7 @@ use Rattle.goblin_pe_export.proofs.ExportWalk.{read_walked}
 use Rattle.goblin_pe.specs.declared.whole.Part.{Part}
 use Rattle.goblin_pe.specs.declared.whole.Part.TheVariants.{Absent, Refused}
 use Rattle.goblin_pe.specs.declared.whole.Part.TheVariants as part
+use Rattle.goblin_pe.proofs.NumberedFootprints.{first-of, second-of}
 use Rattle.goblin_pe.proofs.Parts.{part_map-twice}
 use Rattle.goblin_pe.specs.Whole.{WholeFile, export_part, offset_by}
 use Rattle.goblin_pe.specs.Whole.{part_at, part_map, part_of, places_in}
@@ -24,18 +24,6 @@ abbrev pub numbered_exports : ParseOptions → List ℕ → WholeFile → Part (
 numbered_exports opts bytes w =
     let offset_of = offset_by opts w.sections (places_in w.header.optional_header) in
     part_map (λ tables. numbered_from offset_of bytes tables 0) w.export_data
-
-first-of : {A B : Type 0} (a : Option A) (b : Option B) (x : A × B) → pair_of a b ≡ Some x
-    → a ≡ Some x.0
-first-of None b x is = absurd cc
-first-of (Some a) None x is = absurd cc
-first-of {A} {B} (Some a) (Some b) x is = ap (λ (y : A × B). Some y.0) (same_value (a, b) x is)
-
-second-of : {A B : Type 0} (a : Option A) (b : Option B) (x : A × B) → pair_of a b ≡ Some x
-    → b ≡ Some x.1
-second-of None b x is = absurd cc
-second-of (Some a) None x is = absurd cc
-second-of {A} {B} (Some a) (Some b) x is = ap (λ (y : A × B). Some y.1) (same_value (a, b) x is)
 
 module _ (offset_of : ℕ → Option ℕ) (bytes : List ℕ) where
   abbrev numbered_rows : ExportTables → List ExportRow

@@ -3,7 +3,7 @@
 ghost use Rattle.std.specs.Prelude.{◌≡◌, length};
 ghost use Rattle.goblin_pe_sect.specs.Options.{is_strict};
 ghost use Rattle.goblin_pe_head.specs.HeaderReadings.{pe_header};
-ghost use Rattle.goblin_pe.specs.Whole.{layout, whole_file};
+ghost use Rattle.goblin_pe.specs.Whole.{layout};
 ghost use Rattle.goblin_pe_calls.specs.Batches.{ExportBatch, GivesBatch, GivesExports, GivesImports};
 ghost use Rattle.goblin_pe_calls.specs.Batches.{ImportBatch, IsExportsFault, IsImportsFault};
 ghost use Rattle.goblin_pe_records.specs.Calls.{ReadsInto, Reported};
@@ -12,7 +12,7 @@ ghost use Rattle.goblin_pe_calls.specs.Damages.{TellsDamage};
 ghost use Rattle.goblin_pe_calls.specs.Footprints.{Lists};
 ghost use Rattle.goblin_pe_calls.specs.Growth.{TakesRecords};
 ghost use Rattle.goblin_pe_records.specs.Kinds.{kind_number, kind_of};
-ghost use Rattle.goblin_pe_calls.specs.Opened.{Opened, Opens};
+ghost use Rattle.goblin_pe_calls.specs.Opened.{Opened, Opens, opened_file};
 ghost use Rattle.goblin_pe_records.specs.Options.{options_of};
 
 use goblin_pe_calls::damage::{self, PeDamage};
@@ -70,7 +70,7 @@ pub extern "C" fn goblin_pe_raw_open<'a>(
         let opts = options_of options.now in
         Reported result
         (ReadsInto (pe_header (is_strict opts.parse_mode)) (TakesRecords opts bytes.now)
-        (whole_file opts) bytes.now (λ w. Opens opts bytes.now w old new) (new ≡ old)) }
+        (opened_file opts) bytes.now (λ read. Opens read old new) (new ≡ old)) }
 {
     let opts = options_of(options);
     status_of(open::open(alloc, bytes, &opts, file, directories, tables))
@@ -79,14 +79,16 @@ pub extern "C" fn goblin_pe_raw_open<'a>(
 /// Fills `records` with the imports of a file from a position on, as many as there is room for,
 /// says in `count` how many, and leaves in `position` where the next call goes on. With room for
 /// any, a `count` of 0 is the end. Zeros are the position of the first import; a file without an
-/// import directory, or imports that are not asked for, have none. Where nothing is left, and there
+/// import directory, or imports that are not asked for, have none, and in permissive mode neither
+/// has a directory without a file offset, or at the offset 0. Where nothing is left, and there
 /// is room for more, the position's `record` is then the greatest number, and its `slot` 0; without
 /// room the position stays.
 ///
 /// Refused, with nothing changed, are a header or sections that the options refuse; in strict mode
 /// an import directory whose address has no offset, if the position is the first; and in strict
 /// mode the very next import, if there is room for it. Imports that come before a refusal are
-/// given, and the next call is refused. Memory (the status 5) is refused only of a file that has
+/// given, and the next call is refused; no law says on which bytes those before a refusal depend.
+/// Memory (the status 5) is refused only of a file that has
 /// more than 96 sections, and room for as many as its header says: it is taken for an index of them,
 /// and given back before the call returns.
 #[unsafe(no_mangle)]
@@ -144,7 +146,8 @@ pub extern "C" fn goblin_pe_raw_next_exports<'a>(
 
 /// Tells in `damage` what strict mode would refuse of a file, part by part, where its header and
 /// its sections are read as the options say. Each part is read for itself: damage of one says
-/// nothing of the others. A file without damage is one that strict mode reads.
+/// nothing of the others. A file without damage is one that strict mode reads, and permissive mode
+/// alike; but an import directory at file offset 0 is an empty list there, without damage.
 ///
 /// No table is listed: memory is taken only for an index of more than 96 sections, and given back
 /// before the call returns. Refused are a header or sections that these options refuse, and memory
@@ -166,10 +169,10 @@ pub extern "C" fn goblin_pe_raw_read_damage(
     status_of(damage::tell(alloc, bytes, &options_of(options), damage))
 }
 
-/// Puts into `ranges` the positions of a file on which a read of the whole file by these options
-/// depends: of two files of one length with the same bytes there, both have the same header,
-/// sections and tables, or both are refused, not always for the same cause. A file that is refused
-/// has a footprint, too.
+/// Puts into `ranges` the positions of a file on which all that
+/// [`goblin_pe_raw_open`](crate::file::goblin_pe_raw_open) gives by these options depends: of two
+/// files of one length with the same bytes there, both have the same header, sections and tables, or
+/// both are refused, not always for the same cause. A file that is refused has a footprint, too.
 ///
 /// The ranges come in order, with a position between each and the next; none is empty, and none
 /// passes the file. They are a block of memory that the caller frees, if there is one. Refused is
@@ -181,7 +184,7 @@ pub extern "C" fn goblin_pe_raw_footprint<'a>(
     options: &PeOptions,
     ranges: &mut PeRanges<'a>,
 ) -> PeFault
-    ensures { let footprint = (whole_file (options_of options.now)).reaches bytes.now in
+    ensures { let footprint = (opened_file (options_of options.now)).reaches bytes.now in
         Reported result (Lists (length bytes.now) footprint ranges.old ranges.new) }
 {
     status_of(footprint::list(alloc, bytes, &options_of(options), ranges))

@@ -35,7 +35,7 @@ use Rattle.goblin_pe_calls.specs.Exports.{ExportsSaid, export_said, exports_said
 use Rattle.goblin_pe_calls.specs.Exports.{file_exports}
 use Rattle.goblin_pe_calls.specs.Files.{entries_of, table_of}
 use Rattle.goblin_pe_calls.specs.Imports.{import_said, import_views}
-use Rattle.goblin_pe_calls.specs.Opened.{RecordsOfFile, records_of_file, records_view, tables_view}
+use Rattle.goblin_pe_calls.specs.Opened.{RecordsOfFile, opened_file, records_of_file, records_view, tables_view}
 
 -- ---- tables by what is made of each entry
 
@@ -111,6 +111,13 @@ file-of-records opts bytes v is =
           ∙ rows-table (offset_by opts w.sections (places_in w.header.optional_header)) bytes w.export_data
           ∙ ap (λ (x : ExportsSaid). table_of x.exports) exports;
     }
+
+-- a file that is refused is not opened, for the same cause
+pub unopened : (opts : ParseOptions) (bytes : List ℕ) (e : ErrorOf)
+    → ((whole_file opts).value bytes ≡ None) × (whole_file opts).IsCause bytes e
+    → ((opened_file opts).value bytes ≡ None) × (opened_file opts).IsCause bytes e
+unopened opts bytes e refused =
+    (ap (option_map (λ w. (w, file_exports opts bytes w))) refused.0, refused.1)
 
 -- ---- the records of a file's tables
 

@@ -1,9 +1,17 @@
 -- The tables of a whole file, which are in memory of their own.
-use Rattle.std.specs.Prelude.{◌≡◌, ℕ, List, map}
+use Rattle.std.specs.Prelude.{◌≡◌, ℕ, List, map, Option, None, Some, option_map, refl}
+use Rattle.std.proofs.Common.{◌∙◌, ap}
+use Rattle.goblin_base.specs.Reading.{Reading}
 use Rattle.goblin_pe_sect.specs.declared.options.ParseOptions.{ParseOptions}
 use Rattle.goblin_pe_sect.specs.SectionTable.{section_records, unnamed}
+use Rattle.goblin_pe_export.specs.ExportRecords.{ExportTables}
+use Rattle.goblin_pe_export.specs.ExportWalks.{NumberedExport, numbered_from}
+use Rattle.goblin_pe.specs.declared.whole.Part.{Part}
+use Rattle.goblin_pe.specs.declared.whole.Part.TheVariants.{Absent, Refused}
+use Rattle.goblin_pe.specs.declared.whole.Part.TheVariants as part
 use Rattle.goblin_pe.specs.Whole.{CollectedFileValue, CollectedParts, WholeFile, collected_file}
-use Rattle.goblin_pe.specs.Whole.{offset_by, part_map, places_in}
+use Rattle.goblin_pe.specs.Whole.{offset_by, part_map, places_in, whole_file}
+use Rattle.goblin_pe.proofs.NumberedFootprints.{same-numbered}
 use Rattle.goblin_pe.specs.declared.whole.layout.Layout.{Layout}
 use Rattle.goblin_pe.specs.BaseRelocations.{relocation_bytes}
 use Rattle.goblin_pe.specs.PeHeader.{header_value}
@@ -16,22 +24,67 @@ use Rattle.goblin_pe_records.specs.Directories.{directories_of, directory_record
 use Rattle.goblin_pe_calls.specs.declared.records.FileRecords.{FileRecords}
 use Rattle.goblin_pe_calls.specs.ExportDirectories.{directory_view}
 use Rattle.goblin_pe_calls.specs.Exports.{ExportsSaid, export_view, exports_said, exports_view, file_exports}
+use Rattle.goblin_pe_calls.specs.Exports.{read_said}
 use Rattle.goblin_pe_calls.specs.Files.{entries_of, file_of}
 use Rattle.goblin_pe_records.specs.Filled.{Filled, alone}
 use Rattle.goblin_pe_calls.specs.Imports.{ImportSaid, import_said, import_view, import_views}
 use Rattle.goblin_pe_records.specs.RichHeaders.{entries_in}
 use Rattle.goblin_pe_records.specs.Sections.{section_said}
 
--- what a caller passes in to be filled
+-- ---- a file with the records of its exports
+
+-- a table that was read is there whole
+read-inside : {A : Type 0} (xs ys : List A) → part.Read xs ≡ part.Read ys → xs ≡ ys
+read-inside xs ys same = ap entries_of same
+
+-- the same exports have the same records
+pub said-same : (offset_of : ℕ → Option ℕ) (a b : List ℕ) (p : Part ExportTables)
+    → part_map (λ tables. numbered_from offset_of a tables 0) p
+    ≡ part_map (λ tables. numbered_from offset_of b tables 0) p
+    → exports_said offset_of a p ≡ exports_said offset_of b p
+unfolding part_map
+said-same offset_of a b Absent same = refl
+said-same offset_of a b (part.Read tables) same =
+    ap (λ (exports : List NumberedExport). read_said tables exports) (read-inside _ _ same)
+said-same offset_of a b Refused same = refl
+
+-- what is made of a value that two files have
+pub made-same : {A B : Type 0} (first again : Option A) (f g : A → B) → first ≡ again
+    → ((x : A) → first ≡ Some x → f x ≡ g x) → option_map f first ≡ option_map g again
+made-same None again f g same made = ap (option_map g) same
+made-same {A} {B} (Some x) again f g same made =
+    ap (λ (y : B). Some y) (made x refl) ∙ ap (option_map g) same
+
+-- A whole file, and the records of what its export directory leads to, whose numbers the rows of a
+-- file do not have. It reaches what the file does.
+abbrev pub opened_file : ParseOptions → Reading (WholeFile × ExportsSaid)
+opened_file opts =
+    let whole = whole_file opts in
+    record {
+      value = λ bytes. option_map (λ w. (w, file_exports opts bytes w)) (whole.value bytes);
+      IsCause = whole.IsCause;
+      reaches = whole.reaches;
+      is_local = λ a b agree.
+          made-same (whole.value a) (whole.value b) (λ w. (w, file_exports opts a w))
+          (λ w. (w, file_exports opts b w)) (whole.is_local a b agree)
+          (λ w is.
+          let offset_of = offset_by opts w.sections (places_in w.header.optional_header) in
+          ap (λ (exports : ExportsSaid). (w, exports))
+          (said-same offset_of a b w.export_data (same-numbered opts a b w is agree)));
+      is_inside = whole.is_inside;
+      not_memory = whole.not_memory;
+    }
+
+-- ---- what a caller passes in to be filled
+
 pub record Opened : Type 0 where
   pub file : PeFile
   pub directories : List PeDirectory
   pub tables : PeTables
 
--- the tables are those of a file, each whole
-abbrev pub AreTablesOf : ParseOptions → List ℕ → WholeFile → PeTables → Type 0
-AreTablesOf opts bytes w t =
-    let exports = file_exports opts bytes w in
+-- the tables are those of a file with these records of its exports, each whole
+abbrev pub AreTablesOf : WholeFile → ExportsSaid → PeTables → Type 0
+AreTablesOf w exports t =
     (t.rich_entries.now ≡ entries_in w.header.rich_header)
     × (map section_said t.sections.now ≡ map alone w.sections)
     × (map import_view t.imports.now ≡ map import_said (entries_of w.imports))
@@ -43,12 +96,13 @@ AreTablesOf opts bytes w t =
 
 -- what a call reports of a file whose tables it keeps: the directories as far as there is room, all
 -- else whole
-abbrev pub Opens : ParseOptions → List ℕ → WholeFile → Opened → Opened → Type 0
-Opens opts bytes w old new =
+abbrev pub Opens : WholeFile × ExportsSaid → Opened → Opened → Type 0
+Opens read old new =
+    let w = read.0 in
     (new.file ≡ file_of w)
     × (Filled (λ d. d) (map directory_record (directories_of w.header.optional_header))
     old.directories new.directories)
-    × AreTablesOf opts bytes w new.tables
+    × AreTablesOf w read.1 new.tables
 
 -- ---- the records while they are made
 

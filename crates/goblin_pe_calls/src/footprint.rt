@@ -6,10 +6,11 @@ ghost use Rattle.goblin_base.specs.Marks.{joined};
 ghost use Rattle.goblin_pe.specs.Whole.{whole_file};
 ghost use Rattle.goblin_pe_records.specs.Blocked.{HasNoSpareRoom};
 ghost use Rattle.goblin_pe_calls.specs.Footprints.{Lists, range_record_of};
+ghost use Rattle.goblin_pe_calls.specs.Opened.{opened_file};
 
-use goblin_pe::{Result, ResultOf};
 use goblin_pe::laws::mark_whole;
 use goblin_pe::options::ParseOptions;
+use goblin_pe::{Result, ResultOf};
 use std::alloc::Global;
 
 /// A range of the file.
@@ -41,11 +42,7 @@ fn range_record(range: (usize, usize)) -> PeRange
 }
 
 // The records of the ranges on which a read of the whole file depends.
-fn range_records<'e>(
-    alloc: Global,
-    bytes: &[u8],
-    opts: &ParseOptions,
-) -> ResultOf<'e, Vec<PeRange>>
+fn range_records<'e>(alloc: Global, bytes: &[u8], opts: &ParseOptions) -> ResultOf<'e, Vec<PeRange>>
     ensures listed { let footprint = (whole_file opts.now).reaches bytes.now in
         IfOk result
         (λ v. v.items ≡ map range_record_of (joined (length bytes.now) footprint)) }
@@ -67,8 +64,8 @@ fn handed_over<'a>(records: Vec<PeRange>) -> PeRanges<'a>
     }
 }
 
-/// Puts into `ranges` the positions of a file on which a read of the whole file by these options
-/// depends.
+/// Puts into `ranges` the positions of a file on which all that [`open`](crate::open::open) gives by
+/// these options depends.
 ///
 /// # Errors
 /// Only [`Error::Memory`](goblin_pe::Error::Memory); nothing is then changed.
@@ -78,7 +75,7 @@ pub fn list<'a>(
     opts: &ParseOptions,
     ranges: &mut PeRanges<'a>,
 ) -> Result<()>
-    ensures { let footprint = (whole_file opts.now).reaches bytes.now in
+    ensures { let footprint = (opened_file opts.now).reaches bytes.now in
         Lists (length bytes.now) footprint ranges.old ranges.new result }
 {
     let records = range_records(alloc, bytes, opts)?;

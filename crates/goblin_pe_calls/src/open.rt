@@ -17,7 +17,7 @@ ghost use Rattle.goblin_pe_calls.specs.Files.{entries_of};
 ghost use Rattle.goblin_pe_records.specs.Filled.{alone};
 ghost use Rattle.goblin_pe_calls.specs.Growth.{TakesRecords};
 ghost use Rattle.goblin_pe_calls.specs.Imports.{import_view, import_views};
-ghost use Rattle.goblin_pe_calls.specs.Opened.{Opened, Opens};
+ghost use Rattle.goblin_pe_calls.specs.Opened.{Opened, Opens, opened_file};
 ghost use Rattle.goblin_pe_calls.specs.Opened.{records_of_file, records_view};
 ghost use Rattle.goblin_pe_records.specs.RichHeaders.{entries_in, rich_of};
 ghost use Rattle.goblin_pe_records.specs.Sections.{section_said};
@@ -191,7 +191,7 @@ fn open_by<'a>(
         let new : Opened =
         record { file = file.new; directories = directories.new; tables = tables.new } in
         ReadsInto (pe_header (is_strict opts.now.parse_mode)) (TakesRecords opts.now bytes.now)
-        (whole_file opts.now) bytes.now (λ w. Opens opts.now bytes.now w old new) (new ≡ old) result }
+        (opened_file opts.now) bytes.now (λ read. Opens read old new) (new ≡ old) result }
 {
     let layout = Layout::of(alloc, bytes, header, opts)?;
     let records = file_records(alloc, &layout)?;
@@ -221,7 +221,7 @@ pub fn open<'a>(
         let new : Opened =
         record { file = file.new; directories = directories.new; tables = tables.new } in
         ReadsInto (pe_header (is_strict opts.now.parse_mode)) (TakesRecords opts.now bytes.now)
-        (whole_file opts.now) bytes.now (λ w. Opens opts.now bytes.now w old new) (new ≡ old) result }
+        (opened_file opts.now) bytes.now (λ read. Opens read old new) (new ≡ old) result }
 {
     let mut header = Header::default();
     header.read_with_opts(bytes, opts)?;

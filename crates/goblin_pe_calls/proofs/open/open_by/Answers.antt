@@ -12,7 +12,7 @@ use Rattle.goblin_pe.specs.Whole.{whole_file}
 use Rattle.goblin_pe_calls.specs.Growth.{FileBegins, HasRecords}
 use Rattle.goblin_pe_calls.specs.Opened.{records_view}
 use Rattle.goblin_pe_calls.proofs.Growth.{as-read, either-way, layout-begins, layout-kept, made-kept, sections-kept, takes-records}
-use Rattle.goblin_pe_calls.proofs.Opened.{file-of-records, records-read, records-refused}
+use Rattle.goblin_pe_calls.proofs.Opened.{file-of-records, records-read, records-refused, unopened}
 use Rattle.goblin_pe_calls.proofs.Refusals.{room-there}
 use Rattle.goblin_pe_calls.proofs.open.open_by.Goals as goal
 
@@ -25,7 +25,7 @@ returns-in_err-layout c =
     let error = err_from_is_err_and c.from_residual.result c.from_residual.ensures.1 in
     let counted_some : IsMemory c.in_err-layout.field-0.0 → 0 < h.coff_header.number_of_sections = λ memory. omega (arith, (c.in_err-layout.ensures.grown memory).1) in
     rw (error.1, error.2) (
-      λ other. (let refused = c.in_err-layout.ensures.value other in sections-refused opts bytes h found _ (unmapped _ _ refused.0, refused.1)),
+      λ other. (let refused = c.in_err-layout.ensures.value other in unopened opts bytes _ (sections-refused opts bytes h found _ (unmapped _ _ refused.0, refused.1))),
       λ memory. takes-records opts bytes h found
           (has_room h.coff_header.number_of_sections bytes _ c.in_err-layout.ensures.first memory)
           (either-way ((whole_file opts).value bytes) HasRecords (FileBegins opts bytes h)
@@ -42,7 +42,7 @@ returns-in_err-records c =
     let read = mapped _ _ _ c.in_ok-layout.ensures.value in
     let error = err_from_is_err_and c.from_residual-in_err-records.result c.from_residual-in_err-records.ensures.1 in
     rw (error.1, error.2) (
-      λ other. records-refused opts bytes c.args.header.now found c.in_ok-layout.layout read.value read.is c.in_ok-layout.ensures.over _ c.in_err-records.ensures.value other,
+      λ other. unopened opts bytes _ (records-refused opts bytes c.args.header.now found c.in_ok-layout.layout read.value read.is c.in_ok-layout.ensures.over _ c.in_err-records.ensures.value other),
       λ memory. takes-records opts bytes (header_value c.args.header.now) found
           (room-there (Some (header_value c.args.header.now)) bytes c.in_ok-layout.ensures.first refl)
           (either-way ((whole_file opts).value bytes) HasRecords (FileBegins opts bytes (header_value c.args.header.now))

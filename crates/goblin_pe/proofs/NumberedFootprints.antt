@@ -1,0 +1,131 @@
+-- Files that agree on what a read of the whole file reaches have the same exports with their numbers.
+use Rattle.std.proofs.Common.{◌≡◌, ◌∙◌, ◌<◌, ◌≤◌, ◌+◌, ◌-◌, ◌++◌, ℕ, zero, suc, List, length, Bool, true, false, Option, Some, None, refl, ap, subst, arith}
+use Rattle.std.specs.Prelude.{filter_map}
+use Rattle.std.specs.List.{cons_option, range_with_len}
+use Rattle.goblin_base.specs.Footprints.{Agree}
+use Rattle.goblin_base.proofs.Footprints.{agree-below, agree-led, agree-left, agree-right}
+use Rattle.goblin_base.proofs.Steps.{mapped, same_value, step}
+use Rattle.readings.specs.Reads.{pair_of}
+use Rattle.goblin_pe_sect.specs.declared.data_directories.DataDirectory.{DataDirectory}
+use Rattle.goblin_pe_sect.specs.declared.options.ParseOptions.{ParseOptions}
+use Rattle.goblin_pe_sect.specs.Options.{is_strict}
+use Rattle.goblin_pe_head.specs.HeaderReadings.{pe_header}
+use Rattle.goblin_pe_export.specs.ExportReadings.{export_data, export_read, export_row, exports}
+use Rattle.goblin_pe_export.specs.ExportRecords.{ExportRow, ExportTables}
+use Rattle.goblin_pe_export.specs.ExportWalks.{NumberedExport, numbered_export, numbered_from}
+use Rattle.goblin_pe.specs.declared.whole.Part.{Part}
+use Rattle.goblin_pe.specs.declared.whole.Part.TheVariants.{Absent, Refused}
+use Rattle.goblin_pe.specs.declared.whole.Part.TheVariants as part
+use Rattle.goblin_pe.specs.Whole.{WholeFile, export_part, import_parts, offset_by}
+use Rattle.goblin_pe.specs.Whole.{part_at, part_map, part_of, places_in}
+use Rattle.goblin_pe.specs.Whole.{sections_after, table_parts, whole_after, whole_file, whole_with}
+
+-- ---- a pair of values
+
+pub first-of : {A B : Type 0} (a : Option A) (b : Option B) (x : A × B) → pair_of a b ≡ Some x
+    → a ≡ Some x.0
+first-of None b x is = absurd cc
+first-of (Some a) None x is = absurd cc
+first-of {A} {B} (Some a) (Some b) x is = ap (λ (y : A × B). Some y.0) (same_value (a, b) x is)
+
+pub second-of : {A B : Type 0} (a : Option A) (b : Option B) (x : A × B) → pair_of a b ≡ Some x
+    → b ≡ Some x.1
+second-of None b x is = absurd cc
+second-of (Some a) None x is = absurd cc
+second-of {A} {B} (Some a) (Some b) x is = ap (λ (y : A × B). Some y.1) (same_value (a, b) x is)
+
+-- ---- the exports of two files
+
+-- what is kept of the indexes of a range, where two functions say the same
+same-kept : {A : Type 0} (f g : ℕ → Option A) (len start : ℕ)
+    → ((j : ℕ) → start ≤ j → j < start + len → f j ≡ g j)
+    → filter_map f (range_with_len start len) ≡ filter_map g (range_with_len start len)
+same-kept f g zero start same = refl
+same-kept {A} f g (suc len) start same =
+    let head = same start (omega arith) (omega arith) in
+    let tail = same-kept f g len (start + 1) (λ j low below. same j (omega (arith, low)) (omega (arith, below))) in
+    ap (λ (o : Option A). cons_option o (filter_map f (range_with_len (start + 1) len))) head
+    ∙ ap (λ (xs : List A). cons_option (g start) xs) tail
+
+-- the exports of a file's tables, with their numbers
+abbrev pub numbered_in : (ℕ → Option ℕ) → List ℕ → Part ExportTables → Part (List NumberedExport)
+numbered_in offset_of bytes p = part_map (λ tables. numbered_from offset_of bytes tables 0) p
+
+module _ (offset_of : ℕ → Option ℕ) (a b : List ℕ) where
+  tables-same : (tables : ExportTables) → Agree ((exports offset_of tables).reaches a) a b
+      → numbered_from offset_of a tables 0 ≡ numbered_from offset_of b tables 0
+  unfolding exports numbered_from numbered_export
+  tables-same tables agree =
+      let n = length tables.export_name_pointer_table in
+      let reached = λ (i : ℕ). (export_row offset_of tables i).reaches a in
+      same-kept (numbered_export offset_of a tables) (numbered_export offset_of b tables) (n - 0) 0
+      (λ j low below.
+      let own = agree-below reached n j a b (omega (arith, below)) agree in
+      rw ((export_row offset_of tables j).is_local a b own) refl)
+
+  read-same : (d : DataDirectory) (read : ExportTables × List ExportRow)
+      → (export_read offset_of d).value a ≡ Some read
+      → Agree ((export_read offset_of d).reaches a) a b
+      → numbered_from offset_of a read.0 0 ≡ numbered_from offset_of b read.0 0
+  unfolding export_read
+  read-same d read is agree =
+      let found = (export_data offset_of d).value a in
+      let at = step found _ read is in
+      let same : at.value ≡ read.0 = same_value _ _ (first-of _ _ read at.then) in
+      let own = agree-right ((export_data offset_of d).reaches a) _ a b agree in
+      let led = agree-led found (λ t. (exports offset_of t).reaches a) at.value a b at.is own in
+      subst (λ (t : ExportTables). numbered_from offset_of a t 0 ≡ numbered_from offset_of b t 0) same
+      (tables-same at.value led)
+
+  abbrev IsSame : Part (ExportTables × List ExportRow) → Type 0
+  IsSame p =
+      let tables = part_map (λ read. read.0) p in
+      numbered_in offset_of a tables ≡ numbered_in offset_of b tables
+
+  part-same : (strict : Bool) (d : DataDirectory) (o : Option (ExportTables × List ExportRow))
+      → (export_read offset_of d).value a ≡ o → Agree ((export_read offset_of d).reaches a) a b
+      → (p : Part (ExportTables × List ExportRow)) → part_of strict o ≡ Some p → IsSame p
+  unfolding part_of part_map
+  part-same strict d (Some read) is agree p made =
+      subst IsSame (same_value (part.Read read) p made)
+      (ap (λ (xs : List NumberedExport). part.Read xs) (read-same d read is agree))
+  part-same true d None is agree p made = absurd cc
+  part-same false d None is agree p made = subst IsSame (same_value Refused p made) refl
+
+  at-same : (strict : Bool) (directory : Option DataDirectory)
+      (p : Part (ExportTables × List ExportRow))
+      → (part_at strict (export_read offset_of) directory).value a ≡ Some p
+      → Agree ((part_at strict (export_read offset_of) directory).reaches a) a b → IsSame p
+  unfolding part_map
+  at-same strict None p made agree = subst IsSame (same_value Absent p made) refl
+  at-same strict (Some d) p made agree =
+      part-same strict d ((export_read offset_of d).value a) refl agree p made
+
+-- two files have the same exports with their numbers, by the header and the sections of the first
+abbrev pub AreSame : ParseOptions → List ℕ → List ℕ → WholeFile → Type 0
+AreSame opts a b w =
+    let offset_of = offset_by opts w.sections (places_in w.header.optional_header) in
+    numbered_in offset_of a w.export_data ≡ numbered_in offset_of b w.export_data
+
+pub same-numbered : (opts : ParseOptions) (a b : List ℕ) (w : WholeFile)
+    → (whole_file opts).value a ≡ Some w → Agree ((whole_file opts).reaches a) a b
+    → AreSame opts a b w
+unfolding whole_file whole_with table_parts export_part
+same-numbered opts a b w is agree =
+    let strict = is_strict opts.parse_mode in
+    let start = pe_header strict in
+    let header = step (start.value a) _ w is in
+    let h = header.value in
+    let listed = sections_after strict h in
+    let sections = step (listed.value a) _ w header.then in
+    let places = places_in h.optional_header in
+    let offset_of = offset_by opts sections.value places in
+    let all = mapped ((table_parts opts offset_of places).value a) _ w sections.then in
+    let both = first-of _ _ all.value all.is in
+    let exports = second-of _ _ all.value.0 both in
+    let after = agree-led (start.value a) (λ h. (whole_after opts h).reaches a) h a b header.is (agree-right (start.reaches a) _ a b agree) in
+    let within = agree-led (listed.value a) (λ s. (whole_with opts h s).reaches a) sections.value a b sections.is (agree-right (listed.reaches a) _ a b after) in
+    let tables = (import_parts opts offset_of places).reaches a in
+    let own = agree-right tables _ a b (agree-left (tables ++ (export_part opts offset_of places).reaches a) _ a b within) in
+    subst (AreSame opts a b) all.made
+    (at-same offset_of a b strict places.exports all.value.0.1 exports own)
