@@ -14,15 +14,15 @@
 
    The file offset of a text is the difference of two pointers: each lies in the file, but for a DOS stub
    that permissive mode replaced. One that is absent, as its record says, or that permissive mode could not
-   read, has no bytes and points at the file's first.
+   read, has no bytes and points at the file's first. Where texts lie is tested, and not proved.
 
    An address (rva) is relative to the image's base, an offset is a file offset, and both are in bytes.
    Names such as IMAGE_SCN_* and COFF_MACHINE_* are those of goblin_pe_constants.h after GOBLIN_PE_.
 
    What a caller owes, which nothing checks:
    - The bytes are as many as the length says, and nothing changes them during the call. What is filled
-     overlaps neither itself nor the bytes. A pointer may be null where its count or length is 0, and so
-     may options: then they are the default ones. No other pointer is null.
+     overlaps neither itself nor the bytes nor the records that are read. A pointer may be null where its
+     count or length is 0, and so may options: then they are the default ones. No other pointer is null.
    - A record that a call takes is as a call filled it, or its fields are set; what is filled may hold
      anything, as nothing of it is read. Tables and ranges that are freed whatever a call answers are
      zeros before it.
@@ -127,7 +127,8 @@ static inline void goblin_pe_free(struct goblin_pe_tables *tables)
 }
 
 /* Tells what strict mode would refuse of an image, part by part, each for itself, where its header and its
-   sections are read as the options say; a file without damage is one that strict mode reads. Refused are a
+   sections are read as the options say. A file without damage is one that strict mode reads, and permissive
+   mode alike; but an import directory at file offset 0 is an empty list there, without damage. Refused are a
    header or sections that these options refuse, and memory, which is taken only for an index of more than 96
    sections, and given back. */
 static inline struct goblin_pe_fault goblin_pe_read_damage(
@@ -158,10 +159,11 @@ static inline void goblin_pe_free_ranges(struct goblin_pe_ranges *ranges)
 /* Goes on with the walk over the imports of an image from `position`: fills as many records as there is
    room for, says in `count` how many, and leaves in `position` where the next call goes on. The count 0
    without a refusal is the end, where there is room; so it is of a file without imports, where these are not
-   asked for, and where permissive mode passes over a refused directory. In strict mode the walk ends with a
-   refusal where goblin_pe_open has one for its imports; what comes before it is given first. Each call reads the
-   header and the sections anew, so room for some hundreds is better than for one. Memory is taken only for an index
-   of more than 96 sections, which Windows does not load, and given back. */
+   asked for, and in permissive mode where their directory has no file offset, or the offset 0. In strict mode the
+   walk ends with a refusal where goblin_pe_open has one for its imports; what comes before it is given first, and
+   no law says on which bytes that depends. Each call reads the header and the sections anew, so room for some
+   hundreds is better than for one. Memory is taken only for an index of more than 96 sections, which Windows does
+   not load, and given back. */
 static inline struct goblin_pe_fault goblin_pe_next_imports(
     const uint8_t *bytes, size_t length, const struct goblin_pe_options *options,
     struct goblin_pe_import_position *position, struct goblin_pe_import *imports, size_t room, size_t *count)
@@ -172,7 +174,8 @@ static inline struct goblin_pe_fault goblin_pe_next_imports(
 }
 
 /* Goes on with the walk over the exports of an image, as goblin_pe_next_imports does over imports. The
-   position is the index of a name pointer, 0 at the beginning. */
+   position is the index of a name pointer, 0 at the beginning. There are none where permissive mode passes over
+   a refused directory; strict mode refuses it at once. */
 static inline struct goblin_pe_fault goblin_pe_next_exports(
     const uint8_t *bytes, size_t length, const struct goblin_pe_options *options, size_t *position,
     struct goblin_pe_export *exports, size_t room, size_t *count)
@@ -210,8 +213,9 @@ static inline struct goblin_pe_fault goblin_pe_read_te(
    how many, and leaves in `position` the index of the record that is read next. The count 0 without a refusal
    is the end, where there is room; so it is of a file without a symbol table. The record at the position is
    read as a symbol, even where it is an auxiliary one of the symbol before it. Refused is a file that is too
-   short for its symbol table or the string table after it, and one whose string table is not UTF-8. Each call
-   reads the whole string table, so room for some hundreds is better than for one. No memory is taken. */
+   short for its symbol table or the string table after it, and one whose string table is not UTF-8, or says a
+   length below 4. Each call reads the whole string table, so room for some hundreds is better than for one. No
+   memory is taken. */
 static inline struct goblin_pe_fault goblin_pe_next_symbols(
     const uint8_t *bytes, size_t length, const struct goblin_pe_coff_header *header, size_t *position,
     struct goblin_pe_named_symbol *symbols, size_t room, size_t *count)

@@ -103,8 +103,17 @@ def kind(data: Data) -> Kind:
 
 
 class Damage(NamedTuple):
-    """What strict mode would refuse of an image, part by part, each for itself, as a Refused; None is no damage. And how many
-    libraries permissive mode leaves out of the imports, and how many entries of the others."""
+    """What strict mode would refuse of an image, part by part, each for itself, as a Refused; None is no damage. A file
+    without damage is one that strict mode reads, and permissive mode alike; but an import directory at file offset 0 is an
+    empty list there, without damage.
+
+    dos_stub: of the DOS stub.
+    section_names: of the names of the sections: one begins with a slash and goes on with bytes that are no text.
+    imports, exports: of these; of the imports if they are asked for.
+    relocations: of the base relocations: of their directory, not of its blocks.
+    left_out_libraries: how many libraries permissive mode leaves out of the imports: those without an address table.
+    left_out_entries: how many entries of the other libraries it leaves out.
+    """
 
     dos_stub: Optional[Refused]
     section_names: Optional[Refused]
@@ -119,10 +128,12 @@ class Damage(NamedTuple):
 class Options:
     """How a file is read; by default strictly, with all its tables. Each is a bool; TypeError is raised where it is not.
 
-    is_permissive: whether damaged parts are passed over.
+    is_permissive: whether damaged parts are passed over, in permissive mode; an import directory at file offset 0 is an
+        empty list there, without damage.
     resolve_rva: whether an address is mapped to a file offset by the sections; where not, it is the offset.
-    rounds_raw_pointers: whether the raw pointer of a section is rounded down to 512, as the Windows loader does, for
-        addresses and for its data; where not, it is taken as stored.
+    rounds_raw_pointers: whether the raw pointer of a section is rounded down to 512, for addresses and for its data; where
+        not, it is taken as stored. Rounding is right where `section_alignment` is 4,096 or more, and pointers as stored where
+        it is less, since the Windows loader maps such an image as one flat view of the file.
     parse_imports: whether the imports are read; where not, their table is absent.
     """
 
@@ -273,7 +284,7 @@ class Pe:
 
     def walk_imports(self) -> Iterator[Import]:
         """The imports one by one, of which none is kept: also where the options left them out. In strict mode Refused is
-        raised where it would be of the list, after what comes before."""
+        raised where it would be of the list, after what comes before; no law says on which bytes that depends."""
         how = self._options
         asked = records.Options(how.is_permissive, how.resolve_rva, how.rounds_raw_pointers, True)
         return _walk(self._bytes(), records.Import, "imported", lambda calls, address, length, *to: calls.goblin_pe_raw_next_imports(
@@ -286,7 +297,8 @@ class Pe:
 
     @property
     def symbols(self) -> List[Symbol]:
-        """The symbols, which few images have. Refused is raised where the file is too short for their table."""
+        """The symbols, which few images have. Refused is raised where the file is too short for their table or its string
+        table, and where the string table is not UTF-8, or says a length below 4."""
         return _symbols(self._bytes(), self.coff_header)
 
     @property
@@ -305,16 +317,19 @@ class Pe:
         return _imphash(self.imports if self._options.parse_imports else self.walk_imports())
 
     def footprint(self) -> List[Range]:
-        """The bytes of the file on which all that was read depends: a file of the same length that has the same bytes in
-        these ranges is read alike. They come in order, with a byte between each and the next; none is empty, and none
-        passes the file. So footprints of the same bytes are equal."""
+        """The bytes of the file on which what Pe lists depends, its attributes but for symbols and damage: a file of the same
+        length that has the same bytes in these ranges is read alike, by the same options. It does not cover what is read
+        later: walk_imports and imphash where the options leave the imports out, damage of an import directory at file offset
+        0, symbols, texts and bytes at addresses, and the data of sections. The ranges come in order, with a byte between each
+        and the next; none is empty, and none passes the file. So footprints of the same bytes are equal."""
         with memoryview(self._bytes()) as view, _held(view) as (calls, address, length), records.Ranges() as ranges:
             _test(calls.goblin_pe_raw_footprint(address, length, c.byref(self._options), c.byref(ranges)))
             return [Range(it.offset, it.length) for it in ranges.records("ranges")]
 
     def fingerprint(self) -> str:
-        """A hash of the length of the file and of the bytes on which all that was read depends: the SHA-256 in hexadecimal.
-        Files that have the same are read alike by the same options."""
+        """A key of what Pe lists, for one choice of Options: the SHA-256, in hexadecimal, of the length of the file and of its
+        footprint, the ranges and their bytes. Files that have the same are read alike by the same options. It covers what
+        the footprint does."""
         with memoryview(self._bytes()) as view, view.cast("B") as in_bytes:
             digest = hashlib.sha256(b"%d" % len(in_bytes))
             for begin, length in self.footprint():

@@ -64,7 +64,8 @@ class Section(NamedTuple):
 
 class Import(NamedTuple):
     """An import. One by ordinal has the name None; of one by name the ordinal is the hint. The dll is empty where permissive
-    mode could not read it. The slot_rva is the address of its own entry in the address table, and slot that entry's index."""
+    mode could not read it. The slot_rva is the address of its own entry in the address table, and slot the index of that entry
+    there and in the lookup table; entries that are left out count."""
 
     dll: bytes
     name: Optional[bytes]

@@ -44,8 +44,8 @@ impl Error {
     ///
     /// ```no_run
     /// # let bytes = [];
-    /// let error = goblin_pe::Te::read(&bytes).unwrap_err();
-    /// let is_out_of_memory = error.kind() == goblin_pe::ErrorKind::Memory;
+    /// let refused = goblin_pe::Te::read(&bytes).err();
+    /// let is_out_of_memory = refused.is_some_and(|it| it.kind() == goblin_pe::ErrorKind::Memory);
     /// ```
     pub fn kind(&self) -> ErrorKind {
         ErrorKind::try_from(self.0.status).unwrap_or(ErrorKind::Unknown)
@@ -56,8 +56,10 @@ impl Error {
     ///
     /// ```no_run
     /// # let bytes = *b"no image";
-    /// let error = goblin_pe::Te::read(&bytes).unwrap_err();
-    /// let (cause, first, second) = error.numbers();
+    /// if let Err(error) = goblin_pe::Te::read(&bytes) {
+    ///     let (cause, first, second) = error.numbers();
+    ///     println!("{cause} {first:#x} {second:#x}");
+    /// }
     /// ```
     pub fn numbers(&self) -> (u32, u64, u64) {
         (self.0.cause, self.0.first, self.0.second)
@@ -78,8 +80,9 @@ impl Error {
     ///
     /// ```no_run
     /// # let bytes = [];
-    /// let error = goblin_pe::Te::read(&bytes).unwrap_err();
-    /// println!("too short for {:?}", error.counted());
+    /// if let Err(error) = goblin_pe::Te::read(&bytes) {
+    ///     println!("too short for {:?}", error.counted());
+    /// }
     /// ```
     pub fn counted(&self) -> Option<Counted> {
         self.named(ErrorKind::BufferTooShort)
@@ -89,8 +92,8 @@ impl Error {
     ///
     /// ```no_run
     /// # let bytes = [];
-    /// let error = goblin_pe::Te::read(&bytes).unwrap_err();
-    /// let is_cut = error.read_fault().is_some();
+    /// let refused = goblin_pe::Te::read(&bytes).err();
+    /// let is_cut = refused.is_some_and(|it| it.read_fault().is_some());
     /// ```
     pub fn read_fault(&self) -> Option<ReadFault> {
         self.named(ErrorKind::Read)

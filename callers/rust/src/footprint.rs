@@ -7,8 +7,9 @@ use crate::error::Error;
 use crate::iterators::FootprintRanges;
 use crate::raw::{self, Options};
 
-/// The bytes of a file on which a read of it depends, as ranges of file offsets: in order, none empty and
-/// none past the file, with a byte between each and the next. So footprints of the same bytes are equal.
+/// The bytes of a file on which what [`Pe::read`](crate::Pe::read) lists of it depends, as ranges of file
+/// offsets: in order, none empty and none past the file, with a byte between each and the next. So
+/// footprints of the same bytes are equal.
 #[derive(Clone)]
 pub struct Footprint(raw::Ranges<'static>);
 

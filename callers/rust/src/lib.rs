@@ -15,23 +15,23 @@
 //!
 //! ```no_run
 //! use goblin_pe::{Options, Pe};
-//! let bytes = std::fs::read("some.dll").unwrap();
+//! let bytes = std::fs::read("some.dll")?;
 //! let pe = Pe::read(&bytes, &Options::default())?;
 //! for import in pe.imports() {
 //!     println!("{} from {}", import.name, import.dll);
 //! }
-//! # Ok::<(), goblin_pe::Error>(())
+//! # Ok::<(), std::io::Error>(())
 //! ```
 //!
 //! What was read can't outlive the bytes, so this is no program:
 //!
 //! ```compile_fail
 //! use goblin_pe::{Options, Pe};
-//! let bytes = std::fs::read("some.dll").unwrap();
+//! let bytes = std::fs::read("some.dll")?;
 //! let pe = Pe::read(&bytes, &Options::default())?;
 //! drop(bytes);
 //! println!("{pe:?}");
-//! # Ok::<(), goblin_pe::Error>(())
+//! # Ok::<(), std::io::Error>(())
 //! ```
 #![deny(unsafe_code)]
 #![warn(missing_docs)]

@@ -111,7 +111,8 @@ impl<'a> Object<'a> {
     /// The symbols, which are read as the walk goes on.
     ///
     /// # Errors
-    /// A file that is too short for the symbol table or its string table.
+    /// A file that is too short for the symbol table or its string table, and a string table that is not
+    /// UTF-8, or says a length below 4.
     ///
     /// ```no_run
     /// # let bytes = [];

@@ -273,7 +273,8 @@ impl<'a> Pe<'a> {
 
     /// A walk over the imports, in constant memory, which reads the file as it goes on: also where the
     /// options of the read left them out. A file of 256 KiB can have more than 800 million imports, more
-    /// than may be listed. In strict mode it ends with the error for which a read is refused.
+    /// than may be listed. In strict mode it ends with the error for which a read is refused; no law says
+    /// on which bytes what comes before it depends.
     ///
     /// ```no_run
     /// # use goblin_pe::{Options, Pe};
@@ -398,7 +399,8 @@ impl<'a> Pe<'a> {
     /// The symbols, which few images have; they are read as the walk goes on.
     ///
     /// # Errors
-    /// A file that is too short for the symbol table or its string table.
+    /// A file that is too short for the symbol table or its string table, and a string table that is not
+    /// UTF-8, or says a length below 4.
     ///
     /// ```no_run
     /// # use goblin_pe::{Options, Pe};
@@ -481,8 +483,8 @@ impl<'a> Pe<'a> {
     /// # use goblin_pe::{Options, Pe};
     /// # let bytes = [];
     /// let pe = Pe::read(&bytes, &Options::default())?;
-    /// for import in pe.imports().filter(|import| import.rva != 0) {
-    ///     assert_eq!(Some(pe.text_at(import.rva + 2)?), import.name.name());
+    /// for found in pe.export_addresses().filter(|it| it.forwards) {
+    ///     println!("{} is {}", found.ordinal, pe.text_at(found.rva as usize)?);
     /// }
     /// # Ok::<(), goblin_pe::Error>(())
     /// ```
@@ -560,7 +562,7 @@ impl<'a> Pe<'a> {
         self.header().write(out)
     }
 
-    /// What strict mode would refuse of the file, part by part.
+    /// What strict mode would refuse of the file, part by part, with these options.
     ///
     /// # Errors
     /// [`ErrorKind::Memory`](crate::ErrorKind::Memory) alone.
@@ -580,8 +582,10 @@ impl<'a> Pe<'a> {
         Ok(Damage::from(damage))
     }
 
-    /// The bytes of the file on which all that was read depends: a file of the same length that has the
-    /// same bytes in these ranges is read alike.
+    /// The bytes of the file on which what [`Pe::read`] lists depends: a file of the same length that has
+    /// the same bytes in these ranges is read alike, by the same options. It does not cover what is read
+    /// later: [`Pe::walk_imports`] where the options leave the imports out, [`Pe::damage`] of an import
+    /// directory at file offset 0, [`Pe::symbols`], texts and bytes at addresses, and the data of sections.
     ///
     /// # Errors
     /// [`ErrorKind::Memory`](crate::ErrorKind::Memory) alone.

@@ -20,7 +20,7 @@ use std::fmt;
 /// header.coff_header.time_date_stamp = 0;
 /// let (mut out, table) = (bytes.clone(), header.section_table());
 /// let mut written = vec![0; table + 256];
-/// let size = header.write(&mut written)?.min(table);
+/// let size = header.write(&mut written)?.min(table).min(out.len());
 /// out[..size].copy_from_slice(&written[..size]);
 /// # Ok::<(), goblin_pe::Error>(())
 /// ```
@@ -103,23 +103,25 @@ pub(crate) fn section_table(dos_header: &DosHeader, coff_header: &CoffHeader) ->
     dos_header.pe_pointer as usize + SIGNATURE_AND_COFF_HEADER + size
 }
 
-/// What strict mode would refuse of an image, part by part, each for itself: `None` is no damage.
+/// What strict mode would refuse of an image, part by part, each for itself: `None` is no damage. A file
+/// without damage is one that strict mode reads, and permissive mode alike; but an import directory at
+/// file offset 0 is an empty list there, without damage.
 #[derive(Clone, Copy, Debug, PartialEq, Eq, Hash)]
 #[non_exhaustive]
 pub struct Damage {
-    /// Of the DOS stub and the Rich header in it.
+    /// Of the DOS stub.
     pub dos_stub: Option<Error>,
-    /// Of the names of sections in the string table.
+    /// Of the names of the sections: one begins with a slash and goes on with bytes that are no text.
     pub section_names: Option<Error>,
-    /// Of the imports.
+    /// Of the imports, if they are asked for.
     pub imports: Option<Error>,
     /// Of the exports.
     pub exports: Option<Error>,
-    /// Of the base relocations.
+    /// Of the base relocations: of their directory, not of its blocks.
     pub relocations: Option<Error>,
-    /// How many libraries permissive mode leaves out of the imports.
+    /// How many libraries permissive mode leaves out of the imports: those without an address table.
     pub left_out_libraries: usize,
-    /// How many entries of the other libraries permissive mode leaves out.
+    /// How many entries of the other libraries it leaves out.
     pub left_out_entries: usize,
 }
 
@@ -544,7 +546,7 @@ impl<'a> Block<'a> {
     /// let pe = goblin_pe::Pe::read(&bytes, &goblin_pe::Options::default())?;
     /// for block in pe.blocks() {
     ///     for (kind, offset) in block.words() {
-    ///         println!("{kind} at {:#x}", block.rva + u32::from(offset));
+    ///         println!("{kind} at {:#x}", u64::from(block.rva) + u64::from(offset));
     ///     }
     /// }
     /// # Ok::<(), goblin_pe::Error>(())

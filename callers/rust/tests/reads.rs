@@ -117,7 +117,7 @@ fn addresses_are_mapped() {
     let options = Options::permissive().with_resolve_rva(false);
     let pe = Pe::read(&bytes, &options).unwrap();
     assert_eq!(pe.find_offset(0x9000), Some(0x9000));
-    // by the rule of the Windows loader: from the raw pointer rounded down to 512
+    // from the raw pointer rounded down to 512, as it was asked for
     let bytes = sample("align16_x64.dll");
     let options = Options::permissive().with_rounds_raw_pointers(true);
     let pe = Pe::read(&bytes, &options).unwrap();

@@ -42,8 +42,8 @@ pub record AreTables {D Y : Type 0} (format : Format EntryValue) (plain : D → 
   pub value : Reads plain tables.value
       (data_at offset_of value_of refusal request.value.virtual_address) bytes
 
--- A reader is refused with Memory only if there is something to keep, or windows or an index of the
--- sections to prepare; the three readers not listed take no memory.
+-- A reader is refused with Memory only if there is something to keep, or an index of the sections'
+-- windows to prepare; the three readers not listed take no memory.
 pub record AreGrown {D : Type 0} (format : Format EntryValue) (strict : Bool) (opts : ParseOptions)
     (sections : List Section) (alignment : ℕ) (offset_of : ℕ → Option ℕ) (bytes : List ℕ)
     (request : Request) (tables : TablesOf D) : Type 0 where

@@ -14,8 +14,9 @@
 //! The calls whose names begin with `footprint` list the footprint of a read, as ranges.
 //!
 //! The calls whose names begin with `mode` read one file in both modes, and
-//! [`reorder_whole_tables`] reads it under two tables of sections: permissive mode repeats what
-//! strict mode reads, and the order of sections changes nothing where their windows are disjoint.
+//! [`reorder_whole_tables`] reads it under two tables of sections. Permissive mode repeats what
+//! strict mode reads; but an import directory at file offset 0 is an empty list there, without
+//! damage. The order of sections changes nothing where their windows are disjoint.
 
 mod footprint;
 mod header;

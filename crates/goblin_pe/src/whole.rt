@@ -60,8 +60,8 @@ pub struct Whole<'a> {
     pub header: Header<'a>,
     /// The sections, in the order of their records; they map the addresses.
     pub sections: Vec<SectionTable>,
-    /// What the import directory leads to, library by library. It is never refused: permissive mode
-    /// makes it an empty list.
+    /// What the import directory leads to, library by library. It is never refused: in permissive
+    /// mode it has what could be read, perhaps nothing.
     pub import_data: Part<ImportData<'a>>,
     /// The imports of the import data, one for each entry that a lookup table keeps.
     pub imports: Part<Vec<Import<'a>>>,
@@ -99,7 +99,8 @@ impl<'a> Whole<'a> {
     ///
     /// A table is absent where there is no optional header or no directory for it; the imports also
     /// where they are not asked for. In permissive mode a table that is refused is
-    /// [`Part::Refused`], and so is the list that would be made from it.
+    /// [`Part::Refused`], and so is the list that would be made from it; but an import directory at
+    /// file offset 0 is an empty list there, without damage.
     ///
     /// # Errors
     /// As [`Header::parse_with_opts`]; as

@@ -13,7 +13,8 @@ use Rattle.goblin_pe_sect.specs.Multiples.{greatest_multiple, least_multiple}
 use Rattle.goblin_pe_sect.specs.SectionTable.{Section}
 
 -- PE Format leaves the mapping of addresses to loaders. The windows defined here are goblin's; the
--- rule that rounds raw pointers is the Windows loader's.
+-- rule that rounds raw pointers is the Windows loader's for images whose section alignment is 4,096
+-- or more.
 
 -- how many bytes of a section are read from the file at this file alignment: none where it has no
 -- raw data; else those from the greatest multiple of 512 that is at most its raw pointer to the

@@ -33,7 +33,8 @@ const FEW: usize = 96;
 // What addresses are mapped by.
 #[derive(Drop)]
 pub(crate) enum Windows<'s> {
-    // The records of the sections, which are few or have no windows, and the file alignment.
+    // The records of sections, which are few, or by which no address is looked for, and the file
+    // alignment.
     Walked(SectionRecords<'s>, u32),
     // The index of the sections' windows.
     Indexed(WindowIndex),
@@ -41,7 +42,8 @@ pub(crate) enum Windows<'s> {
 
 /// How addresses are mapped to file offsets, and how the bytes there are read: the options, and what
 /// the windows of the sections are found by. That is an index, beside which the sections may be
-/// dropped; or their records in a file, where they are few or have no windows.
+/// dropped; or, of records in a file, these themselves where they are few, or where no window is
+/// looked for: by options that addresses are offsets, or an alignment that is no power of two.
 #[derive(Drop)]
 pub struct AddressMap<'s> {
     opts: ParseOptions,

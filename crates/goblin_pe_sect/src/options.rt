@@ -7,14 +7,15 @@ pub use goblin_base::ParseMode;
 
 /// Where the raw data of a section begins, for the mapping of addresses.
 ///
-/// The Windows loader maps a section from its raw pointer rounded down to 512, goblin from the raw
-/// pointer as it is stored. Where that is a multiple of 512, as the PE/COFF specification asks for
-/// the usual file alignments, both say the same.
+/// Where the raw pointer is a multiple of 512, as the PE/COFF specification asks for the usual file
+/// alignments, both rules say the same. Else rounding is right where `section_alignment` is 4,096 or
+/// more, and pointers as stored where it is less, since the Windows loader maps such an image as one
+/// flat view of the file.
 #[derive(Debug, PartialEq, Copy, Clone)]
 pub enum RawPointerRule {
     /// At the raw pointer, as goblin maps.
     AsStored,
-    /// At the greatest multiple of 512 that is at most the raw pointer, as the Windows loader maps.
+    /// At the greatest multiple of 512 that is at most the raw pointer.
     RoundedTo512,
 }
 
@@ -33,14 +34,16 @@ pub struct ParseOptions {
     /// Whether resources are read; true by default. It changes no answer: no reader of these crates
     /// reads them.
     pub parse_resources: bool,
-    /// What to do with damaged parts; by default strict: the first one refuses the whole.
+    /// What to do with damaged parts; by default strict: the first one refuses the whole. Permissive
+    /// mode passes over them; an import directory at file offset 0 is an empty list there, without
+    /// damage.
     pub parse_mode: ParseMode,
     /// Whether the reader of a whole file reads the imports; true by default.
     pub parse_imports: bool,
     /// Where a section's raw data begins for the mapping of addresses: by default at the raw
-    /// pointer as it is stored, as in goblin. The Windows loader rounds it down to 512. Every
-    /// reader that maps addresses follows this; [`SectionTable::data`](crate::SectionTable::data)
-    /// maps none.
+    /// pointer as it is stored, as in goblin. [`RawPointerRule`] says for which images each rule is
+    /// right. Every reader that maps addresses follows this;
+    /// [`SectionTable::data`](crate::SectionTable::data) maps none.
     pub raw_pointer_rule: RawPointerRule,
 }
 

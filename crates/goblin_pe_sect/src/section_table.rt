@@ -62,14 +62,14 @@ const _: () = prove!(SIZEOF_SECTION_TABLE == 40);
 /// A section, as its record describes it.
 ///
 /// Source: PE Format, "Section Table (Section Headers)". Numbers are as stored; a record has 40
-/// bytes, and `at` gives a field's offset in it.
+/// bytes, and `at` gives the offset in it of each field but `real_name`.
 #[derive(Debug, Default, Drop)]
 pub struct SectionTable {
     /// The eight bytes of the name, padded with NULs, at 0. A longer name is in the string table,
     /// and these then say where. A loader goes by addresses and not by names.
     pub name: [u8; 8],
     /// The name from the string table; `None` if the eight bytes are the name, or there is no text
-    /// where they point to. It is not part of the record.
+    /// where they point to.
     pub real_name: Option<String>,
     /// The section's size in memory, in bytes, at 8: what the raw data lacks of it is zeros. If it
     /// is 0, as in objects, the raw size is used instead.
@@ -79,8 +79,8 @@ pub struct SectionTable {
     /// The size of the section's data in the file, in bytes, at 16; 0 where it has none there. In
     /// an image it is rounded up to the file alignment, so it may be above the virtual size.
     pub size_of_raw_data: u32,
-    /// The file offset of the section's data, at 20. The Windows loader rounds it down to 512: see
-    /// [`RawPointerRule`](crate::RawPointerRule).
+    /// The file offset of the section's data, at 20. [`RawPointerRule`](crate::RawPointerRule) says
+    /// where the Windows loader rounds it down to 512.
     pub pointer_to_raw_data: u32,
     /// The file offset of the section's relocations, at 24; 0 in an image, and where it has none.
     pub pointer_to_relocations: u32,

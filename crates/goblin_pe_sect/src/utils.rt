@@ -141,7 +141,7 @@ fn first_in_window(
 /// The file offset at which the section's raw data begins for the mapping of addresses: its raw
 /// pointer, as stored or rounded down to 512 as `opts` says.
 ///
-/// Source: none; the rounding is that of the Windows loader.
+/// Source: none; [`RawPointerRule`] says for which images each rule is right.
 pub fn raw_begin(section: &SectionTable, opts: &ParseOptions) -> u32
     ensures { result ≡ raw_begin opts.now section.now }
 {
@@ -193,7 +193,8 @@ fn file_offset(
 /// result is the address itself. Otherwise it is `None` if no window holds the address or
 /// `file_alignment` is not a power of two.
 ///
-/// Source: none, as for [`window`]; the rounding of raw pointers is that of the Windows loader.
+/// Source: none, as for [`window`]; [`RawPointerRule`] says for which images each rule for raw
+/// pointers is right.
 #[tactic(auto, using(crate::proofs::Mapped::file_offset_first))]
 pub fn find_offset(
     rva: usize,

@@ -68,7 +68,7 @@ fn whole_in<'a>(
 /// one, even `Error::Memory`, is returned in its place, and the other still runs.
 ///
 /// Where strict mode has a value, permissive mode has the same, unless it returns `Error::Memory`;
-/// but import lists from a directory at the front of the file are then empty.
+/// but an import directory at file offset 0 is an empty list there, without damage.
 #[tactic(auto, using(crate::proofs::PermissiveReads::whole_in_modes))]
 pub fn mode_whole<'a>(
     alloc: Global,
@@ -95,7 +95,7 @@ pub fn mode_whole<'a>(
 /// place, and the others still run.
 ///
 /// Where a reader has a value in strict mode, it has the same in permissive mode, unless it returns
-/// `Error::Memory`; but a directory at the front of the file then has no imports.
+/// `Error::Memory`; but an import directory at file offset 0 is an empty list there, without damage.
 pub fn mode_tables<'a, 'e, T: Bitfield<'a>, D: TryFromCtx<'a>>(
     alloc: Global,
     bytes: &'a [u8],

@@ -51,10 +51,9 @@ pub fn read_exports<'a>(
 
 /// The export data of one directory, with the exports that it lists, in two files.
 ///
-/// The footprint of the read: the record at the directory's address; the text of the library's
-/// name; of the three tables each entry that is read, where the record's counts fit; and for each
-/// name pointer with an ordinal and an address the text of its name, and that of its forwarder if
-/// it is one.
+/// The footprint of the read: the record at the directory's address; where its counts fit, the text
+/// of the library's name and of the three tables each entry that is read; and for each name pointer
+/// with an ordinal and an address the text of its name, and that of its forwarder if it is one.
 ///
 /// # Errors
 /// For each file as [`ExportData::parse_with_opts`] and [`Export::parse_with_opts`]; memory is

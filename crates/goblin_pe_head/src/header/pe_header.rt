@@ -217,7 +217,7 @@ impl<'a> Header<'a> {
         };
         let mut end = offset + SIZEOF_PE_MAGIC;
         let coff_header = CoffHeader::parse(bytes, &mut end)?;
-        // Nothing after this can be refused, so the other fields are set only then.
+        // This is the last part that can be refused, so the other fields are set after it.
         let size = coff_header.size_of_optional_header;
         read_optional(&mut self.optional_header, bytes, end, size)?;
         self.dos_header = dos_header;

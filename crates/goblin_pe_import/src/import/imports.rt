@@ -50,7 +50,8 @@ pub struct WalkedImport<'a> {
     pub entry: SyntheticImportLookupTableEntry<'a>,
     /// The name of the library; empty if permissive mode could not read it.
     pub dll: &'a str,
-    /// The index of its entry in the lookup table and in the address table.
+    /// The index of its entry, in the file, in the lookup table and in the address table. Entries
+    /// that are left out count.
     pub slot: usize,
     /// The address (not the file offset) of its own entry in the address table.
     pub offset: usize,
