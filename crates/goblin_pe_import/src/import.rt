@@ -176,7 +176,7 @@ impl<'a> ImportData<'a> {
     ///
     /// In permissive mode a record is left out if its library is refused for another cause than
     /// memory, the directory ends at the end of the file, and it is empty if its address has no
-    /// file offset or the offset 0.
+    /// file offset; an import directory at file offset 0 is an empty list there, without damage.
     ///
     /// # Errors
     /// In strict mode [`Error::Malformed`] with [`Cause::Unmapped`] if the directory's address has
