@@ -562,7 +562,7 @@ impl<'a> Pe<'a> {
         self.header().write(out)
     }
 
-    /// What strict mode would refuse of the file, part by part, with these options.
+    /// What strict mode would refuse of the file, part by part, by the options of the read.
     ///
     /// # Errors
     /// [`ErrorKind::Memory`](crate::ErrorKind::Memory) alone.
