@@ -22,9 +22,6 @@
 /* The size of a page. */
 #define PAGE 4096
 
-/* The bit of a COFF header that says that an image has no base relocations, IMAGE_FILE_RELOCS_STRIPPED. */
-#define RELOCS_STRIPPED 1
-
 struct module {
     const char *name;
     uint8_t *bytes;
@@ -178,7 +175,7 @@ static int open_module(struct module *m, const char *path)
     fault = open_image(m);
     if (fault.status != GOBLIN_PE_STATUS_OK)
         return refused(m, fault);
-    m->base = fields_of(m)->image_base + (m->file.coff_header.characteristics & RELOCS_STRIPPED ? 0 : 0x10000);
+    m->base = fields_of(m)->image_base + (m->file.coff_header.characteristics & GOBLIN_PE_IMAGE_FILE_RELOCS_STRIPPED ? 0 : 0x10000);
     printf("%s for machine 0x%x at 0x%" PRIx64 "\n", m->name, m->file.coff_header.machine, m->base);
     return map(m);
 }
