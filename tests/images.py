@@ -109,6 +109,15 @@ def shared_image(libraries, functions):
     return headers + data + bytes(-len(data) % 0x200)
 
 
+def one_long_name(sections, length):
+    """An image of so many sections, which all have the name of this length that ends the file."""
+    name = 0x148 + 40 * sections + 8
+    headers = image_headers(name, sections, 0x7FFFF000, ())
+    for i in range(sections):
+        put_section(headers, 0x148 + 40 * i, b"/%d" % name, b"", 0x1000 * (i + 1), 0)
+    return headers + b"n" * length
+
+
 def own_tables(libraries):
     """The small image with so many libraries instead, each of which has all their records as its table of imports: five
     entries in each record, two of them ordinals."""

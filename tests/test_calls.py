@@ -118,6 +118,14 @@ class Answers(Case):
         limit = with_memory((len(image) + 20_000_000) >> 10, [])
         self.assert_ranges(image, [(0, 0x160), (0x200, 0x200 + 20 * (count + 1) + len(b"a.dll\0"))], *limit)
 
+    def test_a_footprint_of_sections_with_one_long_name(self):
+        """The name is marked where it stands: copies of it for each section would not fit."""
+        count, length = 1000, 200_000
+        image = images.one_long_name(count, length)
+        limit = with_memory((len(image) + 20_000_000) >> 10, [])
+        end = 0x148 + 40 * count
+        self.assert_ranges(image, [(0, end), (end + 8, end + 8 + length)], *limit)
+
     def test_a_footprint_of_parts_that_touch(self):
         """The tables of a large image: all but a byte before the hints of each library, behind its name."""
         image = images.large_image(libraries=64, functions=2400, exports=0, blocks=0, size=1 << 20)

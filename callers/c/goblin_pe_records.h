@@ -43,8 +43,9 @@ enum goblin_pe_state {
     /* It was read, and may be empty. */
     GOBLIN_PE_STATE_READ = 1,
     /* It is refused, and permissive mode passed over that. Imports never are: in permissive mode
-       they count as read, with what could be read of them, perhaps nothing; what that leaves out,
-       the damage of the file tells. */
+       they count as read, with what could be read of them, perhaps nothing, and the damage of the
+       file tells what that leaves out; but an import directory at file offset 0 is an empty list
+       there, without damage. */
     GOBLIN_PE_STATE_REFUSED = 2
 };
 
@@ -308,12 +309,15 @@ struct goblin_pe_fault {
 
 /* What a call does and leaves out. */
 struct goblin_pe_options {
-    /* Whether damaged parts are passed over. */
+    /* Whether damaged parts are passed over, in permissive mode; an import directory at file offset
+       0 is an empty list there, without damage. */
     bool is_permissive;
     /* Whether an address is mapped to a file offset by the sections; where not, it is the offset. */
     bool resolve_rva;
-    /* Whether the raw pointer of a section is rounded down to 512, as the Windows loader does, for
-       addresses and for its data; where not, it is taken as stored. */
+    /* Whether the raw pointer of a section is rounded down to 512, for addresses and for its data;
+       where not, it is taken as stored. Rounding is right where `section_alignment` is 4,096 or
+       more, and pointers as stored where it is less, since the Windows loader maps such an image as
+       one flat view of the file. */
     bool rounds_raw_pointers;
     /* Whether the imports are read; where not, their table is absent. */
     bool parse_imports;
@@ -784,7 +788,8 @@ struct goblin_pe_import_position {
 struct goblin_pe_damage {
     /* The DOS stub. */
     struct goblin_pe_fault dos_stub;
-    /* The names of the sections. */
+    /* The names of the sections: one that begins with a slash and goes on with bytes that are no
+       text. */
     struct goblin_pe_fault section_names;
     /* The imports, if they are asked for. */
     struct goblin_pe_fault imports;
@@ -818,8 +823,8 @@ struct goblin_pe_image {
     /* The file's bytes. */
     struct goblin_pe_text bytes;
     /* The records of its sections, in the order of the section table. No call looks at more of them
-       than `virtual_address`, `virtual_size`, `pointer_to_raw_data` and `size_of_raw_data`; all
-       else may be zeros. */
+       than their `virtual_address`, `virtual_size`, `pointer_to_raw_data` and `size_of_raw_data`;
+       all else may be zeros, a null pointer of their texts, too. */
     const struct goblin_pe_section *sections;
     size_t section_count;
     /* Its file alignment, in bytes. */

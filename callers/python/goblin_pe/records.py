@@ -133,11 +133,14 @@ class Fault(Record):
 class Options(Record):
     """What a call does and leaves out.
 
-    is_permissive: Whether damaged parts are passed over.
+    is_permissive: Whether damaged parts are passed over, in permissive mode; an import directory at
+        file offset 0 is an empty list there, without damage.
     resolve_rva: Whether an address is mapped to a file offset by the sections; where not, it is the
         offset.
-    rounds_raw_pointers: Whether the raw pointer of a section is rounded down to 512, as the Windows
-        loader does, for addresses and for its data; where not, it is taken as stored.
+    rounds_raw_pointers: Whether the raw pointer of a section is rounded down to 512, for addresses
+        and for its data; where not, it is taken as stored. Rounding is right where
+        `section_alignment` is 4,096 or more, and pointers as stored where it is less, since the
+        Windows loader maps such an image as one flat view of the file.
     parse_imports: Whether the imports are read; where not, their table is absent.
     """
 
@@ -695,7 +698,8 @@ class Damage(Record):
     where strict mode would read it, or the file has no such part; else why not.
 
     dos_stub: The DOS stub.
-    section_names: The names of the sections.
+    section_names: The names of the sections: one that begins with a slash and goes on with bytes
+        that are no text.
     imports: The imports, if they are asked for.
     exports: The exports.
     relocations: The base relocations: their directory, not its blocks.
@@ -741,8 +745,8 @@ class Image(Record):
 
     bytes: The file's bytes.
     sections: The records of its sections, in the order of the section table. No call looks at more
-        of them than `virtual_address`, `virtual_size`, `pointer_to_raw_data` and
-        `size_of_raw_data`; all else may be zeros.
+        of them than their `virtual_address`, `virtual_size`, `pointer_to_raw_data` and
+        `size_of_raw_data`; all else may be zeros, a null pointer of their texts, too.
     file_alignment: Its file alignment, in bytes.
     options: Whether addresses are mapped, and by which rule for raw pointers; all else is not
         looked at.

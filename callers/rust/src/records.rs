@@ -106,12 +106,15 @@ pub struct Fault {
 #[derive(Clone, Copy, Debug, PartialEq, Eq, PartialOrd, Ord, Hash)]
 #[non_exhaustive]
 pub struct Options {
-    /// Whether damaged parts are passed over.
+    /// Whether damaged parts are passed over, in permissive mode; an import directory at file
+    /// offset 0 is an empty list there, without damage.
     pub is_permissive: bool,
     /// Whether an address is mapped to a file offset by the sections; where not, it is the offset.
     pub resolve_rva: bool,
-    /// Whether the raw pointer of a section is rounded down to 512, as the Windows loader does, for
-    /// addresses and for its data; where not, it is taken as stored.
+    /// Whether the raw pointer of a section is rounded down to 512, for addresses and for its data;
+    /// where not, it is taken as stored. Rounding is right where `section_alignment` is 4,096 or
+    /// more, and pointers as stored where it is less, since the Windows loader maps such an image
+    /// as one flat view of the file.
     pub rounds_raw_pointers: bool,
     /// Whether the imports are read; where not, their table is absent.
     pub parse_imports: bool,
@@ -620,7 +623,8 @@ pub struct ImportPosition {
 pub struct Damage {
     /// The DOS stub.
     pub dos_stub: Fault,
-    /// The names of the sections.
+    /// The names of the sections: one that begins with a slash and goes on with bytes that are no
+    /// text.
     pub section_names: Fault,
     /// The imports, if they are asked for.
     pub imports: Fault,
@@ -660,8 +664,8 @@ pub struct Image<'p, 'a> {
     /// The file's bytes.
     pub bytes: Slice<'a>,
     /// The records of its sections, in the order of the section table. No call looks at more of
-    /// them than `virtual_address`, `virtual_size`, `pointer_to_raw_data` and `size_of_raw_data`;
-    /// all else may be zeros.
+    /// them than their `virtual_address`, `virtual_size`, `pointer_to_raw_data` and
+    /// `size_of_raw_data`; all else may be zeros, a null pointer of their texts, too.
     pub sections: Shared<'p, Section<'a>>,
     /// Its file alignment, in bytes.
     pub file_alignment: u32,

@@ -27,4 +27,5 @@ pub mod SectionRoom
 pub mod SoundFiles
 pub mod TableRuns
 pub mod TakenTables
+pub mod TablesReached
 pub mod TwinParts

@@ -27,6 +27,7 @@ mod imports;
 mod layout;
 mod listed;
 mod places;
+mod reached;
 mod sections;
 
 pub use damage::Damage;

@@ -2,6 +2,7 @@
 
 ghost use Rattle.std.specs.Prelude.{◌+◌, ◌≡◌, ◌<◌, ◌/◌, IfErr, IfOk, IsErrAnd, None, Ok, Some, length, map};
 ghost use Rattle.goblin_base.specs.Answers.{IsMemory};
+ghost use Rattle.goblin_base.specs.Marks.{marked};
 ghost use Rattle.goblin_base.specs.Reading.{Reads, ReadsOrMemory};
 ghost use Rattle.readings.specs.Reads.{mapped};
 ghost use Rattle.goblin_pe_sect.specs.BaseRelocations.{relocation_bytes};
@@ -18,12 +19,13 @@ ghost use Rattle.goblin_pe.specs.Layouts.{walked_exports};
 ghost use Rattle.goblin_pe.specs.SectionRoom.{TakesIndex, TakesSections};
 ghost use Rattle.goblin_pe.specs.Whole.{AreListed, IfRead, export_part, import_list};
 ghost use Rattle.goblin_pe.specs.Whole.{part_map, relocation_part, section_table_offset};
-ghost use Rattle.goblin_pe.specs.Whole.{sections_after};
+ghost use Rattle.goblin_pe.specs.Whole.{sections_after, table_parts};
 
 use crate::export::Exports;
 use crate::import::{ImportPosition, LeftOut};
 use crate::whole::places::Places;
 use crate::whole::{FileImports, Part};
+use goblin_base::footprint::Marks;
 use goblin_base::{Result, ResultOf};
 use goblin_pe_head::header::{Header, SIZEOF_COFF_HEADER, SIZEOF_PE_MAGIC};
 use goblin_pe_sect::address_map::{AddressMap, Finder};
@@ -289,5 +291,14 @@ impl<'a, 'h> Layout<'a, 'h> {
             result ≡ left_out_of m.opts (offset_of m) (layout_places self.now) self.now.bytes.now }
     {
         self.places.left_out(self.bytes, &self.address_map)
+    }
+
+    // Marks the positions on which the tables depend.
+    pub(crate) fn mark_tables(&self, marks: &mut Marks)
+        ensures { let m = layout_map self.now in
+            let read = table_parts m.opts (offset_of m) (layout_places self.now) in
+            marks.new ≡ marked marks.old (read.reaches self.now.bytes.now) }
+    {
+        self.places.mark(marks, self.bytes, &self.address_map)
     }
 }
