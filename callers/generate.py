@@ -2,7 +2,7 @@
 """Writes what C, Rust and Python repeat of the library's interface, below callers/: its records, the numbers in them, its
 calls, and the constants of the formats. A test compares the files with what this makes.
 
-All of it is declared by the crates: the calls of goblin_pe_c; each record with #[repr(C)] that one of them takes or answers,
+All of it is declared by the crates of the library: its calls; each record with #[repr(C)] that one of them takes or answers,
 or that stands in one; the default options; and the enums and the files of constants that are named here. A doc comment
 stands in each language, with the names of types that it has there. What the reader does not know, it refuses."""
 import pathlib
@@ -12,6 +12,7 @@ from typing import Callable, Dict, Iterator, List, NamedTuple, Tuple
 
 HERE = pathlib.Path(__file__).resolve().parent
 CRATES = HERE.parent / "crates"
+LIBRARY = "goblin_pe_c"
 # The enums of numbers, and the types that callers name otherwise than Rattle; the Pe before a record is always left out.
 ENUMS = ("Kind", "State", "Forwards", "Status", "CauseNumber", "Counted", "ReadRefusal", "DataDirectoryType")
 NAMES = {"CauseNumber": "Cause", "ReadRefusal": "ReadFault", "DataDirectoryType": "DirectoryType", "WindowsFields64": "WindowsFields"}
@@ -80,6 +81,12 @@ def read(form: str, text: str) -> Tuple[str, ...]:
     if not found:
         raise Refused(text)
     return found.groups()
+
+
+def crates_of(crate: str) -> List[str]:
+    """A crate, and those that it is made of."""
+    uses = dict(re.findall(r"^(\w+)(?: staticlib)?: *(.*)$", (CRATES.parent / "crates.txt").read_text("utf-8"), re.M))
+    return sorted({crate, *(it for used in uses.get(crate, "").split() for it in crates_of(used))})
 
 
 def declarations(source: str) -> Iterator[Tuple[str, str, str]]:
@@ -176,7 +183,7 @@ class Interface:
         self.records: Dict[str, Declared] = {}
         self.version, self.defaults = 0, [("", "")]
         self._declared: Dict[str, Declared] = {}
-        for path in sorted(CRATES.glob("goblin_*/src/**/*.rt")):
+        for path in [it for crate in crates_of(LIBRARY) for it in sorted((CRATES / crate).glob("src/**/*.rt"))]:
             for doc, marks, text in declarations(path.read_text("utf-8")):
                 self.take(doc, marks, text)
         for item in [it for call in self.calls for it in [*call.items, Item("", call.answer, "")]]:
