@@ -138,8 +138,8 @@ impl Whole<'_> {
     /// # Errors
     /// As [`Header::parse_with_opts`]; as
     /// [`CoffHeader::sections_with_opts`](goblin_pe_head::CoffHeader::sections_with_opts);
-    /// [`Error::Memory`] if memory is refused, and only of a file that has more than 96 sections, and
-    /// room for as many as its header says.
+    /// [`Error::Memory`] if memory is refused, and only of a file that has more than 96 sections, by
+    /// whose windows addresses are mapped, and room for as many as its header says.
     #[tactic(auto, using(crate::proofs::SoundFiles::sound_told))]
     pub fn damage(alloc: Global, bytes: &[u8], opts: &ParseOptions) -> Result<Damage>
         ensures tells { TellsDamage opts.now bytes.now result }

@@ -114,7 +114,8 @@ impl<'a, 'h> Layout<'a, 'h> {
     ///
     /// # Errors
     /// As [`CoffHeader::sections_with_opts`](goblin_pe_head::CoffHeader::sections_with_opts), but
-    /// [`Error::Memory`](goblin_base::Error::Memory) only of more than 96 sections.
+    /// [`Error::Memory`](goblin_base::Error::Memory) only of more than 96 sections, where their windows
+    /// map addresses.
     #[inline(always)]
     #[tactic(auto, using(crate::proofs::SectionNames::mapped_by_names, crate::proofs::SectionNames::takes_index))]
     pub fn of(
