@@ -27,7 +27,7 @@ pub fn forwarders(alloc: Global, bytes: &[u8], opts: &ParseOptions) -> Result<us
     ensures value { ReadsOrMemory (λ n. n) result (forwarders opts.now) bytes.now }
     ensures grown { IfErr result
         (λ e. IsMemory e → IsSomeAnd ((pe_header (is_strict opts.now.parse_mode)).value bytes.now)
-        (λ h. TakesIndex h.coff_header.number_of_sections bytes.now)) }
+        (TakesIndex opts.now bytes.now)) }
 {
     let header = Header::parse_with_opts(bytes, opts)?;
     let layout = Layout::of(alloc, bytes, &header, opts)?;

@@ -6,6 +6,7 @@ ghost use Rattle.goblin_pe.specs.Answers.{Answers, IsMemory, all_of};
 ghost use Rattle.goblin_pe.specs.Callers.{layout_bytes, layout_table, read_or};
 ghost use Rattle.goblin_pe.specs.HeaderReadings.{pe_header};
 ghost use Rattle.goblin_pe.specs.Layouts.{IsFileImportsCause, file_imports_left};
+ghost use Rattle.goblin_pe.specs.Options.{default_options};
 ghost use Rattle.goblin_pe.specs.Reading.{Reads, ReadsOrMemory};
 ghost use Rattle.goblin_pe.specs.Reads.{mapped};
 ghost use Rattle.goblin_pe.specs.SectionRoom.{TakesIndex};
@@ -25,7 +26,7 @@ use std::alloc::Global;
 pub fn imports_from(alloc: Global, bytes: &[u8], library: &str) -> Result<bool>
     ensures value { ReadsOrMemory (λ b. b) result (imports_from library.now) bytes.now }
     ensures grown { IfErr result (λ e. IsMemory e → IsSomeAnd ((pe_header true).value bytes.now)
-        (λ h. TakesIndex h.coff_header.number_of_sections bytes.now)) }
+        (TakesIndex default_options bytes.now)) }
 {
     let opts = ParseOptions::default();
     let header = Header::parse(bytes)?;

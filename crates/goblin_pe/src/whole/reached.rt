@@ -16,13 +16,7 @@ use goblin_pe_sect::address_map::AddressMap;
 impl Places {
     // Marks what the import data of a directory reaches.
     #[tactic(auto, unfolding(crate::specs::Whole::entry_format))]
-    fn mark_import_data(
-        &self,
-        marks: &mut Marks,
-        bytes: &[u8],
-        rva: u32,
-        address_map: &AddressMap,
-    )
+    fn mark_import_data(&self, marks: &mut Marks, bytes: &[u8], rva: u32, address_map: &AddressMap)
         ensures { let m = map_of address_map.now in
             let format = entry_format self.now.magic in
             let read = import_data (reads_strictly m) format (offset_of m) rva in

@@ -2,6 +2,7 @@
 
 use fixture::sample::{SAMPLE_LEN, is_err, is_ok, put, put_all, sample};
 use goblin_base::Error;
+use goblin_pe::Cause;
 use goblin_pe::export::{
     ExportAddressTable, ExportAddressTableEntry, ExportNamePointerTable, ExportOrdinalTable,
 };
@@ -10,7 +11,6 @@ use goblin_pe::options::ParseOptions;
 use goblin_pe::relocation::RelocationWord;
 use goblin_pe::section_table::SectionTable;
 use goblin_pe::table::*;
-use goblin_pe::Cause;
 use goblin_pe_caller::footprint::Key;
 use goblin_pe_caller::imports::imports_from;
 use goblin_pe_caller::tables::{
