@@ -42,7 +42,7 @@ fn add_import_data<'a>(
     }
 }
 
-// Marks the footprint of the imports, if they are asked for and the header has a directory for them.
+// Marks the footprint of the imports, if they are asked for and the header has their directory.
 #[tactic(auto, unfolding(crate::specs::Whole::import_parts, crate::specs::Whole::import_part, crate::specs::Whole::places_in), using(goblin_base::proofs::Marks::marking))]
 fn add_import_part<'a>(
     marks: &mut Marks,
@@ -217,8 +217,8 @@ pub fn mark_whole<'e>(alloc: Global, bytes: &[u8], opts: &ParseOptions) -> Resul
 /// [`Whole::read`](crate::Whole::read) depends, as [`twin_whole`](crate::laws::twin_whole) says. By
 /// the same options a file of the same length with the same bytes there has the same value, or is
 /// refused too, not always for the same cause. A position is in the footprint exactly where it lies
-/// in one of the ranges. They come in order, none is empty, and none runs past the end of the file;
-/// a position lies between each and the next. A file that is refused has a footprint, too.
+/// in one of the ranges. They come in order, none is empty, and none runs past the file; a position
+/// lies between each and the next. A file that is refused has a footprint, too.
 ///
 /// # Errors
 /// [`Error::Memory`](goblin_base::Error::Memory) only, and only if the file has a byte.
