@@ -246,12 +246,6 @@ pub covered-joined : (n : ℕ) (xs : List Range) (p : ℕ) → p < n → is_cove
 unfolding joined
 covered-joined n xs p lt = covered-ranges_of (marked (replicate n false) xs) p ∙ mark-joined n xs p lt
 
-pub covered_past-joined : (n : ℕ) (xs : List Range) (p : ℕ) → n ≤ p → is_covered (joined n xs) p ≡ false
-unfolding joined
-covered_past-joined n xs p le =
-    covered-ranges_of (marked (replicate n false) xs) p
-    ∙ get_or_past (marked (replicate n false) xs) p false (omega (arith, le, length-joined n xs))
-
 pub joined-apart : (n : ℕ) (xs : List Range) → AreApart 0 (joined n xs)
 unfolding joined ranges_of
 joined-apart n xs = ranges_from-apart 0 (marked (replicate n false) xs)

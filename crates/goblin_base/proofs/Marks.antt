@@ -21,14 +21,9 @@ covered-append (x ∷ xs) ys p =
     ∙ sym (or_assoc (leb x.0 p && ltb p x.1) (is_covered xs p) (is_covered ys p))
 
 -- two spans that meet
-pub span-join : (begin at next p : ℕ) → begin ≤ at → at ≤ next
+span-join : (begin at next p : ℕ) → begin ≤ at → at ≤ next
     → ((leb begin p && ltb p at) || (leb at p && ltb p next)) ≡ (leb begin p && ltb p next)
 span-join begin at next p low high = grind (arith, nat_tests)
-
--- a span that ends there
-pub same_span_end : (begin at end p : ℕ) → begin ≤ at → at ≤ max begin end → end ≤ at
-    → (leb begin p && ltb p at) ≡ (leb begin p && ltb p end)
-same_span_end begin at end p low high past = grind (arith, nat_tests)
 
 cut_span : (begin end n cut p : ℕ) → p < n → cut ≡ min end n
     → (leb begin p && ltb p cut) ≡ (leb begin p && ltb p end)
@@ -160,7 +155,7 @@ bit_at_under a k i lt =
     ap (λ (n : ℕ). bit_at n i) (sym (add-zero (a * 2 ^ k))) ∙ bit_at_cat_low a k 0 i lt ∙ bit_at-zero i
 
 -- n ones, moved up
-pub IsMask-ones : (first last : ℕ) → first < last → IsMask first last ((2 ^ (last - first) - 1) * 2 ^ first)
+IsMask-ones : (first last : ℕ) → first < last → IsMask first last ((2 ^ (last - first) - 1) * 2 ^ first)
 IsMask-ones first last less = λ i.
     let n = last - first in
     elim (cases_lt i first) [
@@ -218,20 +213,10 @@ word_marks-same n words begin end cut is none =
     ∙ ap (λ (b : Bool). word_mark words p || b) (sym (empty_span begin cut p none) ∙ covered-cut begin end n cut p lt is))
 
 -- words behind the last are not marked
-pub word_mark-past : (words : List ℕ) (p : ℕ) → 64 * length words ≤ p → word_mark words p ≡ false
+word_mark-past : (words : List ℕ) (p : ℕ) → 64 * length words ≤ p → word_mark words p ≡ false
 word_mark-past words p past =
     ap (λ (w : ℕ). eqb (bit_at w (p % 64)) 1) (get_or_past words (p / 64) 0 (omega (arith, past)))
     ∙ ap (λ (b : ℕ). eqb b 1) (bit_at-zero (p % 64))
-
-empty_word : (words : List ℕ) (k : ℕ) → get_or (words ++ 0 ∷ []) k 0 ≡ get_or words k 0
-empty_word [] zero = refl
-empty_word [] (suc k) = refl
-empty_word (w ∷ ws) zero = refl
-empty_word (w ∷ ws) (suc k) = empty_word ws k
-
--- nor is an empty word
-pub word_mark-more : (words : List ℕ) (p : ℕ) → word_mark (words ++ 0 ∷ []) p ≡ word_mark words p
-word_mark-more words p = ap (λ (w : ℕ). eqb (bit_at w (p % 64)) 1) (empty_word words (p / 64))
 
 -- without words no position is marked
 pub word_marks-none : (n : ℕ) → word_marks n [] ≡ replicate n false
@@ -242,7 +227,7 @@ word_marks-none n =
 
 -- ---- the first bit of a word, and the first mark
 
-pub bit_at-shr : (n k i : ℕ) → bit_at (n / 2 ^ k) i ≡ bit_at n (k + i)
+bit_at-shr : (n k i : ℕ) → bit_at (n / 2 ^ k) i ≡ bit_at n (k + i)
 bit_at-shr n k i = ap (λ (x : ℕ). x % 2) (shr-shr n k i)
 
 -- no bit is left
@@ -279,11 +264,11 @@ flip_bit (suc (suc n)) b l e = absurd (omega (arith, l))
 pub other_bits : (n i : ℕ) → n < 2 ^ 64 → i < 64 → eqb (bit_at (2 ^ 64 - 1 - n) i) 1 ≡ not (eqb (bit_at n i) 1)
 other_bits n i fits lt = flip_bit (bit_at n i) (bit_at (2 ^ 64 - 1 - n) i) (bit_at-lt n i) (bit_at_not w64 n i fits lt)
 
-pub length-word_marks : (n : ℕ) (words : List ℕ) → length (word_marks n words) ≡ n
+length-word_marks : (n : ℕ) (words : List ℕ) → length (word_marks n words) ≡ n
 unfolding word_marks
 length-word_marks n words = length-map-range_with_len (word_mark words) 0 n
 
-pub mark-word_marks : (n : ℕ) (words : List ℕ) (p : ℕ) → p < n → get_or (word_marks n words) p false ≡ word_mark words p
+mark-word_marks : (n : ℕ) (words : List ℕ) (p : ℕ) → p < n → get_or (word_marks n words) p false ≡ word_mark words p
 unfolding word_marks
 mark-word_marks n words p lt = get_or-map-range_with_len (word_mark words) 0 n p p false lt (omega arith)
 

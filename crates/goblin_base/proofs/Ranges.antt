@@ -1,4 +1,4 @@
--- Ranges that are listed: those of a text, those of a part of the bytes, and those of pieces one
+-- Ranges that are marked: those of a text, those of a part of the bytes, and those of pieces one
 -- after the other.
 use Rattle.std.proofs.Common.{Bool, ◌≡◌, ℕ, zero, suc, ◌+◌, ◌-◌, min, true, false, nat_le, nat_lt}
 use Rattle.std.proofs.Common.{Option, Some, None, List, [], ◌++◌, length, take, drop}
@@ -9,11 +9,11 @@ use Rattle.std.proofs.lemmas.List.{length-drop, map-append}
 use Rattle.goblin_base.specs.Bytes.{before_nul}
 use Rattle.goblin_base.specs.Footprints.{Range, led_to, positions, slice_footprint}
 use Rattle.goblin_base.specs.Footprints.{stretch_footprint}
+use Rattle.goblin_base.specs.Marks.{marked}
 use Rattle.goblin_base.specs.Parts.{moved_by}
 use Rattle.goblin_base.specs.Tables.{concat_below}
 use Rattle.goblin_base.proofs.Below.{concat_below-next}
 use Rattle.goblin_base.proofs.Numbers.{rest_is_drop}
-use Rattle.goblin_base.specs.Marks.{marked}
 use Rattle.goblin_base.proofs.Marks.{marked_append}
 
 -- the positions up to and with the byte after the text, where the file has one

@@ -74,7 +74,8 @@ GivesNext marks place (Some range) = IsNext marks place range
 abbrev pub GivesBit : ℕ → ℕ → Option ℕ → Type 0
 GivesBit word first None = (i : ℕ) → first ≤ i → bit_at word i ≡ 0
 GivesBit word first (Some place) =
-    (first ≤ place) × (place < 64) × (bit_at word place ≡ 1) × ((i : ℕ) → first ≤ i → i < place → bit_at word i ≡ 0)
+    (first ≤ place) × (place < 64) × (bit_at word place ≡ 1)
+    × ((i : ℕ) → first ≤ i → i < place → bit_at word i ≡ 0)
 
 -- The ranges of a footprint of a file of n bytes. A position lies in one of them exactly where it
 -- lies in the footprint. They come in order, none is empty, and none runs past the file; a position

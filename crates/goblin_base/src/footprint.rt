@@ -17,8 +17,8 @@ use std::marker::Model;
 
 /// The positions of a file that are marked.
 ///
-/// There is room for a bit for each position of the file, so marking needs no more memory; words
-/// behind the last mark are not there, so it takes no time for what is not reached.
+/// There is room for a bit for each position of the file, so marking needs no more memory. Words
+/// are made up to the last mark alone, so what lies behind it takes no time.
 #[derive(Drop)]
 pub struct Marks {
     words: Vec<u64>,

@@ -63,7 +63,8 @@ pub(crate) fn mark_words(words: &mut [u64], begin: usize, end: usize)
 
 // The word whose bits tell which bits of this one are wanted.
 fn wanted_bits(word: u64, wanted: bool) -> u64
-    ensures { (i : ℕ) → i < 64 → (bit_at result i == 1) ≡ (if wanted then bit_at word i == 1 else not (bit_at word i == 1)) }
+    ensures { (i : ℕ) → i < 64 → (bit_at result i == 1)
+        ≡ (if wanted then bit_at word i == 1 else not (bit_at word i == 1)) }
 {
     if wanted { word } else { !word }
 }
@@ -80,7 +81,7 @@ fn first_bit(word: u64, first: usize) -> Option<usize>
     Some(first + rest.trailing_zeros() as usize)
 }
 
-// The first position from `from` on and before `end` whose mark is the one that is wanted, or `end`.
+// The first position from `from` on and before `end` that has the mark that is wanted, or `end`.
 pub(crate) fn first_wanted(words: &[u64], from: usize, end: usize, wanted: bool) -> usize
     requires room { end ≤ 64 * length words.now }
     requires within { from ≤ end }

@@ -1,12 +1,12 @@
 -- What a search for a Rich header and an optional header reach, as positions in the file.
-use Rattle.std.proofs.Common.{◌≡◌, ◌≢◌, ◌<◌, ℕ, rules, ◌+◌, ◌*◌, ◌==◌, false, nat_le, Option, Some, None, List}
+use Rattle.std.proofs.Common.{◌≡◌, ◌≢◌, ℕ, rules, ◌+◌, ◌*◌, ◌==◌, false, nat_le, Option, Some, None, List}
 use Rattle.std.proofs.Common.{[], ◌++◌, drop, take, length, append-nil, refl, ap, ◌∙◌, arith}
 use Rattle.std.proofs.Common.{inl, inr}
 use Rattle.std.proofs.lemmas.Bool.{cases_Bool}
 use Rattle.goblin_base.specs.declared.endian.Endian.TheVariants.{Little}
 use Rattle.goblin_base.specs.Bytes.{number_at}
 use Rattle.goblin_base.specs.Footprints.{Range, led_to, positions, slice_footprint}
-use Rattle.goblin_base.specs.Parts.{front_through, moved_by, search_footprint}
+use Rattle.goblin_base.specs.Parts.{moved_by, search_footprint}
 use Rattle.goblin_base.specs.Record.{record_at}
 use Rattle.goblin_base.proofs.Below.{concat_below-agree}
 use Rattle.goblin_base.proofs.Ranges.{moved-append, moved-below, moved-led, moved-positions}
@@ -20,8 +20,8 @@ use Rattle.goblin_pe_head.specs.CoffHeader.{coff_header}
 use Rattle.goblin_pe_head.specs.DosHeader.{dos_record}
 use Rattle.goblin_pe_head.specs.HeaderReadings.{dos_header, fixed_fields, optional_at}
 use Rattle.goblin_pe_head.specs.HeaderReadings.{optional_header, parts_at}
-use Rattle.goblin_pe_head.specs.RichHeader.{dans_place, is_rich, marker_place, word_at}
-use Rattle.goblin_pe_head.specs.RichReadings.{rich_before, rich_in}
+use Rattle.goblin_pe_head.specs.RichHeader.{dans_place, marker_place, word_at}
+use Rattle.goblin_pe_head.specs.RichReadings.{rich_in}
 
 -- ---- the DOS header
 

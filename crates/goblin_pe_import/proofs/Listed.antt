@@ -1,7 +1,7 @@
 -- What is listed of a hint and of an entry.
 use Rattle.std.proofs.Common.{◌≡◌, ℕ, ◌+◌, Bool, true, false, nat_le, nat_lt, Option}
 use Rattle.std.proofs.Common.{Some, None, List, [], ◌++◌, length, refl}
-use Rattle.std.proofs.Common.{arith, append_assoc, inl, inr}
+use Rattle.std.proofs.Common.{arith, inl, inr}
 use Rattle.std.specs.Prelude.{slice_range}
 use Rattle.std.proofs.lemmas.Bool.{cases_Bool, le-leb, leb-false, leb-true, lt-ltb}
 use Rattle.goblin_base.specs.Bytes.{slice_at}

@@ -81,8 +81,8 @@ pub fn mark_whole<'e>(alloc: Global, bytes: &[u8], opts: &ParseOptions) -> Resul
 /// [`Whole::read`](crate::Whole::read) depends, as [`twin_whole`](crate::laws::twin_whole) says. By
 /// the same options a file of the same length with the same bytes there has the same value, or is
 /// refused too, not always for the same cause. A position is in the footprint exactly where it lies
-/// in one of the ranges. They come in order, none is empty, and none runs past the end of the file;
-/// a position lies between each and the next. A file that is refused has a footprint, too.
+/// in one of the ranges. They come in order, none is empty, and none runs past the file; a position
+/// lies between each and the next. A file that is refused has a footprint, too.
 ///
 /// # Errors
 /// [`Error::Memory`](goblin_base::Error::Memory) only, and only if the file has a byte.

@@ -190,9 +190,9 @@ pub fn add_exports(
 
 /// The footprint of the exports of a file: the ranges (begin, end) of the positions on which the
 /// export data of a directory and the exports that it lists depend, as
-/// [`twin_exports`](crate::laws::twin_exports) says. A position is in the footprint exactly where it
-/// lies in one of the ranges. They come in order, none is empty, and none runs past the end of the
-/// file; a position lies between each and the next.
+/// [`twin_exports`](crate::laws::twin_exports) says. A position is in the footprint exactly where
+/// it lies in one of the ranges. They come in order, none is empty, and none runs past the file; a
+/// position lies between each and the next.
 ///
 /// # Errors
 /// [`Error::Memory`](goblin_base::Error::Memory) only, and only if the file has a byte or addresses

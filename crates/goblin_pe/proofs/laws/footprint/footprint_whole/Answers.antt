@@ -1,4 +1,4 @@
-use Rattle.std.proofs.Common.{◌≡◌, length}
+use Rattle.std.proofs.Common.{length}
 use Rattle.std.proofs.lemmas.Result.{IfOk-weaker, on_err_weaker}
 use Rattle.goblin_base.proofs.MarkRanges.{footprint_of, some_of}
 use Rattle.goblin_pe.specs.Whole.{whole_file}

@@ -1,9 +1,6 @@
 use Rattle.std.proofs.Common.{◌≡◌, [], ◌++◌, append-nil}
-use Rattle.goblin_base.specs.declared.endian.Endian.TheVariants.{Little}
 use Rattle.goblin_base.specs.Footprints.{led_to, slice_footprint}
-use Rattle.goblin_base.specs.Record.{record_at}
 use Rattle.goblin_base.proofs.Ranges.{marked_then}
-use Rattle.goblin_pe_head.specs.DosHeader.{dos_record}
 use Rattle.goblin_pe_head.proofs.HeaderRanges.{dos-reaches, signature_reach}
 use Rattle.goblin_pe_head.proofs.laws.header.add_dos_header.Goals as goal
 

@@ -6,7 +6,7 @@ use Rattle.goblin_base.proofs.Numbers.{rest_is_drop}
 use Rattle.goblin_base.proofs.Ranges.{marked_then}
 use Rattle.readings.specs.Reads.{in_rest}
 use Rattle.goblin_pe_head.specs.HeaderReadings.{fixed_fields}
-use Rattle.goblin_pe_head.proofs.HeaderRanges.{led_by, magic_reach, optional-reaches}
+use Rattle.goblin_pe_head.proofs.HeaderRanges.{led_by, optional-reaches}
 use Rattle.goblin_pe_head.proofs.laws.header.add_optional_header.Goals as goal
 
 pub returns-in_default : goal.returns-in_default

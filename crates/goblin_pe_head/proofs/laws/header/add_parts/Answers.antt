@@ -1,12 +1,9 @@
 use Rattle.std.proofs.Common.{◌≡◌, ◌+◌, [], ◌++◌, append-nil, ◌∙◌, arith}
-use Rattle.goblin_base.specs.declared.endian.Endian.TheVariants.{Little}
 use Rattle.goblin_base.specs.Footprints.{led_to, slice_footprint}
-use Rattle.goblin_base.specs.Record.{record_at}
 use Rattle.goblin_base.proofs.Ranges.{marked_then}
 use Rattle.readings.specs.Reads.{in_rest}
-use Rattle.goblin_pe_head.specs.CoffHeader.{coff_header}
 use Rattle.goblin_pe_head.specs.HeaderReadings.{optional_header}
-use Rattle.goblin_pe_head.proofs.HeaderRanges.{optional-none, optional-there, optional_reach}
+use Rattle.goblin_pe_head.proofs.HeaderRanges.{optional-none, optional-there}
 use Rattle.goblin_pe_head.proofs.HeaderRanges.{parts-reaches}
 use Rattle.goblin_pe_head.proofs.laws.header.add_parts.Goals as goal
 

@@ -1,6 +1,6 @@
-use Rattle.std.proofs.Common.{◌≡◌, ◌<◌, ℕ, ◌+◌, Bool, List, ◌++◌, length, sym, ap, ◌∙◌}
-use Rattle.goblin_base.specs.Footprints.{Range, positions, stretch_footprint}
-use Rattle.goblin_pe_import.proofs.Listed.{hint-none, hint-some, hint_reach}
+use Rattle.std.proofs.Common.{ℕ, ◌+◌, Bool, List, ◌++◌, length, sym, ap, ◌∙◌}
+use Rattle.goblin_base.specs.Footprints.{positions, stretch_footprint}
+use Rattle.goblin_pe_import.proofs.Listed.{hint-none, hint-some}
 use Rattle.goblin_base.specs.Marks.{marked}
 use Rattle.goblin_base.proofs.Marks.{marked_append, marked_nil}
 use Rattle.goblin_pe_import.proofs.laws.footprint.add_hint.Goals as goal
