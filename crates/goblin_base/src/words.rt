@@ -80,7 +80,8 @@ fn first_bit(word: u64, first: usize) -> Option<usize>
     Some(first + rest.trailing_zeros() as usize)
 }
 
-// The first position from `from` on and before `end` whose mark is the one that is wanted, or `end`.
+// The first position from `from` on and before `end` whose mark is the one that is wanted, or
+// `end`.
 pub(crate) fn first_wanted(words: &[u64], from: usize, end: usize, wanted: bool) -> usize
     requires room { end ≤ 64 * length words.now }
     requires within { from ≤ end }

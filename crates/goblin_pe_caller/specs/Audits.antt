@@ -84,7 +84,8 @@ stamped time h =
 
 -- ---- refusals
 
--- The text tells a true cause why the reading refuses the file; where it has a value, there is none.
+-- The text tells a true cause why the reading refuses the file; where it has a value, there is
+-- none.
 abbrev pub Tells : {A : Type 0} → Reading A → List ℕ → Option (List ℕ) → Type 0
 Tells reading bytes None = IsSome (reading.value bytes)
 Tells reading bytes (Some text) =

@@ -177,8 +177,9 @@ pub fn add_header(marks: &mut Marks, bytes: &[u8])
 
 /// The footprint of the header of a file, which is the same in either mode: the ranges (begin, end)
 /// of the positions on which [`Header::parse_with_opts`](crate::Header::parse_with_opts) depends. A
-/// position is in the footprint exactly where it lies in one of the ranges. They come in order, none
-/// is empty, and none runs past the end of the file; a position lies between each and the next.
+/// position is in the footprint exactly where it lies in one of the ranges. They come in order,
+/// none is empty, and none runs past the end of the file; a position lies between each and the
+/// next.
 ///
 /// # Errors
 /// [`Error::Memory`](goblin_base::Error::Memory) only, and only if the file has a byte.

@@ -217,8 +217,9 @@ pub fn add_imports<'a, T: Bitfield<'a>>(
 
 /// The footprint of the imports of a file: the ranges (begin, end) of the positions on which the
 /// import data of a directory depends, as [`twin_imports`](crate::laws::twin_imports) says. A
-/// position is in the footprint exactly where it lies in one of the ranges. They come in order, none
-/// is empty, and none runs past the end of the file; a position lies between each and the next.
+/// position is in the footprint exactly where it lies in one of the ranges. They come in order,
+/// none is empty, and none runs past the end of the file; a position lies between each and the
+/// next.
 ///
 /// # Errors
 /// [`Error::Memory`](goblin_base::Error::Memory) only, and only if the file has a byte or addresses
