@@ -141,9 +141,9 @@ static inline struct goblin_pe_fault goblin_pe_read_damage(
    one length with the same bytes there, both have the same header, sections and tables, or both are refused,
    not always for the same cause. A file that is refused has a footprint, too. The ranges come in order, with a
    byte between each and the next; none is empty, and none passes the file: footprints of the same bytes have
-   the same ranges. Memory is taken for a bit for each byte of the file, for an index of more than 96 sections,
-   and for the ranges; those that stood there before are not freed. Refused is memory alone; nothing is to be
-   freed then. */
+   the same ranges. Memory is taken for a bit for each byte of the file and for an index of more than 96 sections,
+   and given back, and for the ranges; those that stood there before are not freed. Refused is memory alone;
+   nothing is to be freed then. */
 static inline struct goblin_pe_fault goblin_pe_footprint(
     const uint8_t *bytes, size_t length, const struct goblin_pe_options *options, struct goblin_pe_ranges *ranges)
 {

@@ -50,7 +50,8 @@ impl<'a> Slice<'a> {
 }
 
 impl Options {
-    /// Damaged parts are passed over; else as by default.
+    /// Damaged parts are passed over, in permissive mode; an import directory at file offset 0 is an
+    /// empty list there, without damage. Else as by default.
     pub const fn permissive() -> Options {
         Options {
             is_permissive: true,

@@ -1,5 +1,5 @@
--- One reader in both modes: where strict mode has a value, permissive mode has the same, except
--- that there are no imports if their directory is at the front of the file.
+-- One reader in both modes: where strict mode has a value, permissive mode has the same; but an
+-- import directory at file offset 0 is an empty list there.
 use Rattle.std.specs.Prelude.{◌≡◌, ℕ, ◌==◌, Bool, false, if◌then◌else◌, List, [], Option, None}
 use Rattle.std.specs.Prelude.{Some}
 use Rattle.std.specs.Prelude.{Result}

@@ -36,8 +36,8 @@ pub extern "C" fn goblin_pe_interface() -> u32
     3
 }
 
-/// What a file is, by its first bytes alone, as a [`Kind`](goblin_pe_records::kind::Kind). It does not
-/// tell whether the file can be read.
+/// What a file is, by its first bytes alone, as a [`Kind`](goblin_pe_records::kind::Kind). It does
+/// not tell whether the file can be read.
 #[unsafe(no_mangle)]
 pub extern "C" fn goblin_pe_raw_kind_of(bytes: &[u8]) -> u32
     ensures { result ≡ kind_number (kind_of bytes.now) }
@@ -171,8 +171,8 @@ pub extern "C" fn goblin_pe_raw_read_damage(
 
 /// Puts into `ranges` the positions of a file on which all that
 /// [`goblin_pe_raw_open`](crate::file::goblin_pe_raw_open) gives by these options depends: of two
-/// files of one length with the same bytes there, both have the same header, sections and tables, or
-/// both are refused, not always for the same cause. A file that is refused has a footprint, too.
+/// files of one length with the same bytes there, both have the same header, sections and tables,
+/// or both are refused, not always for the same cause. A file that is refused has a footprint, too.
 ///
 /// The ranges come in order, with a position between each and the next; none is empty, and none
 /// passes the file. They are a block of memory that the caller frees, if there is one. Refused is

@@ -22,10 +22,10 @@ use goblin_pe_records::symbol::{PeNamedSymbol, read_symbols};
 use std::alloc::Global;
 
 /// Reads an object, which begins with a COFF header: says in `object` what it is, and fills the
-/// records of its sections as far as there is room. No machine is tested, so a file that is no object
-/// may be read as one with sections that make no sense. Its symbols are a call of their own. After a
-/// refusal nothing is changed; memory is refused (the status 5) only where the header says that
-/// there are sections, and the file has room for as many.
+/// records of its sections as far as there is room. No machine is tested, so a file that is no
+/// object may be read as one with sections that make no sense. Its symbols are a call of their own.
+/// After a refusal nothing is changed; memory is refused (the status 5) only where the header says
+/// that there are sections, and the file has room for as many.
 #[unsafe(no_mangle)]
 pub extern "C" fn goblin_pe_raw_read_object<'a>(
     alloc: Global,

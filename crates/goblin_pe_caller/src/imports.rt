@@ -11,7 +11,7 @@ ghost use Rattle.goblin_pe.specs.Reading.{Reads, ReadsOrMemory};
 ghost use Rattle.goblin_pe.specs.Reads.{mapped};
 ghost use Rattle.goblin_pe.specs.SectionRoom.{TakesIndex};
 ghost use Rattle.goblin_pe.specs.Whole.{import_list};
-ghost use Rattle.goblin_pe_caller.specs.Audits.{imports_from, is_from};
+ghost use Rattle.goblin_pe_caller.specs.Audits.{count_from, imports_from, is_from};
 
 use goblin_pe::header::Header;
 use goblin_pe::options::ParseOptions;
@@ -64,4 +64,41 @@ fn any_from<'a, 'm, 'e>(imports: FileImports<'a, 'm, 'e>, library: &str) -> Resu
         found |= import.dll == library;
     }
     Ok(found)
+}
+
+/// How many functions a file imports from the library of this name, at most `usize::MAX`, since few
+/// bytes can list very many; 0 where its imports are absent or refused.
+///
+/// # Errors
+/// As [`Layout::imports`]; in strict mode as the walk over the imports.
+#[tactic(auto, unfolding(goblin_pe::specs::Whole::part_map))]
+pub fn count_imports_from<'e>(layout: &Layout, library: &str) -> ResultOf<'e, usize>
+    ensures { Reads (λ n. n) result
+        (mapped (read_or 0 (count_from library.now)) (layout_table import_list layout.now))
+        (layout_bytes layout.now) }
+{
+    match layout.imports()? {
+        Part::Absent => Ok(0),
+        Part::Read(imports) => {
+            let count = count_from(imports, library)?;
+            Ok(count)
+        }
+        Part::Refused => Ok(0),
+    }
+}
+
+// The same of the imports that a walk gives.
+fn count_from<'a, 'm, 'e>(imports: FileImports<'a, 'm, 'e>, library: &str) -> ResultOf<'e, usize>
+    ensures { Answers (λ n. n) result
+        (option_map (count_from library.now) (all_of (file_imports_left imports.entry)))
+        (IsFileImportsCause imports.entry) }
+{
+    let mut count = 0usize;
+    'imports: for import in imports {
+        let import = import?;
+        if import.dll == library {
+            count = count.saturating_add(1);
+        }
+    }
+    Ok(count)
 }

@@ -11,8 +11,8 @@ ghost use Rattle.goblin_pe_caller.specs.Audits.{stamped};
 use goblin_pe::header::Header;
 use goblin_pe::{Endian, Result};
 
-/// Writes the header of a file, with another time stamp, to the front of `out`, and returns how many
-/// bytes it takes. Reading these gives the header with that time stamp.
+/// Writes the header of a file, with another time stamp, to the front of `out`, and returns how
+/// many bytes it takes. Reading these gives the header with that time stamp.
 ///
 /// # Errors
 /// As [`Header::parse`] and [`Header::try_into_ctx`]; `out` is then unchanged.

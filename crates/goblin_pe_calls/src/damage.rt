@@ -20,7 +20,8 @@ use std::alloc::Global;
 pub struct PeDamage {
     /// The DOS stub.
     pub dos_stub: PeFault,
-    /// The names of the sections: one that begins with a slash and goes on with bytes that are no text.
+    /// The names of the sections: one that begins with a slash and goes on with bytes that are no
+    /// text.
     pub section_names: PeFault,
     /// The imports, if they are asked for.
     pub imports: PeFault,

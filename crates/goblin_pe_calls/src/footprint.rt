@@ -64,8 +64,8 @@ fn handed_over<'a>(records: Vec<PeRange>) -> PeRanges<'a>
     }
 }
 
-/// Puts into `ranges` the positions of a file on which all that [`open`](crate::open::open) gives by
-/// these options depends.
+/// Puts into `ranges` the positions of a file on which all that [`open`](crate::open::open) gives
+/// by these options depends.
 ///
 /// # Errors
 /// Only [`Error::Memory`](goblin_pe::Error::Memory); nothing is then changed.

@@ -28,8 +28,8 @@ use std::alloc::Global;
 #[repr(C)]
 #[derive(Copy, Clone)]
 pub struct PeImportPosition {
-    /// The file offset of a library's record; the greatest number once the end has been reached, also
-    /// of a file without imports.
+    /// The file offset of a library's record; the greatest number once the end has been reached,
+    /// also of a file without imports.
     pub record: usize,
     /// The file offset of the slot that is read next, or 0 before the library's first.
     pub slot: usize,

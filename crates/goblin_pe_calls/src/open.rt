@@ -38,8 +38,8 @@ use goblin_pe_records::rich::{PeRichHeader, entry_records};
 use goblin_pe_records::section::{PeSection, section_records};
 use std::alloc::Global;
 
-/// The tables of an image. Each that is not empty is a block of memory of its own, and the texts in it
-/// are in the file's bytes.
+/// The tables of an image. Each that is not empty is a block of memory of its own, and the texts in
+/// it are in the file's bytes.
 #[repr(C)]
 #[derive(Copy, Clone)]
 pub struct PeTables<'a> {

@@ -1,5 +1,5 @@
--- How headers that were read are written, which headers read back, and the places of the markers of a
--- Rich header.
+-- How headers that were read are written, which headers read back, and the places of the markers of
+-- a Rich header.
 use Rattle.std.specs.Prelude.{◌≡◌, ◌≤◌, ◌<◌, ℕ, ◌+◌, ◌-◌, ◌*◌, ◌^◌, ◌==◌, if◌then◌else◌, List, []}
 use Rattle.std.specs.Prelude.{◌++◌, length, replicate, take, Option, Some, None, option_and_then}
 use Rattle.std.specs.Prelude.{IfSome, IsSomeAnd, false, nat_lt, slice_index_or, slice_range, true}
@@ -83,8 +83,8 @@ HeaderReadsBack =
 
 -- ---- which headers read back, whatever their numbers are
 
--- An entry of the data directories is what a reader makes of its directory, in which the numbers fit:
--- it knows where its record ends, and is none where it is zeros or past the count.
+-- An entry of the data directories is what a reader makes of its directory, in which the numbers
+-- fit: it knows where its record ends, and is none where it is zeros or past the count.
 abbrev pub IsEntryAt : ℕ → ℕ → ℕ → Option (ℕ × DataDirectory) → Type 0
 IsEntryAt start count i entry =
     let d = directory_or_zeros entry in

@@ -22,8 +22,8 @@ use std::alloc::Global;
 #[repr(C)]
 #[derive(Copy, Clone)]
 pub struct PeBlock<'a> {
-    /// The words, of two bytes each: the type, an `IMAGE_REL_BASED_*`, in the high four bits, and in
-    /// the low twelve the offset in the page, in bytes. A byte that is left is no word.
+    /// The words, of two bytes each: the type, an `IMAGE_REL_BASED_*`, in the high four bits, and
+    /// in the low twelve the offset in the page, in bytes. A byte that is left is no word.
     pub words: &'a [u8],
     /// The page's address, relative to the image's base, to which each offset is added.
     pub rva: u32,

@@ -108,8 +108,8 @@ const READ_REFUSALS: [ReadRefusal; 3] = [
     ReadRefusal::BadInput,
 ];
 
-/// What is wrong with a file. `first` and `second` are the two numbers of the cause; offsets are file
-/// offsets in bytes.
+/// What is wrong with a file. `first` and `second` are the two numbers of the cause; offsets are
+/// file offsets in bytes.
 #[derive(Copy, Clone)]
 enum CauseNumber {
     /// A message of a caller's own, in Rattle alone.
@@ -193,7 +193,8 @@ enum CauseNumber {
 pub struct PeFault {
     /// What kind of refusal it is, by the numbers of [`Status`]; 0 where nothing is refused.
     pub status: u32,
-    /// By the status a [`Cause`](CauseNumber), a [`Counted`] or a [`ReadFault`](ReadRefusal); else 0.
+    /// By the status a [`Cause`](CauseNumber), a [`Counted`] or a [`ReadFault`](ReadRefusal); else
+    /// 0.
     pub cause: u32,
     /// The first number of the cause, else 0.
     pub first: u64,

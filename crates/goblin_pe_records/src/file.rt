@@ -15,10 +15,10 @@ pub enum State {
     Absent = 0,
     /// It was read, and may be empty.
     Read = 1,
-    /// It is refused, and permissive mode passed over that. Imports never are: in permissive mode they
-    /// count as read, with what could be read of them, perhaps nothing, and the damage of the file
-    /// tells what that leaves out; but an import directory at file offset 0 is an empty list there,
-    /// without damage.
+    /// It is refused, and permissive mode passed over that. Imports never are: in permissive mode
+    /// they count as read, with what could be read of them, perhaps nothing, and the damage of the
+    /// file tells what that leaves out; but an import directory at file offset 0 is an empty list
+    /// there, without damage.
     Refused = 2,
 }
 

@@ -34,8 +34,8 @@ pub enum Kind {
     /// An import object, a member of an import library that says what a name is imported by. It
     /// begins with 0, 0xFFFF and the version 0, of two bytes each.
     ImportObject = 5,
-    /// A big object, which can have more than 65,279 sections. It begins with 0, 0xFFFF and a version
-    /// from 2 on, of two bytes each, and has the identifier of such objects at 12.
+    /// A big object, which can have more than 65,279 sections. It begins with 0, 0xFFFF and a
+    /// version from 2 on, of two bytes each, and has the identifier of such objects at 12.
     BigObject = 6,
 }
 

@@ -1,11 +1,11 @@
 //! What callers that are not written in Rattle see of the parts of a file, but for its imports and
-//! exports: the records of headers, sections, symbols, relocations and refusals, and the functions that
-//! fill them, or write what they say.
+//! exports: the records of headers, sections, symbols, relocations and refusals, and the functions
+//! that fill them, or write what they say.
 //!
-//! Each text in a record is a slice of the caller's bytes, as tests check, so no text is copied. The
-//! crate `goblin_pe_calls` reads files as a whole into these records and its own: images, objects and
-//! Terse Executables. For images it needs the readers of imports and exports; this crate does not, and
-//! is proved beside them.
+//! Each text in a record is a slice of the caller's bytes, as tests check, so no text is copied.
+//! The crate `goblin_pe_calls` reads files as a whole into these records and its own: images,
+//! objects and Terse Executables. For images it needs the readers of imports and exports; this
+//! crate does not, and is proved beside them.
 #![tactic(auto)]
 
 pub mod block;

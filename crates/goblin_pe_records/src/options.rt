@@ -10,15 +10,15 @@ use goblin_pe_sect::options::{ParseMode, ParseOptions, RawPointerRule};
 #[repr(C)]
 #[derive(Copy, Clone)]
 pub struct PeOptions {
-    /// Whether damaged parts are passed over, in permissive mode; an import directory at file offset 0
-    /// is an empty list there, without damage.
+    /// Whether damaged parts are passed over, in permissive mode; an import directory at file
+    /// offset 0 is an empty list there, without damage.
     pub is_permissive: bool,
     /// Whether an address is mapped to a file offset by the sections; where not, it is the offset.
     pub resolve_rva: bool,
     /// Whether the raw pointer of a section is rounded down to 512, for addresses and for its data;
-    /// where not, it is taken as stored. Rounding is right where `section_alignment` is 4,096 or more,
-    /// and pointers as stored where it is less, since the Windows loader maps such an image as one flat
-    /// view of the file.
+    /// where not, it is taken as stored. Rounding is right where `section_alignment` is 4,096 or
+    /// more, and pointers as stored where it is less, since the Windows loader maps such an image
+    /// as one flat view of the file.
     pub rounds_raw_pointers: bool,
     /// Whether the imports are read; where not, their table is absent.
     pub parse_imports: bool,

@@ -201,9 +201,9 @@ impl<'s> AddressMap<'s> {
     }
 
     // The file offset of an address. `run` becomes addresses about it that have their offsets
-    // without another walk. It may stay as it was where no section owns the address, and always does
-    // by an index. (A result of that size would cost loops that seldom ask here more than an argument
-    // does.)
+    // without another walk. It may stay as it was where no section owns the address, and always
+    // does by an index. (A result of that size would cost loops that seldom ask here more than an
+    // argument does.)
     #[inline(never)]
     pub(crate) fn find_run(&self, rva: u32, run: &mut Run) -> Option<usize>
         requires { IsRun (offset_of (map_of self.now)) run.old }

@@ -8,9 +8,9 @@ pub use goblin_base::ParseMode;
 /// Where the raw data of a section begins, for the mapping of addresses.
 ///
 /// Where the raw pointer is a multiple of 512, as the PE/COFF specification asks for the usual file
-/// alignments, both rules say the same. Else rounding is right where `section_alignment` is 4,096 or
-/// more, and pointers as stored where it is less, since the Windows loader maps such an image as one
-/// flat view of the file.
+/// alignments, both rules say the same. Else rounding is right where `section_alignment` is 4,096
+/// or more, and pointers as stored where it is less, since the Windows loader maps such an image as
+/// one flat view of the file.
 #[derive(Debug, PartialEq, Copy, Clone)]
 pub enum RawPointerRule {
     /// At the raw pointer, as goblin maps.
@@ -34,9 +34,9 @@ pub struct ParseOptions {
     /// Whether resources are read; true by default. It changes no answer: no reader of these crates
     /// reads them.
     pub parse_resources: bool,
-    /// What to do with damaged parts; by default strict: the first one refuses the whole. Permissive
-    /// mode passes over them; an import directory at file offset 0 is an empty list there, without
-    /// damage.
+    /// What to do with damaged parts; by default strict: the first one refuses the whole.
+    /// Permissive mode passes over them; an import directory at file offset 0 is an empty list
+    /// there, without damage.
     pub parse_mode: ParseMode,
     /// Whether the reader of a whole file reads the imports; true by default.
     pub parse_imports: bool,

@@ -4,9 +4,10 @@
 //! pe_audit LIBRARY < FILE
 //! ```
 //!
-//! It says whether the file imports from the library, how many of its exports are forwarders, whether
-//! it is entered in code, which sections may be written and executed, and how many bytes its header
-//! takes with another time stamp. Of a file that is refused it says why, on standard error.
+//! It says whether the file imports from the library, how many of its exports are forwarders,
+//! whether it is entered in code, which sections may be written and executed, and how many bytes
+//! its header takes with another time stamp. Of a file that is refused it says why, on standard
+//! error.
 #![tactic(auto)]
 
 use goblin_pe::Result as Answer;

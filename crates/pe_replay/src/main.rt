@@ -76,8 +76,8 @@ fn show_call(rt: &HostRuntime, call: &str, form: &str) -> io::Result<()> {
     by_options::show_call(rt, call, &file, &sections, &in_mode(mode))
 }
 
-// Shows what the word asks for of the file on standard input. By the rule `rounded` raw pointers are
-// rounded down to 512.
+// Shows what the word asks for of the file on standard input. By the rule `rounded` raw pointers
+// are rounded down to 512.
 fn show_file(rt: &HostRuntime, word: &str, count: &str, rule: &str) -> io::Result<()> {
     let mut file = Vec::new(rt.alloc());
     rt.stdin().read_to_end(&mut file)?;

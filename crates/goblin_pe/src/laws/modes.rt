@@ -95,7 +95,8 @@ pub fn mode_whole<'a>(
 /// place, and the others still run.
 ///
 /// Where a reader has a value in strict mode, it has the same in permissive mode, unless it returns
-/// `Error::Memory`; but an import directory at file offset 0 is an empty list there, without damage.
+/// `Error::Memory`; but an import directory at file offset 0 is an empty list there, without
+/// damage.
 pub fn mode_tables<'a, 'e, T: Bitfield<'a>, D: TryFromCtx<'a>>(
     alloc: Global,
     bytes: &'a [u8],

@@ -132,8 +132,8 @@ impl Whole<'_> {
     /// only for what maps the addresses of a file of more than 96 sections. A file can list very
     /// many imports; each is looked at.
     ///
-    /// A file without damage is one that strict mode reads, and permissive mode alike; but an import
-    /// directory at file offset 0 is an empty list there, without damage.
+    /// A file without damage is one that strict mode reads, and permissive mode alike; but an
+    /// import directory at file offset 0 is an empty list there, without damage.
     ///
     /// # Errors
     /// As [`Header::parse_with_opts`]; as

@@ -7,7 +7,8 @@ ghost use Rattle.goblin_base.specs.declared.error.ErrorOf.{ErrorOf};
 ghost use Rattle.goblin_pe_sect.specs.Addresses.{MapOfAddresses, map_of};
 ghost use Rattle.goblin_pe.specs.LayoutPositions.{GivesFileImport, IsFileFaultAt, IsImportWalk};
 ghost use Rattle.goblin_pe.specs.LayoutPositions.{file_imports_at, file_map, file_position};
-ghost use Rattle.goblin_pe.specs.Layouts.{IsFileImportsCause, file_imports_bound, file_imports_left};
+ghost use Rattle.goblin_pe.specs.Layouts.{IsFileImportsCause, file_imports_bound};
+ghost use Rattle.goblin_pe.specs.Layouts.{file_imports_left};
 
 use crate::import::{ImportPosition, Imports, WalkedImport};
 use goblin_base::ResultOf;

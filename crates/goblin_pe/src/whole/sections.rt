@@ -10,8 +10,8 @@ use goblin_pe_sect::SectionTable;
 use goblin_pe_sect::utils::{is_in_range, window};
 
 /// The section that an address lies in: the first whose window holds it, by which
-/// [`find_offset`](goblin_pe_sect::utils::find_offset) maps it. None does if `file_alignment` is not
-/// a power of two.
+/// [`find_offset`](goblin_pe_sect::utils::find_offset) maps it. None does if `file_alignment` is
+/// not a power of two.
 pub fn section_at(
     rva: usize,
     sections: &[SectionTable],

@@ -120,8 +120,8 @@ fn read_optional(
 }
 
 impl<'a> Header<'a> {
-    /// Reads the header of a file, as [`Header::parse_with_opts`] with the default options. The parts
-    /// of such a header agree.
+    /// Reads the header of a file, as [`Header::parse_with_opts`] with the default options. The
+    /// parts of such a header agree.
     ///
     /// # Errors
     /// As [`Header::parse_with_opts`] in strict mode.

@@ -145,8 +145,8 @@ fn of_directory<'a, T: Bitfield<'a>>(
 impl LeftOut {
     /// How much permissive mode leaves out of the imports of the directory at the address of
     /// `directory`, by entries of type `T` and whatever the mode of `address_map`. Nothing is left
-    /// out of a directory at the front of the file, or whose address has no file offset: permissive
-    /// mode takes it as empty. No memory is taken.
+    /// out of a directory at file offset 0, or whose address has no file offset: permissive mode
+    /// takes it as empty. No memory is taken.
     pub fn of<'a, T: Bitfield<'a>>(
         bytes: &'a [u8],
         directory: DataDirectory,

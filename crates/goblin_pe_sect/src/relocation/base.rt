@@ -121,8 +121,8 @@ impl<'a> RelocationData<'a> {
 
 /// A block of base relocations, for one page of the image in memory.
 ///
-/// Source: PE Format, "Base Relocation Block". Its head has 8 bytes, and `at` gives the offset in it
-/// of the address and of the size.
+/// Source: PE Format, "Base Relocation Block". Its head has 8 bytes, and `at` gives the offset in
+/// it of the address and of the size.
 #[derive(Debug, PartialEq, Copy, Clone, Default)]
 pub struct RelocationBlock<'a> {
     /// The page's address, relative to the image's base, at 0. The offset of each word is added to
