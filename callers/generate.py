@@ -181,7 +181,7 @@ class Interface:
         self.calls: List[Declared] = []
         self.enums: Dict[str, Declared] = {}
         self.records: Dict[str, Declared] = {}
-        self.version, self.defaults = 0, [("", "")]
+        self.version, self.defaults = 0, {"": ""}
         self._declared: Dict[str, Declared] = {}
         for path in [it for crate in crates_of(LIBRARY) for it in sorted((CRATES / crate).glob("src/**/*.rt"))]:
             for doc, marks, text in declarations(path.read_text("utf-8")):
@@ -192,11 +192,16 @@ class Interface:
         written = {it.type.name for call in self.calls for it in call.items if it.type.form == "record" and it.type.is_written}
         self.handed_over = {name for name in written if any(it.type.form == "table" for it in self.records[name].items)}
         self.enums = {named(name): self.enums[named(name)] for name in ENUMS}
+        options = [it.name for it in self.records["Options"].items]
+        if sorted(options) != sorted(self.defaults):
+            raise Refused("the default options %s" % self.defaults)
+        self.defaults = {name: self.defaults[name] for name in options}  # (C has them in the order of the fields)
 
     def take(self, doc: str, marks: str, text: str) -> None:
         """Takes a declaration up, if it is one of the interface."""
         enum = re.match(r"(?:pub )?enum (\w+) \{", text)
         if "#[repr(C)]" in marks:
+            read(r"#\[repr\(C\)\](\n#\[derive\([\w, ]+\)\])?$", marks)
             record = record_of(doc, text)
             self._declared[record.name] = record
         elif enum and enum[1] in ENUMS:
@@ -204,7 +209,7 @@ class Interface:
                 raise Refused("a second enum " + enum[1])
             self.enums[named(enum[1])] = enum_of(doc, text)
         elif text.startswith("pub fn default_options() -> PeOptions\n"):
-            self.defaults = re.findall(r"^ {8}(\w+): (true|false),$", text, re.M)
+            self.defaults = dict(re.findall(r"^ {8}(\w+): (true|false),$", text, re.M))
         elif 'extern "C" fn goblin_pe_' in text:
             self.calls.append(call_of(text))
             if self.calls[-1].name == "goblin_pe_interface":
@@ -312,7 +317,7 @@ def c_files(it: Interface) -> Dict[str, str]:
     return {
         "c/goblin_pe_records.h": C_RECORDS % (
             MADE, it.version, "\n".join([*map(enum, it.enums.values()), *map(record, it.records.values())]),
-            "".join(map(call, it.calls)), ", ".join(value for _, value in it.defaults), "\n".join(map(facts, it.records))),
+            "".join(map(call, it.calls)), ", ".join(it.defaults.values()), "\n".join(map(facts, it.records))),
         "c/goblin_pe_constants.h": C_CONSTANTS % (
             MADE, "\n".join(comment(file.doc) + "".join(map(constant, file.items)) for file in it.constants))}
 
@@ -367,8 +372,9 @@ extern "C" {
 
 #endif
 """
-C_CONSTANTS = """/* The numbers of the PE and COFF formats, by the names that they have there, after GOBLIN_PE_. The libraries have them as
-   constants, whose values are proved to be these. %s */
+C_CONSTANTS = """/* The numbers of the PE and COFF formats, by goblin's names, which are mostly the formats' own, after
+   GOBLIN_PE_. The libraries have them as constants, whose values are proved to be these.
+   %s */
 #ifndef GOBLIN_PE_CONSTANTS_H
 #define GOBLIN_PE_CONSTANTS_H
 
@@ -443,11 +449,11 @@ def rust_files(it: Interface) -> Dict[str, str]:
     records = [r for r in it.records.values() if r.name != "Text"]
     return {
         "rust/src/records.rs": RUST_RECORDS % (
-            MADE, it.version, "\n".join(map(record, records)), "".join("        %s: %s,\n" % row for row in it.defaults),
+            MADE, it.version, "\n".join(map(record, records)), "".join("        %s: %s,\n" % row for row in it.defaults.items()),
             "".join(facts(r.name) for r in records), "\n".join(map(call, it.calls))),
         "rust/src/numbers.rs": "//! The numbers in the library's records, by name.\n//! %s\n\n%s" % (
             MADE, "\n".join(map(enum, it.enums.values()))),
-        "rust/src/constants.rs": "//! The numbers of the PE and COFF formats, by the names that they have there.\n// %s\n\n%s" % (
+        "rust/src/constants.rs": "//! The numbers of the PE and COFF formats, by goblin's names, which are mostly the formats' own.\n// %s\n\n%s" % (
             MADE, "\n".join(comment(file.doc, mark="// ") + "\n" + "".join(map(constant, file.items)) for file in it.constants))}
 
 
@@ -558,7 +564,7 @@ def python_files(it: Interface) -> Dict[str, str]:
             MADE, it.version, "\n\n".join(map(record, it.records.values())), "".join(map(call, it.calls))),
         "python/goblin_pe/numbers.py": '"""The numbers in the library\'s records, by name. %s"""\nfrom ._number import Number\n\n\n%s' % (
             MADE, "\n\n".join(map(enum, it.enums.values()))),
-        "python/goblin_pe/constants.py": '"""The numbers of the PE and COFF formats, by the names that they have there."""\n# %s\n\n%s' % (
+        "python/goblin_pe/constants.py": '"""The numbers of the PE and COFF formats, by goblin\'s names, which are mostly the formats\' own."""\n# %s\n\n%s' % (
             MADE, "\n".join(comment(file.doc, "# ") + "\n" + "".join(map(constant, file.items)) for file in it.constants))}
 
 

@@ -22,6 +22,7 @@ UNKNOWN = [
     ("an option", RECORD % "pub number: Option<u32>,"),
     ("a type in parentheses", RECORD % "pub pair: (u32, u32),"),
     ("an attribute", RECORD % "#[doc(hidden)]\n    pub number: u32,"),
+    ("an alignment of its own", "#[repr(align(16))]\n" + RECORD % "pub number: u32,"),
     ("a record of one line", "#[repr(C)]\npub struct PeSome(u32);\n"),
     ("a variant with a value", "pub enum Kind {\n    /// A kind.\n    Image(u32),\n}\n"),
     ("a call with a closure", 'pub extern "C" fn goblin_pe_some(\n    call: fn(u32) -> u32,\n) -> u32\n{\n}\n'),

@@ -8,7 +8,7 @@ from tests import images
 from tests.programs import BY_NAME, CALLERS, IMAGES, SAMPLES, TOP, Case, beside, environment, folder, library, need, run, succeed
 
 REGISTRY = pathlib.Path("/usr/share/cargo/registry")
-# What stands around the program of the README.
+# What stands around the programs of a README.
 README = """fn main() -> Result<(), Box<dyn std::error::Error>> {
     let bytes = std::fs::read(std::env::args().nth(1).ok_or("no file")?)?;
     %s
@@ -58,15 +58,18 @@ class Crate(Case):
         for line, wanted in zip(lines[-3:], (f"{damaged}: 1 imports, 0 exports, exports: .", f"{CALLERS}/build: refused: .", f"{lost}: read failed: .")):
             self.assertRegex(line, f"^{wanted}")
 
-    def test_the_program_of_the_readme(self):
-        program = re.findall(r"(?s)```rust\n(.*?)```", (TOP / "README.md").read_text("utf-8"))[0]
-        user = self.folder / "user"
+    def test_the_programs_of_the_readmes(self):
+        """That of the repository has the crate's program, and one in Rattle."""
+        user, env = self.folder / "user", environment(GOBLIN_PE_LIB=str(library()), CARGO_TARGET_DIR=str(folder() / "target"))
         succeed(["cargo", "new", "-q", "--vcs", "none", user])
-        (user / "src/main.rs").write_text(README % program, "utf-8")
-        env = environment(GOBLIN_PE_LIB=str(library()), CARGO_TARGET_DIR=str(folder() / "target"))
         succeed(["cargo", "add", "-q", "--offline", "--manifest-path", user / "Cargo.toml", "--path", CALLERS / "rust"], env=env)
-        told = succeed(["cargo", "run", "-q", "--offline", "--manifest-path", user / "Cargo.toml", BY_NAME], env=env)
-        self.assertEqual(told, "GetTickCount from KERNEL32.dll\n")
+        image = self.written("some.dll", BY_NAME.read_bytes())
+        for readme, count in ((TOP / "README.md", 1), (CALLERS / "rust/README.md", 2)):
+            with self.subTest(readme=readme):
+                programs = re.findall(r"(?s)```rust\n(.*?)```", readme.read_text("utf-8"))[:count]
+                (user / "src/main.rs").write_text(README % "".join(programs), "utf-8")
+                command = ["cargo", "run", "-q", "--offline", "--manifest-path", user / "Cargo.toml", image.name]
+                self.assertEqual(succeed(command, env=env, cwd=self.folder), "GetTickCount from KERNEL32.dll\n")
 
     def test_its_documentation(self):
         cargo("doc", RUSTDOCFLAGS="-D warnings")

@@ -1,5 +1,6 @@
-/* The numbers of the PE and COFF formats, by the names that they have there, after GOBLIN_PE_. The libraries have them as
-   constants, whose values are proved to be these. callers/generate.py makes this file of what the proved crates declare. */
+/* The numbers of the PE and COFF formats, by goblin's names, which are mostly the formats' own, after
+   GOBLIN_PE_. The libraries have them as constants, whose values are proved to be these.
+   callers/generate.py makes this file of what the proved crates declare. */
 #ifndef GOBLIN_PE_CONSTANTS_H
 #define GOBLIN_PE_CONSTANTS_H
 

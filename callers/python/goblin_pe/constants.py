@@ -1,4 +1,4 @@
-"""The numbers of the PE and COFF formats, by the names that they have there."""
+"""The numbers of the PE and COFF formats, by goblin's names, which are mostly the formats' own."""
 # callers/generate.py makes this file of what the proved crates declare.
 
 # The machines that a COFF header can name.
