@@ -88,8 +88,8 @@ pub extern "C" fn goblin_pe_raw_open<'a>(
 /// an import directory whose address has no offset, if the position is the first; and in strict
 /// mode the very next import, if there is room for it. Imports that come before a refusal are
 /// given, and the next call is refused; no law says on which bytes those before a refusal depend.
-/// Memory (the status 5) is refused only of a file that has
-/// more than 96 sections, and room for as many as its header says: it is taken for an index of them,
+/// Memory (the status 5) is refused only of a file that has more than 96 sections, by whose windows
+/// addresses are mapped, and room for as many as its header says: it is taken for an index of them,
 /// and given back before the call returns.
 #[unsafe(no_mangle)]
 pub extern "C" fn goblin_pe_raw_next_imports<'a>(
@@ -151,8 +151,8 @@ pub extern "C" fn goblin_pe_raw_next_exports<'a>(
 ///
 /// No table is listed: memory is taken only for an index of more than 96 sections, and given back
 /// before the call returns. Refused are a header or sections that these options refuse, and memory
-/// (the status 5), this only of a file that has more than 96 sections, and room for as many as its
-/// header says. After a refusal nothing is changed.
+/// (the status 5), this only of a file that has more than 96 sections, by whose windows addresses
+/// are mapped, and room for as many as its header says. After a refusal nothing is changed.
 #[unsafe(no_mangle)]
 pub extern "C" fn goblin_pe_raw_read_damage(
     alloc: Global,

@@ -1,6 +1,6 @@
 //! The imports of a file, one by one.
 
-ghost use Rattle.std.specs.Prelude.{◌≡◌, ℕ, IfSome, List};
+ghost use Rattle.std.specs.Prelude.{◌≡◌, ◌<◌, ◌^◌, ℕ, IfSome, IsSome, List};
 ghost use Rattle.std.specs.Iterator.{UpTo, at_most};
 ghost use Rattle.std.specs.Iterator.SizeHint.{IsWithinCount};
 ghost use Rattle.goblin_base.specs.declared.error.ErrorOf.{ErrorOf};
@@ -78,6 +78,7 @@ impl<'a, 'm, 'e> Iterator for FileImports<'a, 'm, 'e> {
     fn size_hint(&self) -> (usize, Option<usize>)
         ensures lower { IsWithinCount result.0 (at_most (file_imports_bound self.now)) }
         ensures upper { IfSome result.1 (UpTo (at_most (file_imports_bound self.now))) }
+        ensures fits { file_imports_bound self.now < 2 ^ 64 → IsSome result.1 }
     {
         match self {
             FileImports::Narrow(imports) => imports.size_hint(),
