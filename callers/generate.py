@@ -203,6 +203,8 @@ class Interface:
         if "#[repr(C)]" in marks:
             read(r"#\[repr\(C\)\](\n#\[derive\([\w, ]+\)\])?$", marks)
             record = record_of(doc, text)
+            if record.name in self._declared:
+                raise Refused("a second record " + record.name)
             self._declared[record.name] = record
         elif enum and enum[1] in ENUMS:
             if named(enum[1]) in self.enums:

@@ -67,3 +67,16 @@ class Page(Case):
                 for piece in re.split(r"(?m)^ *\.\.\n", code):
                     with self.subTest(piece=piece.splitlines()[0]):
                         self.assertIn(piece, sources)
+
+    def test_each_word_stands_in_its_file(self):
+        """One of the definitions of goblin_pe, or one that these re-export."""
+        specs = CRATES / "goblin_pe/specs"
+        modules = re.findall(r"(?m)^pub (?:mod|use Rattle\.(\w+)\.specs\.)\s*(\w+)$", (specs / "Lib.antt").read_text("utf-8"))
+        files = {name: CRATES / (crate or "goblin_pe") / "specs" / f"{name}.antt" for crate, name in modules}
+        table, = re.findall(r"(?ms)^\| Word \| File \|\n\S+\n(.*?)\n\n", PAGE.read_text("utf-8"))
+        for row in table.splitlines():
+            words, names = (cell.split("; ") for cell in row.strip("| ").split(" | "))
+            for group, name in zip(words, names, strict=True):
+                for word in re.findall("`(.*?)`", group):
+                    with self.subTest(word=word):
+                        self.assertRegex(files[name.strip("`")].read_text("utf-8"), rf"(?m)^[\w ]*\bpub (\w+ )?◌?{re.escape(word)}◌? ")

@@ -23,6 +23,7 @@ UNKNOWN = [
     ("a type in parentheses", RECORD % "pub pair: (u32, u32),"),
     ("an attribute", RECORD % "#[doc(hidden)]\n    pub number: u32,"),
     ("an alignment of its own", "#[repr(align(16))]\n" + RECORD % "pub number: u32,"),
+    ("two records of one name for callers", RECORD % "pub number: u32," + RECORD.replace("PeSome", "Some") % "pub number: u32,"),
     ("a record of one line", "#[repr(C)]\npub struct PeSome(u32);\n"),
     ("a variant with a value", "pub enum Kind {\n    /// A kind.\n    Image(u32),\n}\n"),
     ("a call with a closure", 'pub extern "C" fn goblin_pe_some(\n    call: fn(u32) -> u32,\n) -> u32\n{\n}\n'),
@@ -49,9 +50,9 @@ class Made(unittest.TestCase):
                 self.assertEqual((CALLERS / place).read_text("utf-8"), text, "run callers/generate.py")
 
     def test_what_the_reader_does_not_know_is_refused(self):
-        bare = copy.copy(interface())
-        bare.enums = {}
         for name, source in UNKNOWN:
+            bare = copy.deepcopy(interface())
+            bare.enums = {}
             with self.subTest(name), self.assertRaises(generate().Refused):
                 for declaration in generate().declarations(source):
                     bare.take(*declaration)
