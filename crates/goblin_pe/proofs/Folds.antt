@@ -1,10 +1,11 @@
 -- A loop over the imports of a file that gathers something: what it has gathered so far, and what at each way out.
 use Rattle.std.proofs.Common.{◌≡◌, ℕ, ◌+◌, ◌||◌, Bool, true, false, cond, List, [], ◌∷◌, ◌++◌, map, Option, Some, None, Result, Ok, Err, arith}
 use Rattle.std.proofs.Common.{refl, sym, ap, ◌∙◌}
-use Rattle.std.specs.Prelude.{count_by, option_map}
+use Rattle.std.specs.Prelude.{count_by, find, option_map}
+use Rattle.std.specs.Option.{option_or}
 use Rattle.std.specs.List.{list_any}
 use Rattle.std.proofs.lemmas.List.{map-id}
-use Rattle.std.proofs.lemmas.List.Folds.{list_any-append}
+use Rattle.std.proofs.lemmas.List.Folds.{find-append, list_any-append}
 use Rattle.std.proofs.lemmas.List.Sums.{sum_by-append}
 use Rattle.goblin_base.specs.declared.error.ErrorOf.{ErrorOf}
 use Rattle.goblin_base.specs.Answers.{all_of}
@@ -86,3 +87,14 @@ pub count_more : (p : ImportValue → Bool) (start now next : FileImports) (coun
 count_more p start now next count more r x h given is said =
     gathers_more (count_by p) start now next count h r x more given is
     (said ∙ ap (λ (n : ℕ). n + cond (p (walked_value x)) 1 0) h.said ∙ ap (λ (n : ℕ). count_by p h.items + n) (sym (one-count p (walked_value x))) ∙ sym (sum_by-append (λ x. cond (p x) 1 0) h.items (walked_value x ∷ [])))
+
+one-found : {A : Type 0} (p : A → Bool) (x : A) → find p (x ∷ []) ≡ cond (p x) (Some x) None
+one-found p x = refl
+
+-- the first of the imports that passes a test
+pub find_more : (p : ImportValue → Bool) (start now next : FileImports) (found more : Option ImportValue) (r : Result WalkedImport ErrorOf) (x : WalkedImport)
+    → Gathers (find p) start now found → GivesFileImport now (Some r) next → r ≡ Ok x → more ≡ option_or found (cond (p (walked_value x)) (Some (walked_value x)) None) → Gathers (find p) start next more
+find_more p start now next found more r x h given is said =
+    let one = cond (p (walked_value x)) (Some (walked_value x)) None in
+    gathers_more (find p) start now next found h r x more given is
+    (said ∙ ap (λ (o : Option ImportValue). option_or o one) h.said ∙ ap (λ (o : Option ImportValue). option_or (find p h.items) o) (sym (one-found p (walked_value x))) ∙ sym (find-append p h.items (walked_value x ∷ [])))

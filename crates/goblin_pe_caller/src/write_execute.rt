@@ -1,7 +1,8 @@
 //! Which sections may be written and executed.
 
-ghost use Rattle.std.specs.Prelude.{◌≡◌, IfErr, IfOk, filter};
+ghost use Rattle.std.specs.Prelude.{◌≡◌, IfErr, IsSome, filter, true};
 ghost use Rattle.goblin_pe.specs.Answers.{IsMemory};
+ghost use Rattle.goblin_pe.specs.HeaderReadings.{pe_header};
 ghost use Rattle.goblin_pe.specs.Reading.{ReadsOrMemory};
 ghost use Rattle.goblin_pe_caller.specs.Audits.{is_writable_code, writable_code};
 
@@ -14,10 +15,11 @@ use std::alloc::Global;
 /// The sections of a file that may be written and executed, in the order of their records.
 ///
 /// # Errors
-/// As the header and the sections are refused in strict mode; `Memory`.
+/// As the header and the sections are refused in strict mode.
 #[tactic(auto, unfolding(goblin_pe::specs::Whole::layout))]
 pub fn writable_code(alloc: Global, bytes: &[u8]) -> Result<Vec<SectionTable>>
-    ensures { ReadsOrMemory (λ v. v.items) result writable_code bytes.now }
+    ensures value { ReadsOrMemory (λ v. v.items) result writable_code bytes.now }
+    ensures grown { IfErr result (λ e. IsMemory e → IsSome ((pe_header true).value bytes.now)) }
 {
     let opts = ParseOptions::default();
     let header = Header::parse(bytes)?;
