@@ -1,7 +1,7 @@
 //! Another time stamp for a file.
 
 ghost use Rattle.std.specs.Prelude.{◌≡◌, ◌⊎◌, IfErr, IfOk, IsSomeAnd, None, OnErr, Some};
-ghost use Rattle.std.specs.Prelude.{option_and_then, true};
+ghost use Rattle.std.specs.Prelude.{length, option_and_then, true};
 ghost use Rattle.goblin_pe.specs.Bytes.{overwritten};
 ghost use Rattle.goblin_pe.specs.Callers.{IsRefused};
 ghost use Rattle.goblin_pe.specs.HeaderReadings.{pe_header};
@@ -19,6 +19,12 @@ use goblin_pe::{Endian, Result};
 pub fn stamp(file: &[u8], time: u32, out: &mut [u8]) -> Result<usize>
     ensures again { IfOk result (λ _. IsSomeAnd ((pe_header true).value file.now)
         (λ h. (pe_header true).value out.new ≡ Some (stamped time h))) }
+    ensures size { IfOk result (λ n. IsSomeAnd ((pe_header true).value file.now)
+        (λ h. IsSomeAnd (header_bytes Endian.Little (stamped time h))
+        (λ written. n ≡ length written))) }
+    ensures written { IfOk result (λ _. IsSomeAnd ((pe_header true).value file.now)
+        (λ h. option_and_then (overwritten out.old 0)
+        (header_bytes Endian.Little (stamped time h)) ≡ Some out.new)) }
     ensures refused { IfErr result (λ e. IsRefused (pe_header true) file.now e
         ⊎ IsSomeAnd ((pe_header true).value file.now)
         (λ h. option_and_then (overwritten out.old 0)
