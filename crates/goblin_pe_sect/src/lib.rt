@@ -1,6 +1,5 @@
 //! The sections of a PE file, its data directories and relocations, the mapping of addresses to
-//! file offsets, and tables of entries. `goblin_pe` re-exports its modules, except for `address_map`
-//! and `footprint`.
+//! file offsets, and tables of entries. `goblin_pe` re-exports its modules, except for `footprint`.
 #![tactic(auto)]
 
 pub mod address_map;
