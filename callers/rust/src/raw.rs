@@ -52,6 +52,7 @@ impl<'a> Slice<'a> {
 impl Options {
     /// Damaged parts are passed over, in permissive mode; an import directory at file offset 0 is an
     /// empty list there, without damage. Else as by default.
+    #[must_use]
     pub const fn permissive() -> Options {
         Options {
             is_permissive: true,
@@ -60,12 +61,14 @@ impl Options {
     }
 
     /// The same options, with addresses mapped by the sections or not.
+    #[must_use]
     pub const fn with_resolve_rva(mut self, resolve_rva: bool) -> Options {
         self.resolve_rva = resolve_rva;
         self
     }
 
     /// The same options, with raw pointers rounded down to 512 or not.
+    #[must_use]
     pub const fn with_rounds_raw_pointers(mut self, rounds_raw_pointers: bool) -> Options {
         self.rounds_raw_pointers = rounds_raw_pointers;
         self
@@ -79,6 +82,7 @@ impl Options {
     /// let options = Options::permissive().with_parse_imports(false);
     /// assert!(options.is_permissive && options.resolve_rva && !options.parse_imports);
     /// ```
+    #[must_use]
     pub const fn with_parse_imports(mut self, parse_imports: bool) -> Options {
         self.parse_imports = parse_imports;
         self
@@ -213,7 +217,7 @@ fn test_interface() {
         assert!(
             is_linked_as_declared(),
             "the library libgoblin_pe that is linked has another interface than the crate goblin_pe"
-        )
+        );
     });
 }
 

@@ -48,6 +48,7 @@ impl Header<'_> {
     /// let table = bytes.get(pe.header().section_table()..);
     /// # Ok::<(), goblin_pe::Error>(())
     /// ```
+    #[must_use]
     pub fn section_table(&self) -> usize {
         section_table(&self.dos_header, &self.coff_header)
     }
@@ -375,6 +376,7 @@ impl<'a> Imported<'a> {
     /// println!("{}", calls.filter(|name| name.starts_with(b"Crypt")).count());
     /// # Ok::<(), goblin_pe::Error>(())
     /// ```
+    #[must_use]
     pub fn name(&self) -> Option<Text<'a>> {
         match *self {
             Imported::Name { name, .. } => Some(name),
@@ -390,6 +392,7 @@ impl<'a> Imported<'a> {
     /// let ordinals: Vec<_> = pe.imports().map(|import| import.name.ordinal()).collect();
     /// # Ok::<(), goblin_pe::Error>(())
     /// ```
+    #[must_use]
     pub fn ordinal(&self) -> u16 {
         match *self {
             Imported::Name { hint, .. } => hint,
@@ -551,6 +554,7 @@ impl<'a> Block<'a> {
     /// }
     /// # Ok::<(), goblin_pe::Error>(())
     /// ```
+    #[must_use]
     pub fn words(&self) -> Words<'a> {
         Words(self.bytes.chunks_exact(2))
     }
@@ -604,6 +608,7 @@ impl<'a> Symbol<'a> {
     /// }
     /// # Ok::<(), goblin_pe::Error>(())
     /// ```
+    #[must_use]
     pub fn aux_function_definition(&self) -> Option<AuxFunctionDefinition> {
         raw::aux_function_definition(self.auxiliary)
     }
@@ -618,6 +623,7 @@ impl<'a> Symbol<'a> {
     /// }
     /// # Ok::<(), goblin_pe::Error>(())
     /// ```
+    #[must_use]
     pub fn aux_begin_and_end_function(&self) -> Option<AuxBeginAndEndFunction> {
         raw::aux_begin_and_end_function(self.auxiliary)
     }
@@ -632,6 +638,7 @@ impl<'a> Symbol<'a> {
     /// }
     /// # Ok::<(), goblin_pe::Error>(())
     /// ```
+    #[must_use]
     pub fn aux_weak_external(&self) -> Option<AuxWeakExternal> {
         raw::aux_weak_external(self.auxiliary)
     }
@@ -646,6 +653,7 @@ impl<'a> Symbol<'a> {
     /// }
     /// # Ok::<(), goblin_pe::Error>(())
     /// ```
+    #[must_use]
     pub fn aux_section_definition(&self) -> Option<AuxSectionDefinition> {
         raw::aux_section_definition(self.auxiliary)
     }

@@ -25,6 +25,7 @@ impl<'a> Text<'a> {
     /// ```
     /// assert_eq!(goblin_pe::Text(b".text").as_str(), Some(".text"));
     /// ```
+    #[must_use]
     pub fn as_str(self) -> Option<&'a str> {
         std::str::from_utf8(self.0).ok()
     }
@@ -34,6 +35,7 @@ impl<'a> Text<'a> {
     /// ```
     /// assert_eq!(goblin_pe::Text(b"a\xFF").to_string_lossy(), "a\u{FFFD}");
     /// ```
+    #[must_use]
     pub fn to_string_lossy(self) -> Cow<'a, str> {
         String::from_utf8_lossy(self.0)
     }
