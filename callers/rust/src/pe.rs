@@ -37,6 +37,19 @@ impl From<raw::Table> for Part {
 /// }
 /// # Ok::<(), std::io::Error>(())
 /// ```
+///
+/// It may be dropped after the bytes, as what a `match` at the end of a function is about:
+///
+/// ```no_run,edition2021
+/// # use goblin_pe::{Options, Pe};
+/// fn main() {
+///     let bytes = std::fs::read("some.dll").unwrap_or_default();
+///     match Pe::read(&bytes, &Options::default()) {
+///         Ok(pe) => println!("{} imports", pe.imports().len()),
+///         Err(error) => println!("{error}"),
+///     }
+/// }
+/// ```
 #[derive(Clone)]
 pub struct Pe<'a> {
     bytes: &'a [u8],
