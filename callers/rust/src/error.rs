@@ -134,11 +134,11 @@ impl From<Error> for io::Error {
     /// An error of the kind [`io::ErrorKind::OutOfMemory`] where memory was refused, else of
     /// [`io::ErrorKind::InvalidData`].
     fn from(error: Error) -> io::Error {
-        let kind = match error.kind() {
-            ErrorKind::Memory => io::ErrorKind::OutOfMemory,
-            _ => io::ErrorKind::InvalidData,
-        };
-        io::Error::new(kind, error)
+        match error.kind() {
+            // (which takes no memory)
+            ErrorKind::Memory => io::ErrorKind::OutOfMemory.into(),
+            _ => io::Error::new(io::ErrorKind::InvalidData, error),
+        }
     }
 }
 

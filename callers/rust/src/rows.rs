@@ -10,6 +10,7 @@ use crate::raw::{
 };
 use crate::text::Text;
 use std::fmt;
+use std::io::Write;
 
 /// The header of an image, which can be changed and written.
 ///
@@ -406,7 +407,12 @@ impl fmt::Display for Imported<'_> {
     fn fmt(&self, f: &mut fmt::Formatter<'_>) -> fmt::Result {
         match self {
             Imported::Name { name, .. } => name.fmt(f),
-            Imported::Ordinal(ordinal) => f.pad(&format!("ORDINAL {ordinal}")),
+            Imported::Ordinal(ordinal) => {
+                let mut text = *b"ORDINAL      ";
+                let mut digits = &mut text["ORDINAL ".len()..];
+                write!(digits, "{ordinal}").map_err(|_| fmt::Error)?;
+                Text(text.trim_ascii_end()).fmt(f)
+            }
         }
     }
 }
