@@ -261,9 +261,11 @@ static inline bool goblin_pe_read_aux_file(struct goblin_pe_text auxiliary, stru
 }
 
 /* Reads the relocations of a section of an object: says in `count` how many there are, and fills as many
-   records as there is room for. These are as many as the section's record says, at most 65,535. Refused is a
-   file that is too short for them, and one in which they begin at or past the end, even where there are none.
-   No memory is taken. */
+   records as there is room for. These are as many as the section's record says, at most 65,535. Where it says
+   so many and has the flag IMAGE_SCN_LNK_NRELOC_OVFL, the section has more than these: the first record is none
+   of them, and its virtual_address tells how many follow one another there, itself among them. Refused is a file
+   that is too short for them, and one in which they begin at or past the end, even where there are none. No memory
+   is taken. */
 static inline struct goblin_pe_fault goblin_pe_read_relocations(
     const uint8_t *bytes, size_t length, const struct goblin_pe_section *section,
     struct goblin_pe_relocation *relocations, size_t room, size_t *count)

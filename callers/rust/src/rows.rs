@@ -208,7 +208,7 @@ pub struct Section<'a> {
     pub pointer_to_relocations: u32,
     /// The file offset of the line numbers, 0 where there are none.
     pub pointer_to_linenumbers: u32,
-    /// How many relocations there are.
+    /// How many relocations there are; 65,535 also where there are more, as a flag then says.
     pub number_of_relocations: u16,
     /// How many line numbers there are.
     pub number_of_linenumbers: u16,
@@ -285,7 +285,11 @@ impl<'a> Section<'a> {
         Ok((data.bytes.get(), data.zeros))
     }
 
-    /// The relocations of a section of the object `bytes`.
+    /// The relocations of a section of the object `bytes`: as many as `number_of_relocations` says, so at
+    /// most 65,535. Where that is 65,535, and `characteristics` have the flag
+    /// [`IMAGE_SCN_LNK_NRELOC_OVFL`](crate::constants::IMAGE_SCN_LNK_NRELOC_OVFL), the section has more than
+    /// these: the first row is none of them, and its `virtual_address` tells how many follow one another
+    /// there, itself among them.
     ///
     /// # Errors
     /// Why they were refused; memory may be. So they are where they begin at or past the end, even if
