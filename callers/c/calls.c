@@ -145,11 +145,18 @@ static bool sets_names(void)
     struct goblin_pe_section section;
     memset(&section, 0, sizeof section);
     bool is_long = goblin_pe_set_name(&section, "ninebytes", 9);
-    bool is_zero = goblin_pe_set_name_offset(&section, 0).status == GOBLIN_PE_STATUS_OK && !section.real_name.bytes;
+    bool is_zero = goblin_pe_set_name_offset(&section, 0).status == GOBLIN_PE_STATUS_OK && !section.real_name.length;
     bool is_set = goblin_pe_set_name(&section, ".text", 5) && !memcmp(section.name, ".text\0\0\0", 8);
     bool is_offset = goblin_pe_set_name_offset(&section, 1234).status == GOBLIN_PE_STATUS_OK;
-    return !is_long && is_zero && is_set && is_offset && !memcmp(section.name, "/1234\0\0\0", 8) &&
-           goblin_pe_set_name_offset(&section, SIZE_MAX).cause == GOBLIN_PE_CAUSE_NAME_OFFSET && section.name[1] == '1';
+    const struct goblin_pe_text old = { bytes, 4 };
+    section.real_name = old;
+    section.has_real_name = true;
+    bool is_kept = goblin_pe_set_name_offset(&section, SIZE_MAX).cause == GOBLIN_PE_CAUSE_NAME_OFFSET && section.has_real_name &&
+                   section.real_name.length == 4;
+    bool is_cleared = goblin_pe_set_name_offset(&section, 1234).status == GOBLIN_PE_STATUS_OK && !section.has_real_name &&
+                      !section.real_name.length;
+    return is_kept && is_cleared && !is_long && is_zero && is_set && is_offset && !memcmp(section.name, "/1234\0\0\0", 8) &&
+           section.name[1] == '1';
 }
 
 /* Whether an address is mapped by sections whose records a caller made, zeros but for what maps them, and the data of

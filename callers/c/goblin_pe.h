@@ -358,6 +358,14 @@ static inline struct goblin_pe_fault goblin_pe_write_section(
     return goblin_pe_raw_write_section(&sound, GOBLIN_PE_SOME(uint8_t, out), room, written);
 }
 
+/* Takes the name from the string table out of the record of a section. */
+static inline void goblin_pe_clear_real_name(struct goblin_pe_section *section)
+{
+    section->real_name.bytes = GOBLIN_PE_BYTES(section->real_name.bytes);
+    section->real_name.length = 0;
+    section->has_real_name = false;
+}
+
 /* Puts a short name, of at most eight bytes, into the record of a section, which has none from the string
    table then; a record of zeros is one that calls take from then on. Answers whether it is short enough; where
    not, nothing is changed. */
@@ -368,19 +376,21 @@ static inline bool goblin_pe_set_name(struct goblin_pe_section *section, const c
     memset(section->name, 0, sizeof section->name);
     if (length)
         memcpy(section->name, text, length);
-    section->real_name.bytes = GOBLIN_PE_BYTES(section->real_name.bytes);
-    section->real_name.length = 0;
-    section->has_real_name = false;
+    goblin_pe_clear_real_name(section);
     return true;
 }
 
-/* Puts into the eight bytes of name of a section that its name stands at this offset of the string table.
-   Refused is an offset that they can't hold. */
+/* Puts into the eight bytes of name of a section that its name stands at this offset of the string table. That
+   name is not read, so the record has none from there then, as by goblin_pe_set_name. Refused is an offset that
+   the eight bytes can't hold; nothing is changed then. */
 static inline struct goblin_pe_fault goblin_pe_set_name_offset(struct goblin_pe_section *section, size_t offset)
 {
     struct goblin_pe_section sound = goblin_pe_sound_section(section);
     struct goblin_pe_fault fault = goblin_pe_raw_set_name_offset(&sound, offset);
-    memcpy(section->name, sound.name, sizeof section->name);
+    if (fault.status == GOBLIN_PE_STATUS_OK) {
+        memcpy(section->name, sound.name, sizeof section->name);
+        goblin_pe_clear_real_name(section);
+    }
     return fault;
 }
 
