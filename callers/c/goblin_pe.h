@@ -308,9 +308,10 @@ static inline struct goblin_pe_fault goblin_pe_text_at(
     return goblin_pe_raw_text_at(&sound, rva, text);
 }
 
-/* So many bytes at an address. Refused are an address without an offset in the file, an offset at or past
-   the file's end, even if no bytes are asked for, and bytes that pass that end. The end of a section is not looked
-   at. No memory is taken. */
+/* So many bytes of the file from the offset of an address on. The end of its section is not looked at, so where they
+   pass that, what comes is what follows in the file, which a loader maps elsewhere or not at all. Refused are an
+   address without an offset in the file, an offset at or past the file's end, even if no bytes are asked for, and
+   bytes that pass that end. No memory is taken. */
 static inline struct goblin_pe_fault goblin_pe_bytes_at(
     const struct goblin_pe_image *image, size_t rva, size_t size, struct goblin_pe_text *bytes)
 {

@@ -529,7 +529,9 @@ impl<'a> Pe<'a> {
         Ok(Text(text.get()))
     }
 
-    /// So many bytes at an address.
+    /// So many bytes of the file from the offset of an address on. The end of its section is not looked at, so
+    /// where they pass that, what comes is what follows in the file, which a loader maps elsewhere or not at
+    /// all.
     ///
     /// # Errors
     /// Where the address has no offset in the file, where this lies at or past the file's end, even if no

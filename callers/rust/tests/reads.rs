@@ -148,6 +148,20 @@ fn the_data_of_a_section_begins_where_its_address_is_mapped() {
     assert_ne!(mapped, Some(first.pointer_to_raw_data as usize));
 }
 
+// What comes is the file's, past the section's end too.
+#[test]
+fn bytes_at_an_address_go_on_past_a_section() {
+    let bytes = sample("imports_by_name_x64.dll");
+    let pe = Pe::read(&bytes, &Options::default()).unwrap();
+    let mut sections = pe.sections();
+    let (first, second) = (sections.next().unwrap(), sections.next().unwrap());
+    let begin = first.pointer_to_raw_data as usize;
+    let size = first.size_of_raw_data as usize;
+    assert_eq!(begin + size, second.pointer_to_raw_data as usize);
+    let found = pe.bytes_at(first.virtual_address as usize, size + 16);
+    assert_eq!(found, Ok(&bytes[begin..begin + size + 16]));
+}
+
 #[test]
 fn the_data_of_a_section_begins_at_its_raw_pointer() {
     for name in ["align16_x64.dll", "imports_by_name_x64.dll"] {
