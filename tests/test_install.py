@@ -45,6 +45,24 @@ class Library(Case):
         install("/usr", DESTDIR=str(self.folder))
         self.assertIn("prefix=/usr\n", (self.folder / "usr/lib/pkgconfig/goblin_pe.pc").read_text("ascii"))
 
+    def test_all_packages_have_one_version(self):
+        install(self.folder)
+        found = {it: re.findall(r'(?m)^version = "(.*)"$', (CALLERS / it).read_text("utf-8"))[0] for it in
+                 ("rust/Cargo.toml", "rust/Cargo.lock", "python/pyproject.toml")}
+        found["pkg-config"] = succeed(["pkg-config", "--modversion", "goblin_pe"], env=environment(PKG_CONFIG_PATH=f"{self.folder}/lib/pkgconfig")).strip()
+        self.assertEqual(len(set(found.values())), 1, found)
+
+    def test_the_examples_that_the_header_names(self):
+        """They are installed, with a text, and built where they are."""
+        install(self.folder)
+        doc = self.folder / "share/doc/goblin-pe"
+        named = re.search(r"(?s)(\S+\.c, .*) are such programs", (self.folder / "include/goblin_pe.h").read_text("ascii")).group(1)
+        names = re.findall(r"\w+\.c", named)
+        self.assertEqual(sorted(names), sorted(it.name for it in (doc / "examples").iterdir()))
+        for name in names:
+            self.assertIn(f"`{name}`", (doc / "README.md").read_text("utf-8"))
+            succeed([CC, "-std=c11", *FLAGS, "-I", self.folder / "include", "-o", self.folder / "it", doc / "examples" / name, library() / "libgoblin_pe.a"])
+
 
 class Crate(Case):
     """What cargo packs, with the library that pkg-config tells of, with another one, or with none."""

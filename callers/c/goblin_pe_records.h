@@ -749,23 +749,23 @@ struct goblin_pe_export_directory {
    it are in the file's bytes. */
 struct goblin_pe_tables {
     /* The entries of the Rich header. */
-    const struct goblin_pe_rich_metadata *rich_entries;
+    struct goblin_pe_rich_metadata *rich_entries;
     size_t rich_entry_count;
     /* The sections. */
-    const struct goblin_pe_section *sections;
+    struct goblin_pe_section *sections;
     size_t section_count;
     /* The imports. */
-    const struct goblin_pe_import *imports;
+    struct goblin_pe_import *imports;
     size_t import_count;
     /* The exports, in the order of their name pointers. */
-    const struct goblin_pe_export *exports;
+    struct goblin_pe_export *exports;
     size_t export_count;
     /* The entries of the export address table: that at index i has the ordinal i plus the ordinal
        base. */
-    const struct goblin_pe_export_address *export_addresses;
+    struct goblin_pe_export_address *export_addresses;
     size_t export_address_count;
     /* The blocks of base relocations. */
-    const struct goblin_pe_block *blocks;
+    struct goblin_pe_block *blocks;
     size_t block_count;
     /* What the export directory says; zeros where the exports are not read. */
     struct goblin_pe_export_directory export_directory;
@@ -814,7 +814,7 @@ struct goblin_pe_range {
 /* Ranges of the file: a block of memory of its own, or none where there is no range. */
 struct goblin_pe_ranges {
     /* The ranges. */
-    const struct goblin_pe_range *ranges;
+    struct goblin_pe_range *ranges;
     size_t range_count;
 };
 
