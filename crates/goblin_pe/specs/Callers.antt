@@ -4,6 +4,7 @@ use Rattle.std.specs.Prelude.{◌≡◌, ◌≤◌, ℕ, List, Option, None, fin
 use Rattle.std.specs.Prelude.{slice_range}
 use Rattle.std.specs.Int.{is_power_of_two}
 use Rattle.goblin_base.specs.declared.error.ErrorOf.{ErrorOf}
+use Rattle.goblin_base.specs.ErrorText.{error_text}
 use Rattle.goblin_base.specs.Footprints.{Range}
 use Rattle.goblin_base.specs.Reading.{Reading}
 use Rattle.readings.specs.Reads.{◌>>=◌}
@@ -61,6 +62,11 @@ read_or default f Refused = default
 -- the file is refused by this reading, and this cause is true
 abbrev pub IsRefused : {A : Type 0} → Reading A → List ℕ → ErrorOf → Type 0
 IsRefused reading bytes e = (reading.value bytes ≡ None) × reading.IsCause bytes e
+
+-- each true cause of a refusal has the text of this one
+abbrev pub IsOnlyCause : {A : Type 0} → Reading A → List ℕ → ErrorOf → Type 0
+IsOnlyCause reading bytes e =
+    (f : ErrorOf) → reading.IsCause bytes f → error_text f ≡ error_text e
 
 -- a piece of a file: its bytes in a range
 abbrev pub Piece : Type 0
