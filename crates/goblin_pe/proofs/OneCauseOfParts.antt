@@ -37,7 +37,7 @@ use Rattle.goblin_pe_import.specs.ImportLookup.{entry_slots}
 use Rattle.goblin_pe_import.specs.ImportRecords.{ImportedLibrary, address_table_rva, import_record, import_slots, lookup_offset}
 use Rattle.goblin_pe_import.specs.declared.import.directory_entry.ImportDirectoryEntry.{ImportDirectoryEntry}
 use Rattle.goblin_pe_import.specs.ImportReadings as imports
-use Rattle.goblin_pe_import.specs.Imports.{IsImportsFault, IsOverflow, IsSlotCount, first_without_slots, kept_entries}
+use Rattle.goblin_pe_import.specs.Imports.{IsImportListFault, IsOverflow, IsSlotCount, first_without_slots, kept_entries}
 use Rattle.goblin_pe_import.specs.LookupReadings as lookup
 use Rattle.goblin_pe_export.specs.ExportReadings as exports
 use Rattle.goblin_pe_export.specs.ExportRecords.{ExportTables, IsCountFault, addresses, export_directory_record, name_pointers, ordinals}
@@ -46,7 +46,7 @@ use Rattle.goblin_pe.specs.declared.whole.Part.{Part}
 use Rattle.goblin_pe.specs.declared.whole.Part.TheVariants.{Absent, Refused}
 use Rattle.goblin_pe.specs.declared.whole.Part.TheVariants as part
 use Rattle.goblin_pe.specs.Callers.{IsOnlyCause}
-use Rattle.goblin_pe.specs.Whole.{IsImportsPartFault, TablePlaces, entry_format, export_part, import_part, import_parts, part_at, places_in, relocation_part}
+use Rattle.goblin_pe.specs.Whole.{IsListedImportsFault, TablePlaces, entry_format, export_part, import_data_part, both_import_parts, part_at, places_in, relocation_part}
 use Rattle.goblin_pe.specs.Whole.{section_table_offset, sections_after, table_parts, whole_file, whole_with}
 use Rattle.goblin_pe.proofs.OneCause.{AreOne, one-either, one-first, one-is, one-missing, one-of, one-pick, one-short, one-slice, one-some, one-table, apart-lt}
 
@@ -283,8 +283,8 @@ one-name strict name e f h k =
 has-name_number : (strict : Bool) (name : List ℕ) → HasOne (sections.name_number strict name)
 has-name_number strict name = record { one = λ bytes. one-name strict name }
 
-has-section : (strict : Bool) (table p : ℕ) → HasOne (sections.section_at strict table p)
-unfolding sections.section_at
+has-section : (strict : Bool) (table p : ℕ) → HasOne (sections.named_section_at strict table p)
+unfolding sections.named_section_at
 has-section strict table p =
     has-then _ _ (has-record 40 _ p) (λ section.
     has-then (sections.name_number strict section.name) _ (has-name_number strict section.name) (λ offset.
@@ -333,7 +333,7 @@ module _ (strict : Bool) (format : Format EntryValue) (offset_of : ℕ → Optio
   has-lookup None = has-given _
   has-lookup (Some o) = record {
     one = (has-table (entry_slots format) strict (lookup.lookup_entry_at format) (lookup.kept_entry strict offset_of) o
-        (λ p. has-because (LookupEnd p) (lookup.entry_at format p)) has-entry).one;
+        (λ p. has-because (LookupEnd p) (lookup.entry_value_at format p)) has-entry).one;
   }
 
   has-at : {A : Type 0} (rva : ℕ) (read : ℕ → Reading A) → ((p : ℕ) → HasOne (read p)) → HasOne (address.at_address offset_of rva read)
@@ -345,7 +345,7 @@ module _ (strict : Bool) (format : Format EntryValue) (offset_of : ℕ → Optio
 
   has-addresses : (o : ℕ) → HasOne (lookup.address_table format o)
   has-addresses o =
-      has-table (entry_slots format) true (lookup.entry_at format) lookup.entry_number o
+      has-table (entry_slots format) true (lookup.entry_value_at format) lookup.entry_number o
       (λ p. has-record format.width format.value_of p) (λ entry. has-given _)
 
   has-library : (r : ImportDirectoryEntry) → HasOne (imports.library_of strict format offset_of r)
@@ -362,7 +362,7 @@ module _ (strict : Bool) (format : Format EntryValue) (offset_of : ℕ → Optio
       by : (test : Bool) → HasOne (cond test (reads.given []) (imports.libraries_at strict format offset_of o))
       by true = has-given []
       by false =
-          has-table import_slots strict imports.record_here (imports.kept_library strict format offset_of) o
+          has-table import_slots strict imports.import_record_at (imports.kept_library strict format offset_of) o
           (λ p. has-because (ImportRecordEnd p) (reads.record_at 20 (import_record Little) p)) (λ r. has-or_left_out strict (imports.library_of strict format offset_of r) (has-library r))
 
   pub has-import_data : (rva : ℕ) → HasOne (imports.import_data strict format offset_of rva)
@@ -440,7 +440,7 @@ overflow-is : (e : ErrorOf) → IsOverflow e → e ≡ Malformed Overflow
 overflow-is (Malformed Overflow) h = refl
 overflow-is e h = absurd h
 
-one-imports : (libraries : List ImportedLibrary) → AreOne (IsImportsFault libraries)
+one-imports : (libraries : List ImportedLibrary) → AreOne (IsImportListFault libraries)
 one-imports libraries =
     one-either (λ e. IsSomeAnd (first_without_slots libraries) (λ library. IsSlotCount library e))
     (λ e. (first_without_slots libraries ≡ None) × IsOverflow e)
@@ -449,26 +449,26 @@ one-imports libraries =
     (λ e f h k. ap error_text (overflow-is e h.1 ∙ sym (overflow-is f k.1)))
     (λ e f h k. some-there _ _ h k.0)
 
-one-listed : (libraries : Part (List ImportedLibrary)) → AreOne (IsImportsPartFault libraries)
+one-listed : (libraries : Part (List ImportedLibrary)) → AreOne (IsListedImportsFault libraries)
 one-listed Absent = nothing
 one-listed (part.Read libraries) = one-imports libraries
 one-listed Refused = nothing
 
 module _ (opts : ParseOptions) (offset_of : ℕ → Option ℕ) (places : TablePlaces) where
-  has-import_part : HasOne (import_part opts offset_of places)
-  unfolding import_part
+  has-import_part : HasOne (import_data_part opts offset_of places)
+  unfolding import_data_part
   has-import_part =
       has-pick opts.parse_imports _ _
       (has-part_at (is_strict opts.parse_mode) _
       (λ d. has-import_data (is_strict opts.parse_mode) (entry_format places.magic) offset_of d.virtual_address) places.imports)
       (has-given Absent)
 
-  has-import_parts : HasOne (import_parts opts offset_of places)
-  unfolding import_parts
+  has-import_parts : HasOne (both_import_parts opts offset_of places)
+  unfolding both_import_parts
   has-import_parts = record {
     one = λ bytes.
-        one-first ((import_part opts offset_of places).value bytes) ((import_part opts offset_of places).IsCause bytes)
-        IsImportsPartFault (has-import_part.one bytes) one-listed;
+        one-first ((import_data_part opts offset_of places).value bytes) ((import_data_part opts offset_of places).IsCause bytes)
+        IsListedImportsFault (has-import_part.one bytes) one-listed;
   }
 
   has-export_part : HasOne (export_part opts offset_of places)
