@@ -459,6 +459,20 @@ impl<'a> From<&raw::Import<'a>> for Import<'a> {
     }
 }
 
+/// A library of which something is imported.
+#[derive(Clone, Copy, Debug, PartialEq, Eq, PartialOrd, Ord, Hash)]
+#[non_exhaustive]
+pub struct Library<'a> {
+    /// The name; empty where permissive mode could not read it.
+    pub name: Text<'a>,
+    /// The file offset of its record, of 20 bytes.
+    pub record: usize,
+    /// 0 where its imports are not bound; else when it was linked, or all ones where its own table says so.
+    pub time_date_stamp: u32,
+    /// The index of the first import that it forwards, where its imports are bound in the old way.
+    pub forwarder_chain: u32,
+}
+
 /// What an export that is a forwarder stands for.
 #[derive(Clone, Copy, Debug, PartialEq, Eq, PartialOrd, Ord, Hash)]
 pub enum Forwarder<'a> {

@@ -4,8 +4,19 @@ use std::borrow::{Borrow, Cow};
 use std::fmt::{self, Write};
 use std::ops::Deref;
 
-/// A text of the file: bytes that mostly, but not always, are UTF-8. It is shown with each byte
-/// outside printable ASCII, and the backslash, as `\x` and two hexadecimal digits.
+/// A text of the file: bytes that mostly, but not always, are UTF-8. For a program it is what
+/// [`as_str`](Text::as_str) and [`to_string_lossy`](Text::to_string_lossy) give:
+///
+/// ```
+/// use goblin_pe::Text;
+///
+/// let path = Text::from(r"naïve\path");
+/// assert_eq!(path.as_str(), Some(r"naïve\path"));
+/// assert_eq!(path.to_string_lossy(), r"naïve\path");
+/// ```
+///
+/// As a file that can't be trusted may have anything in it, it is shown with each byte outside printable
+/// ASCII, and the backslash, as `\x` and two hexadecimal digits:
 ///
 /// ```
 /// use goblin_pe::Text;
@@ -14,6 +25,7 @@ use std::ops::Deref;
 /// assert!(name == "KERNEL32.dll" && name.eq_ignore_ascii_case(b"kernel32.DLL"));
 /// assert_eq!(format!("{name:>14}"), "  KERNEL32.dll");
 /// assert_eq!(Text(b"a\xFF").to_string(), r"a\xff");
+/// assert_eq!(Text::from(r"naïve\path").to_string(), r"na\xc3\xafve\x5cpath");
 /// ```
 #[derive(Clone, Copy, Default, PartialEq, Eq, PartialOrd, Ord, Hash)]
 pub struct Text<'a>(pub &'a [u8]);
@@ -129,6 +141,13 @@ impl<'a, const N: usize> From<&'a [u8; N]> for Text<'a> {
 impl<'a> From<Text<'a>> for &'a [u8] {
     fn from(text: Text<'a>) -> &'a [u8] {
         text.0
+    }
+}
+
+impl From<Text<'_>> for String {
+    /// As by [`Text::to_string_lossy`].
+    fn from(text: Text<'_>) -> String {
+        text.to_string_lossy().into_owned()
     }
 }
 

@@ -146,6 +146,30 @@ fn what_was_read_is_dropped_after_the_bytes() {
     assert_eq!((pe.imports().len(), footprint.iter().len() > 0), (1, true));
 }
 
+#[test]
+fn texts_become_strings() {
+    assert_eq!(String::from(Text::from(r"naïve\path")), r"naïve\path");
+    assert_eq!(String::from(Text(b"a\xFF")), "a\u{FFFD}");
+}
+
+// The image is gone, and what it imports is handed on.
+fn imports_alone(bytes: &[u8]) -> Result<impl DoubleEndedIterator<Item = Import<'_>>, Error> {
+    Ok(Pe::parse(bytes)?.into_imports())
+}
+
+#[test]
+fn imports_are_handed_on_alone() {
+    let bytes = sample("imports_by_name_x64.dll");
+    let pe = Pe::parse(&bytes).unwrap();
+    let mut alone = imports_alone(&bytes).unwrap();
+    assert!(pe.imports().eq(alone.by_ref()) && alone.next_back().is_none());
+    let alone = pe.clone().into_imports();
+    assert_eq!(
+        (alone.len(), format!("{alone:?}")),
+        (1, format!("{:?}", pe.imports()))
+    );
+}
+
 fn count_of_sections(bytes: &[u8]) -> io::Result<usize> {
     Ok(Pe::read(bytes, &Options::default())?.sections().len())
 }
