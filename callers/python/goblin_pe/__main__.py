@@ -1,12 +1,14 @@
 """Lists a file as pe_list does. With --symbols it lists the symbols of an object, and with --te the header of a Terse
-Executable, as beside the samples. With --json it writes all that was read of each of many files, as an object on a line."""
+Executable, as beside the samples. With --json it writes all that was read of each of many files, and what is damaged, as an
+object on a line."""
 import argparse
 import json
 import os
+import signal
 import sys
 from typing import Any, Callable, Iterator, List, Sequence
 
-from ._described import described
+from ._described import described_file
 from . import Export, ObjectFile, Options, Pe, Refused, State, Te
 from .constants import MAGIC_64
 
@@ -79,11 +81,6 @@ def te(found: Te) -> Iterator[str]:
             shown(s.name), s.virtual_address, s.virtual_size, s.size_of_raw_data, s.pointer_to_raw_data, s.characteristics)
 
 
-def permissively(data: bytes) -> Pe:
-    """An image, damaged parts passed over."""
-    return Pe(data, Options(is_permissive=True))
-
-
 def show(path: str, read: Callable[[bytes], Any], lines: Callable[[Any], Iterator[str]]) -> int:
     """Writes the lines of a file, all of them or none, and answers the status of the program."""
     try:
@@ -103,7 +100,7 @@ def describe(paths: List[str], read: Callable[[bytes], Any]) -> int:
     for number, path in enumerate(paths, 1):
         if is_told:
             print("\r%d of %d files" % (number, len(paths)), end="", file=sys.stderr, flush=True)
-        found = described(path, read)
+        found = described_file(path, read)
         status |= "refused" in found or "error" in found
         print(json.dumps(found))
     if is_told:
@@ -111,21 +108,41 @@ def describe(paths: List[str], read: Callable[[bytes], Any]) -> int:
     return status
 
 
-def main(words: List[str]) -> int:
-    """Lists what the words name, and answers the status of the program."""
+# What the words --raw-pointers say.
+RAW_POINTERS = {"stored": False, "rounded": True}
+
+
+def asked_of(words: List[str]) -> argparse.Namespace:
+    """What the words ask for."""
     parser = argparse.ArgumentParser(prog="python -m goblin_pe", description="Lists a PE file.")
     kind = parser.add_mutually_exclusive_group()
-    for name, how, what in [("--permissive", (permissively, image), "pass over damaged parts"),
-                            ("--symbols", (ObjectFile, symbols), "list the symbols of an object"),
-                            ("--te", (Te, te), "list a Terse Executable")]:
-        kind.add_argument(name, dest="how", action="store_const", const=how, help=what)
+    kind.add_argument("--symbols", dest="how", action="store_const", const=(ObjectFile, symbols), help="list the symbols of an object")
+    kind.add_argument("--te", dest="how", action="store_const", const=(lambda data, how: Te(data), te), help="list a Terse Executable")
+    parser.add_argument("--permissive", action="store_true", help="pass over damaged parts")
+    parser.add_argument("--raw-pointers", choices=sorted(RAW_POINTERS), default="stored",
+                        help="how the raw pointers of sections are taken: as stored (as by default), or rounded down to 512")
+    parser.add_argument("--no-imports", action="store_true", help="leave the imports out, of which a small file can list many")
     parser.add_argument("--json", action="store_true", help="write a line of JSON for each of many files")
     parser.add_argument("files", metavar="FILE", nargs="+")
     parser.set_defaults(how=(Pe, image))
     asked = parser.parse_args(words)
-    read, lines = asked.how
     if not asked.json and len(asked.files) > 1:
         parser.error("only --json takes many files")
+    return asked
+
+
+def main(words: List[str]) -> int:
+    """Lists what the words name, and answers the status of the program."""
+    if sys.stdout is None:
+        return complain("write failed", OSError("standard output is closed"))
+    asked = asked_of(words)
+    options = Options(is_permissive=asked.permissive, rounds_raw_pointers=RAW_POINTERS[asked.raw_pointers],
+                      parse_imports=not asked.no_imports)
+    kind, lines = asked.how
+
+    def read(data: bytes) -> Any:
+        return kind(data, options)
+
     try:
         status = describe(asked.files, read) if asked.json else show(asked.files[0], read, lines)
         sys.stdout.flush()
@@ -137,9 +154,12 @@ def main(words: List[str]) -> int:
 
 def complain(what: str, error: Exception) -> int:
     """A line on standard error, and the status of the program."""
-    print("%s: %s" % (what, error), file=sys.stderr)
+    if sys.stderr is not None:
+        print("%s: %s" % (what, error), file=sys.stderr)
     return 1
 
 
 if __name__ == "__main__":
+    # An interrupt ends the program at once, also in a call of the library, which can take long.
+    signal.signal(signal.SIGINT, signal.SIG_DFL)
     sys.exit(main(sys.argv[1:]))
