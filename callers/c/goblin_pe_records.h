@@ -778,9 +778,9 @@ struct goblin_pe_tables {
 struct goblin_pe_import_position {
     /* The file offset of a library's record; the greatest number once the end has been reached,
        also of a file without imports. */
-    size_t record;
+    size_t record_offset;
     /* The file offset of the slot that is read next, or 0 before the library's first. */
-    size_t slot;
+    size_t slot_offset;
 };
 
 /* What strict mode would refuse of a file, part by part: for each part a fault of the status 0
@@ -1252,8 +1252,8 @@ GOBLIN_PE_IS_AT(tables, export_directory, 96);
 GOBLIN_PE_IS_AT(tables, dos_stub, 160);
 
 GOBLIN_PE_HAS_SIZE(import_position, 16, 8);
-GOBLIN_PE_IS_AT(import_position, record, 0);
-GOBLIN_PE_IS_AT(import_position, slot, 8);
+GOBLIN_PE_IS_AT(import_position, record_offset, 0);
+GOBLIN_PE_IS_AT(import_position, slot_offset, 8);
 
 GOBLIN_PE_HAS_SIZE(damage, 136, 8);
 GOBLIN_PE_IS_AT(damage, dos_stub, 0);

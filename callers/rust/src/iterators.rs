@@ -199,7 +199,7 @@ trait Position: Default {
 impl Position for raw::ImportPosition {
     // (a batch that is not full may come before a refusal)
     fn is_end(&self, count: usize, _room: usize) -> bool {
-        count == 0 || self.record == usize::MAX
+        count == 0 || self.record_offset == usize::MAX
     }
 }
 
