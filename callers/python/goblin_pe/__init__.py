@@ -446,9 +446,9 @@ class Pe:
                 _test(call(address, length, _c.byref(position), first, 1, _c.byref(count)))
             if not count.value:
                 return
-            stamp, chain = _struct.unpack_from("<II", data, position.record + 4)
-            yield Library(_Rows(data, address).text(first[0].dll), position.record, stamp, chain)
-            position = records.ImportPosition(position.record + 20, 0)
+            stamp, chain = _struct.unpack_from("<II", data, position.record_offset + 4)
+            yield Library(_Rows(data, address).text(first[0].dll), position.record_offset, stamp, chain)
+            position = records.ImportPosition(position.record_offset + 20, 0)
 
     def walk_exports(self) -> _t.Iterator[Export]:
         """The exports one by one, of which none is kept."""

@@ -85,7 +85,7 @@ class Library(NamedTuple):
     bound in the old way. The name is empty where permissive mode could not read it."""
 
     name: bytes
-    record: int
+    record_offset: int
     time_date_stamp: int
     forwarder_chain: int
 

@@ -355,16 +355,16 @@ impl<'a> WalkLibraries<'a> {
         if count == 0 {
             return Ok(None);
         }
-        let record = position.record;
+        let record_offset = position.record_offset;
         let library = Library {
             name: Text(first[0].dll.get()),
-            record,
-            time_date_stamp: self.number_at(record + 4),
-            forwarder_chain: self.number_at(record + 8),
+            record_offset,
+            time_date_stamp: self.number_at(record_offset + 4),
+            forwarder_chain: self.number_at(record_offset + 8),
         };
         let next = raw::ImportPosition {
-            record: record + IMPORT_RECORD,
-            slot: 0,
+            record_offset: record_offset + IMPORT_RECORD,
+            slot_offset: 0,
         };
         Ok(Some((library, next)))
     }

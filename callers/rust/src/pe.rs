@@ -756,7 +756,7 @@ impl<'a> Pe<'a> {
     /// ```no_run
     /// # let bytes = [];
     /// let pe = goblin_pe::Pe::read(&bytes, &goblin_pe::Options::default())?;
-    /// let mut out = vec![0; pe.header().section_table() + 256];
+    /// let mut out = vec![0; pe.header().size()];
     /// let size = pe.write_header(&mut out)?;
     /// # Ok::<(), goblin_pe::Error>(())
     /// ```

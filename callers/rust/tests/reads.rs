@@ -283,6 +283,7 @@ fn headers_and_sections_are_written_back() {
         let pe = Pe::read(&bytes, &Options::default()).unwrap();
         let mut out = vec![0; bytes.len()];
         let written = pe.write_header(&mut out).unwrap();
+        assert_eq!(written, pe.header().size());
         assert_eq!(out[..written], bytes[..written], "{name}");
         for section in pe.sections() {
             let mut record = [0; 40];
@@ -439,7 +440,14 @@ fn libraries_have_records() {
     let pe = Pe::parse(&bytes).unwrap();
     let libraries: Result<Vec<_>, _> = pe.walk_libraries().collect();
     let found: Vec<_> = (libraries.unwrap().iter())
-        .map(|it| (it.name, it.record, it.time_date_stamp, it.forwarder_chain))
+        .map(|it| {
+            (
+                it.name,
+                it.record_offset,
+                it.time_date_stamp,
+                it.forwarder_chain,
+            )
+        })
         .collect();
     assert_eq!(found, [(Text(b"KERNEL32.dll"), record, 1, 2)]);
     let bytes = sample("forwarders_x64.dll");
