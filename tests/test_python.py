@@ -10,8 +10,8 @@ import subprocess
 import sys
 
 from tests import images
-from tests.programs import (BY_NAME, CALLERS, CC, FLAGS, IMAGES, OBJECTS, SAMPLES, TERSE, TOP, Case, beside, environment, library, need, run,
-                            succeed, with_memory)
+from tests.programs import (BY_NAME, CALLERS, CC, FLAGS, IMAGES, OBJECTS, SAMPLES, TERSE, TOP, Case, beside, environment, library, need,
+                            package, run, succeed, with_memory)
 
 PYTHON = [sys.executable, "-X", "dev"]
 LISTS = [*PYTHON, "-m", "goblin_pe"]
@@ -288,7 +288,27 @@ class Package(Case):
         succeed([*PYTHON, "-m", "unittest", "-q", "test_goblin_pe"], env=self.env)
 
     def test_too_little_memory_is_told(self):
-        self.assert_says_no_memory([sys.executable, "-m", "goblin_pe"], env=self.env)
+        """Of an image that asks for more than there is: in JSON, which lists it. Its lines come one by one."""
+        image = self.written("hostile.dll", images.shared_image(libraries=2000, functions=50000))
+        words = [sys.executable, "-m", "goblin_pe"]
+        status, out, said = run(with_memory(2000000, [*words, "--json", image]), env=self.env)
+        self.assertEqual((status, json.loads(out)["refused"]["status"], said), (1, "MEMORY", b""))
+        lines = ["sh", "-c", '"$@" | head -n 1000', "sh", *with_memory(300000, [*words, image])]
+        status, out, said = run(lines, env=self.env)
+        self.assertEqual((status, out.splitlines()[2], out.count(b"\nimport offset")), (0, b"imports 100000000", 997))
+        self.assertEqual(said, b"write failed: [Errno 32] Broken pipe\n")
+
+    def test_an_image_that_is_refused_late_has_no_lines(self):
+        """In strict mode, where the name of the third of four libraries stands at an address that no section maps."""
+        image = images.shared_image(libraries=4, functions=3)
+        image[0x200 + 20 * 2 + 12: 0x200 + 20 * 2 + 16] = b"\0\x90\0\0"
+        status, out, said = run([*LISTS, self.written("late.dll", image)], env=self.env)
+        self.assertEqual((status, out, said[:9]), (1, b"", b"refused: "))
+        listed = succeed([*LISTS, "--permissive", self.folder / "late.dll"], env=self.env).splitlines()
+        pe = package().Pe(bytes(image), package().Options(is_permissive=True))
+        self.assertEqual([it for it in listed if it.startswith("import")][0], "imports %d" % len(pe.imports))
+        self.assertEqual(sum(it.startswith("import ") for it in listed), len(pe.imports))
+        self.assertIn("imports absent", succeed([*LISTS, "--no-imports", BY_NAME], env=self.env))
 
     def test_a_listing_that_can_not_be_written(self):
         status, _, said = run(["sh", "-c", 'exec "$@" > /dev/full', "sh", *LISTS, BY_NAME], env=self.env)

@@ -199,6 +199,23 @@ class Buffers(unittest.TestCase):
                          ([b"KERNEL32.dll"], "27abfd9cfda7519d5efb3f08a2a4f3ce", 0x420))
         self.assertRegex(repr(pe), "imports=1 exports=2")
 
+    def test_threads_ask_for_rows_while_another_closes(self):
+        data = sample("forwarders_x64.dll")
+        wanted = Pe(data).exports
+
+        def asked(pe):
+            try:
+                return pe.exports
+            except ValueError:
+                return "closed"
+
+        with concurrent.futures.ThreadPoolExecutor(8) as threads:
+            for _ in range(300):
+                pe = Pe(data)
+                tasks = [threads.submit(call, pe) for call in (asked, asked, Pe.close, asked)]
+                for it in (tasks[0], tasks[1], tasks[3]):
+                    self.assertIn(it.result(), (wanted, "closed"))
+
     def test_what_was_read_is_shown_by_its_numbers(self):
         shown = (Pe(sample("imports_by_name_x64.dll")), ObjectFile(sample("object_x64.obj")), Te(sample("firmware_x64.te")))
         for read, wanted in zip(shown, ("<Pe machine=0x8664 sections=4 imports=1 exports=2 blocks=1>",

@@ -289,7 +289,7 @@ class Pe:
     @property
     def rich_entries(self) -> _t.List[RichMetadata]:
         """The entries of the Rich header."""
-        return self._rows("rich_entries", lambda rows: lambda entry: _laid_out.read(RichMetadata, entry))
+        return self._rows("rich_entries")
 
     @property
     def rich_rest(self) -> _t.Optional[Refused]:
@@ -299,7 +299,7 @@ class Pe:
     @property
     def sections(self) -> _t.List[Section]:
         """The sections."""
-        return self._rows("sections", lambda rows: rows.section)
+        return self._rows("sections")
 
     @property
     def import_table(self) -> State:
@@ -309,7 +309,7 @@ class Pe:
     @property
     def imports(self) -> _t.List[Import]:
         """The imports."""
-        return self._rows("imports", lambda rows: rows.imported)
+        return self._rows("imports")
 
     @property
     def export_table(self) -> State:
@@ -319,7 +319,7 @@ class Pe:
     @property
     def exports(self) -> _t.List[Export]:
         """The exports."""
-        return self._rows("exports", lambda rows: rows.exported)
+        return self._rows("exports")
 
     @property
     def export_directory(self) -> _t.Optional[ExportDirectory]:
@@ -329,8 +329,7 @@ class Pe:
     @property
     def export_addresses(self) -> _t.List[ExportAddress]:
         """The entries of the export address table, by rising ordinals, also those without a name."""
-        ordinals = _itertools.count(self._export_directory.table.ordinal_base)
-        return self._rows("export_addresses", lambda rows: lambda it: ExportAddress(next(ordinals), it.rva, it.forwards))
+        return self._rows("export_addresses")
 
     @property
     def relocation_table(self) -> State:
@@ -340,22 +339,28 @@ class Pe:
     @property
     def blocks(self) -> _t.List[Block]:
         """The blocks of base relocations."""
-        return self._rows("blocks", lambda rows: rows.block)
+        return self._rows("blocks")
 
     @property
     def block_rest(self) -> _t.Optional[Refused]:
         """Why the rest that follows the blocks is no block; None where there is no rest."""
         return self._rests[1]
 
-    def _each(self, table: str, row: _t.Callable[[_Rows], _t.Callable[[_t.Any], _t.Any]]) -> _t.Iterator[_t.Any]:
+    def _each(self, table: str, most_kept: _t.Optional[int] = _MOST_KEPT) -> _t.Iterator[_t.Any]:
         # the rows of a table, one by one (the tables stay while they are gone through)
         tables, data = self._tables, self._bytes()
-        return map(row(_Rows(data, self._address)), tables.records(table)) if tables else iter(())
+        rows = _Rows(data, self._address, most_kept)
+        ordinals = _itertools.count(self._export_directory.table.ordinal_base)
+        rows_of: _t.Dict[str, _t.Callable[[_t.Any], _t.Any]] = {
+            "rich_entries": lambda entry: _laid_out.read(RichMetadata, entry), "sections": rows.section, "imports": rows.imported,
+            "exports": rows.exported, "export_addresses": lambda it: ExportAddress(next(ordinals), it.rva, it.forwards),
+            "blocks": rows.block}
+        return map(rows_of[table], tables.records(table)) if tables else iter(())
 
-    def _rows(self, table: str, row: _t.Callable[[_Rows], _t.Callable[[_t.Any], _t.Any]]) -> _t.List[_t.Any]:
+    def _rows(self, table: str) -> _t.List[_t.Any]:
         # the rows of a table, made when they are first asked for
         if table not in self._made:
-            self._made[table] = list(self._each(table, row)) if self._counts[table] else []
+            self._made[table] = list(self._each(table, None)) if self._counts[table] else []
         return self._made[table]
 
     def __repr__(self) -> str:
@@ -428,6 +433,20 @@ class Pe:
         asked = records.Options(how.is_permissive, how.resolve_rva, how.rounds_raw_pointers, True)
         return lambda address, length, *to: _LIB.goblin_pe_raw_next_imports(address, length, _c.byref(asked), *to)
 
+    def _count_imports(self) -> _t.Optional[int]:
+        # how many the walk over imports gives, of which none becomes a row; None where the file has no table of them
+        if DirectoryType.IMPORT_TABLE not in self._directories:
+            return None
+        most, found = 4096, 0
+        position, room, count = records.ImportPosition(), _room(records.Import, most), _c.c_size_t()
+        call, data = self._next_imports(), self._bytes()
+        while True:
+            with _held(data) as (address, length):
+                _test(call(address, length, _c.byref(position), room, most, _c.byref(count)))
+            if not count.value:
+                return found
+            found += count.value
+
     def walk_imports(self) -> _t.Iterator[Import]:
         """The imports one by one, of which none is kept: also where the options left them out. In strict mode Refused is
         raised where it would be of the list, after what comes before; no law says on which bytes that depends."""
@@ -477,7 +496,7 @@ class Pe:
         if not self._options.parse_imports:
             return _imphash(self.walk_imports())
         is_made = "imports" in self._made or not self._counts["imports"]
-        return _imphash(self.imports if is_made else self._each("imports", lambda rows: rows.imported))
+        return _imphash(self.imports if is_made else self._each("imports"))
 
     def footprint(self) -> _t.List[Range]:
         """The bytes of the file on which what Pe lists depends, its attributes but for symbols and damage: a file of the same
