@@ -1,5 +1,5 @@
 """Numbers and flags of headers by the names of their constants."""
-from typing import Dict, List
+from typing import Dict, List, Literal
 
 from . import constants
 
@@ -7,12 +7,13 @@ from . import constants
 _BEGINNINGS = {"machine": "COFF_MACHINE_", "subsystem": "IMAGE_SUBSYSTEM_", "file": "IMAGE_FILE_", "dll": "IMAGE_DLLCHARACTERISTICS_",
                "section": "IMAGE_SCN_"}
 _FIELDS = {"section": constants.IMAGE_SCN_ALIGN_MASK}
+Kind = Literal["machine", "subsystem", "file", "dll", "section"]
 _NAMES: Dict[str, Dict[str, int]] = {
     kind: {name: number for name, number in vars(constants).items() if name.startswith(beginning) and not name.endswith("_MASK")}
     for kind, beginning in _BEGINNINGS.items()}
 
 
-def names_of(flags: int, kind: str = "section") -> List[str]:
+def names_of(flags: int, kind: Kind = "section") -> List[str]:
     """The names in goblin_pe.constants of the flags of a section, or by the `kind` of a "file" or a "dll" (the characteristics
     of a COFF and of an optional header); and the name of a "machine" or a "subsystem". What has no name stands at the end by
     its digits in hexadecimal."""
