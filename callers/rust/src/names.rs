@@ -43,6 +43,18 @@ macro_rules! shown {
         #[derive(Clone, Copy, PartialEq, Eq, PartialOrd, Ord, Hash)]
         pub struct $name(pub $kind);
 
+        impl From<$kind> for $name {
+            fn from(number: $kind) -> $name {
+                $name(number)
+            }
+        }
+
+        impl From<$name> for $kind {
+            fn from(it: $name) -> $kind {
+                it.0
+            }
+        }
+
         impl fmt::Display for $name {
             fn fmt(&self, $f: &mut fmt::Formatter<'_>) -> fmt::Result {
                 let $number = u32::from(self.0);

@@ -823,6 +823,15 @@ impl<'a> Pe<'a> {
     }
 }
 
+impl<'a> TryFrom<&'a [u8]> for Pe<'a> {
+    type Error = Error;
+
+    /// As by [`Pe::parse`].
+    fn try_from(bytes: &'a [u8]) -> Result<Pe<'a>, Error> {
+        Pe::parse(bytes)
+    }
+}
+
 impl fmt::Debug for Pe<'_> {
     /// What was read, by its numbers.
     fn fmt(&self, f: &mut fmt::Formatter<'_>) -> fmt::Result {
