@@ -48,17 +48,17 @@ from . import _laid_out, records
 from ._imphash import imphash as _imphash
 from ._library import LIB as _LIB, Data, held as _held
 from ._refused import Refused, named as _named, refusal as _refusal, test as _test
-from .numbers import Cause, Counted, DirectoryType, Kind, ReadFault, State, Status
+from .numbers import Cause, Counted, DirectoryType, Kind, RawPointerRule, ReadFault, State, Status
 from .records import (AuxBeginAndEndFunction, AuxFunctionDefinition, AuxSectionDefinition, AuxWeakExternal, CoffHeader, DataDirectory,
                       DosHeader, ExportDirectoryTable, OptionalHeader, Relocation, RichMetadata, StandardFields, TeHeader, WindowsFields)
 from .rows import (Block, Export, ExportAddress, ExportDirectory, Import, Range, RichHeader, Rows as _Rows, Section, SectionData,
                    Symbol, data_of as _data_of, record_of as _section_record, room as _room)
 
-__all__ = ["Pe", "ObjectFile", "Te", "Options", "Refused", "Damage", "Data", "kind", "DosHeader", "CoffHeader", "OptionalHeader",
+__all__ = ["Pe", "ObjectFile", "Te", "Options", "Refused", "Damage", "Data", "kind", "checksum", "DosHeader", "CoffHeader", "OptionalHeader",
            "StandardFields", "WindowsFields", "DataDirectory", "RichHeader", "RichMetadata", "TeHeader", "ExportDirectoryTable", "Section",
            "SectionData", "Relocation", "Import", "Export", "ExportAddress", "ExportDirectory", "Block", "Symbol", "AuxFunctionDefinition",
-           "AuxBeginAndEndFunction", "AuxWeakExternal", "AuxSectionDefinition", "Range", "State", "Status", "Kind", "Cause", "Counted",
-           "ReadFault", "DirectoryType"]
+           "AuxBeginAndEndFunction", "AuxWeakExternal", "AuxSectionDefinition", "Range", "State", "Status", "Kind", "RawPointerRule", "Cause",
+           "Counted", "ReadFault", "DirectoryType"]
 
 
 def _records_of(sections: List[Section]) -> Any:
@@ -102,6 +102,14 @@ def kind(data: Data) -> Kind:
         return Kind(calls.goblin_pe_raw_kind_of(address, length))
 
 
+def checksum(data: Data, field: int) -> int:
+    """The checksum of an image, whose field stands at the file offset `field`: 88 bytes after pe_pointer. It is the sum of the
+    little-endian words of two bytes, in 16 bits and with each carry added, and the length, in 32 bits; the bytes of the field
+    count as zeros. Windows loads a driver only where the field has this value."""
+    with memoryview(data) as view, _held(view) as (calls, address, length):
+        return int(calls.goblin_pe_raw_checksum(address, length, _size(field)))
+
+
 class Damage(NamedTuple):
     """What strict mode would refuse of an image, part by part, each for itself, as a Refused; None is no damage. A file
     without damage is one that strict mode reads, and permissive mode alike; but an import directory at file offset 0 is an
@@ -113,6 +121,8 @@ class Damage(NamedTuple):
     relocations: of the base relocations: of their directory, not of its blocks.
     left_out_libraries: how many libraries permissive mode leaves out of the imports: those without an address table.
     left_out_entries: how many entries of the other libraries it leaves out.
+    left_out_exports: how many name pointers of the export directory give no export, in either mode: there is no ordinal, it lies
+        past the address table, or it leads to a forwarder whose text can't be read. 0 where the exports are refused.
     """
 
     dos_stub: Optional[Refused]
@@ -122,30 +132,33 @@ class Damage(NamedTuple):
     relocations: Optional[Refused]
     left_out_libraries: int
     left_out_entries: int
+    left_out_exports: int
 
 
 @dataclasses.dataclass(frozen=True)
 class Options:
-    """How a file is read; by default strictly, with all its tables. Each is a bool; TypeError is raised where it is not.
+    """How a file is read; by default strictly, with all its tables. Each but the rule is a bool; TypeError is raised
+    where one is not.
 
     is_permissive: whether damaged parts are passed over, in permissive mode; an import directory at file offset 0 is an
         empty list there, without damage.
     resolve_rva: whether an address is mapped to a file offset by the sections; where not, it is the offset.
-    rounds_raw_pointers: whether the raw pointer of a section is rounded down to 512, for addresses and for its data; where
-        not, it is taken as stored. Rounding is right where `section_alignment` is 4,096 or more, and pointers as stored where
-        it is less, since the Windows loader maps such an image as one flat view of the file.
+    raw_pointer_rule: where the raw data of a section begins, for addresses and for its data: a RawPointerRule. Rounding is
+        right where `section_alignment` is 4,096 or more, and pointers as stored where it is less, since the Windows loader
+        maps such an image as one flat view of the file; by the file alignment pefile maps.
     parse_imports: whether the imports are read; where not, their table is absent.
     """
 
     is_permissive: bool = False
     resolve_rva: bool = True
-    rounds_raw_pointers: bool = False
+    raw_pointer_rule: RawPointerRule = RawPointerRule.AS_STORED
     parse_imports: bool = True
 
     def __post_init__(self) -> None:
         for name, value in vars(self).items():
-            if not isinstance(value, bool):
-                raise TypeError("%s has to be a bool, not %r" % (name, value))
+            kind = RawPointerRule if name == "raw_pointer_rule" else bool
+            if not isinstance(value, kind):
+                raise TypeError("%s has to be a %s, not %r" % (name, kind.__name__, value))
 
 
 # The name before there was a class.
@@ -157,7 +170,7 @@ def _record_of(how: Optional[Options]) -> records.Options:
     how = Options() if how is None else how
     if not isinstance(how, Options):
         raise TypeError("options have to be Options, not %r" % (how,))
-    return records.Options(how.is_permissive, how.resolve_rva, how.rounds_raw_pointers, how.parse_imports)
+    return records.Options(how.is_permissive, how.resolve_rva, how.raw_pointer_rule, how.parse_imports)
 
 
 class Pe:
@@ -277,16 +290,40 @@ class Pe:
             refused = calls.goblin_pe_raw_bytes_at(c.byref(image), _size(rva), _size(size), c.byref(text)).status
             return None if refused else _Rows(in_bytes, address).text(text)
 
+    def memory_at(self, rva: int, size: int) -> Optional[SectionData]:
+        """The bytes that a loader sees at an address: those that the file has, and how many zeros follow them. They lie in the
+        memory of the first section that holds the address, which has as many bytes as its virtual size says, or its raw
+        size where that is 0; a header lies in none. None where no section's memory holds the address, the bytes pass the
+        section's memory, or the file does not have its bytes."""
+        seen = records.SectionData()
+        with memoryview(self._bytes()) as view, _held(view) as (calls, address, length), view.cast("B") as in_bytes:
+            image = self._image(address, length)
+            refused = calls.goblin_pe_raw_memory_at(c.byref(image), _size(rva), _size(size), c.byref(seen)).status
+            return None if refused else SectionData(_Rows(in_bytes, address).text(seen.bytes), seen.zeros)
+
+    def section_at(self, rva: int) -> Optional[Section]:
+        """The section of an address: the first by which it is mapped; None where there is none."""
+        index = c.c_size_t()
+        is_found = _LIB.goblin_pe_raw_section_at(c.byref(self._image(_laid_out.NOWHERE, 0)), _size(rva), c.byref(index))
+        return self.sections[index.value] if is_found else None
+
+    def find_rva(self, offset: int) -> Optional[int]:
+        """The address of a file offset, which find_offset maps to it: that in the first section that has one; None where
+        there is none."""
+        rva = c.c_size_t()
+        is_found = _LIB.goblin_pe_raw_find_rva(c.byref(self._image(_laid_out.NOWHERE, 0)), _size(offset), c.byref(rva))
+        return rva.value if is_found else None
+
     def section_data(self, section: Section) -> SectionData:
         """The data of one of its sections, and how many zeros follow it in memory. It begins at the raw pointer, which the
         options may round down to 512, as they do for find_offset."""
-        return _data_of(section, self._bytes(), self._options)
+        return _data_of(section, self._bytes(), self._options, self._header.windows_fields.file_alignment)
 
     def walk_imports(self) -> Iterator[Import]:
         """The imports one by one, of which none is kept: also where the options left them out. In strict mode Refused is
         raised where it would be of the list, after what comes before; no law says on which bytes that depends."""
         how = self._options
-        asked = records.Options(how.is_permissive, how.resolve_rva, how.rounds_raw_pointers, True)
+        asked = records.Options(how.is_permissive, how.resolve_rva, how.raw_pointer_rule, True)
         return _walk(self._bytes(), records.Import, "imported", lambda calls, address, length, *to: calls.goblin_pe_raw_next_imports(
             address, length, c.byref(asked), *to), records.ImportPosition())
 
@@ -308,7 +345,7 @@ class Pe:
         with memoryview(self._bytes()) as view, _held(view) as (calls, address, length):
             _test(calls.goblin_pe_raw_read_damage(address, length, c.byref(self._options), c.byref(d)))
         return Damage(_refusal(d.dos_stub), _refusal(d.section_names), _refusal(d.imports), _refusal(d.exports),
-                      _refusal(d.relocations), d.left_out_libraries, d.left_out_entries)
+                      _refusal(d.relocations), d.left_out_libraries, d.left_out_entries, d.left_out_exports)
 
     def imphash(self) -> str:
         """The hash of the imports that analysts compare: the MD5 in hexadecimal, or an empty text where there are no

@@ -1,15 +1,12 @@
--- Words for callers: one table of a file, the bytes of a layout, the section of an address, a
--- refusal, and pieces of a file.
-use Rattle.std.specs.Prelude.{◌≡◌, ◌≤◌, ℕ, List, Option, None, find, if◌then◌else◌, length}
+-- Words for callers: one table of a file, the bytes of a layout, a refusal, and pieces of a file.
+use Rattle.std.specs.Prelude.{◌≡◌, ◌≤◌, ℕ, List, Option, None, length}
 use Rattle.std.specs.Prelude.{slice_range}
-use Rattle.std.specs.Int.{is_power_of_two}
 use Rattle.goblin_base.specs.declared.error.ErrorOf.{ErrorOf}
 use Rattle.goblin_base.specs.Footprints.{Range}
 use Rattle.goblin_base.specs.Reading.{Reading}
 use Rattle.readings.specs.Reads.{◌>>=◌}
 use Rattle.goblin_pe_sect.specs.declared.options.ParseOptions.{ParseOptions}
 use Rattle.goblin_pe_sect.specs.Addresses.{offset_of}
-use Rattle.goblin_pe_sect.specs.Mapping.{is_in_window}
 use Rattle.goblin_pe_sect.specs.Options.{is_strict}
 use Rattle.goblin_pe_sect.specs.SectionTable.{Section}
 use Rattle.goblin_pe_head.specs.HeaderReadings.{pe_header}
@@ -45,12 +42,6 @@ layout_table read l = let m = layout_map l in read m.opts (offset_of m) (layout_
 -- the bytes that a layout is over
 abbrev pub layout_bytes : Layout → List ℕ
 layout_bytes l = l.bytes.now
-
--- the first section whose window holds the address; there is none if the alignment is not a power
--- of two
-abbrev pub section_at : ℕ → ℕ → List Section → Option Section
-section_at alignment rva sections =
-    if is_power_of_two alignment then find (is_in_window alignment rva) sections else None
 
 -- what is made of a table that was read, and a default where it was not
 abbrev pub read_or : {A B : Type 0} → B → (A → B) → Part A → B
