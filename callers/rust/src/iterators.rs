@@ -7,6 +7,7 @@ use std::ops::Range;
 use std::slice::{ChunksExact, Iter};
 
 use crate::error::Error;
+use crate::memory::grown;
 use crate::raw::{self, CoffHeader, Fault, Options};
 use crate::rows::{Block, Export, ExportAddress, Import, Section, Symbol};
 
@@ -143,7 +144,7 @@ trait Position: Default {
 impl Position for raw::ImportPosition {
     // (a batch that is not full may come before a refusal)
     fn is_end(&self, count: usize, _room: usize) -> bool {
-        count == 0 || self.record == usize::MAX
+        count == 0 || self.record_offset == usize::MAX
     }
 }
 
@@ -180,7 +181,8 @@ impl<T: Copy, P: Position> Batches<T, P> {
         room == 0 || self.next == self.count && !self.position.is_end(self.count, room)
     }
 
-    // Reads the next records, at first so many of them, and answers whether that was refused.
+    // Reads the next records, at first so many of them, and answers whether that was refused. Where only memory
+    // for more of them is refused, it reads as many as before.
     fn fill(
         &mut self,
         first: usize,
@@ -192,7 +194,7 @@ impl<T: Copy, P: Position> Batches<T, P> {
         } else {
             BATCH
         };
-        self.records.resize(room, empty);
+        grown(&mut self.records, empty, room)?;
         (self.next, self.count) = (0, 0);
         let fault = call(&mut self.position, &mut self.records, &mut self.count);
         Error::test(fault)

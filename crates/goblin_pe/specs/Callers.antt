@@ -1,4 +1,4 @@
--- Words for callers: one table of a file, the bytes of a layout, a refusal, and pieces of a file.
+-- Words for callers: one table of a file, a refusal, and pieces of a file.
 use Rattle.std.specs.Prelude.{◌≡◌, ◌≤◌, ℕ, List, Option, None, length}
 use Rattle.std.specs.Prelude.{slice_range}
 use Rattle.goblin_base.specs.declared.error.ErrorOf.{ErrorOf}
@@ -38,10 +38,6 @@ file_table read opts =
 -- the same of a layout
 abbrev pub layout_table : {A : Type 0} → TableReader A → Layout → Reading A
 layout_table read l = let m = layout_map l in read m.opts (offset_of m) (layout_places l)
-
--- the bytes that a layout is over
-abbrev pub layout_bytes : Layout → List ℕ
-layout_bytes l = l.bytes.now
 
 -- what is made of a table that was read, and a default where it was not
 abbrev pub read_or : {A B : Type 0} → B → (A → B) → Part A → B

@@ -16,7 +16,7 @@ use Rattle.goblin_pe_import.specs.ImportEntries.{EntryValue}
 use Rattle.goblin_pe_import.specs.LeftOut.{entries_left_out, libraries_left_out}
 use Rattle.goblin_pe_export.specs.ExportReadings.{export_read}
 use Rattle.goblin_pe_export.specs.ExportRecords.{ExportRow, ExportTables}
-use Rattle.goblin_pe_export.specs.LeftOutExports as pointers
+use Rattle.goblin_pe_export.specs.LeftOutExports.{pointers_left_out}
 use Rattle.goblin_pe.specs.declared.whole.damage.Damage.{Damage}
 use Rattle.goblin_pe.specs.Modes.{in_mode, in_permissive_mode}
 use Rattle.goblin_pe.specs.Whole.{TablePlaces, entry_format, export_part, import_list, layout, offset_by}
@@ -48,7 +48,7 @@ left_out_of opts offset_of places bytes =
 -- how many name pointers of the export directory that was read give no export; 0 without one
 abbrev pub exports_left_out_of : (ℕ → Option ℕ) → List ℕ → Option (ExportTables × List ExportRow) → ℕ
 exports_left_out_of offset_of bytes None = 0
-exports_left_out_of offset_of bytes (Some read) = pointers.left_out_of offset_of bytes read.0
+exports_left_out_of offset_of bytes (Some read) = pointers_left_out offset_of bytes read.0
 
 -- the same of a file, where its export directory can be read
 unfoldable pub exports_left_out : (ℕ → Option ℕ) → TablePlaces → List ℕ → ℕ

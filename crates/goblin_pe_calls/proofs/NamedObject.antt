@@ -4,7 +4,7 @@ use Rattle.std.specs.Prelude.{Some}
 use Rattle.goblin_base.specs.declared.endian.Endian.TheVariants.{Little}
 use Rattle.goblin_base.specs.Record.{record_at}
 use Rattle.goblin_base.proofs.Steps.{mapped, step}
-use Rattle.goblin_pe_sect.specs.SectionReadings.{section_at}
+use Rattle.goblin_pe_sect.specs.SectionReadings.{named_section_at}
 use Rattle.goblin_pe_head.specs.CoffHeader.{coff_header, symbols_end}
 use Rattle.goblin_pe_head.specs.CoffReadings.{sections_at}
 use Rattle.goblin_pe_calls.specs.Objects.{ObjectFile, object_file, object_sections}
@@ -20,4 +20,4 @@ object-named strict bytes x h =
     let from = 20 + header.value.size_of_optional_header in
     let made : ObjectFile = record { header = header.value; sections = read.value } in
     subst (λ (y : ObjectFile). map (named_in strict bytes (symbols_end y.header)) y.sections ≡ y.sections) read.made
-    (all-kept (named_in strict bytes table) (λ i. (section_at strict table (from + 40 * i)).value bytes) header.value.number_of_sections 0 read.value (λ i s is. section-named strict table bytes (from + 40 * i) s is) read.is)
+    (all-kept (named_in strict bytes table) (λ i. (named_section_at strict table (from + 40 * i)).value bytes) header.value.number_of_sections 0 read.value (λ i s is. section-named strict table bytes (from + 40 * i) s is) read.is)

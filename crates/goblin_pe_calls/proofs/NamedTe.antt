@@ -2,7 +2,7 @@
 use Rattle.std.proofs.Common.{◌≡◌, ℕ, ◌+◌, ◌*◌, true, List, map, refl, ap, subst, ◌∙◌}
 use Rattle.std.specs.Prelude.{Some, option_map}
 use Rattle.goblin_base.proofs.Steps.{mapped, step}
-use Rattle.goblin_pe_sect.specs.SectionReadings.{section_at}
+use Rattle.goblin_pe_sect.specs.SectionReadings.{named_section_at}
 use Rattle.goblin_pe_sect.specs.SectionTable.{Section}
 use Rattle.goblin_pe_head.specs.declared.header.te.TeHeader.{TeHeader}
 use Rattle.goblin_pe_head.specs.TeHeader.{displacement, section_adjusted, section_moved}
@@ -16,16 +16,16 @@ moved-named : (bytes : List ℕ) (d : ℕ) (s : Section) → named_in true bytes
 unfolding section_adjusted
 moved-named bytes d s = refl
 
-one-named : (bytes : List ℕ) (d p : ℕ) (s : Section) → option_map (section_moved (Some d)) ((section_at true 0 p).value bytes) ≡ Some s → named_in true bytes 0 s ≡ s
+one-named : (bytes : List ℕ) (d p : ℕ) (s : Section) → option_map (section_moved (Some d)) ((named_section_at true 0 p).value bytes) ≡ Some s → named_in true bytes 0 s ≡ s
 one-named bytes d p s h =
-    let m = mapped ((section_at true 0 p).value bytes) (section_moved (Some d)) s h in
+    let m = mapped ((named_section_at true 0 p).value bytes) (section_moved (Some d)) s h in
     subst (λ (x : Section). named_in true bytes 0 x ≡ x) m.made (moved-named bytes d m.value ∙ ap (section_adjusted d) (section-named true 0 bytes p m.value m.is))
 
 sections-named : (h : TeHeader) (bytes : List ℕ) (p : ℕ) (sections : List Section) → (te_sections_at h p).value bytes ≡ Some sections → map (named_in true bytes 0) sections ≡ sections
 unfolding te_sections_at
 sections-named h bytes p sections is =
     let s = step (displacement h) _ sections is in
-    all-kept (named_in true bytes 0) (λ i. option_map (section_moved (Some s.value)) ((section_at true 0 (p + 40 * i)).value bytes)) h.number_of_sections 0 sections
+    all-kept (named_in true bytes 0) (λ i. option_map (section_moved (Some s.value)) ((named_section_at true 0 (p + 40 * i)).value bytes)) h.number_of_sections 0 sections
     (λ i x is. one-named bytes s.value (p + 40 * i) x is)
     s.then
 

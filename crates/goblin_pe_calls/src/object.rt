@@ -5,8 +5,9 @@ ghost use Rattle.goblin_base.specs.Answers.{IsMemory};
 ghost use Rattle.goblin_base.specs.Reading.{ReadsOrMemory};
 ghost use Rattle.goblin_pe_sect.specs.Options.{is_strict};
 ghost use Rattle.goblin_pe_records.specs.Calls.{ReadsInto};
-ghost use Rattle.goblin_pe_records.specs.Filled.{Filled, alone};
-ghost use Rattle.goblin_pe_calls.specs.Objects.{ObjectRecords, SaysObject, TakesMemory, object_file};
+ghost use Rattle.goblin_pe_records.specs.Filled.{Filled, without_text};
+ghost use Rattle.goblin_pe_calls.specs.Objects.{ObjectRecords, SaysObject, TakesMemory};
+ghost use Rattle.goblin_pe_calls.specs.Objects.{object_file};
 ghost use Rattle.goblin_pe_calls.specs.Objects.{object_header, object_record, object_sections};
 ghost use Rattle.goblin_pe_records.specs.Sections.{section_said};
 
@@ -55,12 +56,12 @@ fn sections_of(
         ReadsOrMemory (λ v. v.items) result (object_sections strict header.now) bytes.now }
     ensures grown { IfErr result (λ e. IsMemory e → TakesMemory bytes.now header.now) }
 {
-    let mut offset = after_optional_header(header.size_of_optional_header);
+    let mut offset = object_header_end(header.size_of_optional_header);
     header.sections_with_opts(alloc, bytes, &mut offset, opts)
 }
 
 // The file offset at which the optional header of an object ends.
-fn after_optional_header(size_of_optional_header: u16) -> usize
+fn object_header_end(size_of_optional_header: u16) -> usize
     ensures { result ≡ 20 + size_of_optional_header }
 {
     SIZEOF_COFF_HEADER + size_of_optional_header as usize
@@ -91,7 +92,7 @@ fn fill<'a>(
 )
     requires { (object_file (is_strict opts.now.parse_mode)).value bytes.now ≡ Some whole.now }
     ensures object { object.new ≡ object_record whole.now }
-    ensures sections { Filled section_said (map alone whole.now.sections) sections.old
+    ensures sections { Filled section_said (map without_text whole.now.sections) sections.old
         sections.new }
 {
     let table = whole.header.symbols_end();

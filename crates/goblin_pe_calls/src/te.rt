@@ -5,7 +5,7 @@ ghost use Rattle.goblin_base.specs.Answers.{IsMemory};
 ghost use Rattle.goblin_base.specs.Reading.{ReadsOrMemory};
 ghost use Rattle.goblin_pe_head.specs.TeReadings.{te_header};
 ghost use Rattle.goblin_pe_records.specs.Calls.{ReadsInto};
-ghost use Rattle.goblin_pe_records.specs.Filled.{Filled, alone};
+ghost use Rattle.goblin_pe_records.specs.Filled.{Filled, without_text};
 ghost use Rattle.goblin_pe_records.specs.Sections.{section_said};
 ghost use Rattle.goblin_pe_calls.specs.Te.{SaysImage, TakesMemory, TeRecords, te_file};
 
@@ -51,7 +51,7 @@ impl Image {
 fn fill<'a>(image: &Image, bytes: &'a [u8], header: &mut TeHeader, sections: &mut [PeSection<'a>])
     requires { te_file.value bytes.now ≡ Some image.now }
     ensures header { header.new ≡ image.now.header }
-    ensures sections { Filled section_said (map alone image.now.sections) sections.old
+    ensures sections { Filled section_said (map without_text image.now.sections) sections.old
         sections.new }
 {
     *header = image.header;

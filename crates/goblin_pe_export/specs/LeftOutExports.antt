@@ -25,6 +25,6 @@ left_out_below offset_of bytes tables (suc n) =
     left_out_below offset_of bytes tables n + left_out_at offset_of bytes tables n
 
 -- how many all of them do
-abbrev pub left_out_of : (ℕ → Option ℕ) → List ℕ → ExportTables → ℕ
-left_out_of offset_of bytes tables =
+abbrev pub pointers_left_out : (ℕ → Option ℕ) → List ℕ → ExportTables → ℕ
+pointers_left_out offset_of bytes tables =
     left_out_below offset_of bytes tables (length tables.export_name_pointer_table)

@@ -1,6 +1,6 @@
 -- Sections one after the other: where one is missing, and what is answered of those that are moved.
 use Rattle.std.proofs.Common.{◌≡◌, ℕ, ◌+◌, ◌*◌, ◌/◌, ◌-◌, ◌<◌, ◌≤◌, Bool, true, false, List, length}
-use Rattle.std.proofs.Common.{arith, ap, refl, inr}
+use Rattle.std.proofs.Common.{ap, arith, inr, refl}
 use Rattle.std.specs.Prelude.{Result, Ok, Err, None, Option, Some, nat_le, option_map}
 use Rattle.std.proofs.lemmas.Bool.{lt-leb}
 use Rattle.std.proofs.Math.Bool.{and-false}
@@ -9,7 +9,7 @@ use Rattle.goblin_base.specs.declared.error.ErrorOf.{ErrorOf}
 use Rattle.goblin_base.specs.Reading.{Reading, Reads, ReadsOrMemory}
 use Rattle.goblin_base.proofs.Steps.{all_at-none}
 use Rattle.readings.specs.Reads.{◌>>=◌, mapped, needs}
-use Rattle.goblin_pe_sect.specs.SectionReadings.{section_at}
+use Rattle.goblin_pe_sect.specs.SectionReadings.{named_section_at}
 use Rattle.goblin_pe_sect.specs.SectionTable.{Section}
 use Rattle.goblin_pe_head.specs.declared.header.te.TeHeader.{TeHeader}
 use Rattle.goblin_pe_head.specs.CoffReadings.{sections_at, with_room}
@@ -20,26 +20,26 @@ use Rattle.goblin_pe_head.specs.TeReadings.{moved_section, moved_sections, te_se
 
 module _ (strict : Bool) (table : ℕ) (bytes : List ℕ) (p : ℕ) where
   pub moved-value : (move : Option ℕ) (s : Section)
-      → (section_at strict table p).value bytes ≡ Some s
+      → (named_section_at strict table p).value bytes ≡ Some s
       → (moved_section move strict table p).value bytes ≡ Some (section_moved move s)
   moved-value None s is = is
   moved-value (Some d) s is = ap (option_map (section_adjusted d)) is
 
-  pub moved-none : (move : Option ℕ) → (section_at strict table p).value bytes ≡ None
+  pub moved-none : (move : Option ℕ) → (named_section_at strict table p).value bytes ≡ None
       → (moved_section move strict table p).value bytes ≡ None
   moved-none None none = none
   moved-none (Some d) none = ap (option_map (section_adjusted d)) none
 
   pub moved-cause : (move : Option ℕ) (e : ErrorOf)
-      → (section_at strict table p).IsCause bytes e
+      → (named_section_at strict table p).IsCause bytes e
       → (moved_section move strict table p).IsCause bytes e
   moved-cause None e cause = cause
   moved-cause (Some d) e cause = cause
 
   -- where a record isn't all there, its section isn't
-  section_at-none : length bytes < p + 40 → (section_at strict table p).value bytes ≡ None
-  unfolding section_at
-  section_at-none short =
+  named_section_at-none : length bytes < p + 40 → (named_section_at strict table p).value bytes ≡ None
+  unfolding named_section_at
+  named_section_at-none short =
       let past : nat_le (p + 40) (length bytes) ≡ false = lt-leb _ _ short in
       rw (past, and-false) refl
 
@@ -52,7 +52,7 @@ moved_sections-too_short move strict table n bytes p short =
     all_at-none (λ i. (moved_section move strict table (p + 40 * i)).value bytes) n (n - 1)
     (omega (arith, short))
     (moved-none strict table bytes last move
-    (section_at-none strict table bytes last (omega (arith, short))))
+    (named_section_at-none strict table bytes last (omega (arith, short))))
 
 pub sections_at-too_short : (strict : Bool) (table n : ℕ) (bytes : List ℕ) (p : ℕ)
     → length bytes / 40 < n → (sections_at strict table n p).value bytes ≡ None

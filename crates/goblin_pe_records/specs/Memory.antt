@@ -43,13 +43,13 @@ seen_in begin s distance size =
     (pick (stored == 0) (given []) (slice_at (begin + distance) stored))
 
 -- the section has room for so many bytes from an address on
-abbrev pub with_room : ℕ → ℕ → Section → Option Section
-with_room rva size s = if nat_le size (memory_end s - rva) then Some s else None
+abbrev pub roomy_section : ℕ → ℕ → Section → Option Section
+roomy_section rva size s = if nat_le size (memory_end s - rva) then Some s else None
 
 -- so many bytes of a section's memory, from an address in it on
 abbrev pub seen_of_section : PeImage → ℕ → ℕ → Section → Reading (List ℕ × ℕ)
 seen_of_section image rva size s =
-    needs (with_room rva size s) (Unmapped (memory_end s))
+    needs (roomy_section rva size s) (Unmapped (memory_end s))
     >>= λ t. seen_in (raw_begin (options_of image.options) image.file_alignment t) t
     (rva - t.virtual_address) size
 

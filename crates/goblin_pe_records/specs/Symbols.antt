@@ -11,7 +11,7 @@ use Rattle.goblin_pe_symbol.specs.Symbols.{SymbolItem, aux, name_offset_of, symb
 use Rattle.goblin_pe_head.specs.declared.header.coff.CoffHeader.{CoffHeader}
 use Rattle.goblin_pe_head.specs.CoffReadings.{strings_of, symbols_of}
 use Rattle.goblin_pe_records.specs.declared.symbol.PeNamedSymbol.{PeNamedSymbol}
-use Rattle.goblin_pe_records.specs.Filled.{Filled, alone}
+use Rattle.goblin_pe_records.specs.Filled.{Filled, without_text}
 
 -- the name: if a number is stored in its place, what the string table has at that offset, else the
 -- one in the record
@@ -35,7 +35,7 @@ auxiliary_of table i symbol = take (18 * symbol.number_of_aux_symbols) (drop (18
 -- a symbol at an index of a table, with this name and its auxiliary records
 abbrev pub symbol_named : List ℕ → ℕ → Option (List ℕ) → Symbol → NamedSymbol × List ℕ
 symbol_named table i name symbol =
-    alone (record {
+    without_text (record {
       index = i;
       name = name;
       auxiliary = auxiliary_of table i symbol;

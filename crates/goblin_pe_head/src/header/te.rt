@@ -8,7 +8,7 @@ ghost use Rattle.goblin_base.specs.Answers.{Answers, IsMemory, IsSliceFault, Wri
 ghost use Rattle.goblin_base.specs.Record.{ReadsBack, WritesBack, encoding, record_over};
 ghost use Rattle.goblin_pe_head.specs.declared.header.te.TeHeader.{TeHeader};
 ghost use Rattle.goblin_pe_head.specs.CoffHeader.{IsTooManySections};
-ghost use Rattle.goblin_pe_head.specs.TeHeader.{IsStrippedFault, displacement, moved};
+ghost use Rattle.goblin_pe_head.specs.TeHeader.{IsStrippedFault, displacement, moved_address};
 ghost use Rattle.goblin_pe_head.specs.TeHeader.{pointer_moved, section_moved, te_fields, te_record};
 ghost use Rattle.goblin_pe_head.specs.TeReadings as reading;
 
@@ -148,10 +148,16 @@ impl TeHeader {
         let record = gread_slice(bytes, &mut end, SIZEOF_TE_HEADER)?;
         let mut header = TeHeader::in_record(record, Endian::Little);
         let displacement = header.displacement()?;
-        header.entry_point = moved(header.entry_point, displacement);
-        header.base_of_code = moved(header.base_of_code, displacement);
-        header.reloc_dir.virtual_address = moved(header.reloc_dir.virtual_address, displacement);
-        header.debug_dir.virtual_address = moved(header.debug_dir.virtual_address, displacement);
+        header.entry_point = moved_address(header.entry_point, displacement);
+        header.base_of_code = moved_address(header.base_of_code, displacement);
+        header.reloc_dir.virtual_address = moved_address(
+            header.reloc_dir.virtual_address,
+            displacement,
+        );
+        header.debug_dir.virtual_address = moved_address(
+            header.debug_dir.virtual_address,
+            displacement,
+        );
         *offset = end;
         Ok(header)
     }
@@ -219,8 +225,8 @@ impl TeHeader {
 }
 
 // A number less the displacement, modulo 2^32.
-fn moved(number: u32, displacement: u32) -> u32
-    ensures { result ≡ moved displacement number }
+fn moved_address(number: u32, displacement: u32) -> u32
+    ensures { result ≡ moved_address displacement number }
 {
     number.wrapping_sub(displacement)
 }
@@ -232,7 +238,7 @@ fn pointer_moved(pointer: u32, displacement: u32) -> u32
     if pointer == 0 {
         0
     } else {
-        moved(pointer, displacement)
+        moved_address(pointer, displacement)
     }
 }
 
@@ -245,7 +251,7 @@ pub(super) fn adjust(section: &mut SectionTable, displacement: Option<u32>)
     let Some(displacement) = displacement else {
         return;
     };
-    section.virtual_address = moved(section.virtual_address, displacement);
+    section.virtual_address = moved_address(section.virtual_address, displacement);
     section.pointer_to_raw_data = pointer_moved(section.pointer_to_raw_data, displacement);
     section.pointer_to_relocations = pointer_moved(section.pointer_to_relocations, displacement);
     section.pointer_to_linenumbers = pointer_moved(section.pointer_to_linenumbers, displacement);

@@ -3,9 +3,9 @@ use Rattle.std.specs.Prelude.{Some}
 use Rattle.goblin_pe_sect.specs.declared.options.ParseOptions.{ParseOptions}
 use Rattle.goblin_pe_sect.specs.Options.{is_strict}
 use Rattle.goblin_pe_sect.specs.SectionTable.{Section}
-use Rattle.goblin_pe_records.specs.Filled.{Filled, alone}
+use Rattle.goblin_pe_records.specs.Filled.{Filled, without_text}
 use Rattle.goblin_pe_records.specs.Sections.{named_in, section_said}
-use Rattle.goblin_pe_records.proofs.Filling.{alone-same}
+use Rattle.goblin_pe_records.proofs.Filling.{without_text-same}
 use Rattle.goblin_pe_calls.proofs.NamedTe.{image-named}
 use Rattle.goblin_pe_calls.proofs.te.fill.Goals as goal
 
@@ -13,5 +13,5 @@ pub returns-clause-sections : goal.returns-clause-sections
 returns-clause-sections c =
     let named = ap (λ (opts : ParseOptions). map (named_in (is_strict opts.parse_mode) c.args.bytes.now 0) c.image.inside.sections.items) c.default.ensures
     ∙ image-named c.args.bytes.now _ (c.requires ∙ ap Some (sym c.image.view_is)) in
-    let said = alone-same _ _ ∙ ap (map alone) named in
+    let said = without_text-same _ _ ∙ ap (map without_text) named in
     rw (← c.image.view_is) (subst (λ (xs : List (Section × List ℕ)). Filled section_said xs c.args.sections.now c.fill_sections.new.records) said (rw (← c.deref.ensures.value) c.fill_sections.ensures))

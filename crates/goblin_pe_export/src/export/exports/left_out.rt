@@ -4,7 +4,7 @@ ghost use Rattle.std.specs.Prelude.{◌≡◌, ◌<◌, ◌≤◌, length};
 ghost use Rattle.goblin_pe_sect.specs.Addresses.{map_of, offset_of};
 ghost use Rattle.goblin_pe_export.specs.ExportRecords.{tables_in};
 ghost use Rattle.goblin_pe_export.specs.ExportWalks.{walked_tables};
-ghost use Rattle.goblin_pe_export.specs.LeftOutExports.{gives_export, left_out_at, left_out_of};
+ghost use Rattle.goblin_pe_export.specs.LeftOutExports.{gives_export, left_out_at, pointers_left_out};
 ghost use Rattle.goblin_pe_export.specs.LeftOutExports.{reads_forwarder};
 
 use super::Exports;
@@ -67,7 +67,7 @@ impl<'a, 'm> Exports<'a, 'm> {
     #[tactic(auto, unfolding(crate::specs::LeftOutExports::left_out_below))]
     pub fn left_out(&self) -> usize
         ensures { let m = map_of self.now.finder in
-            result ≡ left_out_of (offset_of m) self.now.bytes.now (walked_tables self.now) }
+            result ≡ pointers_left_out (offset_of m) self.now.bytes.now (walked_tables self.now) }
     {
         let mut finder = self.finder.again();
         let mut count = 0;
