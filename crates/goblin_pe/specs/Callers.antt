@@ -4,6 +4,7 @@ use Rattle.std.specs.Prelude.{◌-◌, ◌^◌, Bool, count_by, min}
 use Rattle.std.specs.Prelude.{◌≡◌, ◌≤◌, ℕ, List, Option, None, find, if◌then◌else◌, length}
 use Rattle.std.specs.Prelude.{slice_range}
 use Rattle.std.specs.Int.{is_power_of_two}
+use Rattle.std.specs.List.{list_any}
 use Rattle.goblin_base.specs.declared.error.ErrorOf.{ErrorOf}
 use Rattle.goblin_base.specs.ErrorText.{error_text}
 use Rattle.goblin_base.specs.Footprints.{Range}
@@ -63,6 +64,10 @@ read_or default f Refused = default
 abbrev pub IsTest : (WalkedImport → Bool → Type 0) → (ImportValue → Bool) → Type 0
 IsTest Returns test =
     (x : WalkedImport) (found : Bool) → Returns x found → found ≡ test (walked_value x)
+
+-- whether one passes the test
+unfoldable pub has_any : {A : Type 0} → (A → Bool) → List A → Bool
+has_any test items = list_any test items
 
 -- how many pass the test, at most the greatest number of 64 bits
 abbrev pub counted : {A : Type 0} → (A → Bool) → List A → ℕ
