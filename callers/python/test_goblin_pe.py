@@ -386,7 +386,10 @@ class Files(unittest.TestCase):
                     self.assertEqual(definition.length, found.sections[s.section_number - 1].size_of_raw_data)
                 elif not s.auxiliary:
                     self.assertEqual((s.aux(AuxSectionDefinition), s.aux_file()), (None, None))
-        self.assertEqual(Pe(sample("imports_by_name_x64.dll")).symbols, [])
+            self.assertTrue(all(found.symbol_at(s.index) is s for s in found.symbols))
+            self.assertIsNone(found.symbol_at(found.coff_header.number_of_symbol_table))
+        pe = Pe(sample("imports_by_name_x64.dll"))
+        self.assertEqual((pe.symbols, pe.symbol_at(0)), ([], None))
 
     def test_kinds(self):
         names = ("firmware_x64.efi", "object_x86.obj", "firmware_x64.te")

@@ -38,6 +38,7 @@ formats, such as IMAGE_FILE_DLL.
 The reader is the proved library goblin_pe. Its shared library stands beside an installed module; in the repository
 callers/build puts it into callers/lib. The variable GOBLIN_PE_SO names another when the module is imported.
 """
+import bisect
 import ctypes as c
 import dataclasses
 import hashlib
@@ -90,10 +91,26 @@ def _walk(data: Data, kind: Any, row: str, call: Callable[..., records.Fault], p
             return
 
 
+def _symbol_table(data: Data, header: CoffHeader) -> records.SymbolTable:
+    # where the symbols lie; the string table is read here alone
+    coff, table = _laid_out.laid_out(CoffHeader)(*header), records.SymbolTable()
+    with memoryview(data) as view, _held(view) as (calls, address, length):
+        _test(calls.goblin_pe_raw_read_symbol_table(address, length, c.byref(coff), c.byref(table)))
+    return table
+
+
 def _symbols(data: Data, header: CoffHeader) -> List[Symbol]:
-    coff = _laid_out.laid_out(CoffHeader)(*header)
+    table = _symbol_table(data, header)
     return list(_walk(data, records.NamedSymbol, "symbol", lambda calls, address, length, *to: calls.goblin_pe_raw_next_symbols(
-        address, length, c.byref(coff), *to), c.c_size_t()))
+        address, length, c.byref(table), *to), c.c_size_t()))
+
+
+def _symbol_at(data: Data, table: records.SymbolTable, index: int) -> Optional[Symbol]:
+    # the symbol of the record at this index
+    symbol = _room(records.NamedSymbol, 1)
+    with memoryview(data) as view, _held(view) as (calls, address, length), view.cast("B") as in_bytes:
+        is_there = calls.goblin_pe_raw_symbol_at(address, length, c.byref(table), _size(index), symbol)
+        return _Rows(in_bytes, address).symbol(symbol[0]) if is_there else None
 
 
 def kind(data: Data) -> Kind:
@@ -184,6 +201,7 @@ class Pe:
     def __init__(self, data: Data, how: Optional[Options] = None):
         self._data: Optional[Data] = data
         self._options = _record_of(how)
+        self._symbol_table: Optional[records.SymbolTable] = None  # (until a symbol is asked for)
         file, directories, tables = records.File(), (records.Directory * 16)(), records.Tables()
         with memoryview(data) as view, _held(view) as (calls, address, length), tables:
             _test(calls.goblin_pe_raw_open(address, length, c.byref(self._options), c.byref(file), directories, 16, c.byref(tables)))
@@ -301,6 +319,14 @@ class Pe:
         table, and where the string table is not UTF-8, or says a length below 4."""
         return _symbols(self._bytes(), self.coff_header)
 
+    def symbol_at(self, index: int) -> Optional[Symbol]:
+        """The symbol whose record has this index: relocations and weak externals name symbols so. None where the table ends
+        before it; an auxiliary record is read as a symbol, too. Refused is raised as by `symbols`. The string table is read
+        whole the first time, and then never again."""
+        if self._symbol_table is None:
+            self._symbol_table = _symbol_table(self._bytes(), self.coff_header)
+        return _symbol_at(self._bytes(), self._symbol_table, index)
+
     @property
     def damage(self) -> Damage:
         """What strict mode would refuse of the file, part by part."""
@@ -396,6 +422,12 @@ class ObjectFile:
             self.coff_header: CoffHeader = found.coff_header
             self.sections: List[Section] = [_Rows(in_bytes, address).section(s) for s in sections[: found.sections]]
         self.symbols: List[Symbol] = _symbols(data, self.coff_header)
+
+    def symbol_at(self, index: int) -> Optional[Symbol]:
+        """The symbol whose record has this index: relocations and weak externals name symbols so. None where there is none,
+        also where the record is an auxiliary one."""
+        place = bisect.bisect_left(self.symbols, (index,))
+        return next((s for s in self.symbols[place: place + 1] if s.index == index), None)
 
     def __repr__(self) -> str:
         return "<ObjectFile machine=%#x sections=%d symbols=%d>" % (

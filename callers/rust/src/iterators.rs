@@ -7,6 +7,7 @@ use std::ops::Range;
 use std::slice::{ChunksExact, Iter};
 
 use crate::error::Error;
+use crate::memory::records;
 use crate::raw::{self, CoffHeader, Fault, Options};
 use crate::rows::{Block, Export, ExportAddress, Import, Section, Symbol};
 
@@ -180,19 +181,20 @@ impl<T: Copy, P: Position> Batches<T, P> {
         room == 0 || self.next == self.count && !self.position.is_end(self.count, room)
     }
 
-    // Reads the next records, at first so many of them, and answers whether that was refused.
+    // Reads the next records, at first so many of them, and answers whether that was refused. Where
+    // memory for more than at first is refused, it goes on with as many.
     fn fill(
         &mut self,
         first: usize,
         empty: T,
         call: impl FnOnce(&mut P, &mut [T], &mut usize) -> Fault,
     ) -> Result<(), Error> {
-        let room = if self.records.is_empty() {
-            first
-        } else {
-            BATCH
-        };
-        self.records.resize(room, empty);
+        let room = self.records.len();
+        if room == 0 {
+            self.records = records(empty, first)?;
+        } else if room < BATCH && self.records.try_reserve_exact(BATCH - room).is_ok() {
+            self.records.resize(BATCH, empty);
+        }
         (self.next, self.count) = (0, 0);
         let fault = call(&mut self.position, &mut self.records, &mut self.count);
         Error::test(fault)
@@ -266,16 +268,18 @@ walks! {
 #[derive(Clone)]
 pub struct Symbols<'a> {
     bytes: &'a [u8],
-    header: CoffHeader,
+    table: raw::SymbolTable,
     batches: Batches<raw::NamedSymbol<'a>, usize>,
 }
 
 impl<'a> Symbols<'a> {
     // Those that a COFF header tells of, the first of them read.
     pub(crate) fn of(bytes: &'a [u8], header: &CoffHeader) -> Result<Self, Error> {
+        let mut table = raw::SymbolTable::default();
+        Error::test(raw::read_symbol_table(bytes, header, &mut table))?;
         let mut symbols = Symbols {
             bytes,
-            header: *header,
+            table,
             batches: Batches::new(),
         };
         symbols.fill()?;
@@ -283,13 +287,32 @@ impl<'a> Symbols<'a> {
     }
 
     fn fill(&mut self) -> Result<(), Error> {
-        let (bytes, header) = (self.bytes, &self.header);
-        // (each call reads the whole string table)
+        let (bytes, table) = (self.bytes, &self.table);
         self.batches.fill(
-            BATCH,
+            FIRST,
             raw::NamedSymbol::default(),
-            |position, records, count| raw::next_symbols(bytes, header, position, records, count),
+            |position, records, count| raw::next_symbols(bytes, table, position, records, count),
         )
+    }
+
+    /// The symbol whose record has this index in the symbol table, wherever the walk is: relocations and weak
+    /// externals name symbols so. `None` where the table ends before it; a record that says more of the symbol
+    /// before it is read as a symbol, too. It takes no longer for a large table.
+    ///
+    /// ```no_run
+    /// # let bytes = [];
+    /// let object = goblin_pe::Object::read(&bytes, &goblin_pe::Options::default())?;
+    /// let symbols = object.symbols()?;
+    /// for section in object.sections() {
+    ///     for relocation in section.relocations(&bytes)? {
+    ///         let symbol = symbols.at_index(relocation.symbol_table_index as usize);
+    ///         println!("{}", symbol.and_then(|s| s.name).unwrap_or_default());
+    ///     }
+    /// }
+    /// # Ok::<(), goblin_pe::Error>(())
+    /// ```
+    pub fn at_index(&self, index: usize) -> Option<Symbol<'a>> {
+        raw::symbol_at(self.bytes, &self.table, index).map(|it| Symbol::from(&it))
     }
 }
 

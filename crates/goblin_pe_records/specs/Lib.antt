@@ -9,6 +9,7 @@ pub mod Headers
 pub mod Images
 pub mod Items
 pub mod Kinds
+pub mod Objects
 pub mod Options
 pub mod Relocations
 pub mod RichHeaders
@@ -16,4 +17,5 @@ pub mod SectionData
 pub mod Sections
 pub mod States
 pub mod Symbols
+pub mod TeImages
 pub mod Written
