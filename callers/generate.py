@@ -279,11 +279,12 @@ def c_files(it: Interface) -> Dict[str, str]:
     def kind(of: Type) -> str:
         return NUMBERS[of.name][1] if of.name in NUMBERS else "struct " + name_of(of.name)
 
-    def field(f: Item) -> str:
+    def field(owner: Declared, f: Item) -> str:
         if f.type.form == "pointer":
             return "const uint8_t *%s;" % f.name
-        if f.type.form == "table":
-            return "const %s *%s;\n    size_t %s_count;" % (kind(f.type), f.name, singular(f.name))
+        if f.type.form == "table":  # (what is handed over, its owner may change)
+            const = "" if owner.name in it.handed_over else "const "
+            return "%s%s *%s;\n    size_t %s_count;" % (const, kind(f.type), f.name, singular(f.name))
         return "%s %s%s;" % (kind(f.type), f.name, "[%d]" % f.type.length if f.type.length else "")
 
     def taken(p: Item) -> str:
@@ -297,7 +298,7 @@ def c_files(it: Interface) -> Dict[str, str]:
         return comment(e.doc) + "enum %s {\n%s\n};\n" % (name_of(e.name), ",\n".join(rows))
 
     def record(r: Declared) -> str:
-        fields = "".join(comment(f.doc, "    ") + "    %s\n" % field(f) for f in r.items)
+        fields = "".join(comment(f.doc, "    ") + "    %s\n" % field(r, f) for f in r.items)
         return comment(r.doc) + "struct %s {\n%s};\n" % (name_of(r.name), fields)
 
     def call(d: Declared) -> str:

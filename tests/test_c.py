@@ -121,6 +121,13 @@ class Programs(Case):
         source = self.written("readme.c", README % program.encode())
         succeed([CC, "-std=c11", *FLAGS, *STRICT, "-I", library(), "-c", "-o", self.folder / "readme.o", source])
 
+    def test_the_program_of_its_own_readme(self):
+        program, = re.findall(r"(?s)```c\n(.*?)```", (CALLERS / "c/README.md").read_text("utf-8"))
+        self.written("some.dll", BY_NAME.read_bytes())
+        source, made = self.written("readme.c", program.encode()), self.folder / "readme"
+        succeed([CC, "-std=c11", *FLAGS, *STRICT, "-I", library(), "-o", made, source, library() / "libgoblin_pe.a"])
+        self.assertEqual(succeed([made], cwd=self.folder), "GetTickCount from KERNEL32.dll\n")
+
     def test_calls_answer_alike(self):
         succeed([built("calls"), *IMAGES, *OBJECTS, *TERSE])
 

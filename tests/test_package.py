@@ -65,7 +65,7 @@ class Packages(Case):
 
     def assert_links(self, **where):
         """The example, built as pkg-config tells, has to list over the shared library, and over the archive."""
-        example = shutil.copy(CALLERS / "c/list.c", self.folder)
+        example, = self.folder.rglob("examples/list.c")
         shared, = (it.parent for it in self.folder.rglob("libgoblin_pe.so.*"))
         for flags, told, env in ([], [], {"LD_LIBRARY_PATH": str(shared)}), (["-static"], ["--static"], {}):
             words = succeed([*away(), "pkg-config", "--cflags", "--libs", *told, "goblin_pe"], env=environment(**where)).split()

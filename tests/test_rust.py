@@ -78,6 +78,7 @@ class Crate(Case):
         if run(["cargo", "clippy", "--version"])[0]:
             self.skipTest("no clippy")
         cargo("clippy", "--all-targets", "--", "-D", "warnings")
+        cargo("clippy", "--lib", "--", "-D", "warnings", "-W", "clippy::pedantic")
 
 
 class BesideGoblin(Case):

@@ -5,12 +5,13 @@
 
        cc -I callers/lib -o program program.c callers/lib/libgoblin_pe.a
 
-   callers/c/list.c, loader.c, patch.c and walk.c are such programs.
+   list.c, loader.c, patch.c and walk.c are such programs: in callers/c, or where the library was installed in
+   share/doc/goblin-pe/examples. README.md beside them has the first steps.
 
    A call reads a file that lies in memory. It borrows the caller's bytes; a text in a record is a pointer
    into those bytes and a length, so no text is copied, and the texts stay good as long as the bytes do.
-   The tables of an image, and the ranges of a footprint, are memory of their own, which goblin_pe_free
-   and goblin_pe_free_ranges give back; all else is filled into the caller's records.
+   The tables of an image, and the ranges of a footprint, are memory of their own, which the caller may sort and
+   change, and goblin_pe_free and goblin_pe_free_ranges give back; all else is filled into the caller's records.
 
    The file offset of a text is the difference of two pointers: each lies in the file, but for a DOS stub
    that permissive mode replaced. One that is absent, as its record says, or that permissive mode could not
@@ -106,12 +107,10 @@ static inline struct goblin_pe_fault goblin_pe_open(
 }
 
 /* Frees a block of so many records. */
-static inline void goblin_pe_free_block(const void *block, size_t count)
+static inline void goblin_pe_free_block(void *block, size_t count)
 {
-    void *writable;
-    memcpy(&writable, &block, sizeof writable);
     if (count)
-        free(writable);
+        free(block);
 }
 
 /* Frees the tables of an image, and leaves zeros. Tables of zeros have nothing to be freed. */
@@ -280,9 +279,11 @@ static inline bool goblin_pe_read_aux_file(struct goblin_pe_text auxiliary, stru
 }
 
 /* Reads the relocations of a section of an object: says in `count` how many there are, and fills as many
-   records as there is room for. These are as many as the section's record says, at most 65,535. Refused is a
-   file that is too short for them, and one in which they begin at or past the end, even where there are none.
-   No memory is taken. */
+   records as there is room for. These are as many as the section's record says, at most 65,535. Where it says
+   so many and has the flag IMAGE_SCN_LNK_NRELOC_OVFL, the section has more than these: the first record is none
+   of them, and its virtual_address tells how many follow one another there, itself among them. Refused is a file
+   that is too short for them, and one in which they begin at or past the end, even where there are none. No memory
+   is taken. */
 static inline struct goblin_pe_fault goblin_pe_read_relocations(
     const uint8_t *bytes, size_t length, const struct goblin_pe_section *section,
     struct goblin_pe_relocation *relocations, size_t room, size_t *count)
@@ -325,9 +326,10 @@ static inline struct goblin_pe_fault goblin_pe_text_at(
     return goblin_pe_raw_text_at(&sound, rva, text);
 }
 
-/* So many bytes at an address. Refused are an address without an offset in the file, an offset at or past
-   the file's end, even if no bytes are asked for, and bytes that pass that end. The end of a section is not looked
-   at. No memory is taken. */
+/* So many bytes of the file from the offset of an address on. The end of its section is not looked at, so where they
+   pass that, what comes is what follows in the file, which a loader maps elsewhere or not at all. Refused are an
+   address without an offset in the file, an offset at or past the file's end, even if no bytes are asked for, and
+   bytes that pass that end. No memory is taken. */
 static inline struct goblin_pe_fault goblin_pe_bytes_at(
     const struct goblin_pe_image *image, size_t rva, size_t size, struct goblin_pe_text *bytes)
 {
@@ -348,12 +350,26 @@ static inline struct goblin_pe_fault goblin_pe_read_section_data(
     return goblin_pe_raw_read_section_data(&sound, &sound_section, data);
 }
 
+/* The file offset of the section table of an image, which follows the optional header. */
+static inline size_t goblin_pe_section_table(const struct goblin_pe_file *file)
+{
+    size_t signature = file->dos_header.pe_pointer;
+    return signature + 24 + file->coff_header.size_of_optional_header; /* (the signature and the COFF header have 24 bytes) */
+}
+
+/* How many bytes goblin_pe_write_header writes of a header with a stub of so many bytes. */
+static inline size_t goblin_pe_header_size(const struct goblin_pe_file *file, size_t stub_length)
+{
+    /* (the DOS header, the PE signature and the COFF header; the fields of the two widths, and sixteen directories) */
+    bool is_wide = file->optional_header.standard_fields.magic == GOBLIN_PE_MAGIC_64;
+    return 64 + stub_length + 24 + (file->directories ? (is_wide ? 112u : 96u) + 16 * 8 : 0);
+}
+
 /* Writes the header of an image to the front of `out`, and says in `written` how many bytes it has: the DOS
    header, the stub, the PE signature, the COFF header, and an optional header with sixteen data directories
    unless file->directories is 0. Where strict mode read them, these are the bytes of the file up to the last
    of its directories, and zeros for those that it lacks of sixteen. In the file the section table may stand
-   where these zeros are. So write elsewhere, and copy at most the first pe_pointer + 24 + size_of_optional_header
-   bytes into the file, as callers/c/patch.c does. The signature follows the stub, whatever pe_pointer says:
+   where these zeros are. So write elsewhere, and copy at most the bytes before goblin_pe_section_table into the file, as patch.c does. The signature follows the stub, whatever pe_pointer says:
    where permissive mode replaced the stub, the headers after it do not stand at their places. The stub may not
    lie in `out`. Refused are a magic that is neither of the two, a field that does not fit an optional header for
    32 bits, and too little room; nothing is written then. */
@@ -375,6 +391,14 @@ static inline struct goblin_pe_fault goblin_pe_write_section(
     return goblin_pe_raw_write_section(&sound, GOBLIN_PE_SOME(uint8_t, out), room, written);
 }
 
+/* Takes the name from the string table out of the record of a section. */
+static inline void goblin_pe_clear_real_name(struct goblin_pe_section *section)
+{
+    section->real_name.bytes = GOBLIN_PE_BYTES(section->real_name.bytes);
+    section->real_name.length = 0;
+    section->has_real_name = false;
+}
+
 /* Puts a short name, of at most eight bytes, into the record of a section, which has none from the string
    table then; a record of zeros is one that calls take from then on. Answers whether it is short enough; where
    not, nothing is changed. */
@@ -385,19 +409,21 @@ static inline bool goblin_pe_set_name(struct goblin_pe_section *section, const c
     memset(section->name, 0, sizeof section->name);
     if (length)
         memcpy(section->name, text, length);
-    section->real_name.bytes = GOBLIN_PE_BYTES(section->real_name.bytes);
-    section->real_name.length = 0;
-    section->has_real_name = false;
+    goblin_pe_clear_real_name(section);
     return true;
 }
 
-/* Puts into the eight bytes of name of a section that its name stands at this offset of the string table.
-   Refused is an offset that they can't hold. */
+/* Puts into the eight bytes of name of a section that its name stands at this offset of the string table. That
+   name is not read, so the record has none from there then, as by goblin_pe_set_name. Refused is an offset that
+   the eight bytes can't hold; nothing is changed then. */
 static inline struct goblin_pe_fault goblin_pe_set_name_offset(struct goblin_pe_section *section, size_t offset)
 {
     struct goblin_pe_section sound = goblin_pe_sound_section(section);
     struct goblin_pe_fault fault = goblin_pe_raw_set_name_offset(&sound, offset);
-    memcpy(section->name, sound.name, sizeof section->name);
+    if (fault.status == GOBLIN_PE_STATUS_OK) {
+        memcpy(section->name, sound.name, sizeof section->name);
+        goblin_pe_clear_real_name(section);
+    }
     return fault;
 }
 
@@ -406,6 +432,21 @@ static inline struct goblin_pe_fault goblin_pe_set_name_offset(struct goblin_pe_
 static inline size_t goblin_pe_fault_text(const struct goblin_pe_fault *fault, uint8_t *text, size_t room)
 {
     return goblin_pe_raw_fault_text(fault, GOBLIN_PE_SOME(uint8_t, text), room);
+}
+
+/* How much room the text of each refusal has enough of, with a NUL. */
+#define GOBLIN_PE_FAULT_ROOM 161
+
+/* The text of a refusal, which ends in a NUL, in this room; it answers the room. */
+static inline const char *goblin_pe_fault_string(const struct goblin_pe_fault *fault, char text[GOBLIN_PE_FAULT_ROOM])
+{
+    uint8_t bytes[GOBLIN_PE_FAULT_ROOM - 1];
+    size_t length = goblin_pe_raw_fault_text(fault, bytes, sizeof bytes);
+    if (length > sizeof bytes)
+        length = sizeof bytes;
+    memcpy(text, bytes, length);
+    text[length] = 0;
+    return text;
 }
 
 #undef GOBLIN_PE_BYTES

@@ -749,23 +749,23 @@ struct goblin_pe_export_directory {
    it are in the file's bytes. */
 struct goblin_pe_tables {
     /* The entries of the Rich header. */
-    const struct goblin_pe_rich_metadata *rich_entries;
+    struct goblin_pe_rich_metadata *rich_entries;
     size_t rich_entry_count;
     /* The sections. */
-    const struct goblin_pe_section *sections;
+    struct goblin_pe_section *sections;
     size_t section_count;
     /* The imports. */
-    const struct goblin_pe_import *imports;
+    struct goblin_pe_import *imports;
     size_t import_count;
     /* The exports, in the order of their name pointers. */
-    const struct goblin_pe_export *exports;
+    struct goblin_pe_export *exports;
     size_t export_count;
     /* The entries of the export address table: that at index i has the ordinal i plus the ordinal
        base. */
-    const struct goblin_pe_export_address *export_addresses;
+    struct goblin_pe_export_address *export_addresses;
     size_t export_address_count;
     /* The blocks of base relocations. */
-    const struct goblin_pe_block *blocks;
+    struct goblin_pe_block *blocks;
     size_t block_count;
     /* What the export directory says; zeros where the exports are not read. */
     struct goblin_pe_export_directory export_directory;
@@ -778,9 +778,9 @@ struct goblin_pe_tables {
 struct goblin_pe_import_position {
     /* The file offset of a library's record; the greatest number once the end has been reached,
        also of a file without imports. */
-    size_t record;
+    size_t record_offset;
     /* The file offset of the slot that is read next, or 0 before the library's first. */
-    size_t slot;
+    size_t slot_offset;
 };
 
 /* What strict mode would refuse of a file, part by part: for each part a fault of the status 0
@@ -814,7 +814,7 @@ struct goblin_pe_range {
 /* Ranges of the file: a block of memory of its own, or none where there is no range. */
 struct goblin_pe_ranges {
     /* The ranges. */
-    const struct goblin_pe_range *ranges;
+    struct goblin_pe_range *ranges;
     size_t range_count;
 };
 
@@ -1271,8 +1271,8 @@ GOBLIN_PE_IS_AT(tables, export_directory, 96);
 GOBLIN_PE_IS_AT(tables, dos_stub, 160);
 
 GOBLIN_PE_HAS_SIZE(import_position, 16, 8);
-GOBLIN_PE_IS_AT(import_position, record, 0);
-GOBLIN_PE_IS_AT(import_position, slot, 8);
+GOBLIN_PE_IS_AT(import_position, record_offset, 0);
+GOBLIN_PE_IS_AT(import_position, slot_offset, 8);
 
 GOBLIN_PE_HAS_SIZE(damage, 136, 8);
 GOBLIN_PE_IS_AT(damage, dos_stub, 0);

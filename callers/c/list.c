@@ -64,10 +64,8 @@ static uint8_t *whole(const char *path, size_t *length)
 
 static int refused(struct goblin_pe_fault fault)
 {
-    uint8_t text[160];
-    size_t length = goblin_pe_fault_text(&fault, text, sizeof text);
-    fprintf(stderr, "refused: %.*s\n", (int)(length < sizeof text ? length : sizeof text),
-            (const char *)text);
+    char text[GOBLIN_PE_FAULT_ROOM];
+    fprintf(stderr, "refused: %s\n", goblin_pe_fault_string(&fault, text));
     return 1;
 }
 

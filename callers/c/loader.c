@@ -61,9 +61,8 @@ static bool is_wide(const struct module *m)
 
 static int refused(const struct module *m, struct goblin_pe_fault fault)
 {
-    uint8_t text[160];
-    size_t length = goblin_pe_fault_text(&fault, text, sizeof text);
-    fprintf(stderr, "%s: %.*s\n", m->name, (int)(length < sizeof text ? length : sizeof text), (const char *)text);
+    char text[GOBLIN_PE_FAULT_ROOM];
+    fprintf(stderr, "%s: %s\n", m->name, goblin_pe_fault_string(&fault, text));
     return 1;
 }
 

@@ -10,9 +10,8 @@ static uint8_t bytes[16 << 20], header[1 << 20];
 
 static int refused(struct goblin_pe_fault fault)
 {
-    uint8_t text[160];
-    size_t length = goblin_pe_fault_text(&fault, text, sizeof text);
-    fprintf(stderr, "refused: %.*s\n", (int)(length < sizeof text ? length : sizeof text), (const char *)text);
+    char text[GOBLIN_PE_FAULT_ROOM];
+    fprintf(stderr, "refused: %s\n", goblin_pe_fault_string(&fault, text));
     return 1;
 }
 
@@ -30,8 +29,7 @@ static struct goblin_pe_fault write_back(size_t length, struct goblin_pe_file *f
                                          const struct goblin_pe_directory *directories,
                                          const struct goblin_pe_tables *tables, size_t index, char **words)
 {
-    /* The section table follows the optional header, whose end the COFF header says. */
-    size_t table = file->dos_header.pe_pointer + 24u + file->coff_header.size_of_optional_header;
+    size_t table = goblin_pe_section_table(file);
     struct goblin_pe_section section = tables->sections[index];
     size_t written;
     file->coff_header.time_date_stamp = (uint32_t)strtoul(words[0], NULL, 0);

@@ -287,8 +287,9 @@ class Pe:
             return None if refused else _Rows(in_bytes, address).text(text)
 
     def bytes_at(self, rva: int, size: int) -> Optional[bytes]:
-        """So many bytes at an address: None where the address has no offset in the file, this lies at or past its end, or
-        the bytes pass it."""
+        """So many bytes of the file from the offset of an address on: None where the address has no offset in the file, this
+        lies at or past its end, or the bytes pass it. The end of its section is not looked at, so where they pass that, what
+        comes is what follows in the file, which a loader maps elsewhere or not at all."""
         text = records.Text()
         with memoryview(self._bytes()) as view, _held(view) as (calls, address, length), view.cast("B") as in_bytes:
             image = self._image(address, length)

@@ -683,13 +683,13 @@ class Tables(HandedOver):
 class ImportPosition(Record):
     """Where a walk over imports goes on; zeros are the beginning. It may be kept, and copied.
 
-    record: The file offset of a library's record; the greatest number once the end has been
+    record_offset: The file offset of a library's record; the greatest number once the end has been
         reached, also of a file without imports.
-    slot: The file offset of the slot that is read next, or 0 before the library's first.
+    slot_offset: The file offset of the slot that is read next, or 0 before the library's first.
     """
 
-    record: Annotated[int, c.c_size_t]
-    slot: Annotated[int, c.c_size_t]
+    record_offset: Annotated[int, c.c_size_t]
+    slot_offset: Annotated[int, c.c_size_t]
 
 
 @record

@@ -52,7 +52,9 @@ class Section(NamedTuple):
         return data_of(self, file, records.Options())
 
     def relocations(self, file: Data) -> List[Relocation]:
-        """Its relocations in the object. Refused is raised where the file is too short for them, and where they begin at or
+        """Its relocations in the object: as many as number_of_relocations says, so at most 65,535. Where that is 65,535, and
+        characteristics have the flag IMAGE_SCN_LNK_NRELOC_OVFL, the section has more than these: the first row is none of
+        them, and its virtual_address tells how many follow one another there, itself among them. Refused is raised where the file is too short for them, and where they begin at or
         past its end, even if there are none."""
         count, kind = c.c_size_t(), _laid_out.laid_out(Relocation)
         with memoryview(file) as view, held(view) as (calls, address, length):

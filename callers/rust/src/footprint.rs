@@ -14,18 +14,20 @@ use crate::raw::{self, Options};
 pub struct Footprint(raw::Ranges<'static>);
 
 impl Footprint {
-    pub(crate) fn of(bytes: &[u8], options: &Options) -> Result<Footprint, Error> {
+    pub(crate) fn of(bytes: &[u8], options: Options) -> Result<Footprint, Error> {
         let mut ranges = raw::Ranges::default();
-        Error::test(raw::footprint(bytes, options, &mut ranges))?;
+        Error::test(raw::footprint(bytes, &options, &mut ranges))?;
         Ok(Footprint(ranges))
     }
 
     /// The ranges.
+    #[must_use]
     pub fn iter(&self) -> FootprintRanges<'_> {
         FootprintRanges(self.0.ranges.get().iter())
     }
 
     /// Whether the read depends on the byte at this file offset.
+    #[must_use]
     pub fn contains(&self, offset: usize) -> bool {
         let ranges = self.0.ranges.get();
         let before = ranges.partition_point(|it| it.offset <= offset);

@@ -7,7 +7,7 @@ use std::ops::Range;
 use std::slice::{ChunksExact, Iter};
 
 use crate::error::Error;
-use crate::memory::records;
+use crate::memory::grown;
 use crate::raw::{self, CoffHeader, Fault, Options};
 use crate::rows::{Block, Export, ExportAddress, Import, Section, Symbol};
 
@@ -144,7 +144,7 @@ trait Position: Default {
 impl Position for raw::ImportPosition {
     // (a batch that is not full may come before a refusal)
     fn is_end(&self, count: usize, _room: usize) -> bool {
-        count == 0 || self.record == usize::MAX
+        count == 0 || self.record_offset == usize::MAX
     }
 }
 
@@ -181,20 +181,20 @@ impl<T: Copy, P: Position> Batches<T, P> {
         room == 0 || self.next == self.count && !self.position.is_end(self.count, room)
     }
 
-    // Reads the next records, at first so many of them, and answers whether that was refused. Where
-    // memory for more than at first is refused, it goes on with as many.
+    // Reads the next records, at first so many of them, and answers whether that was refused. Where only memory
+    // for more of them is refused, it reads as many as before.
     fn fill(
         &mut self,
         first: usize,
         empty: T,
         call: impl FnOnce(&mut P, &mut [T], &mut usize) -> Fault,
     ) -> Result<(), Error> {
-        let room = self.records.len();
-        if room == 0 {
-            self.records = records(empty, first)?;
-        } else if room < BATCH && self.records.try_reserve_exact(BATCH - room).is_ok() {
-            self.records.resize(BATCH, empty);
-        }
+        let room = if self.records.is_empty() {
+            first
+        } else {
+            BATCH
+        };
+        grown(&mut self.records, empty, room)?;
         (self.next, self.count) = (0, 0);
         let fault = call(&mut self.position, &mut self.records, &mut self.count);
         Error::test(fault)

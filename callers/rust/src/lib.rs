@@ -36,6 +36,7 @@
 #![deny(unsafe_code)]
 #![warn(missing_docs)]
 
+#[allow(clippy::doc_markdown)] // (processors are called PowerPC and the like)
 pub mod constants;
 mod error;
 mod footprint;
@@ -46,7 +47,7 @@ mod object;
 mod pe;
 #[allow(unsafe_code)]
 mod raw;
-#[allow(unsafe_code)]
+#[allow(unsafe_code, clippy::struct_field_names)]
 mod records;
 mod rows;
 mod te;
@@ -86,6 +87,7 @@ pub use text::Text;
 /// }
 /// # Ok::<(), std::io::Error>(())
 /// ```
+#[must_use]
 pub fn kind(bytes: &[u8]) -> Kind {
     Kind::try_from(raw::kind(bytes)).unwrap_or(Kind::Unknown)
 }
@@ -96,6 +98,7 @@ pub fn kind(bytes: &[u8]) -> Kind {
 /// ```no_run
 /// assert!(goblin_pe::is_linked_as_declared());
 /// ```
+#[must_use]
 pub fn is_linked_as_declared() -> bool {
     raw::is_linked_as_declared()
 }

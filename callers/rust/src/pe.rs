@@ -37,6 +37,19 @@ impl From<raw::Table> for Part {
 /// }
 /// # Ok::<(), std::io::Error>(())
 /// ```
+///
+/// It may be dropped after the bytes, as what a `match` at the end of a function is about:
+///
+/// ```no_run,edition2021
+/// # use goblin_pe::{Options, Pe};
+/// fn main() {
+///     let bytes = std::fs::read("some.dll").unwrap_or_default();
+///     match Pe::read(&bytes, &Options::default()) {
+///         Ok(pe) => println!("{} imports", pe.imports().len()),
+///         Err(error) => println!("{error}"),
+///     }
+/// }
+/// ```
 #[derive(Clone)]
 pub struct Pe<'a> {
     bytes: &'a [u8],
@@ -85,6 +98,7 @@ impl<'a> Pe<'a> {
     /// println!("the PE signature stands at {:#x}", pe.dos_header().pe_pointer);
     /// # Ok::<(), goblin_pe::Error>(())
     /// ```
+    #[must_use]
     pub fn dos_header(&self) -> &DosHeader {
         &self.file.dos_header
     }
@@ -97,6 +111,7 @@ impl<'a> Pe<'a> {
     /// let is_library = pe.coff_header().characteristics & goblin_pe::constants::IMAGE_FILE_DLL != 0;
     /// # Ok::<(), goblin_pe::Error>(())
     /// ```
+    #[must_use]
     pub fn coff_header(&self) -> &CoffHeader {
         &self.file.coff_header
     }
@@ -109,6 +124,7 @@ impl<'a> Pe<'a> {
     /// let subsystem = pe.optional_header().map(|it| it.windows_fields.subsystem);
     /// # Ok::<(), goblin_pe::Error>(())
     /// ```
+    #[must_use]
     pub fn optional_header(&self) -> Option<&OptionalHeader> {
         (self.file.coff_header.size_of_optional_header != 0).then_some(&self.file.optional_header)
     }
@@ -121,6 +137,7 @@ impl<'a> Pe<'a> {
     /// let key = pe.rich_header().map(|it| it.key);
     /// # Ok::<(), goblin_pe::Error>(())
     /// ```
+    #[must_use]
     pub fn rich_header(&self) -> Option<RichHeader> {
         let rich = &self.file.rich_header;
         rich.is_present.then_some(RichHeader {
@@ -142,6 +159,7 @@ impl<'a> Pe<'a> {
     /// }
     /// # Ok::<(), goblin_pe::Error>(())
     /// ```
+    #[must_use]
     pub fn rich_entries(&self) -> &[RichMetadata] {
         self.tables.rich_entries.get()
     }
@@ -157,6 +175,7 @@ impl<'a> Pe<'a> {
     /// }
     /// # Ok::<(), goblin_pe::Error>(())
     /// ```
+    #[must_use]
     pub fn rich_rest(&self) -> Option<Error> {
         Error::of(self.file.rich_header.rest)
     }
@@ -170,6 +189,7 @@ impl<'a> Pe<'a> {
     /// let is_managed = pe.data_directory(DirectoryType::ClrRuntimeHeader).is_some();
     /// # Ok::<(), goblin_pe::Error>(())
     /// ```
+    #[must_use]
     pub fn data_directory(&self, kind: DirectoryType) -> Option<DataDirectory> {
         let mut directories = self.data_directories();
         let found = directories.find(|(index, _)| *index == kind as usize);
@@ -187,6 +207,7 @@ impl<'a> Pe<'a> {
     /// }
     /// # Ok::<(), goblin_pe::Error>(())
     /// ```
+    #[must_use]
     pub fn data_directories(&self) -> DataDirectories<'_> {
         DataDirectories(self.directory_records().iter().enumerate())
     }
@@ -204,6 +225,7 @@ impl<'a> Pe<'a> {
     /// let size: u64 = pe.sections().map(|s| u64::from(s.size_of_raw_data)).sum();
     /// # Ok::<(), goblin_pe::Error>(())
     /// ```
+    #[must_use]
     pub fn sections(&self) -> Sections<'_, 'a> {
         let table = section_table(&self.file.dos_header, &self.file.coff_header);
         Sections::at(self.bytes, table, self.section_records())
@@ -251,6 +273,7 @@ impl<'a> Pe<'a> {
     /// println!("{:?}: {} imports", pe.import_table(), pe.imports().len());
     /// # Ok::<(), goblin_pe::Error>(())
     /// ```
+    #[must_use]
     pub fn import_table(&self) -> Part {
         Part::from(self.file.imports)
     }
@@ -267,6 +290,7 @@ impl<'a> Pe<'a> {
     /// }
     /// # Ok::<(), goblin_pe::Error>(())
     /// ```
+    #[must_use]
     pub fn imports(&self) -> Imports<'_, 'a> {
         Imports(self.tables.imports.get().iter())
     }
@@ -285,6 +309,7 @@ impl<'a> Pe<'a> {
     /// }
     /// # Ok::<(), goblin_pe::Error>(())
     /// ```
+    #[must_use]
     pub fn walk_imports(&self) -> WalkImports<'a> {
         WalkImports::of(self.bytes, self.options.with_parse_imports(true))
     }
@@ -297,6 +322,7 @@ impl<'a> Pe<'a> {
     /// println!("{:?}: {} exports", pe.export_table(), pe.exports().len());
     /// # Ok::<(), goblin_pe::Error>(())
     /// ```
+    #[must_use]
     pub fn export_table(&self) -> Part {
         Part::from(self.file.exports)
     }
@@ -310,6 +336,7 @@ impl<'a> Pe<'a> {
     /// let names: Vec<_> = pe.exports().filter_map(|export| export.name).collect();
     /// # Ok::<(), goblin_pe::Error>(())
     /// ```
+    #[must_use]
     pub fn exports(&self) -> Exports<'_, 'a> {
         Exports(self.tables.exports.get().iter())
     }
@@ -324,6 +351,7 @@ impl<'a> Pe<'a> {
     /// }
     /// # Ok::<(), goblin_pe::Error>(())
     /// ```
+    #[must_use]
     pub fn walk_exports(&self) -> WalkExports<'a> {
         WalkExports::of(self.bytes, self.options)
     }
@@ -354,6 +382,7 @@ impl<'a> Pe<'a> {
     /// }
     /// # Ok::<(), goblin_pe::Error>(())
     /// ```
+    #[must_use]
     pub fn find_export_by_ordinal(&self, ordinal: usize) -> Option<ExportAddress> {
         let index = ordinal.checked_sub(self.ordinal_base())?;
         self.export_addresses()
@@ -370,6 +399,7 @@ impl<'a> Pe<'a> {
     /// let used = pe.export_addresses().filter(|it| it.rva != 0).count();
     /// # Ok::<(), goblin_pe::Error>(())
     /// ```
+    #[must_use]
     pub fn export_addresses(&self) -> ExportAddresses<'_> {
         let base = self.ordinal_base();
         let records = self.tables.export_addresses.get();
@@ -388,6 +418,7 @@ impl<'a> Pe<'a> {
     /// let name = pe.export_directory().and_then(|it| it.name);
     /// # Ok::<(), goblin_pe::Error>(())
     /// ```
+    #[must_use]
     pub fn export_directory(&self) -> Option<ExportDirectory<'a>> {
         let directory = &self.tables.export_directory;
         (self.export_table() == Part::Read).then(|| ExportDirectory {
@@ -423,6 +454,7 @@ impl<'a> Pe<'a> {
     /// let can_be_moved = pe.relocation_table() == goblin_pe::Part::Read;
     /// # Ok::<(), goblin_pe::Error>(())
     /// ```
+    #[must_use]
     pub fn relocation_table(&self) -> Part {
         Part::from(self.file.relocations.blocks)
     }
@@ -437,6 +469,7 @@ impl<'a> Pe<'a> {
     /// }
     /// # Ok::<(), goblin_pe::Error>(())
     /// ```
+    #[must_use]
     pub fn blocks(&self) -> Blocks<'_, 'a> {
         Blocks(self.tables.blocks.get().iter())
     }
@@ -452,6 +485,7 @@ impl<'a> Pe<'a> {
     /// }
     /// # Ok::<(), goblin_pe::Error>(())
     /// ```
+    #[must_use]
     pub fn block_rest(&self) -> Option<Error> {
         Error::of(self.file.relocations.rest)
     }
@@ -469,6 +503,7 @@ impl<'a> Pe<'a> {
     /// let code = entry.and_then(|rva| pe.find_offset(rva)).and_then(|offset| bytes.get(offset..));
     /// # Ok::<(), goblin_pe::Error>(())
     /// ```
+    #[must_use]
     pub fn find_offset(&self, rva: usize) -> Option<usize> {
         raw::find_offset(&self.image(), rva)
     }
@@ -494,7 +529,9 @@ impl<'a> Pe<'a> {
         Ok(Text(text.get()))
     }
 
-    /// So many bytes at an address.
+    /// So many bytes of the file from the offset of an address on. The end of its section is not looked at, so
+    /// where they pass that, what comes is what follows in the file, which a loader maps elsewhere or not at
+    /// all.
     ///
     /// # Errors
     /// Where the address has no offset in the file, where this lies at or past the file's end, even if no
@@ -532,6 +569,7 @@ impl<'a> Pe<'a> {
     /// header.coff_header.time_date_stamp = 0;
     /// # Ok::<(), goblin_pe::Error>(())
     /// ```
+    #[must_use]
     pub fn header(&self) -> Header<'a> {
         let mut data_directories = [None; 16];
         for (index, directory) in self.data_directories() {
@@ -599,7 +637,7 @@ impl<'a> Pe<'a> {
     /// # Ok::<(), goblin_pe::Error>(())
     /// ```
     pub fn footprint(&self) -> Result<Footprint, Error> {
-        Footprint::of(self.bytes, &self.options)
+        Footprint::of(self.bytes, self.options)
     }
 }
 

@@ -2,6 +2,7 @@
 //! unsafe.
 
 use std::alloc::{Layout, handle_alloc_error};
+use std::ffi::c_void;
 use std::marker::PhantomData;
 use std::mem::offset_of;
 use std::ptr::NonNull;
@@ -52,6 +53,7 @@ impl<'a> Slice<'a> {
 impl Options {
     /// Damaged parts are passed over, in permissive mode; an import directory at file offset 0 is an
     /// empty list there, without damage. Else as by default.
+    #[must_use]
     pub const fn permissive() -> Options {
         Options {
             is_permissive: true,
@@ -60,12 +62,14 @@ impl Options {
     }
 
     /// The same options, with addresses mapped by the sections or not.
+    #[must_use]
     pub const fn with_resolve_rva(mut self, resolve_rva: bool) -> Options {
         self.resolve_rva = resolve_rva;
         self
     }
 
     /// The same options, with raw pointers rounded down to 512 or not.
+    #[must_use]
     pub const fn with_rounds_raw_pointers(mut self, rounds_raw_pointers: bool) -> Options {
         self.rounds_raw_pointers = rounds_raw_pointers;
         self
@@ -79,6 +83,7 @@ impl Options {
     /// let options = Options::permissive().with_parse_imports(false);
     /// assert!(options.is_permissive && options.resolve_rva && !options.parse_imports);
     /// ```
+    #[must_use]
     pub const fn with_parse_imports(mut self, parse_imports: bool) -> Options {
         self.parse_imports = parse_imports;
         self
@@ -92,11 +97,27 @@ impl Default for Options {
     }
 }
 
+/// A block of memory of the library's, which is freed with it. It names no lifetime, so what borrows from
+/// the bytes of a file may be dropped after them, as a `Vec` may.
+#[repr(C)]
+struct Memory {
+    first: NonNull<c_void>,
+    count: usize,
+}
+
+impl Drop for Memory {
+    fn drop(&mut self) {
+        if self.count != 0 {
+            // SAFETY: the library took the block by `malloc`, and hands it over.
+            unsafe { free(self.first.as_ptr()) }
+        }
+    }
+}
+
 /// Records in a block of memory of the library's, which is freed with the list.
 #[repr(C)]
 pub struct List<'a, T> {
-    first: NonNull<T>,
-    count: usize,
+    memory: Memory,
     of: PhantomData<&'a [T]>,
 }
 
@@ -109,8 +130,10 @@ impl<T> Default for List<'_, T> {
     /// No records.
     fn default() -> Self {
         List {
-            first: NonNull::dangling(),
-            count: 0,
+            memory: Memory {
+                first: NonNull::<T>::dangling().cast(),
+                count: 0,
+            },
             of: PhantomData,
         }
     }
@@ -119,34 +142,29 @@ impl<T> Default for List<'_, T> {
 impl<T> List<'_, T> {
     /// The records.
     pub fn get(&self) -> &[T] {
+        let first = self.memory.first.cast();
         // SAFETY: it is empty, or was stored by the library, and nothing has been freed.
-        unsafe { std::slice::from_raw_parts(self.first.as_ptr(), self.count) }
+        unsafe { std::slice::from_raw_parts(first.as_ptr(), self.memory.count) }
     }
 }
 
 impl<T: Copy> Clone for List<'_, T> {
     /// A block of its own. Where memory for it is refused, the process ends, as it does for a `Vec`.
     fn clone(&self) -> Self {
-        if self.count == 0 {
+        let count = self.memory.count;
+        if count == 0 {
             return Self::default();
         }
         let layout = Layout::for_value(self.get());
         // SAFETY: it may be asked for any size.
-        let block = unsafe { malloc(layout.size()) };
-        let Some(first) = NonNull::new(block.cast::<T>()) else {
+        let Some(first) = NonNull::new(unsafe { malloc(layout.size()) }) else {
             handle_alloc_error(layout)
         };
         // SAFETY: the new block has room for as many records, which are copied as they are.
-        unsafe { first.copy_from_nonoverlapping(self.first, self.count) };
-        List { first, ..*self }
-    }
-}
-
-impl<T> Drop for List<'_, T> {
-    fn drop(&mut self) {
-        if self.count != 0 {
-            // SAFETY: the library took the block by `malloc` for these records, and hands it over.
-            unsafe { free(self.first.as_ptr().cast()) }
+        unsafe { (first.cast::<T>()).copy_from_nonoverlapping(self.memory.first.cast(), count) };
+        List {
+            memory: Memory { first, count },
+            of: PhantomData,
         }
     }
 }
@@ -181,7 +199,8 @@ impl<T> Default for Shared<'_, T> {
 const _: () = {
     assert!(size_of::<Slice>() == 16 && align_of::<Slice>() == 8);
     assert!(offset_of!(Slice, bytes) == 0 && offset_of!(Slice, length) == 8);
-    assert!(offset_of!(List<u8>, first) == 0 && offset_of!(List<u8>, count) == 8);
+    assert!(offset_of!(List<u8>, memory) == 0 && size_of::<List<u8>>() == 16);
+    assert!(offset_of!(Memory, first) == 0 && offset_of!(Memory, count) == 8);
     assert!(offset_of!(Shared<u8>, first) == 0 && offset_of!(Shared<u8>, count) == 8);
 };
 
@@ -196,8 +215,8 @@ impl<'a> Image<'_, 'a> {
 }
 
 unsafe extern "C" {
-    fn malloc(size: usize) -> *mut std::ffi::c_void;
-    fn free(block: *mut std::ffi::c_void);
+    fn malloc(size: usize) -> *mut c_void;
+    fn free(block: *mut c_void);
 }
 
 /// Whether the library has the interface that is declared here.
@@ -213,7 +232,7 @@ fn test_interface() {
         assert!(
             is_linked_as_declared(),
             "the library libgoblin_pe that is linked has another interface than the crate goblin_pe"
-        )
+        );
     });
 }
 

@@ -611,9 +611,9 @@ pub struct Tables<'a> {
 pub struct ImportPosition {
     /// The file offset of a library's record; the greatest number once the end has been reached,
     /// also of a file without imports.
-    pub record: usize,
+    pub record_offset: usize,
     /// The file offset of the slot that is read next, or 0 before the library's first.
-    pub slot: usize,
+    pub slot_offset: usize,
 }
 
 /// What strict mode would refuse of a file, part by part: for each part a fault of the status 0
@@ -1017,8 +1017,8 @@ const _: () = {
     assert!(offset_of!(Tables, export_directory) == 96);
     assert!(offset_of!(Tables, dos_stub) == 160);
     assert!(size_of::<ImportPosition>() == 16 && align_of::<ImportPosition>() == 8);
-    assert!(offset_of!(ImportPosition, record) == 0);
-    assert!(offset_of!(ImportPosition, slot) == 8);
+    assert!(offset_of!(ImportPosition, record_offset) == 0);
+    assert!(offset_of!(ImportPosition, slot_offset) == 8);
     assert!(size_of::<Damage>() == 136 && align_of::<Damage>() == 8);
     assert!(offset_of!(Damage, dos_stub) == 0);
     assert!(offset_of!(Damage, section_names) == 24);

@@ -10,6 +10,7 @@ use crate::raw::{
 };
 use crate::text::Text;
 use std::fmt;
+use std::io::Write;
 
 /// The header of an image, which can be changed and written.
 ///
@@ -48,6 +49,7 @@ impl Header<'_> {
     /// let table = bytes.get(pe.header().section_table()..);
     /// # Ok::<(), goblin_pe::Error>(())
     /// ```
+    #[must_use]
     pub fn section_table(&self) -> usize {
         section_table(&self.dos_header, &self.coff_header)
     }
@@ -206,7 +208,7 @@ pub struct Section<'a> {
     pub pointer_to_relocations: u32,
     /// The file offset of the line numbers, 0 where there are none.
     pub pointer_to_linenumbers: u32,
-    /// How many relocations there are.
+    /// How many relocations there are; 65,535 also where there are more, as a flag then says.
     pub number_of_relocations: u16,
     /// How many line numbers there are.
     pub number_of_linenumbers: u16,
@@ -283,7 +285,11 @@ impl<'a> Section<'a> {
         Ok((data.bytes.get(), data.zeros))
     }
 
-    /// The relocations of a section of the object `bytes`.
+    /// The relocations of a section of the object `bytes`: as many as `number_of_relocations` says, so at
+    /// most 65,535. Where that is 65,535, and `characteristics` have the flag
+    /// [`IMAGE_SCN_LNK_NRELOC_OVFL`](crate::constants::IMAGE_SCN_LNK_NRELOC_OVFL), the section has more than
+    /// these: the first row is none of them, and its `virtual_address` tells how many follow one another
+    /// there, itself among them.
     ///
     /// # Errors
     /// Why they were refused; memory may be. So they are where they begin at or past the end, even if
@@ -375,6 +381,7 @@ impl<'a> Imported<'a> {
     /// println!("{}", calls.filter(|name| name.starts_with(b"Crypt")).count());
     /// # Ok::<(), goblin_pe::Error>(())
     /// ```
+    #[must_use]
     pub fn name(&self) -> Option<Text<'a>> {
         match *self {
             Imported::Name { name, .. } => Some(name),
@@ -390,6 +397,7 @@ impl<'a> Imported<'a> {
     /// let ordinals: Vec<_> = pe.imports().map(|import| import.name.ordinal()).collect();
     /// # Ok::<(), goblin_pe::Error>(())
     /// ```
+    #[must_use]
     pub fn ordinal(&self) -> u16 {
         match *self {
             Imported::Name { hint, .. } => hint,
@@ -403,7 +411,12 @@ impl fmt::Display for Imported<'_> {
     fn fmt(&self, f: &mut fmt::Formatter<'_>) -> fmt::Result {
         match self {
             Imported::Name { name, .. } => name.fmt(f),
-            Imported::Ordinal(ordinal) => f.pad(&format!("ORDINAL {ordinal}")),
+            Imported::Ordinal(ordinal) => {
+                let mut text = *b"ORDINAL      ";
+                let mut digits = &mut text["ORDINAL ".len()..];
+                write!(digits, "{ordinal}").map_err(|_| fmt::Error)?;
+                Text(text.trim_ascii_end()).fmt(f)
+            }
         }
     }
 }
@@ -551,6 +564,7 @@ impl<'a> Block<'a> {
     /// }
     /// # Ok::<(), goblin_pe::Error>(())
     /// ```
+    #[must_use]
     pub fn words(&self) -> Words<'a> {
         Words(self.bytes.chunks_exact(2))
     }
@@ -604,6 +618,7 @@ impl<'a> Symbol<'a> {
     /// }
     /// # Ok::<(), goblin_pe::Error>(())
     /// ```
+    #[must_use]
     pub fn aux_function_definition(&self) -> Option<AuxFunctionDefinition> {
         raw::aux_function_definition(self.auxiliary)
     }
@@ -618,6 +633,7 @@ impl<'a> Symbol<'a> {
     /// }
     /// # Ok::<(), goblin_pe::Error>(())
     /// ```
+    #[must_use]
     pub fn aux_begin_and_end_function(&self) -> Option<AuxBeginAndEndFunction> {
         raw::aux_begin_and_end_function(self.auxiliary)
     }
@@ -632,6 +648,7 @@ impl<'a> Symbol<'a> {
     /// }
     /// # Ok::<(), goblin_pe::Error>(())
     /// ```
+    #[must_use]
     pub fn aux_weak_external(&self) -> Option<AuxWeakExternal> {
         raw::aux_weak_external(self.auxiliary)
     }
@@ -646,6 +663,7 @@ impl<'a> Symbol<'a> {
     /// }
     /// # Ok::<(), goblin_pe::Error>(())
     /// ```
+    #[must_use]
     pub fn aux_section_definition(&self) -> Option<AuxSectionDefinition> {
         raw::aux_section_definition(self.auxiliary)
     }

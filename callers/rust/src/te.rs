@@ -58,6 +58,7 @@ impl<'a> Te<'a> {
     /// let stripped = te.header().stripped_size;
     /// # Ok::<(), goblin_pe::Error>(())
     /// ```
+    #[must_use]
     pub fn header(&self) -> &TeHeader {
         &self.header
     }
@@ -70,6 +71,7 @@ impl<'a> Te<'a> {
     /// let names: Vec<_> = te.sections().map(|s| s.name).collect();
     /// # Ok::<(), goblin_pe::Error>(())
     /// ```
+    #[must_use]
     pub fn sections(&self) -> Sections<'_, 'a> {
         Sections::at(self.bytes, HEADER, &self.sections)
     }

@@ -25,6 +25,7 @@ impl<'a> Text<'a> {
     /// ```
     /// assert_eq!(goblin_pe::Text(b".text").as_str(), Some(".text"));
     /// ```
+    #[must_use]
     pub fn as_str(self) -> Option<&'a str> {
         std::str::from_utf8(self.0).ok()
     }
@@ -34,6 +35,7 @@ impl<'a> Text<'a> {
     /// ```
     /// assert_eq!(goblin_pe::Text(b"a\xFF").to_string_lossy(), "a\u{FFFD}");
     /// ```
+    #[must_use]
     pub fn to_string_lossy(self) -> Cow<'a, str> {
         String::from_utf8_lossy(self.0)
     }
@@ -56,11 +58,26 @@ impl<'a> Text<'a> {
 
 impl fmt::Display for Text<'_> {
     fn fmt(&self, f: &mut fmt::Formatter<'_>) -> fmt::Result {
-        if f.width().is_some() || f.precision().is_some() {
-            return f.pad(&self.shown().collect::<String>());
-        }
-        self.shown().try_for_each(|it| f.write_char(it))
+        // (as for any text, but in no memory: a refusal of memory may be what is told)
+        let most = f.precision().unwrap_or(usize::MAX);
+        let width = f.width().unwrap_or(0);
+        let room = width - self.shown().take(most).take(width).count();
+        let before = match f.align() {
+            Some(fmt::Alignment::Right) => room,
+            Some(fmt::Alignment::Center) => room / 2,
+            Some(fmt::Alignment::Left) | None => 0,
+        };
+        fill(f, before)?;
+        self.shown()
+            .take(most)
+            .try_for_each(|it| f.write_char(it))?;
+        fill(f, room - before)
     }
+}
+
+// The padding, of so many characters.
+fn fill(f: &mut fmt::Formatter<'_>, count: usize) -> fmt::Result {
+    (0..count).try_for_each(|_| f.write_char(f.fill()))
 }
 
 impl fmt::Debug for Text<'_> {

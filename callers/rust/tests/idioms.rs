@@ -136,6 +136,16 @@ fn a_copy_outlives_what_it_is_of() {
     assert_eq!(copy.clone().find_offset(0x1000), copy.find_offset(0x1000));
 }
 
+// What was read is declared before the bytes, and dropped after them.
+#[test]
+fn what_was_read_is_dropped_after_the_bytes() {
+    let (pe, footprint);
+    let bytes = sample("imports_by_name_x64.dll");
+    pe = Pe::read(&bytes, &Options::default()).unwrap();
+    footprint = pe.footprint().unwrap();
+    assert_eq!((pe.imports().len(), footprint.iter().len() > 0), (1, true));
+}
+
 fn count_of_sections(bytes: &[u8]) -> io::Result<usize> {
     Ok(Pe::read(bytes, &Options::default())?.sections().len())
 }

@@ -1,4 +1,5 @@
 //! Reads samples, and what is no image.
+use goblin_pe::constants::{COFF_MACHINE_X86_64, IMAGE_SCN_LNK_NRELOC_OVFL};
 use goblin_pe::{
     Cause, DirectoryType, ErrorKind, Forwarder, Imported, Kind, Object, Options, Part, Pe,
     ReadFault, Te, Text,
@@ -145,6 +146,20 @@ fn the_data_of_a_section_begins_where_its_address_is_mapped() {
     let mapped = pe.find_offset(first.virtual_address as usize);
     assert_eq!(Some(place(&bytes, data)), mapped);
     assert_ne!(mapped, Some(first.pointer_to_raw_data as usize));
+}
+
+// What comes is the file's, past the section's end too.
+#[test]
+fn bytes_at_an_address_go_on_past_a_section() {
+    let bytes = sample("imports_by_name_x64.dll");
+    let pe = Pe::read(&bytes, &Options::default()).unwrap();
+    let mut sections = pe.sections();
+    let (first, second) = (sections.next().unwrap(), sections.next().unwrap());
+    let begin = first.pointer_to_raw_data as usize;
+    let size = first.size_of_raw_data as usize;
+    assert_eq!(begin + size, second.pointer_to_raw_data as usize);
+    let found = pe.bytes_at(first.virtual_address as usize, size + 16);
+    assert_eq!(found, Ok(&bytes[begin..begin + size + 16]));
 }
 
 #[test]
@@ -475,6 +490,30 @@ fn objects_and_terse_executables() {
     assert_eq!(
         (te.header().signature, te.sections().len()),
         (0x5A56, usize::from(bytes[4]))
+    );
+}
+
+// The section has more relocations than its record can count, as the first of them says.
+#[test]
+fn more_relocations_than_a_section_counts() {
+    let count = 65_537_u32;
+    let mut bytes = vec![0; 60 + 10 * count as usize];
+    (bytes[0..2]).copy_from_slice(&COFF_MACHINE_X86_64.to_le_bytes());
+    bytes[2] = 1;
+    bytes[20 + 24] = 60;
+    bytes[20 + 32..20 + 34].fill(0xFF);
+    bytes[20 + 36..60].copy_from_slice(&IMAGE_SCN_LNK_NRELOC_OVFL.to_le_bytes());
+    for (index, it) in bytes[60..].chunks_mut(10).enumerate() {
+        let number = if index == 0 { count } else { index as u32 };
+        it[..4].copy_from_slice(&number.to_le_bytes());
+    }
+    let object = Object::read(&bytes, &Options::default()).unwrap();
+    let section = object.sections().next().unwrap();
+    let listed = section.relocations(&bytes).unwrap();
+    assert_eq!((listed.len(), listed[0].virtual_address), (65_535, count));
+    assert_eq!(
+        (listed[1].virtual_address, listed[65_534].virtual_address),
+        (1, 65_534)
     );
 }
 

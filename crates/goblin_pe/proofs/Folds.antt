@@ -63,7 +63,7 @@ pub dll_walked : (x : WalkedImport) → (walked_value x).dll ≡ x.dll.now
 unfolding import_of
 dll_walked x = of (entry_view x.entry)
   where
-    of : (entry : LookupEntry) → (import_of x.dll.now x.slot x.offset x.size entry).dll ≡ x.dll.now
+    of : (entry : LookupEntry) → (import_of x.dll.now x.slot x.slot_rva x.size entry).dll ≡ x.dll.now
     of (ByOrdinal ordinal) = refl
     of (ByName rva named) = refl
 

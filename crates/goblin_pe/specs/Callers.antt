@@ -1,5 +1,5 @@
--- Words for callers: one table of a file, the bytes of a layout, the section of an address, a
--- refusal, and pieces of a file.
+-- Words for callers: one table of a file, the section of an address, a refusal, and pieces of a
+-- file.
 use Rattle.std.specs.Prelude.{◌≡◌, ◌≤◌, ℕ, List, Option, None, find, if◌then◌else◌, length}
 use Rattle.std.specs.Prelude.{slice_range}
 use Rattle.std.specs.Int.{is_power_of_two}
@@ -41,10 +41,6 @@ file_table read opts =
 -- the same of a layout
 abbrev pub layout_table : {A : Type 0} → TableReader A → Layout → Reading A
 layout_table read l = let m = layout_map l in read m.opts (offset_of m) (layout_places l)
-
--- the bytes that a layout is over
-abbrev pub layout_bytes : Layout → List ℕ
-layout_bytes l = l.bytes.now
 
 -- the first section whose window holds the address; there is none if the alignment is not a power
 -- of two

@@ -3,9 +3,9 @@
 ghost use Rattle.std.specs.Prelude.{◌≡◌, IfErr, IsSomeAnd, false, option_map, true};
 ghost use Rattle.std.specs.List.{list_any};
 ghost use Rattle.goblin_pe.specs.Answers.{Answers, IsMemory, all_of};
-ghost use Rattle.goblin_pe.specs.Callers.{layout_bytes, layout_table, read_or};
+ghost use Rattle.goblin_pe.specs.Callers.{layout_table, read_or};
 ghost use Rattle.goblin_pe.specs.HeaderReadings.{pe_header};
-ghost use Rattle.goblin_pe.specs.Layouts.{IsFileImportsCause, file_imports_left};
+ghost use Rattle.goblin_pe.specs.Layouts.{IsFileImportsCause, file_imports_left, layout_bytes};
 ghost use Rattle.goblin_pe.specs.Options.{default_options};
 ghost use Rattle.goblin_pe.specs.Reading.{Reads, ReadsOrMemory};
 ghost use Rattle.goblin_pe.specs.Reads.{mapped};

@@ -4,7 +4,7 @@ use Rattle.std.specs.Prelude.{Some}
 use Rattle.goblin_base.proofs.Steps.{mapped, step}
 use Rattle.goblin_pe_sect.specs.declared.options.ParseOptions.{ParseOptions}
 use Rattle.goblin_pe_sect.specs.Options.{is_strict}
-use Rattle.goblin_pe_sect.specs.SectionReadings.{section_at}
+use Rattle.goblin_pe_sect.specs.SectionReadings.{named_section_at}
 use Rattle.goblin_pe_head.specs.HeaderReadings.{pe_header}
 use Rattle.goblin_pe_head.specs.CoffHeader.{symbols_end}
 use Rattle.goblin_pe_head.specs.CoffReadings.{sections_at}
@@ -31,6 +31,6 @@ unfolding sections_after sections_at
 sections-named opts bytes w h =
     let strict = is_strict opts.parse_mode in
     let table = symbols_end w.header.coff_header in
-    all-kept (named_in strict bytes table) (λ i. (section_at strict table (section_table_offset w.header + 40 * i)).value bytes) w.header.coff_header.number_of_sections 0 w.sections
+    all-kept (named_in strict bytes table) (λ i. (named_section_at strict table (section_table_offset w.header + 40 * i)).value bytes) w.header.coff_header.number_of_sections 0 w.sections
     (λ i s is. section-named strict table bytes (section_table_offset w.header + 40 * i) s is)
     (read-from opts bytes w h)

@@ -28,6 +28,6 @@ damage_record d = record {
 }
 
 -- the record tells the damage of a file with this header and these sections
-abbrev pub TellsDamage : ParseOptions → PeHeader → List Section → List ℕ → PeDamage → Type 0
-TellsDamage opts h sections bytes told =
+abbrev pub RecordsDamage : ParseOptions → PeHeader → List Section → List ℕ → PeDamage → Type 0
+RecordsDamage opts h sections bytes told =
     (d : Damage) × IsDamaged opts h sections bytes d × (told ≡ damage_record d)

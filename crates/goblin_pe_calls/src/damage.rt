@@ -6,7 +6,7 @@ ghost use Rattle.goblin_pe_head.specs.HeaderReadings.{pe_header};
 ghost use Rattle.goblin_pe.specs.Whole.{layout};
 ghost use Rattle.goblin_pe_records.specs.Calls.{ReadsInto};
 ghost use Rattle.goblin_pe.specs.SectionRoom.{TakesIndex};
-ghost use Rattle.goblin_pe_calls.specs.Damages.{TellsDamage, damage_record, part_fault};
+ghost use Rattle.goblin_pe_calls.specs.Damages.{RecordsDamage, damage_record, part_fault};
 
 use goblin_pe::options::ParseOptions;
 use goblin_pe::{Damage, Error, Result, Whole};
@@ -69,7 +69,8 @@ fn damage_record(damage: &Damage) -> PeDamage
 pub fn tell(alloc: Global, bytes: &[u8], opts: &ParseOptions, damage: &mut PeDamage) -> Result<()>
     ensures { ReadsInto (pe_header (is_strict opts.now.parse_mode)) (TakesIndex opts.now bytes.now)
         (layout opts.now) bytes.now
-        (λ l. TellsDamage opts.now l.0 l.1 bytes.now damage.new) (damage.new ≡ damage.old) result }
+        (λ l. RecordsDamage opts.now l.0 l.1 bytes.now damage.new)
+        (damage.new ≡ damage.old) result }
 {
     let told = Whole::damage(alloc, bytes, opts)?;
     *damage = damage_record(&told);

@@ -13,7 +13,7 @@ use Rattle.goblin_base.specs.Answers as answers
 use Rattle.goblin_base.specs.Answers.{all_at, all_of}
 use Rattle.goblin_base.proofs.Steps.{all_at-none, unmapped}
 use Rattle.readings.specs.Reads.{◌>>=◌, each, mapped, needs}
-use Rattle.goblin_pe_sect.specs.SectionReadings.{section_at}
+use Rattle.goblin_pe_sect.specs.SectionReadings.{named_section_at}
 use Rattle.goblin_pe_sect.specs.SectionTable.{Section, unnamed}
 use Rattle.goblin_pe_head.specs.declared.header.te.TeHeader.{TeHeader}
 use Rattle.goblin_pe_head.specs.CoffReadings.{sections_at, with_room}
@@ -24,26 +24,26 @@ use Rattle.goblin_pe_head.specs.TeReadings.{moved_section, moved_sections, te_se
 
 module _ (strict : Bool) (table : ℕ) (bytes : List ℕ) (p : ℕ) where
   pub moved-value : (move : Option ℕ) (s : Section)
-      → (section_at strict table p).value bytes ≡ Some s
+      → (named_section_at strict table p).value bytes ≡ Some s
       → (moved_section move strict table p).value bytes ≡ Some (section_moved move s)
   moved-value None s is = is
   moved-value (Some d) s is = ap (option_map (section_adjusted d)) is
 
-  pub moved-none : (move : Option ℕ) → (section_at strict table p).value bytes ≡ None
+  pub moved-none : (move : Option ℕ) → (named_section_at strict table p).value bytes ≡ None
       → (moved_section move strict table p).value bytes ≡ None
   moved-none None none = none
   moved-none (Some d) none = ap (option_map (section_adjusted d)) none
 
   pub moved-cause : (move : Option ℕ) (e : ErrorOf)
-      → (section_at strict table p).IsCause bytes e
+      → (named_section_at strict table p).IsCause bytes e
       → (moved_section move strict table p).IsCause bytes e
   moved-cause None e cause = cause
   moved-cause (Some d) e cause = cause
 
   -- where a record isn't all there, its section isn't
-  section_at-none : length bytes < p + 40 → (section_at strict table p).value bytes ≡ None
-  unfolding section_at
-  section_at-none short =
+  named_section_at-none : length bytes < p + 40 → (named_section_at strict table p).value bytes ≡ None
+  unfolding named_section_at
+  named_section_at-none short =
       let past : nat_le (p + 40) (length bytes) ≡ false = lt-leb _ _ short in
       rw (past, and-false) refl
 
@@ -56,7 +56,7 @@ moved_sections-too_short move strict table n bytes p short =
     all_at-none (λ i. (moved_section move strict table (p + 40 * i)).value bytes) n (n - 1)
     (omega (arith, short))
     (moved-none strict table bytes last move
-    (section_at-none strict table bytes last (omega (arith, short))))
+    (named_section_at-none strict table bytes last (omega (arith, short))))
 
 pub sections_at-too_short : (strict : Bool) (table n : ℕ) (bytes : List ℕ) (p : ℕ)
     → length bytes / 40 < n → (sections_at strict table n p).value bytes ≡ None
@@ -141,17 +141,17 @@ moved-unnamed_if d (Some sections) = ap (λ (xs : List Section). Some xs) (moved
 -- where something was stripped, the sections of the records are moved by that
 pub records_by_displacement : {X : Type 0} (view : X → List Section) (r : Result X ErrorOf)
     (shift : Option ℕ) (size d n : ℕ) (bytes : List ℕ) (p : ℕ) → shift ≡ Some d
-    → Reads view r (mapped (map unnamed) (each (λ i. section_at true 0 (p + 40 * i)) n)) bytes
+    → Reads view r (mapped (map unnamed) (each (λ i. named_section_at true 0 (p + 40 * i)) n)) bytes
     → Reads (λ x. map (section_moved shift) (view x)) r
     (mapped (map unnamed)
     (needs shift (StrippedSize size) >>= λ d. moved_sections (Some d) true 0 n p)) bytes
 records_by_displacement view (Ok x) shift size d n bytes p is made =
-    let value : ℕ → Option Section = λ (i : ℕ). (section_at true 0 (p + 40 * i)).value bytes in
+    let value : ℕ → Option Section = λ (i : ℕ). (named_section_at true 0 (p + 40 * i)).value bytes in
     rw is
     (ap (option_map (map unnamed)) (all_at-map (section_adjusted d) value n)
     ∙ moved-unnamed_if d (all_at value n) ∙ ap (option_map (map (section_adjusted d))) made)
 records_by_displacement view (Err e) shift size d n bytes p is made =
-    let value : ℕ → Option Section = λ (i : ℕ). (section_at true 0 (p + 40 * i)).value bytes in
+    let value : ℕ → Option Section = λ (i : ℕ). (named_section_at true 0 (p + 40 * i)).value bytes in
     let none = unmapped (map unnamed) (all_at value n) made.0 in
     let first = made.1 in
     let moved = all_at-map (section_adjusted d) value n ∙ ap (option_map (map (section_adjusted d))) none in

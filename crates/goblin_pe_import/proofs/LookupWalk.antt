@@ -1,21 +1,25 @@
 -- The loop that looks for the next entry that a lookup table keeps.
-use Rattle.std.proofs.Common.{◌≡◌, ◌≤◌, ◌+◌, ◌-◌, ◌/◌, ℕ, Bool, true, false, List, [], ◌∷◌, ◌++◌, map}
-use Rattle.std.proofs.Common.{Option, Some, None, refl, ap, ◌∙◌}
-use Rattle.std.proofs.Common.{◌*◌, arith}
+use Rattle.std.proofs.Common.{◌≡◌, ◌≤◌, ◌<◌, ◌+◌, ◌-◌, ◌/◌, ℕ, zero, suc, Bool, true, false, List, [], ◌∷◌, ◌++◌, map}
+use Rattle.std.proofs.Common.{Option, Some, None, Result, Ok, Err, refl, ap, sym, subst, ◌∙◌}
+use Rattle.std.proofs.Common.{◌*◌, append_assoc, arith, length}
 use Rattle.std.specs.Prelude.{IfSome, option_map}
+use Rattle.std.proofs.lemmas.List.{length-map, map-append}
 use Rattle.std.proofs.Math.Nat.{mul-div_cancel_left}
 use Rattle.goblin_base.specs.declared.error.ErrorOf.{ErrorOf}
 use Rattle.goblin_base.specs.Answers.{◌>>=◌, all_of}
 use Rattle.goblin_base.specs.Tables.{Format, SlotFormat, concat_below, kept_slots, made_of, slot_at, slot_place, slot_table}
-use Rattle.goblin_base.specs.Tables.{stop}
+use Rattle.goblin_base.specs.Tables.{is_kept, stop}
 use Rattle.goblin_base.proofs.SlotTables.{reads}
 use Rattle.goblin_base.proofs.Steps.{step}
 use Rattle.goblin_pe_import.specs.ImportEntries.{EntryValue, LookupEntry, entry_slots}
 use Rattle.goblin_pe_import.specs.declared.import.lookup_table.SyntheticImportLookupTableEntry.{SyntheticImportLookupTableEntry}
-use Rattle.goblin_pe_import.specs.ImportLookup.{entry_view, kept_view}
+use Rattle.goblin_pe_import.specs.declared.import.kept.KeptEntry.{KeptEntry}
+use Rattle.goblin_pe_import.specs.ImportLookup.{KeepsEntries, entry_view, kept_view}
 use Rattle.goblin_pe_import.specs.ImportWalks.{IsEntriesCause, KeptValue, entries_from, entry_items, kept_at}
-use Rattle.readings.specs.Walks.{IsWalkOf, from_slot, end_items, items_at, items_of, table_walk}
+use Rattle.goblin_pe_import.specs.ImportWalks.{kept_value, place_after}
+use Rattle.readings.specs.Walks.{GivesNext, IsBegun, IsWalkOf, from_slot, end_items, items_at, items_of, table_walk}
 use Rattle.readings.specs.Walks.{until_refused}
+use Rattle.readings.proofs.Walked.{AtWalk, walk-all, walk-begins, walk-fault, walk-more, walk-start}
 use Rattle.goblin_pe_import.specs.LookupReadings.{kept_entry, lookup_entry_at}
 use Rattle.goblin_pe_import.specs.LookupReadings.{lookup_with_slots}
 use Rattle.goblin_pe_import.proofs.ImportBound.{kept_entry-few}
@@ -27,6 +31,11 @@ use Rattle.readings.proofs.Walks.{slot-missing, until_refused-later, until_refus
 -- the kept entries, and the indexes of their slots
 abbrev pub in_two : List KeptValue → List LookupEntry × List ℕ
 in_two kept = (map (λ k. k.entry) kept, map (λ k. k.slot) kept)
+
+pub in_slot : (width o i : ℕ) → 1 ≤ width → (o + width * i - o) / width ≡ i
+in_slot width o i wide =
+    let distance : o + width * i - o ≡ width * i = omega arith in
+    ap (λ (n : ℕ). n / width) distance ∙ mul-div_cancel_left i (omega (arith, wide))
 
 module _ (strict : Bool) (format : Format EntryValue) (offset_of : ℕ → Option ℕ)
     (bytes : List ℕ) (o : ℕ) where
@@ -165,13 +174,8 @@ module _ (strict : Bool) (format : Format EntryValue) (offset_of : ℕ → Optio
             × ((e : ErrorOf) → IsCause (Some (place + format.width)) e → IsCause start e)
         rest-kept entry is = rest-next (entry_view entry ∷ []) (read (Some entry) is)
 
-pub in_slot : (width o i : ℕ) → 1 ≤ width → (o + width * i - o) / width ≡ i
-in_slot width o i wide =
-    let distance : o + width * i - o ≡ width * i = omega arith in
-    ap (λ (n : ℕ). n / width) distance ∙ mul-div_cancel_left i (omega (arith, wide))
+  -- ---- the whole table, from its first slot on
 
-module _ (strict : Bool) (format : Format EntryValue) (offset_of : ℕ → Option ℕ)
-    (bytes : List ℕ) (o : ℕ) where
   abbrev piece : EntryValue → Option (List LookupEntry)
   piece v = (kept_entry strict offset_of v).value bytes
 
@@ -224,6 +228,119 @@ module _ (strict : Bool) (format : Format EntryValue) (offset_of : ℕ → Optio
         (slot_at (entry_slots format) bytes o n) n;
     cause = λ e fault. fault;
   }
+
+  -- ---- the loop that lists the entries
+
+  -- something is kept of a table from which an entry is the first to come
+  some_kept : (k : ℕ) (later : List (Option KeptValue)) → (IsBegun (until_refused later) → ⊥)
+      → IsBegun (until_refused (concat_below (λ i. items_of (item i) (made i)) k ++ later))
+      → (i : ℕ) × (i < k) × (is_kept (made i) ≡ true)
+  unfolding concat_below until_refused
+  some_kept zero later none begun = absurd (none begun)
+  some_kept (suc k) later none begun =
+      by_piece (made k) refl (some_kept k)
+      (subst (λ (xs : List (Option KeptValue)). IsBegun (until_refused xs))
+      (append_assoc (concat_below (λ i. items_of (item i) (made i)) k) (items_of (item k) (made k)) later)
+      begun)
+    where
+      IsSome_kept : ℕ → Type 0
+      IsSome_kept k = (i : ℕ) × (i < k) × (is_kept (made i) ≡ true)
+
+      by_piece : (piece : Option (List LookupEntry)) → made k ≡ piece
+          → ((later : List (Option KeptValue)) → (IsBegun (until_refused later) → ⊥)
+          → IsBegun (until_refused (concat_below (λ i. items_of (item i) (made i)) k ++ later))
+          → IsSome_kept k)
+          → IsBegun (until_refused (concat_below (λ i. items_of (item i) (made i)) k ++ (items_of (item k) (made k) ++ later)))
+          → IsSome_kept (suc k)
+      by_piece None is before begun =
+          let found = before (items_of (item k) (made k) ++ later) (rw is (λ h. h)) begun in
+          (found.0, omega (arith, found.1), found.2)
+      by_piece (Some []) is before begun =
+          let found = before (items_of (item k) (made k) ++ later) (rw is none) begun in
+          (found.0, omega (arith, found.1), found.2)
+      by_piece (Some (x ∷ xs)) is before begun = (k, omega arith, ap is_kept is)
+
+  -- These entries, in these slots, have come of the table at o, and others come from `place` on.
+  pub record AtEntries (place : Option ℕ) (entries : List LookupEntry) (rows : List ℕ) : Type 0
+    where
+      pub wide : 1 ≤ format.width
+      pub kept : List KeptValue
+      pub at : AtWalk comes IsCause (Some o) place kept
+      pub are : entries ≡ map (λ k. k.entry) kept
+      pub stand : rows ≡ map (λ k. k.slot) kept
+
+  pub entries-start : 1 ≤ format.width → AtEntries (Some o) [] []
+  entries-start wide = record {
+    wide = wide;
+    kept = [];
+    at = walk-start comes IsCause (Some o);
+    are = refl;
+    stand = refl;
+  }
+
+  pub entries-counted : (place : Option ℕ) (entries : List LookupEntry) (rows : List ℕ)
+      → AtEntries place entries rows → length entries ≡ length rows
+  entries-counted place entries rows h =
+      omega (
+        arith,
+        ap length h.are,
+        ap length h.stand,
+        length-map h.kept (λ (k : KeptValue). k.entry),
+        length-map h.kept (λ (k : KeptValue). k.slot),
+      )
+
+  module _ (place : Option ℕ) (entries : List LookupEntry) (rows : List ℕ)
+      (h : AtEntries place entries rows) where
+    abbrev Steps : Option (Result KeptEntry ErrorOf) → Type 0
+    Steps r = GivesNext kept_value comes IsCause place r (place_after format.width r)
+
+    -- all have come
+    pub entries-all : Steps None
+        → (lookup_with_slots strict format offset_of o).value bytes ≡ Some (entries, rows)
+    entries-all given =
+        sym (lookup_walked h.wide).value
+        ∙ ap (option_map in_two) (walk-all comes IsCause (Some o) place h.kept h.at kept_value None given)
+        ∙ rw (h.are, h.stand) refl
+
+    module _ (r : Result KeptEntry ErrorOf) (given : Steps (Some r)) where
+      -- one is refused
+      pub entries-fault : (e : ErrorOf) → r ≡ Err e
+          → ((lookup_with_slots strict format offset_of o).value bytes ≡ None)
+          × (lookup_with_slots strict format offset_of o).IsCause bytes e
+      entries-fault e is =
+          let fault =
+          walk-fault comes IsCause (Some o) place h.kept h.at kept_value (place_after format.width (Some r)) r given e is in
+          (sym (lookup_walked h.wide).value ∙ ap (option_map in_two) fault.0, (lookup_walked h.wide).cause e fault.1)
+
+      -- one more has come
+      module _ (one : KeptEntry) (is : r ≡ Ok one) where
+        pub entries-more : AtEntries (Some (one.place + format.width))
+            (entries ++ entry_view one.entry ∷ []) (rows ++ one.slot ∷ [])
+        entries-more =
+            let next = subst (λ (q : Result KeptEntry ErrorOf). Steps (Some q)) is given in
+            record {
+              wide = h.wide;
+              kept = h.kept ++ kept_value one ∷ [];
+              at = walk-more comes IsCause (Some o) place h.kept h.at kept_value (Some (one.place + format.width)) one next;
+              are = ap (λ (xs : List LookupEntry). xs ++ entry_view one.entry ∷ []) h.are
+                  ∙ sym (map-append (λ k. k.entry) h.kept (kept_value one ∷ []));
+              stand = ap (λ (xs : List ℕ). xs ++ one.slot ∷ []) h.stand
+                  ∙ sym (map-append (λ k. k.slot) h.kept (kept_value one ∷ []));
+            }
+
+        pub entries-kept : KeepsEntries strict format offset_of bytes o
+        unfolding until_refused
+        entries-kept =
+            let begins =
+            walk-begins comes IsCause (Some o) place h.kept h.at kept_value (place_after format.width (Some r)) r given one is in
+            some_kept n (end_items strict (slot_at (entry_slots format) bytes o n)) (no-end strict _)
+            (subst IsBegun by_index begins)
+          where
+            no-end : (needed : Bool) (end : Option EntryValue)
+                → IsBegun (until_refused (end_items {B = KeptValue} needed end)) → ⊥
+            no-end true None h = h
+            no-end true (Some v) h = h
+            no-end false end h = h
 
 -- only strict mode refuses an entry
 pub refused-strictly : (strict : Bool) (offset_of : ℕ → Option ℕ) (v : EntryValue)

@@ -11,7 +11,7 @@ use Rattle.goblin_base.specs.declared.error.CauseOf.TheVariants.{Overflow, SlotC
 use Rattle.goblin_base.specs.Tables.{each_below}
 use Rattle.goblin_base.specs.Answers.{◌>>=◌, all_at}
 use Rattle.goblin_pe_import.specs.ImportLookup.{LookupEntry}
-use Rattle.goblin_pe_import.specs.ImportEntries.LookupEntry.{ByOrdinal, ByName}
+use Rattle.goblin_pe_import.specs.ImportEntries.LookupEntry.{ByName, ByOrdinal}
 use Rattle.goblin_pe_import.specs.ImportDirectory.{ImportedLibrary}
 
 -- Source: PE Format, "The .idata Section".
@@ -124,7 +124,7 @@ IsSlotCount library e = ⊥
 
 -- which cause is true of imports that are refused: the counts of the first library whose entries
 -- and slots differ in number, and if there is none, an offset that overflows 64 bits
-abbrev pub IsImportsFault : List ImportedLibrary → ErrorOf → Type 0
-IsImportsFault libraries e =
+abbrev pub IsImportListFault : List ImportedLibrary → ErrorOf → Type 0
+IsImportListFault libraries e =
     IsSomeAnd (first_without_slots libraries) (λ library. IsSlotCount library e)
     ⊎ ((first_without_slots libraries ≡ None) × IsOverflow e)

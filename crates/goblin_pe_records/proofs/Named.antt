@@ -7,9 +7,9 @@ use Rattle.goblin_base.specs.Record.{record_at}
 use Rattle.goblin_base.specs.Answers.{all_of}
 use Rattle.goblin_base.proofs.Steps.{same_value, step}
 use Rattle.goblin_pe_sect.specs.SectionName.{name_value}
-use Rattle.goblin_pe_sect.specs.SectionReadings.{section_at, text_in_table}
+use Rattle.goblin_pe_sect.specs.SectionReadings.{named_section_at, text_in_table}
 use Rattle.goblin_pe_sect.specs.SectionTable.{Section, section_record, unnamed}
-use Rattle.goblin_pe_records.specs.Filled.{alone}
+use Rattle.goblin_pe_records.specs.Filled.{without_text}
 use Rattle.goblin_pe_records.specs.Sections.{named_in, real_name_in}
 
 named-made : (strict : Bool) (table : ℕ) (bytes : List ℕ) (s : Section) (value : Option ℕ) → name_value strict s.name ≡ Some value → real_name_in strict bytes table s.name ≡ (text_in_table table value).value bytes
@@ -17,8 +17,8 @@ unfolding real_name_in
 named-made strict table bytes s value e = rw e refl
 
 -- a section that was read has its name
-pub section-named : (strict : Bool) (table : ℕ) (bytes : List ℕ) (p : ℕ) (s : Section) → (section_at strict table p).value bytes ≡ Some s → named_in strict bytes table s ≡ s
-unfolding section_at
+pub section-named : (strict : Bool) (table : ℕ) (bytes : List ℕ) (p : ℕ) (s : Section) → (named_section_at strict table p).value bytes ≡ Some s → named_in strict bytes table s ≡ s
+unfolding named_section_at
 section-named strict table bytes p s h =
     let first = step (record_at 40 (section_record Little) bytes p) _ s h in
     let second = step (name_value strict first.value.name) _ s first.then in
@@ -39,6 +39,6 @@ all-kept {A} f value (suc len) start xs keeps h =
     subst (λ (ys : List A). map f ys ≡ ys) (same_value (first.value ∷ rest.value) xs rest.then) kept
 
 -- whatever names they have, sections are said by those from the string table
-pub said-unnamed : (strict : Bool) (bytes : List ℕ) (table : ℕ) (sections : List Section) → map (λ s. alone (named_in strict bytes table s)) (map unnamed sections) ≡ map alone (map (named_in strict bytes table) sections)
+pub said-unnamed : (strict : Bool) (bytes : List ℕ) (table : ℕ) (sections : List Section) → map (λ s. without_text (named_in strict bytes table s)) (map unnamed sections) ≡ map without_text (map (named_in strict bytes table) sections)
 said-unnamed strict bytes table [] = refl
-said-unnamed strict bytes table (s ∷ sections) = ap (λ (rest : List (Section × List ℕ)). alone (named_in strict bytes table s) ∷ rest) (said-unnamed strict bytes table sections)
+said-unnamed strict bytes table (s ∷ sections) = ap (λ (rest : List (Section × List ℕ)). without_text (named_in strict bytes table s) ∷ rest) (said-unnamed strict bytes table sections)

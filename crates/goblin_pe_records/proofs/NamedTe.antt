@@ -3,12 +3,12 @@ use Rattle.std.proofs.Common.{◌≡◌, ℕ, ◌+◌, ◌*◌, true, List, map,
 use Rattle.std.specs.Prelude.{IsSomeAnd, Some, option_map}
 use Rattle.std.proofs.lemmas.Simd.{map-map}
 use Rattle.goblin_base.proofs.Steps.{mapped, step}
-use Rattle.goblin_pe_sect.specs.SectionReadings.{section_at}
+use Rattle.goblin_pe_sect.specs.SectionReadings.{named_section_at}
 use Rattle.goblin_pe_sect.specs.SectionTable.{Section, unnamed}
 use Rattle.goblin_pe_head.specs.declared.header.te.TeHeader.{TeHeader}
 use Rattle.goblin_pe_head.specs.TeHeader.{displacement, section_adjusted, section_moved}
 use Rattle.goblin_pe_head.specs.TeReadings.{te_header, te_image, te_sections_at}
-use Rattle.goblin_pe_records.specs.Filled.{Filled, alone}
+use Rattle.goblin_pe_records.specs.Filled.{Filled, without_text}
 use Rattle.goblin_pe_records.specs.Sections.{named_in, section_said}
 use Rattle.goblin_pe_records.specs.TeImages.{SaysImage, TeImage, TeRecords, te_file, unnamed_image}
 use Rattle.goblin_pe_records.proofs.Named.{all-kept, said-unnamed, section-named}
@@ -18,16 +18,16 @@ moved-named : (bytes : List ℕ) (d : ℕ) (s : Section) → named_in true bytes
 unfolding section_adjusted
 moved-named bytes d s = refl
 
-one-named : (bytes : List ℕ) (d p : ℕ) (s : Section) → option_map (section_moved (Some d)) ((section_at true 0 p).value bytes) ≡ Some s → named_in true bytes 0 s ≡ s
+one-named : (bytes : List ℕ) (d p : ℕ) (s : Section) → option_map (section_moved (Some d)) ((named_section_at true 0 p).value bytes) ≡ Some s → named_in true bytes 0 s ≡ s
 one-named bytes d p s h =
-    let m = mapped ((section_at true 0 p).value bytes) (section_moved (Some d)) s h in
+    let m = mapped ((named_section_at true 0 p).value bytes) (section_moved (Some d)) s h in
     subst (λ (x : Section). named_in true bytes 0 x ≡ x) m.made (moved-named bytes d m.value ∙ ap (section_adjusted d) (section-named true 0 bytes p m.value m.is))
 
 sections-named : (h : TeHeader) (bytes : List ℕ) (p : ℕ) (sections : List Section) → (te_sections_at h p).value bytes ≡ Some sections → map (named_in true bytes 0) sections ≡ sections
 unfolding te_sections_at
 sections-named h bytes p sections is =
     let s = step (displacement h) _ sections is in
-    all-kept (named_in true bytes 0) (λ i. option_map (section_moved (Some s.value)) ((section_at true 0 (p + 40 * i)).value bytes)) h.number_of_sections 0 sections
+    all-kept (named_in true bytes 0) (λ i. option_map (section_moved (Some s.value)) ((named_section_at true 0 (p + 40 * i)).value bytes)) h.number_of_sections 0 sections
     (λ i x is. one-named bytes s.value (p + 40 * i) x is)
     s.then
 
@@ -44,14 +44,14 @@ image-named bytes x h =
 pub says_image : (bytes : List ℕ) (header : TeHeader) (stored : List Section) (old new : TeRecords)
     → option_map unnamed_image (te_file.value bytes) ≡ Some (record { header = header; sections = map (section_moved (displacement header)) stored })
     → new.header ≡ header
-    → Filled section_said (map (λ s. alone (named_in true bytes 0 (section_moved (displacement header) s))) stored) old.sections new.sections
+    → Filled section_said (map (λ s. without_text (named_in true bytes 0 (section_moved (displacement header) s))) stored) old.sections new.sections
     → IsSomeAnd (te_file.value bytes) (λ x. SaysImage x old new)
 says_image bytes header stored old new is said filled =
     let move = section_moved (displacement header) in
     let x = mapped (te_file.value bytes) unnamed_image (record { header = header; sections = map move stored }) is in
     let same_header : header ≡ x.value.header = ap (λ (o : TeImage). o.header) (sym x.made) in
     let same_sections : map move stored ≡ map unnamed x.value.sections = ap (λ (o : TeImage). o.sections) (sym x.made) in
-    let each = map-map (λ (s : Section). alone (named_in true bytes 0 s)) move stored in
-    let names = sym each ∙ ap (map (λ (s : Section). alone (named_in true bytes 0 s))) same_sections
-    ∙ said-unnamed true bytes 0 x.value.sections ∙ ap (map alone) (image-named bytes x.value x.is) in
+    let each = map-map (λ (s : Section). without_text (named_in true bytes 0 s)) move stored in
+    let names = sym each ∙ ap (map (λ (s : Section). without_text (named_in true bytes 0 s))) same_sections
+    ∙ said-unnamed true bytes 0 x.value.sections ∙ ap (map without_text) (image-named bytes x.value x.is) in
     rw x.is (said ∙ same_header, subst (λ (xs : List (Section × List ℕ)). Filled section_said xs old.sections new.sections) names filled)

@@ -9,7 +9,7 @@ use Rattle.goblin_pe_head.specs.CoffHeader.{coff_header, symbols_end}
 use Rattle.goblin_pe_head.specs.CoffReadings.{sections_at}
 use Rattle.goblin_pe_records.specs.declared.object.PeObject.{PeObject}
 use Rattle.goblin_pe_records.specs.declared.section.PeSection.{PeSection}
-use Rattle.goblin_pe_records.specs.Filled.{Filled, alone}
+use Rattle.goblin_pe_records.specs.Filled.{Filled, without_text}
 use Rattle.goblin_pe_records.specs.Sections.{section_said}
 
 -- an object: its header and its sections
@@ -50,4 +50,4 @@ pub record ObjectRecords : Type 0 where
 abbrev pub SaysObject : ObjectFile → ObjectRecords → ObjectRecords → Type 0
 SaysObject x old new =
     (new.object ≡ object_record x)
-    × (Filled section_said (map alone x.sections) old.sections new.sections)
+    × (Filled section_said (map without_text x.sections) old.sections new.sections)

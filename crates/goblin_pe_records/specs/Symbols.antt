@@ -19,7 +19,7 @@ use Rattle.goblin_pe_head.specs.CoffHeader.{symbols_end}
 use Rattle.goblin_pe_head.specs.CoffReadings.{strings_of, symbols_of}
 use Rattle.goblin_pe_records.specs.declared.symbol.PeNamedSymbol.{PeNamedSymbol}
 use Rattle.goblin_pe_records.specs.declared.symbol.PeSymbolTable.{PeSymbolTable}
-use Rattle.goblin_pe_records.specs.Filled.{Filled, alone}
+use Rattle.goblin_pe_records.specs.Filled.{Filled, without_text}
 
 -- the name at an offset of the bytes of a string table: what is left of the piece there, where that
 -- is UTF-8, whatever the other bytes are
@@ -53,7 +53,7 @@ auxiliary_of table i symbol = take (18 * symbol.number_of_aux_symbols) (drop (18
 -- a symbol at an index of a table, with this name and its auxiliary records
 abbrev pub symbol_named : List ℕ → ℕ → Option (List ℕ) → Symbol → NamedSymbol × List ℕ
 symbol_named table i name symbol =
-    alone (record {
+    without_text (record {
       index = i;
       name = name;
       auxiliary = auxiliary_of table i symbol;

@@ -6,7 +6,7 @@ use Rattle.goblin_pe_sect.specs.SectionTable.{Section, unnamed}
 use Rattle.goblin_pe_head.specs.declared.header.te.TeHeader.{TeHeader}
 use Rattle.goblin_pe_head.specs.TeReadings.{te_image}
 use Rattle.goblin_pe_records.specs.declared.section.PeSection.{PeSection}
-use Rattle.goblin_pe_records.specs.Filled.{Filled, alone}
+use Rattle.goblin_pe_records.specs.Filled.{Filled, without_text}
 use Rattle.goblin_pe_records.specs.Sections.{section_said}
 
 -- a Terse Executable
@@ -31,4 +31,4 @@ pub record TeRecords : Type 0 where
 abbrev pub SaysImage : TeImage → TeRecords → TeRecords → Type 0
 SaysImage x old new =
     (new.header ≡ x.header)
-    × (Filled section_said (map alone x.sections) old.sections new.sections)
+    × (Filled section_said (map without_text x.sections) old.sections new.sections)

@@ -4,7 +4,7 @@ ghost use Rattle.std.specs.Prelude.{◌+◌, ◌≡◌, IsSomeAnd, Some, map, op
 ghost use Rattle.goblin_base.specs.Reading.{Reads};
 ghost use Rattle.readings.specs.Reads.{mapped};
 ghost use Rattle.goblin_pe_sect.specs.Options.{is_strict};
-ghost use Rattle.goblin_pe_sect.specs.SectionTable.{section_records, unnamed};
+ghost use Rattle.goblin_pe_sect.specs.SectionTable.{recorded_sections, unnamed};
 ghost use Rattle.goblin_pe_records.specs.Calls.{ReadsWithout};
 ghost use Rattle.goblin_pe_records.specs.Objects.{ObjectRecords, SaysObject, object_file};
 ghost use Rattle.goblin_pe_records.specs.Objects.{object_sections, unnamed_object};
@@ -33,7 +33,7 @@ struct Object<'a> {
 }
 
 // The file offset at which the optional header of an object ends.
-fn after_optional_header(size_of_optional_header: u16) -> usize
+fn object_header_end(size_of_optional_header: u16) -> usize
     ensures { result ≡ 20 + size_of_optional_header }
 {
     SIZEOF_COFF_HEADER + size_of_optional_header as usize
@@ -46,10 +46,10 @@ fn records_of<'a>(
     opts: &ParseOptions,
 ) -> Result<SectionRecords<'a>>
     ensures { let strict = is_strict opts.now.parse_mode in
-        Reads section_records result (mapped (map unnamed) (object_sections strict header.now))
+        Reads recorded_sections result (mapped (map unnamed) (object_sections strict header.now))
         bytes.now }
 {
-    let mut offset = after_optional_header(header.size_of_optional_header);
+    let mut offset = object_header_end(header.size_of_optional_header);
     header.section_records_with_opts(bytes, &mut offset, opts)
 }
 
@@ -58,7 +58,7 @@ impl<'a> Object<'a> {
     #[tactic(auto, unfolding(crate::specs::Objects::object_file))]
     fn read(bytes: &'a [u8], opts: &ParseOptions) -> Result<Object<'a>>
         ensures { let strict = is_strict opts.now.parse_mode in
-            Reads (λ x. record { header = x.header; sections = section_records x.records }) result
+            Reads (λ x. record { header = x.header; sections = recorded_sections x.records }) result
             (mapped unnamed_object (object_file strict)) bytes.now }
     {
         let header = CoffHeader::parse(bytes, &mut 0)?;

@@ -3,7 +3,7 @@
 ghost use Rattle.std.specs.Prelude.{◌≡◌, map, option_map};
 ghost use Rattle.goblin_base.specs.Reading.{Reads};
 ghost use Rattle.readings.specs.Reads.{mapped};
-ghost use Rattle.goblin_pe_sect.specs.SectionTable.{section_records};
+ghost use Rattle.goblin_pe_sect.specs.SectionTable.{recorded_sections};
 ghost use Rattle.goblin_pe_head.specs.TeHeader.{displacement, section_moved};
 ghost use Rattle.goblin_pe_records.specs.Calls.{ReadsWithout};
 ghost use Rattle.goblin_pe_records.specs.TeImages.{SaysImage, TeRecords, te_file, unnamed_image};
@@ -38,7 +38,7 @@ impl<'a> Image<'a> {
         ensures { Reads
             (λ x. record {
               header = x.header;
-              sections = map (section_moved (displacement x.header)) (section_records x.records);
+              sections = map (section_moved (displacement x.header)) (recorded_sections x.records);
             }) result
             (mapped unnamed_image te_file) bytes.now }
     {

@@ -1,9 +1,17 @@
 -- A loop over a walk: what has come of it so far.
-use Rattle.std.proofs.Common.{◌≡◌, List, [], ◌∷◌, ◌++◌, map, Option, Some, Ok}
-use Rattle.std.proofs.Common.{refl, sym, ap, ◌∙◌, append_assoc}
-use Rattle.std.proofs.lemmas.List.{map-append}
+use Rattle.std.proofs.Common.{◌≡◌, List, [], ◌∷◌, ◌++◌, map, Option, Some, None, Result, Ok, Err}
+use Rattle.std.proofs.Common.{refl, sym, ap, subst, ◌∙◌, append-nil, append_assoc}
+use Rattle.std.proofs.lemmas.List.{map-append, map-id}
 use Rattle.goblin_base.specs.declared.error.ErrorOf.{ErrorOf}
-use Rattle.readings.specs.Walks.{GivesNext}
+use Rattle.goblin_base.specs.Answers.{all_of}
+use Rattle.goblin_base.specs.Tables.{join}
+use Rattle.readings.specs.Walks.{GivesNext, IsBegun}
+use Rattle.readings.proofs.WalkValues.{all_of-append, all_of-made}
+
+begun-more : {A : Type 0} (xs : List A) (now : List (Option A)) → IsBegun now
+    → IsBegun (map (λ x. Some x) xs ++ now)
+begun-more [] now h = h
+begun-more (x ∷ xs) now h = tt
 
 -- The walk that began at `start` has yielded xs so far, and is now at `now`.
 pub record AtWalk {S A : Type 0} (left : S → List (Option A)) (IsCause : S → ErrorOf → Type 0)
@@ -29,3 +37,33 @@ module _ {S A : Type 0} (left : S → List (Option A)) (IsCause : S → ErrorOf 
           (sym (map-append (λ (y : A). Some y) xs (view x ∷ [])));
       cause = λ e fault. h.cause e (given.1 e fault);
     }
+
+    -- the walk has ended
+    pub walk-all : GivesNext view left IsCause now None next → all_of (left start) ≡ Some xs
+    walk-all given =
+        let all =
+        h.yielded ∙ ap (λ (items : List (Option A)). map (λ x. Some x) xs ++ items) given.0
+        ∙ append-nil (map (λ x. Some x) xs) in
+        ap all_of all ∙ all_of-made (λ x. x) xs ∙ ap (λ (ys : List A). Some ys) (map-id xs)
+
+    module _ (r : Result X ErrorOf) (given : GivesNext view left IsCause now (Some r) next) where
+      steps : (q : Result X ErrorOf) → r ≡ q → GivesNext view left IsCause now (Some q) next
+      steps q is = subst (λ (q : Result X ErrorOf). GivesNext view left IsCause now (Some q) next) is given
+
+      -- it ends with a refusal
+      pub walk-fault : (e : ErrorOf) → r ≡ Err e → (all_of (left start) ≡ None) × IsCause start e
+      unfolding all_of join
+      walk-fault e is =
+          let all =
+          h.yielded
+          ∙ ap (λ (items : List (Option A)). map (λ x. Some x) xs ++ items) (steps (Err e) is).0 in (
+            ap all_of all ∙ all_of-append (map (λ x. Some x) xs) (None ∷ [])
+                ∙ ap (λ (made : Option (List A)). join made None) (all_of-made (λ x. x) xs),
+            h.cause e (steps (Err e) is).2,
+          )
+
+      -- it has another item, and so an item was the first to come
+      pub walk-begins : (x : X) → r ≡ Ok x → IsBegun (left start)
+      walk-begins x is =
+          subst IsBegun (sym h.yielded)
+          (begun-more xs (left now) (subst IsBegun (sym (steps (Ok x) is).0) tt))

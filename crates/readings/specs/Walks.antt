@@ -1,5 +1,5 @@
 -- Walks: items that come one by one, of which at most the last is a refusal.
-use Rattle.std.specs.Prelude.{◌≡◌, ℕ, Bool, ◌&&◌, not, if◌then◌else◌, List, [], ◌∷◌, ◌++◌}
+use Rattle.std.specs.Prelude.{◌≡◌, ℕ, Bool, ◌&&◌, not, if◌then◌else◌, ⊤, List, [], ◌∷◌, ◌++◌}
 use Rattle.std.specs.Prelude.{map, Option, Some, None, Result, Ok, Err, option_map}
 use Rattle.std.specs.Option.{is_some}
 use Rattle.goblin_base.specs.declared.error.ErrorOf.{ErrorOf}
@@ -64,6 +64,12 @@ GivesNext view left IsCause s (Some (Ok x)) t =
     (left s ≡ Some (view x) ∷ left t) × ((e : ErrorOf) → IsCause t e → IsCause s e)
 GivesNext view left IsCause s (Some (Err e)) t =
     (left s ≡ None ∷ []) × (left t ≡ []) × IsCause s e
+
+-- the first of what is still to come is there, and not a refusal
+abbrev pub IsBegun : {A : Type 0} → List (Option A) → Type 0
+IsBegun [] = ⊥
+IsBegun (None ∷ items) = ⊥
+IsBegun (Some x ∷ items) = ⊤
 
 -- What collecting a walk gives is the reading: `gather` makes its value of the items, if none is a
 -- refusal; and which cause is true of a refusal is true of the reading.

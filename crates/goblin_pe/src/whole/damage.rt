@@ -10,12 +10,12 @@ ghost use Rattle.goblin_pe_import.specs.ImportWalks.{IsImportsCause, imports_lef
 ghost use Rattle.goblin_pe.specs.Damages.{AreDamaged, IsDamage, IsDamageOf, IsReadByBoth, IsSound};
 ghost use Rattle.goblin_pe.specs.Damages.{TellsDamage};
 ghost use Rattle.goblin_pe.specs.Layouts.{IsFileImportsCause, file_imports_left, layout_map};
-ghost use Rattle.goblin_pe.specs.Layouts.{layout_places};
+ghost use Rattle.goblin_pe.specs.Layouts.{layout_bytes, layout_places};
 ghost use Rattle.goblin_pe.specs.SectionRoom.{TakesIndex};
 ghost use Rattle.goblin_pe.specs.Whole.{import_list, sections_after};
 
 use crate::import::{Bitfield, Imports, LeftOut};
-use crate::whole::layout::section_records;
+use crate::whole::layout::section_records_of;
 use crate::whole::{FileImports, Layout, Part, Whole};
 use goblin_base::{Error, ErrorOf, Result};
 use goblin_pe_head::header::{DosStub, Header};
@@ -70,7 +70,8 @@ fn file_refusal_of<'a, 'm, 'e>(imports: FileImports<'a, 'm, 'e>) -> Option<Error
 // What is refused of the imports.
 fn import_damage(layout: &Layout) -> Option<Error>
     ensures { let m = layout_map layout.now in
-        IsDamage (import_list m.opts (offset_of m) (layout_places layout.now)) layout.now.bytes.now
+        IsDamage (import_list m.opts (offset_of m) (layout_places layout.now))
+        (layout_bytes layout.now)
         result }
 {
     match layout.imports() {
@@ -85,14 +86,14 @@ fn import_damage(layout: &Layout) -> Option<Error>
 fn name_damage(bytes: &[u8], header: &Header) -> Option<Error>
     ensures { IsDamage (sections_after true (header_value header.now)) bytes.now result }
 {
-    section_records(bytes, header, &ParseOptions::default()).err()
+    section_records_of(bytes, header, &ParseOptions::default()).err()
 }
 
 // What strict mode refuses of the imports, the exports and the base relocations, and how much
 // permissive mode leaves out of the imports.
 fn table_damage(layout: Layout) -> (Option<Error>, Option<Error>, Option<Error>, LeftOut)
     ensures { let m = layout_map layout.entry in
-        AreDamaged m.opts (offset_of m) (layout_places layout.entry) layout.entry.bytes.now
+        AreDamaged m.opts (offset_of m) (layout_places layout.entry) (layout_bytes layout.entry)
         result.0 result.1 result.2 result.3 }
 {
     let left_out = layout.left_out();

@@ -5,7 +5,7 @@ ghost use Rattle.goblin_base.specs.Answers.{IsSliceFault, Writes};
 ghost use Rattle.goblin_base.specs.Reading.{Reads};
 ghost use Rattle.goblin_base.specs.Record.{ReadsBack, WritesBack, encoding, record_over};
 ghost use Rattle.goblin_pe_export.specs.declared.export.tables.ExportDirectoryTable.{ExportDirectoryTable};
-ghost use Rattle.goblin_pe_export.specs.ExportReadings.{fitting, record_here};
+ghost use Rattle.goblin_pe_export.specs.ExportReadings.{export_record_at, fitting};
 ghost use Rattle.goblin_pe_export.specs.ExportRecords.{address_entry};
 ghost use Rattle.goblin_pe_export.specs.ExportRecords.{export_directory_fields};
 ghost use Rattle.goblin_pe_export.specs.ExportRecords.{export_directory_record};
@@ -117,7 +117,7 @@ impl ExportDirectoryTable {
     /// [`Error::Malformed`] with [`Cause::ExportTable`] if the 40 bytes run past the end of the
     /// file.
     pub fn parse(bytes: &[u8], offset: usize) -> Result<ExportDirectoryTable>
-        ensures { Reads (λ t. t) result (record_here offset) bytes.now }
+        ensures { Reads (λ t. t) result (export_record_at offset) bytes.now }
     {
         match ExportDirectoryTable::read_at(bytes, offset, Endian::Little) {
             Ok(table) => Ok(table),

@@ -7,14 +7,14 @@ ghost use Rattle.goblin_base.specs.Reading.{Reads, ReadsOrMemory};
 ghost use Rattle.goblin_base.specs.Answers.{Answers, IsMemory, IsSliceFault, Writes};
 ghost use Rattle.goblin_base.specs.Record.{ReadsBack, WritesBack, encoding, record_over};
 ghost use Rattle.readings.specs.Reads.{mapped};
-ghost use Rattle.goblin_pe_sect.specs.SectionTable.{section_records, unnamed};
+ghost use Rattle.goblin_pe_sect.specs.SectionTable.{recorded_sections, unnamed};
 ghost use Rattle.goblin_pe_head.specs.declared.header.te.TeHeader.{TeHeader};
 ghost use Rattle.goblin_pe_head.specs.CoffHeader.{IsTooManySections};
-ghost use Rattle.goblin_pe_head.specs.TeHeader.{IsStrippedFault, displacement, moved};
+ghost use Rattle.goblin_pe_head.specs.TeHeader.{IsStrippedFault, displacement, moved_address};
 ghost use Rattle.goblin_pe_head.specs.TeHeader.{pointer_moved, section_moved, te_fields, te_record};
 ghost use Rattle.goblin_pe_head.specs.TeReadings as reading;
 
-use crate::header::sections::{read_sections, section_records};
+use crate::header::sections::{read_section_records, read_sections};
 use goblin_base::{
     Cause, Endian, Error, Field, Record, Result, field_u8, field_u16, field_u32, field_u64,
     gread_slice, put_fields,
@@ -154,10 +154,16 @@ impl TeHeader {
         let record = gread_slice(bytes, &mut end, SIZEOF_TE_HEADER)?;
         let mut header = TeHeader::in_record(record, Endian::Little);
         let displacement = header.displacement()?;
-        header.entry_point = moved(header.entry_point, displacement);
-        header.base_of_code = moved(header.base_of_code, displacement);
-        header.reloc_dir.virtual_address = moved(header.reloc_dir.virtual_address, displacement);
-        header.debug_dir.virtual_address = moved(header.debug_dir.virtual_address, displacement);
+        header.entry_point = moved_address(header.entry_point, displacement);
+        header.base_of_code = moved_address(header.base_of_code, displacement);
+        header.reloc_dir.virtual_address = moved_address(
+            header.reloc_dir.virtual_address,
+            displacement,
+        );
+        header.debug_dir.virtual_address = moved_address(
+            header.debug_dir.virtual_address,
+            displacement,
+        );
         *offset = end;
         Ok(header)
     }
@@ -212,7 +218,7 @@ impl TeHeader {
         bytes: &'a [u8],
         offset: &mut usize,
     ) -> Result<SectionRecords<'a>>
-        ensures value { Reads (λ r. map (section_moved (displacement self.now)) (section_records r))
+        ensures value { Reads (λ r. map (section_moved (displacement self.now)) (recorded_sections r))
             result (mapped (map unnamed) (reading.te_sections_at self.now offset.old)) bytes.now }
         ensures ok { OnOk result (offset.new ≡ offset.old + 40 * self.now.number_of_sections) }
         ensures err { OnErr result (offset.new ≡ offset.old) }
@@ -222,7 +228,7 @@ impl TeHeader {
             return Err(Error::BufferTooShort(count, "sections"));
         }
         self.displacement()?;
-        section_records(bytes, offset, count, &ParseOptions::default())
+        read_section_records(bytes, offset, count, &ParseOptions::default())
     }
 
     /// Writes the record to the front of `bytes`, its numbers as they are, and returns its size,
@@ -251,8 +257,8 @@ impl TeHeader {
 }
 
 // A number less the displacement, modulo 2^32.
-fn moved(number: u32, displacement: u32) -> u32
-    ensures { result ≡ moved displacement number }
+fn moved_address(number: u32, displacement: u32) -> u32
+    ensures { result ≡ moved_address displacement number }
 {
     number.wrapping_sub(displacement)
 }
@@ -264,7 +270,7 @@ fn pointer_moved(pointer: u32, displacement: u32) -> u32
     if pointer == 0 {
         0
     } else {
-        moved(pointer, displacement)
+        moved_address(pointer, displacement)
     }
 }
 
@@ -278,7 +284,7 @@ pub fn adjust_section(section: &mut SectionTable, displacement: Option<u32>)
     let Some(displacement) = displacement else {
         return;
     };
-    section.virtual_address = moved(section.virtual_address, displacement);
+    section.virtual_address = moved_address(section.virtual_address, displacement);
     section.pointer_to_raw_data = pointer_moved(section.pointer_to_raw_data, displacement);
     section.pointer_to_relocations = pointer_moved(section.pointer_to_relocations, displacement);
     section.pointer_to_linenumbers = pointer_moved(section.pointer_to_linenumbers, displacement);

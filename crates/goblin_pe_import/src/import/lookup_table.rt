@@ -1,12 +1,11 @@
 //! Import lookup tables: what is imported from a library, by name or by ordinal.
 
-ghost use Rattle.std.specs.Prelude.{◌≡◌, ◌<◌, ◌++◌, ◌∷◌, [], ◌⊎◌, Bool, IfErr, IfOk, IfSome, OnErr, OnOk, Some};
-ghost use Rattle.std.specs.Prelude.{if◌then◌else◌, length, map, option_to_list, true};
+ghost use Rattle.std.specs.Prelude.{◌≡◌, ◌<◌, [], ◌⊎◌, Bool, IfErr, IfOk, IfSome, Some, length, map, true};
 ghost use Rattle.std.specs.List.{All};
 ghost use Rattle.std.specs.List.Sorted.{IsStrictlyIncreasing};
 ghost use Rattle.goblin_base.specs.Answers.{IsMemory};
 ghost use Rattle.goblin_base.specs.Reading.{Reads, ReadsOrMemory};
-ghost use Rattle.goblin_base.specs.Tables.{is_kept, stop};
+ghost use Rattle.goblin_base.specs.Tables.{stop};
 ghost use Rattle.goblin_pe_sect.specs.Options.{default_options, is_strict};
 ghost use Rattle.goblin_pe_sect.specs.Addresses.{TakesMap, map_by, map_of, offset_of};
 ghost use Rattle.goblin_pe_sect.specs.Addresses.{reads_strictly};
@@ -15,7 +14,8 @@ ghost use Rattle.goblin_pe_import.specs.ImportLookup.{entry_slots, lookup_slots}
 ghost use Rattle.goblin_pe_import.specs.ImportLookup.{entry_view, hint_name_view, kept_view};
 ghost use Rattle.goblin_pe_import.specs.LookupReadings as reading;
 
-use crate::import::bitfield::{Bitfield, read_entry};
+use crate::import::bitfield::Bitfield;
+use crate::import::kept::next_kept;
 use goblin_base::{
     Cause, Endian, Error, Result, ResultOf, field_u16, pread_plain_str, pread_str, pread_u16,
 };
@@ -316,52 +316,16 @@ impl<'a> SyntheticImportLookupTableEntry<'a> {
         ensures counted { IfOk result (λ both. length both.0 ≡ length both.1.items) }
     {
         let size = T::size_of();
+        let mut finder = Finder::of(address_map);
         let mut entries = Vec::new(alloc);
         let mut slots = Vec::new(alloc);
-        let mut place = offset;
-        let mut slot = 0;
-        let mut finder = Finder::of(address_map);
-        'slots: loop {
-            let Ok(entry) = read_entry::<T>(bytes, place) else {
-                if address_map.is_permissive() {
-                    break 'slots;
-                }
-                return Err(Error::Malformed(Cause::LookupEnd(place)));
-            };
-            if entry.is_zero() {
-                break 'slots;
-            }
-            let kept = SyntheticImportLookupTableEntry::kept(&entry, bytes, &mut finder)?;
-            push_kept(&mut entries, &mut slots, kept, slot)?;
-            place += size;
-            slot += 1;
+        let mut place = Some(offset);
+        'entries: while let Some(next) = next_kept::<T>(bytes, offset, place, &mut finder) {
+            let kept = next?;
+            place = Some(kept.place + size);
+            slots.push(kept.slot)?;
+            entries.push(kept.entry)?;
         }
         Ok((Table::from(entries), slots))
     }
-}
-
-// Appends an entry that is kept, and the index of its slot.
-fn push_kept<'a, 'e>(
-    entries: &mut Vec<SyntheticImportLookupTableEntry<'a>>,
-    slots: &mut Vec<usize>,
-    kept: Option<SyntheticImportLookupTableEntry<'a>>,
-    slot: usize,
-) -> ResultOf<'e, ()>
-    ensures entries { OnOk result
-        (entries.new.items ≡ entries.old.items ++ option_to_list kept.entry) }
-    ensures slots { OnOk result
-        (slots.new.items
-        ≡ slots.old.items
-        ++ (if is_kept (Some (kept_view kept.entry)) then slot ∷ [] else [])) }
-    ensures counted { OnOk result
-        (length entries.old.items ≡ length slots.old.items
-        → length entries.new.items ≡ length slots.new.items) }
-    ensures memory { IfErr result IsMemory }
-    ensures grown { OnErr result (is_kept (Some (kept_view kept.entry)) ≡ true) }
-{
-    if let Some(entry) = kept {
-        entries.push(entry)?;
-        slots.push(slot)?;
-    }
-    Ok(())
 }

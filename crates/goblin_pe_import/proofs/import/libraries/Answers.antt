@@ -4,9 +4,9 @@ use Rattle.goblin_base.specs.declared.error.ErrorOf.TheVariants.{Malformed}
 use Rattle.goblin_base.specs.declared.error.CauseOf.TheVariants.{ImportRecordEnd}
 use Rattle.goblin_base.proofs.Steps.{mapped, unmapped}
 use Rattle.readings.proofs.Loops.{read-end, read-last, read-missing, read-next, read-refused, read-start, read-takes}
-use Rattle.goblin_pe_import.specs.ImportReadings.{record_here}
+use Rattle.goblin_pe_import.specs.ImportReadings.{import_record_at}
 use Rattle.goblin_pe_import.proofs.Imports.{opposite}
-use Rattle.goblin_pe_import.proofs.Modes.{strict, permissive}
+use Rattle.goblin_pe_import.proofs.Modes.{permissive, strict}
 use Rattle.goblin_pe_import.proofs.import.libraries.Goals as goal
 use Rattle.goblin_pe_import.proofs.import.libraries.Goals.{in_default+then-is_permissive, in-Ok+then-not-is_possibly_valid}
 
@@ -15,7 +15,7 @@ records-init g c = rw c.new-libraries.ensures.items (read-start _ _ _ _ (lit≤ 
 
 pub returns-in_default-clause-value : goal.returns-in_default-clause-value
 returns-in_default-clause-value g c = λ _.
-    read-missing _ _ _ _ _ _ c.records.invariant _ record_here (Malformed (ImportRecordEnd c.records.place)) c.in_default.ensures.0 (strict _ _ c.is_permissive.ensures c.if-is_permissive.false) refl
+    read-missing _ _ _ _ _ _ c.records.invariant _ import_record_at (Malformed (ImportRecordEnd c.records.place)) c.in_default.ensures.0 (strict _ _ c.is_permissive.ensures c.if-is_permissive.false) refl
 
 pub returns-in_err-add_library-clause-value : goal.returns-in_err-add_library-clause-value
 returns-in_err-add_library-clause-value g c =
@@ -23,7 +23,7 @@ returns-in_err-add_library-clause-value g c =
     let going = opposite _ _ false c.is_possibly_valid.ensures c.if-not-is_possibly_valid.false in
     rw (e.1, e.2) (λ memory.
     let refused = c.in_err-add_library.ensures.value memory in
-    read-refused _ _ _ _ _ _ c.records.invariant _ record_here _ _ c.in-Ok.ensures going (unmapped _ _ refused.0, refused.1))
+    read-refused _ _ _ _ _ _ c.records.invariant _ import_record_at _ _ c.in-Ok.ensures going (unmapped _ _ refused.0, refused.1))
 
 pub records-preserved : goal.records-preserved
 records-preserved g c =
@@ -35,9 +35,9 @@ pub returns-clause-value : goal.returns-clause-value
 returns-clause-value g c =
     elim c.match-read_at.branch [
       | in_default+then-is_permissive w ↦
-          read-end _ _ _ _ _ _ c.records.invariant _ record_here w.in_default.ensures.0 (permissive _ _ w.is_permissive.ensures w.if-is_permissive.true)
+          read-end _ _ _ _ _ _ c.records.invariant _ import_record_at w.in_default.ensures.0 (permissive _ _ w.is_permissive.ensures w.if-is_permissive.true)
       | in-Ok+then-not-is_possibly_valid w ↦
-          read-last _ _ _ _ _ _ c.records.invariant _ record_here _ w.in-Ok.ensures (opposite _ _ true w.is_possibly_valid.ensures w.if-not-is_possibly_valid.true)
+          read-last _ _ _ _ _ _ c.records.invariant _ import_record_at _ w.in-Ok.ensures (opposite _ _ true w.is_possibly_valid.ensures w.if-not-is_possibly_valid.true)
     ]
 
 pub returns-in_err-add_library-clause-grown : goal.returns-in_err-add_library-clause-grown

@@ -5,8 +5,8 @@ use Rattle.goblin_base.specs.Reading.{Reads}
 use Rattle.readings.specs.Reads.{◌>>=◌, each, mapped, needs}
 use Rattle.goblin_pe_sect.specs.declared.options.ParseOptions.{ParseOptions}
 use Rattle.goblin_pe_sect.specs.Options.{is_strict}
-use Rattle.goblin_pe_sect.specs.SectionReadings.{section_at}
-use Rattle.goblin_pe_sect.specs.SectionTable.{section_records, unnamed}
+use Rattle.goblin_pe_sect.specs.SectionReadings.{named_section_at}
+use Rattle.goblin_pe_sect.specs.SectionTable.{recorded_sections, unnamed}
 use Rattle.goblin_pe_head.specs.TeHeader.{displacement, section_moved}
 use Rattle.goblin_pe_head.specs.TeReadings.{moved_sections, te_sections_at}
 use Rattle.goblin_pe_head.proofs.Sections.{in_room_made, records_by_displacement, te_sections_at-too_short}
@@ -28,7 +28,7 @@ returns-clause-value c =
     let bytes = c.args.bytes.now in
     let p = c.args.offset.now in
     let made =
-    subst (λ (opts : ParseOptions). Reads section_records c.section_records.result (mapped (map unnamed) (each (λ i. section_at (is_strict opts.parse_mode) 0 (p + 40 * i)) n)) bytes)
-    c.default.ensures (c.section_records.ensures.value 0) in
-    in_room_made (λ r. map (section_moved shift) (section_records r)) c.section_records.result n (map unnamed) (needs shift (StrippedSize header.stripped_size) >>= λ d. moved_sections (Some d) true 0 n p) bytes (omega (arith, c.if-bytes-count.false))
-    (records_by_displacement section_records c.section_records.result shift header.stripped_size d n bytes p c.in_ok-displacement.ensures made)
+    subst (λ (opts : ParseOptions). Reads recorded_sections c.read_section_records.result (mapped (map unnamed) (each (λ i. named_section_at (is_strict opts.parse_mode) 0 (p + 40 * i)) n)) bytes)
+    c.default.ensures (c.read_section_records.ensures.value 0) in
+    in_room_made (λ r. map (section_moved shift) (recorded_sections r)) c.read_section_records.result n (map unnamed) (needs shift (StrippedSize header.stripped_size) >>= λ d. moved_sections (Some d) true 0 n p) bytes (omega (arith, c.if-bytes-count.false))
+    (records_by_displacement recorded_sections c.read_section_records.result shift header.stripped_size d n bytes p c.in_ok-displacement.ensures made)

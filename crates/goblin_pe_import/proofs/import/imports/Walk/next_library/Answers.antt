@@ -3,12 +3,12 @@ use Rattle.goblin_base.specs.declared.error.ErrorOf.TheVariants.{Malformed}
 use Rattle.goblin_base.specs.declared.error.CauseOf.TheVariants.{ImportRecordEnd}
 use Rattle.goblin_pe_import.specs.declared.import.imports.ImportPosition.{ImportPosition}
 use Rattle.goblin_pe_sect.specs.Addresses.{map_of, offset_of, reads_strictly}
-use Rattle.goblin_pe_import.specs.ImportWalks.{GivesLibrary, IsLaterCause, IsWalkCause, later_items, led, walk_left}
+use Rattle.goblin_pe_import.specs.ImportWalks.{GivesLibrary, IsLaterCause, IsWalkCause, later_items, walk_answer, walk_left}
 use Rattle.goblin_pe_import.proofs.Imports.{opposite}
 use Rattle.goblin_base.proofs.Records.{record_at-some}
 use Rattle.goblin_pe_import.proofs.ImportsWalk.{bound-given, later-end, later-given, later-last, later-missing, later-none, later-refused}
-use Rattle.goblin_pe_import.proofs.ImportSteps.{led-ok}
-use Rattle.goblin_pe_import.proofs.Modes.{strict, permissive}
+use Rattle.goblin_pe_import.proofs.ImportSteps.{walk_answer-ok}
+use Rattle.goblin_pe_import.proofs.Modes.{permissive, strict}
 use Rattle.goblin_pe_import.specs.declared.import.imports.Walk.{Walk}
 use Rattle.goblin_pe_import.proofs.import.imports.Walk.next_library.Goals as goal
 
@@ -28,7 +28,7 @@ returns-then-is_permissive-clause-gives g c =
 
 pub returns-in_default-read_at-clause-gives : goal.returns-in_default-read_at-clause-gives
 returns-in_default-read_at-clause-gives g c =
-    let all = later-missing _ g.T.Bitfield.format _ _ _ c.in_default.ensures.value c.test_untested.ensures.wide c.in-Some.at (Malformed (ImportRecordEnd c.in-Some.at.«record»)) c.in_default-read_at.ensures.0 (strict _ _ (rw c.test_untested.ensures.same at c.is_permissive.ensures) c.if-is_permissive.false) refl in
+    let all = later-missing _ g.T.Bitfield.format _ _ _ c.in_default.ensures.value c.test_untested.ensures.wide c.in-Some.at (Malformed (ImportRecordEnd c.in-Some.at.record_offset)) c.in_default-read_at.ensures.0 (strict _ _ (rw c.test_untested.ensures.same at c.is_permissive.ensures) c.if-is_permissive.false) refl in
     rw c.in-Some.is (all.0, (all.1, all.2))
 
 pub returns-then-not-is_possibly_valid-clause-gives : goal.returns-then-not-is_possibly_valid-clause-gives
@@ -45,11 +45,11 @@ returns-clause-gives g c =
     let b = c.args.self.now.bytes.now in
     subst
     (λ (at : Option ImportPosition). GivesLibrary (walk_left f) (IsWalkCause f) (later_items s f o b c.args.self.now.untested at)
-    (λ e. (s ≡ true) × IsLaterCause s f o b c.args.self.now.untested at e) (Some (led c.enter.new.self c.enter.result)))
+    (λ e. (s ≡ true) × IsLaterCause s f o b c.args.self.now.untested at e) (Some (walk_answer c.enter.new.self c.enter.result)))
     (sym c.in-Some.is)
-    (later-given s f o b c.args.self.now.untested c.in_default.ensures.value c.test_untested.ensures.wide c.in-Some.at c.in-Ok.«record» c.in-Ok.ensures (opposite _ _ false c.is_possibly_valid.ensures c.if-not-is_possibly_valid.false) (walk_left f) (IsWalkCause f) (led c.enter.new.self c.enter.result) (rw c.test_untested.ensures.same at c.enter.ensures.gives))
+    (later-given s f o b c.args.self.now.untested c.in_default.ensures.value c.test_untested.ensures.wide c.in-Some.at c.in-Ok.«record» c.in-Ok.ensures (opposite _ _ false c.is_possibly_valid.ensures c.if-not-is_possibly_valid.false) (walk_left f) (IsWalkCause f) (walk_answer c.enter.new.self c.enter.result) (rw c.test_untested.ensures.same at c.enter.ensures.gives))
 
 pub returns-clause-bound : goal.returns-clause-bound
 returns-clause-bound g c =
-    let bytes = led-ok (λ (t : Walk). t.bytes.now ≡ c.args.self.now.bytes.now) c.enter.new.self c.enter.result c.enter.ensures.bytes in
-    rw c.in-Some.is (bound-given _ _ (record_at-some 20 _ _ _ _ c.in-Ok.ensures).end (led c.enter.new.self c.enter.result) bytes c.enter.ensures.next c.enter.ensures.place)
+    let bytes = walk_answer-ok (λ (t : Walk). t.bytes.now ≡ c.args.self.now.bytes.now) c.enter.new.self c.enter.result c.enter.ensures.bytes in
+    rw c.in-Some.is (bound-given _ _ (record_at-some 20 _ _ _ _ c.in-Ok.ensures).end (walk_answer c.enter.new.self c.enter.result) bytes c.enter.ensures.next c.enter.ensures.place)

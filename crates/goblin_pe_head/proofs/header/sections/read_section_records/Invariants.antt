@@ -3,7 +3,7 @@ use Rattle.std.proofs.Common.{◌≡◌, ◌+◌, ◌*◌, ◌<◌, ◌≤◌, �
 use Rattle.std.specs.Prelude.{Some}
 use Rattle.goblin_pe_sect.specs.Options.{is_strict}
 use Rattle.goblin_pe_head.proofs.SectionRecords.{sections_from, unnamed_from}
-use Rattle.goblin_pe_head.proofs.header.sections.section_records.Given as goal
+use Rattle.goblin_pe_head.proofs.header.sections.read_section_records.Given as goal
 
 abbrev pub invariant-records : goal.invariant-records
 invariant-records l = record {

@@ -2,7 +2,7 @@ use Rattle.std.proofs.lemmas.Result.{err_from_is_err_and}
 use Rattle.goblin_pe_sect.specs.Addresses.{map_of}
 use Rattle.goblin_pe.specs.Whole.{table_places}
 use Rattle.goblin_pe.proofs.TakenTables.{imports_taken}
-use Rattle.goblin_pe.proofs.whole.places.Places.import_parts.Goals as goal
+use Rattle.goblin_pe.proofs.whole.places.Places.both_import_parts.Goals as goal
 
 pub returns-in_err-imports-clause-grown : goal.returns-in_err-imports-clause-grown
 returns-in_err-imports-clause-grown c =
