@@ -22,6 +22,11 @@ CONSTANTS = ("goblin_pe_head/src/header/machine", "goblin_pe_head/src/characteri
 # The numbers: the size of each, its type in C, and that in ctypes.
 NUMBERS = {"bool": (1, "bool", "c_bool"), "usize": (8, "size_t", "c_size_t"), "i16": (2, "int16_t", "c_int16"),
            **{"u%d" % bits: (bits // 8, "uint%d_t" % bits, "c_uint%d" % bits) for bits in (8, 16, 32, 64)}}
+# Constants whose names are shown, by their beginning: those of numbers, and of flags.
+SHOWN = {"machines": "COFF_MACHINE_", "subsystems": "IMAGE_SUBSYSTEM_", "file_flags": "IMAGE_FILE_",
+         "dll_flags": "IMAGE_DLLCHARACTERISTICS_", "section_flags": "IMAGE_SCN_"}
+# Where the names of ordinals stand, for the hash of imports.
+ORDINALS = HERE / "python/goblin_pe/_imphash.py"
 MADE = "callers/generate.py makes this file of what the proved crates declare."
 
 
@@ -449,8 +454,19 @@ def rust_files(it: Interface) -> Dict[str, str]:
     def constant(c: Item) -> str:
         return comment(c.doc) + "pub const %s: %s = %s;\n" % (c.name, c.type.name, c.number)
 
+    def shown(name: str, beginning: str) -> str:
+        rows = [c for file in it.constants for c in file.items if c.name.startswith(beginning) and not c.name.endswith("_MASK")]
+        return "pub const %s: &[(&str, u32)] = &[\n%s];\n" % (name.upper(), "".join('    ("%s", %s),\n' % (c.name, c.number) for c in rows))
+
+    def ordinals(name: str) -> str:
+        table, = re.findall(r'(?s)\n%s = """(.*?)"""' % name, ORDINALS.read_text("utf-8"))
+        words = table.lower().split()
+        return "pub const %s: &[(u16, &str)] = &[\n%s];\n" % (name, "".join('    (%s, "%s"),\n' % row for row in zip(words[::2], words[1::2])))
+
     records = [r for r in it.records.values() if r.name != "Text"]
     return {
+        "rust/src/tables.rs": "//! The names of numbers and flags, and those of ordinals by which imports are hashed.\n//! %s\n\n"
+        "%s" % (MADE, "\n".join([*(shown(*row) for row in SHOWN.items()), *map(ordinals, ("SOCKETS", "AUTOMATION"))])),
         "rust/src/records.rs": RUST_RECORDS % (
             MADE, it.version, "\n".join(map(record, records)), "".join("        %s: %s,\n" % row for row in it.defaults.items()),
             "".join(facts(r.name) for r in records), "\n".join(map(call, it.calls))),

@@ -231,9 +231,8 @@ class Exports(Read):
 class Damage(Read):
     def damage(self, data, how):
         """The damage of a file. It replaces the sample after that was opened, since strict mode would not open it."""
-        held = bytearray(sample())
-        pe = package().Pe(held, how)
-        held[:] = data
+        pe = package().Pe(sample(), how)
+        pe._data = bytes(data)
         return pe.damage
 
     def test_libraries_and_entries_that_are_left_out_are_counted_whatever_the_mode(self):

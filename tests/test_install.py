@@ -129,6 +129,7 @@ class Crate(Case):
 
     def test_what_is_packed(self):
         packed = {str(it.relative_to(self.manifest.parent)) for it in self.manifest.parent.rglob("*")}
+        self.assertEqual((self.manifest.parent / "LICENSE").read_bytes(), (CALLERS.parent / "LICENSE").read_bytes())
         self.assertLessEqual({"LICENSE", "README.md", "build.rs", "src/lib.rs", "examples/list.rs"}, packed)
 
     def test_over_another_interface(self):

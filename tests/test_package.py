@@ -96,6 +96,21 @@ class Packages(Case):
             listed = text[text.index("cd crates/CRATE"):].replace("CRATE", crate)
             self.assertIn("%s  %s\n" % (succeed(["sh", "-c", listed], cwd=CRATES.parent).split()[0], crate), text)
 
+    def test_each_has_a_text_and_examples(self):
+        unpacked = self.unpacked()
+        files = {str(it.relative_to(unpacked)) for it in unpacked.rglob("*")}
+        self.assertLessEqual({"LICENSE", "PROVED", "rust/README.md", "rust/LICENSE", "rust/examples/scan.rs", "share/doc/goblin-pe/README.md",
+                              "share/doc/goblin-pe/examples/loader.c"}, files)
+        wheel = zipfile.ZipFile(package(".whl"))
+        metadata, = (it for it in wheel.namelist() if it.endswith("/METADATA"))
+        self.assertIn((CALLERS / "python/README.md").read_text("utf-8"), wheel.read(metadata).decode())
+        need("dpkg-deb")
+        succeed(["dpkg-deb", "-x", package(".deb"), self.folder / "root"])
+        doc = self.folder / "root/usr/share/doc/goblin-pe"
+        self.assertEqual(sorted(it.name for it in doc.iterdir()),
+                         ["PROVED", "README.md", "README.python.md", "README.rust.md", "copyright", "examples"])
+        self.assertIn("triage.py", [it.name for it in (doc / "examples").iterdir()])
+
     def test_the_wheel(self):
         made = self.folder / "environment"
         succeed([python(), "-m", "venv", made])

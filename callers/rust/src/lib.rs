@@ -11,7 +11,25 @@
 //!
 //! `callers/build` makes the library that this crate links, in `callers/lib`, or `callers/install` puts
 //! it where pkg-config finds it; the variable `GOBLIN_PE_LIB` names another folder with it. A crate names
-//! this one by its path: `goblin_pe = { path = ".../callers/rust" }`.
+//! this one by its path: `goblin_pe = { path = ".../callers/rust" }`. It can be checked and documented
+//! without the library.
+//!
+//! # Platforms
+//!
+//! The library is built for x86-64 Linux, and needs the C library alone, static or shared. This crate needs
+//! `std`, Rust 1.85 and no other crate.
+//!
+//! # What it costs
+//!
+//! | Call | Time | Memory |
+//! |---|---|---|
+//! | [`Pe::read`] | as long as what it lists, some microseconds for a small file | a record for each row, of 8 to 96 bytes |
+//! | [`Pe::walk_imports`], [`Pe::walk_exports`], [`Pe::symbols`] | as they go on | room for 256 rows; an index of more than 96 sections |
+//! | [`Pe::damage`] | as a read | an index of more than 96 sections |
+//! | [`Pe::footprint`], [`Pe::fingerprint`] | as two reads | a bit for each byte of the file, and the ranges |
+//! | [`Pe::find_offset`] and what is at an address | a walk over the sections | none |
+//! | [`Object::read`], [`Te::read`] | as many sections as there are | a record for each section |
+//! | rows, names and texts | none: they are places in the bytes | none |
 //!
 //! ```no_run
 //! use goblin_pe::{Options, Pe};
@@ -38,10 +56,13 @@
 
 #[allow(clippy::doc_markdown)] // (processors are called PowerPC and the like)
 pub mod constants;
+mod digest;
 mod error;
 mod footprint;
+mod imphash;
 mod iterators;
 mod memory;
+mod names;
 mod numbers;
 mod object;
 mod pe;
@@ -50,15 +71,18 @@ mod raw;
 #[allow(unsafe_code, clippy::struct_field_names)]
 mod records;
 mod rows;
+mod tables;
 mod te;
 mod text;
 
+pub use digest::Hash;
 pub use error::Error;
 pub use footprint::Footprint;
 pub use iterators::{
-    Blocks, DataDirectories, ExportAddresses, Exports, FootprintRanges, Imports, Sections, Symbols,
-    WalkExports, WalkImports, Words,
+    Blocks, DataDirectories, ExportAddresses, Exports, FootprintRanges, Imports, IntoImports,
+    Sections, Symbols, WalkExports, WalkImports, WalkLibraries, Words,
 };
+pub use names::{DllFlags, FileFlags, Machine, SectionFlags, Subsystem};
 pub use numbers::{Cause, Counted, DirectoryType, ErrorKind, Kind, Part, ReadFault};
 pub use object::Object;
 pub use pe::Pe;
@@ -69,7 +93,7 @@ pub use records::{
 };
 pub use rows::{
     Block, Damage, Export, ExportAddress, ExportDirectory, Forwarder, Header, Import, Imported,
-    RichHeader, Section, Symbol,
+    Library, RichHeader, Section, Symbol,
 };
 pub use te::Te;
 pub use text::Text;

@@ -2,11 +2,14 @@
 
 use std::fmt;
 
+use crate::constants::{IMAGE_FILE_DLL, MAGIC_64};
+use crate::digest::Hash;
 use crate::error::Error;
 use crate::footprint::Footprint;
+use crate::imphash::imphash;
 use crate::iterators::{
-    Blocks, DataDirectories, ExportAddresses, Exports, Imports, Sections, Symbols, WalkExports,
-    WalkImports,
+    Blocks, DataDirectories, ExportAddresses, Exports, Imports, IntoImports, Sections, Symbols,
+    WalkExports, WalkImports, WalkLibraries,
 };
 use crate::numbers::{DirectoryType, Part};
 use crate::raw::{
@@ -88,6 +91,114 @@ impl<'a> Pe<'a> {
             &mut pe.tables,
         ))?;
         Ok(pe)
+    }
+
+    /// Reads an image that lies in memory, by the default options: strictly, with all its tables.
+    ///
+    /// # Errors
+    /// Why it was refused.
+    ///
+    /// ```no_run
+    /// # let bytes = [];
+    /// let pe = goblin_pe::Pe::parse(&bytes)?;
+    /// println!("{} imports", pe.imports().len());
+    /// # Ok::<(), goblin_pe::Error>(())
+    /// ```
+    pub fn parse(bytes: &'a [u8]) -> Result<Pe<'a>, Error> {
+        Pe::read(bytes, &Options::default())
+    }
+
+    /// Whether the optional header is one for 64 bits.
+    ///
+    /// ```no_run
+    /// # let bytes = [];
+    /// let pe = goblin_pe::Pe::parse(&bytes)?;
+    /// let width = if pe.is_64() { 8 } else { 4 };
+    /// # Ok::<(), goblin_pe::Error>(())
+    /// ```
+    #[must_use]
+    pub fn is_64(&self) -> bool {
+        self.optional_header()
+            .is_some_and(|it| it.standard_fields.magic == MAGIC_64)
+    }
+
+    /// Whether the file says that it is a dynamic-link library.
+    ///
+    /// ```no_run
+    /// # let bytes = [];
+    /// let pe = goblin_pe::Pe::parse(&bytes)?;
+    /// println!("{}", if pe.is_lib() { "library" } else { "program" });
+    /// # Ok::<(), goblin_pe::Error>(())
+    /// ```
+    #[must_use]
+    pub fn is_lib(&self) -> bool {
+        self.coff_header().characteristics & IMAGE_FILE_DLL != 0
+    }
+
+    /// The address of the entry point, relative to the image's base; 0 where there is none.
+    ///
+    /// ```no_run
+    /// # let bytes = [];
+    /// let pe = goblin_pe::Pe::parse(&bytes)?;
+    /// let offset = pe.find_offset(pe.entry() as usize);
+    /// # Ok::<(), goblin_pe::Error>(())
+    /// ```
+    #[must_use]
+    pub fn entry(&self) -> u32 {
+        self.optional_header()
+            .map_or(0, |it| it.standard_fields.address_of_entry_point)
+    }
+
+    /// The address at which the image is best loaded; 0 where it has no optional header.
+    ///
+    /// ```no_run
+    /// # let bytes = [];
+    /// let pe = goblin_pe::Pe::parse(&bytes)?;
+    /// println!("it begins at {:#x}", pe.image_base() + u64::from(pe.entry()));
+    /// # Ok::<(), goblin_pe::Error>(())
+    /// ```
+    #[must_use]
+    pub fn image_base(&self) -> u64 {
+        self.optional_header()
+            .map_or(0, |it| it.windows_fields.image_base)
+    }
+
+    /// The name with which it was linked as a library; `None` where it has none.
+    ///
+    /// ```no_run
+    /// # let bytes = [];
+    /// let pe = goblin_pe::Pe::parse(&bytes)?;
+    /// println!("{}", pe.name().unwrap_or_default());
+    /// # Ok::<(), goblin_pe::Error>(())
+    /// ```
+    #[must_use]
+    pub fn name(&self) -> Option<Text<'a>> {
+        self.export_directory()?.name
+    }
+
+    /// The names of the libraries of which something is imported, sorted, each once.
+    ///
+    /// # Errors
+    /// [`ErrorKind::Memory`](crate::ErrorKind::Memory) alone.
+    ///
+    /// ```no_run
+    /// # let bytes = [];
+    /// let pe = goblin_pe::Pe::parse(&bytes)?;
+    /// let has_sockets = pe.libraries()?.iter().any(|it| it.eq_ignore_ascii_case(b"ws2_32.dll"));
+    /// # Ok::<(), goblin_pe::Error>(())
+    /// ```
+    pub fn libraries(&self) -> Result<Vec<Text<'a>>, Error> {
+        let mut libraries: Vec<Text> = Vec::new();
+        // (the imports of a library follow one another)
+        for import in self.imports() {
+            if libraries.last() != Some(&import.dll) {
+                libraries.try_reserve(1).map_err(|_| Error::MEMORY)?;
+                libraries.push(import.dll);
+            }
+        }
+        libraries.sort_unstable();
+        libraries.dedup();
+        Ok(libraries)
     }
 
     /// The DOS header.
@@ -295,6 +406,42 @@ impl<'a> Pe<'a> {
         Imports(self.tables.imports.get().iter())
     }
 
+    /// The imports, for which the rest is given up: they may be handed on alone.
+    ///
+    /// ```no_run
+    /// # use goblin_pe::{Error, Import, Pe};
+    /// fn names(bytes: &[u8]) -> Result<impl Iterator<Item = Import<'_>>, Error> {
+    ///     Ok(Pe::parse(bytes)?.into_imports())
+    /// }
+    /// ```
+    #[must_use]
+    pub fn into_imports(self) -> IntoImports<'a> {
+        IntoImports::of(self.tables.imports)
+    }
+
+    /// The hash of the imports that analysts compare, an MD5; `None` where there are no imports. Other tools
+    /// tell the same where they see the same imports. Where the options left the imports out, it walks over
+    /// them.
+    ///
+    /// # Errors
+    /// As of [`Pe::walk_imports`], where the options left the imports out.
+    ///
+    /// ```no_run
+    /// # let bytes = [];
+    /// let pe = goblin_pe::Pe::parse(&bytes)?;
+    /// if let Some(hash) = pe.imphash()? {
+    ///     println!("{hash}");
+    /// }
+    /// # Ok::<(), goblin_pe::Error>(())
+    /// ```
+    pub fn imphash(&self) -> Result<Option<Hash<16>>, Error> {
+        if self.options.parse_imports {
+            imphash(self.imports().map(Ok))
+        } else {
+            imphash(self.walk_imports())
+        }
+    }
+
     /// A walk over the imports, in constant memory, which reads the file as it goes on: also where the
     /// options of the read left them out. A file of 256 KiB can have more than 800 million imports, more
     /// than may be listed. In strict mode it ends with the error for which a read is refused; no law says
@@ -312,6 +459,23 @@ impl<'a> Pe<'a> {
     #[must_use]
     pub fn walk_imports(&self) -> WalkImports<'a> {
         WalkImports::of(self.bytes, self.options.with_parse_imports(true))
+    }
+
+    /// A walk over the libraries of which something is imported, in the order of their records, as
+    /// [`Pe::walk_imports`] is over imports. One library may have several records.
+    ///
+    /// ```no_run
+    /// # let bytes = [];
+    /// let pe = goblin_pe::Pe::parse(&bytes)?;
+    /// for library in pe.walk_libraries() {
+    ///     let library = library?;
+    ///     println!("{} {}", library.name, library.time_date_stamp);
+    /// }
+    /// # Ok::<(), goblin_pe::Error>(())
+    /// ```
+    #[must_use]
+    pub fn walk_libraries(&self) -> WalkLibraries<'a> {
+        WalkLibraries::of(self.bytes, self.options.with_parse_imports(true))
     }
 
     /// How the exports stand.
@@ -592,7 +756,7 @@ impl<'a> Pe<'a> {
     /// ```no_run
     /// # let bytes = [];
     /// let pe = goblin_pe::Pe::read(&bytes, &goblin_pe::Options::default())?;
-    /// let mut out = vec![0; pe.header().section_table() + 256];
+    /// let mut out = vec![0; pe.header().size()];
     /// let size = pe.write_header(&mut out)?;
     /// # Ok::<(), goblin_pe::Error>(())
     /// ```
@@ -638,6 +802,33 @@ impl<'a> Pe<'a> {
     /// ```
     pub fn footprint(&self) -> Result<Footprint, Error> {
         Footprint::of(self.bytes, self.options)
+    }
+
+    /// A key of what [`Pe::read`] lists, for one choice of options: the SHA-256 of the length of the file and of its
+    /// footprint, the ranges and their bytes. Files that have the same are read alike by the same options. It
+    /// covers what the footprint does.
+    ///
+    /// # Errors
+    /// [`ErrorKind::Memory`](crate::ErrorKind::Memory) alone.
+    ///
+    /// ```no_run
+    /// # use goblin_pe::Pe;
+    /// # let bytes = [];
+    /// let pe = Pe::parse(&bytes)?;
+    /// println!("{}", pe.fingerprint()?);
+    /// # Ok::<(), goblin_pe::Error>(())
+    /// ```
+    pub fn fingerprint(&self) -> Result<Hash<32>, Error> {
+        Ok(self.footprint()?.digest(self.bytes))
+    }
+}
+
+impl<'a> TryFrom<&'a [u8]> for Pe<'a> {
+    type Error = Error;
+
+    /// As by [`Pe::parse`].
+    fn try_from(bytes: &'a [u8]) -> Result<Pe<'a>, Error> {
+        Pe::parse(bytes)
     }
 }
 

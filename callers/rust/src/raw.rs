@@ -61,6 +61,13 @@ impl Options {
         }
     }
 
+    /// The same options, with damaged parts passed over or not.
+    #[must_use]
+    pub const fn with_is_permissive(mut self, is_permissive: bool) -> Options {
+        self.is_permissive = is_permissive;
+        self
+    }
+
     /// The same options, with addresses mapped by the sections or not.
     #[must_use]
     pub const fn with_resolve_rva(mut self, resolve_rva: bool) -> Options {

@@ -1,5 +1,6 @@
 //! What was read, row by row. Rows live as long as the bytes of the file.
 
+use crate::constants::MAGIC_64;
 use crate::error::Error;
 use crate::iterators::Words;
 use crate::memory::records;
@@ -20,7 +21,7 @@ use std::io::Write;
 /// let mut header = pe.header();
 /// header.coff_header.time_date_stamp = 0;
 /// let (mut out, table) = (bytes.clone(), header.section_table());
-/// let mut written = vec![0; table + 256];
+/// let mut written = vec![0; header.size()];
 /// let size = header.write(&mut written)?.min(table).min(out.len());
 /// out[..size].copy_from_slice(&written[..size]);
 /// # Ok::<(), goblin_pe::Error>(())
@@ -52,6 +53,25 @@ impl Header<'_> {
     #[must_use]
     pub fn section_table(&self) -> usize {
         section_table(&self.dos_header, &self.coff_header)
+    }
+
+    /// How many bytes [`Header::write`] writes.
+    ///
+    /// ```no_run
+    /// # let bytes = [];
+    /// let header = goblin_pe::Pe::parse(&bytes)?.header();
+    /// let mut out = vec![0; header.size()];
+    /// header.write(&mut out)?;
+    /// # Ok::<(), goblin_pe::Error>(())
+    /// ```
+    #[must_use]
+    pub fn size(&self) -> usize {
+        let optional = match self.optional_header {
+            None => 0,
+            Some(it) if it.standard_fields.magic == MAGIC_64 => OPTIONAL_HEADER_64,
+            Some(_) => OPTIONAL_HEADER_32,
+        };
+        DOS_HEADER + self.dos_stub.len() + SIGNATURE_AND_COFF_HEADER + optional
     }
 
     /// Writes the header to the front of `out`, and returns how many bytes it has: all sixteen data
@@ -96,8 +116,12 @@ impl Header<'_> {
     }
 }
 
-// The size of the PE signature and of the COFF header, in bytes.
+// The sizes of the DOS header, of the PE signature and the COFF header, and of the optional header of either width
+// with sixteen data directories, in bytes.
+const DOS_HEADER: usize = 64;
 const SIGNATURE_AND_COFF_HEADER: usize = 24;
+const OPTIONAL_HEADER_32: usize = 224;
+const OPTIONAL_HEADER_64: usize = 240;
 
 // The file offset of the section table of an image.
 pub(crate) fn section_table(dos_header: &DosHeader, coff_header: &CoffHeader) -> usize {
@@ -457,6 +481,20 @@ impl<'a> From<&raw::Import<'a>> for Import<'a> {
             slot: x.slot,
         }
     }
+}
+
+/// A library of which something is imported.
+#[derive(Clone, Copy, Debug, PartialEq, Eq, PartialOrd, Ord, Hash)]
+#[non_exhaustive]
+pub struct Library<'a> {
+    /// The name; empty where permissive mode could not read it.
+    pub name: Text<'a>,
+    /// The file offset of its record, of 20 bytes.
+    pub record_offset: usize,
+    /// 0 where its imports are not bound; else when it was linked, or all ones where its own table says so.
+    pub time_date_stamp: u32,
+    /// The index of the first import that it forwards, where its imports are bound in the old way.
+    pub forwarder_chain: u32,
 }
 
 /// What an export that is a forwarder stands for.

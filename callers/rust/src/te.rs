@@ -87,6 +87,21 @@ impl<'a> Te<'a> {
     pub fn section_by_name(&self, name: impl AsRef<[u8]>) -> Option<Section<'a>> {
         self.sections().find(|s| s.name == *name.as_ref())
     }
+
+    /// The data of one of its sections, and how many zeros follow it in memory; see [`Section::data`].
+    ///
+    /// # Errors
+    /// Where the data passes the file, and where it begins past the end, even if there is none.
+    ///
+    /// ```no_run
+    /// # let bytes = [];
+    /// let te = goblin_pe::Te::read(&bytes)?;
+    /// let code = te.section_by_name(".text").map(|s| te.section_data(&s)).transpose()?;
+    /// # Ok::<(), goblin_pe::Error>(())
+    /// ```
+    pub fn section_data(&self, section: &Section) -> Result<(&'a [u8], usize), Error> {
+        section.data(self.bytes)
+    }
 }
 
 impl fmt::Debug for Te<'_> {

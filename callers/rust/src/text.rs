@@ -3,9 +3,21 @@
 use std::borrow::{Borrow, Cow};
 use std::fmt::{self, Write};
 use std::ops::Deref;
+use std::str::{self, Utf8Error};
 
-/// A text of the file: bytes that mostly, but not always, are UTF-8. It is shown with each byte
-/// outside printable ASCII, and the backslash, as `\x` and two hexadecimal digits.
+/// A text of the file: bytes that mostly, but not always, are UTF-8. For a program it is what
+/// [`as_str`](Text::as_str) and [`to_string_lossy`](Text::to_string_lossy) give:
+///
+/// ```
+/// use goblin_pe::Text;
+///
+/// let path = Text::from(r"naïve\path");
+/// assert_eq!(path.as_str(), Some(r"naïve\path"));
+/// assert_eq!(path.to_string_lossy(), r"naïve\path");
+/// ```
+///
+/// As a file that can't be trusted may have anything in it, it is shown with each byte outside printable
+/// ASCII, and the backslash, as `\x` and two hexadecimal digits:
 ///
 /// ```
 /// use goblin_pe::Text;
@@ -14,6 +26,7 @@ use std::ops::Deref;
 /// assert!(name == "KERNEL32.dll" && name.eq_ignore_ascii_case(b"kernel32.DLL"));
 /// assert_eq!(format!("{name:>14}"), "  KERNEL32.dll");
 /// assert_eq!(Text(b"a\xFF").to_string(), r"a\xff");
+/// assert_eq!(Text::from(r"naïve\path").to_string(), r"na\xc3\xafve\x5cpath");
 /// ```
 #[derive(Clone, Copy, Default, PartialEq, Eq, PartialOrd, Ord, Hash)]
 pub struct Text<'a>(pub &'a [u8]);
@@ -27,7 +40,7 @@ impl<'a> Text<'a> {
     /// ```
     #[must_use]
     pub fn as_str(self) -> Option<&'a str> {
-        std::str::from_utf8(self.0).ok()
+        str::from_utf8(self.0).ok()
     }
 
     /// The text, with the replacement character for what is not UTF-8. Memory is taken only then.
@@ -132,6 +145,35 @@ impl<'a> From<Text<'a>> for &'a [u8] {
     }
 }
 
+impl From<Text<'_>> for Vec<u8> {
+    fn from(text: Text<'_>) -> Vec<u8> {
+        text.0.to_vec()
+    }
+}
+
+impl<'a> From<Text<'a>> for Cow<'a, str> {
+    /// As by [`Text::to_string_lossy`].
+    fn from(text: Text<'a>) -> Cow<'a, str> {
+        text.to_string_lossy()
+    }
+}
+
+impl From<Text<'_>> for String {
+    /// As by [`Text::to_string_lossy`].
+    fn from(text: Text<'_>) -> String {
+        text.to_string_lossy().into_owned()
+    }
+}
+
+impl<'a> TryFrom<Text<'a>> for &'a str {
+    type Error = Utf8Error;
+
+    /// As by [`Text::as_str`].
+    fn try_from(text: Text<'a>) -> Result<&'a str, Utf8Error> {
+        str::from_utf8(text.0)
+    }
+}
+
 // A text is the same as what has the same bytes, on either side.
 macro_rules! same_bytes {
     ($([$($generic:tt)*] $other:ty;)*) => {$(
@@ -154,6 +196,8 @@ same_bytes! {
     [] &str;
     [] [u8];
     [] &[u8];
+    [] String;
+    [] Vec<u8>;
     [const N: usize] [u8; N];
     [const N: usize] &[u8; N];
 }

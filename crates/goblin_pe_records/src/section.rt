@@ -144,7 +144,11 @@ fn name_record<'a>(
 
 // The section of the record at an index; with a displacement, as it is in the stripped file.
 #[inline(always)]
-fn stored_section(sections: &SectionRecords, index: usize, displacement: Option<u32>) -> SectionTable
+fn stored_section(
+    sections: &SectionRecords,
+    index: usize,
+    displacement: Option<u32>,
+) -> SectionTable
     requires { index < length (recorded_sections sections.now) }
     ensures { option_map (section_moved displacement)
         (slice_get (recorded_sections sections.now) index)
