@@ -1,6 +1,6 @@
 -- What the audits say of a file.
 use Rattle.std.specs.Prelude.{◌≡◌, ◌++◌, ◌==◌, ◌&&◌, ℕ, Bool, false, not, List, Option, Some, None}
-use Rattle.std.specs.Prelude.{◌-◌, ◌^◌, IsSome, bit_and, codes, count_by, filter, min}
+use Rattle.std.specs.Prelude.{IsSome, bit_and, codes, count_by, filter}
 use Rattle.std.specs.List.{list_any}
 use Rattle.std.specs.Option.{is_some}
 use Rattle.std.specs.Str.{bytes_eq}
@@ -28,10 +28,6 @@ is_from library import = bytes_eq import.dll library
 abbrev pub imports_from : List ℕ → Reading Bool
 imports_from library =
     mapped (read_or false (list_any (is_from library))) (file_table import_list default_options)
-
--- how many imports are from this library, at most the greatest number of 64 bits
-abbrev pub count_from : List ℕ → List ImportValue → ℕ
-count_from library imports = min (count_by (is_from library) imports) (2 ^ 64 - 1)
 
 -- ---- exports
 

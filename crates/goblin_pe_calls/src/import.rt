@@ -92,7 +92,7 @@ fn record_by<'a>(
 /// Puts the record of an import of these bytes into its place. (Each kind has a record of its own: one
 /// that is made for both would be put together by conditions for every import.)
 #[inline(always)]
-#[tactic(auto, unfolding(goblin_pe_import::specs::Imports::import_of))]
+#[tactic(auto, unfolding(goblin_pe_import::specs::Imports::entry_name, goblin_pe_import::specs::Imports::entry_has_name, goblin_pe_import::specs::Imports::entry_ordinal, goblin_pe_import::specs::Imports::entry_name_rva))]
 pub fn put_import<'a>(place: &mut PeImport<'a>, bytes: &'a [u8], import: &WalkedImport<'a>)
     ensures { import_view place.new ≡ import_said (walked_value import.now) }
 {
@@ -112,7 +112,7 @@ const FIRST_ROOM: usize = 4;
 
 // Adds the record of an import, for which there is room.
 #[inline(always)]
-#[tactic(auto, unfolding(goblin_pe_import::specs::Imports::import_of))]
+#[tactic(auto, unfolding(goblin_pe_import::specs::Imports::entry_name, goblin_pe_import::specs::Imports::entry_has_name, goblin_pe_import::specs::Imports::entry_ordinal, goblin_pe_import::specs::Imports::entry_name_rva))]
 fn push_within<'a>(records: &mut Vec<PeImport<'a>>, bytes: &'a [u8], import: &WalkedImport<'a>)
     requires { vec_len records.old < vec_capacity records.old }
     ensures value { map import_view records.new.items

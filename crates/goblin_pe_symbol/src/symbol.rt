@@ -7,7 +7,7 @@ ghost use Rattle.std.specs.Iterator.SizeHint.{IsWithinCount};
 ghost use Rattle.goblin_base.specs.Answers.{Answers, IsSliceFault, Writes};
 ghost use Rattle.goblin_base.specs.Bytes.{overwritten, slice_at};
 ghost use Rattle.goblin_base.specs.Reading.{Reads};
-ghost use Rattle.goblin_base.specs.Record.{ReadsBack, WritesBack, encoding, record_at, record_over};
+ghost use Rattle.goblin_base.specs.Record.{WritesRecord, record_at};
 ghost use Rattle.goblin_pe_symbol.specs.declared.symbol.Symbol.{Symbol};
 ghost use Rattle.goblin_pe_symbol.specs.AuxiliarySymbols.{begin_and_end_function_record};
 ghost use Rattle.goblin_pe_symbol.specs.AuxiliarySymbols.{function_definition_record};
@@ -266,13 +266,8 @@ impl Symbol {
     /// # Errors
     /// [`Error::Read`] if there is no room for 18 bytes; `bytes` is then unchanged.
     pub fn try_into_ctx(self, bytes: &mut [u8], endian: Endian) -> Result<usize>
-        ensures size { IfOk result (λ n. n ≡ 18) }
-        ensures written { let after = record_over 18 (encoding endian (symbol_fields self))
-            bytes.old in
-            Writes result after bytes.old bytes.new (IsSliceFault bytes.old 0 18) }
-        ensures long { IfOk result (λ n. length (encoding endian (symbol_fields self)) ≡ 18) }
-        ensures back { IfOk result (λ n. WritesBack 18 symbol_record symbol_fields) }
-        ensures again { IfOk result (λ n. ReadsBack 18 symbol_record symbol_fields self) }
+        ensures { WritesRecord 18 symbol_record symbol_fields
+            endian self result bytes.old bytes.new }
     {
         Record::try_into_ctx(self, bytes, endian)
     }

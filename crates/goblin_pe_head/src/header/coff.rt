@@ -2,10 +2,10 @@
 //! string table.
 
 ghost use Rattle.std.specs.Prelude.{◌≡◌, ◌+◌, ◌*◌, ◌/◌, ◌<◌, length, option_map, true, IfErr, OnOk};
-ghost use Rattle.std.specs.Prelude.{OnErr, IsErrAnd, IfOk, map};
+ghost use Rattle.std.specs.Prelude.{OnErr, IsErrAnd, map};
 ghost use Rattle.goblin_base.specs.Reading.{Reads, ReadsOrMemory};
-ghost use Rattle.goblin_base.specs.Answers.{IsMemory, IsSliceFault, Writes};
-ghost use Rattle.goblin_base.specs.Record.{ReadsBack, WritesBack, encoding, record_over};
+ghost use Rattle.goblin_base.specs.Answers.{IsMemory};
+ghost use Rattle.goblin_base.specs.Record.{WritesRecord};
 ghost use Rattle.readings.specs.Reads.{mapped, record_at};
 ghost use Rattle.goblin_pe_sect.specs.Options.{is_strict};
 ghost use Rattle.goblin_pe_sect.specs.SectionTable.{recorded_sections, unnamed};
@@ -286,13 +286,7 @@ impl CoffHeader {
     /// # Errors
     /// [`Error::Read`] if there is no room for 20 bytes; `bytes` is then unchanged.
     pub fn try_into_ctx(self, bytes: &mut [u8], endian: Endian) -> Result<usize>
-        ensures size { IfOk result (λ n. n ≡ 20) }
-        ensures written { let after = record_over 20 (encoding endian (coff_fields self))
-            bytes.old in
-            Writes result after bytes.old bytes.new (IsSliceFault bytes.old 0 20) }
-        ensures long { IfOk result (λ n. length (encoding endian (coff_fields self)) ≡ 20) }
-        ensures back { IfOk result (λ n. WritesBack 20 coff_header coff_fields) }
-        ensures again { IfOk result (λ n. ReadsBack 20 coff_header coff_fields self) }
+        ensures { WritesRecord 20 coff_header coff_fields endian self result bytes.old bytes.new }
     {
         Record::try_into_ctx(self, bytes, endian)
     }

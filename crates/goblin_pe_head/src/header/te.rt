@@ -2,10 +2,10 @@
 //! sections.
 
 ghost use Rattle.std.specs.Prelude.{◌≡◌, ◌+◌, ◌*◌, ◌/◌, ◌<◌, ◌≤◌, length, IfErr, IsErrAnd, OnOk};
-ghost use Rattle.std.specs.Prelude.{OnErr, IfOk};
+ghost use Rattle.std.specs.Prelude.{OnErr};
 ghost use Rattle.goblin_base.specs.Reading.{Reads, ReadsOrMemory};
-ghost use Rattle.goblin_base.specs.Answers.{Answers, IsMemory, IsSliceFault, Writes};
-ghost use Rattle.goblin_base.specs.Record.{ReadsBack, WritesBack, encoding, record_over};
+ghost use Rattle.goblin_base.specs.Answers.{Answers, IsMemory};
+ghost use Rattle.goblin_base.specs.Record.{WritesRecord};
 ghost use Rattle.goblin_pe_head.specs.declared.header.te.TeHeader.{TeHeader};
 ghost use Rattle.goblin_pe_head.specs.CoffHeader.{IsTooManySections};
 ghost use Rattle.goblin_pe_head.specs.TeHeader.{IsStrippedFault, displacement, moved_address};
@@ -206,12 +206,7 @@ impl TeHeader {
     /// # Errors
     /// [`Error::Read`] if there is no room for 40 bytes; `bytes` is then unchanged.
     pub fn try_into_ctx(self, bytes: &mut [u8], endian: Endian) -> Result<usize>
-        ensures size { IfOk result (λ n. n ≡ 40) }
-        ensures written { let after = record_over 40 (encoding endian (te_fields self)) bytes.old in
-            Writes result after bytes.old bytes.new (IsSliceFault bytes.old 0 40) }
-        ensures long { IfOk result (λ n. length (encoding endian (te_fields self)) ≡ 40) }
-        ensures back { IfOk result (λ n. WritesBack 40 te_record te_fields) }
-        ensures again { IfOk result (λ n. ReadsBack 40 te_record te_fields self) }
+        ensures { WritesRecord 40 te_record te_fields endian self result bytes.old bytes.new }
     {
         Record::try_into_ctx(self, bytes, endian)
     }

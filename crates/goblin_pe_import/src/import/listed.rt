@@ -170,7 +170,7 @@ fn count_of(libraries: &[SyntheticImportDirectoryEntry]) -> usize
 }
 
 // Appends the import of an entry, for which there is room.
-#[tactic(auto, unfolding(crate::specs::Imports::import_of))]
+#[tactic(auto, unfolding(crate::specs::Imports::entry_name, crate::specs::Imports::entry_has_name, crate::specs::Imports::entry_ordinal, crate::specs::Imports::entry_name_rva))]
 fn push_entry<'a, 'e>(
     alloc: Global,
     imports: &mut Vec<Import<'a>>,

@@ -25,7 +25,7 @@ returns-clause-sections c = λ w read.
     let from = sym (ap (λ (x : WholeFile). map unnamed x.sections) same) ∙ of.sections in
     let table = c.symbols_end-table.ensures ∙ ap (λ (h : Header). symbols_end h.coff_header) c.header-header.ensures ∙ sym (ap (λ (h : PeHeader). symbols_end h.coff_header) header) in
     sym c.in_ok-sections.ensures.made
-    ∙ ap (λ (s : List Section). map (λ s. without_text (named_in strict bytes c.symbols_end-table.result s)) s) (c.named_sections.ensures ∙ sym from)
+    ∙ ap (λ (s : List Section). map (λ s. without_text (named_in strict bytes c.symbols_end-table.result s)) s) (c.section_records.ensures ∙ sym from)
     ∙ said-unnamed strict bytes c.symbols_end-table.result w.sections
     ∙ ap (λ (t : ℕ). map without_text (map (named_in strict bytes t) w.sections)) table
     ∙ ap (map without_text) (sections-named opts bytes w read)
