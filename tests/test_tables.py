@@ -3,7 +3,7 @@ import struct
 import unittest
 
 from tests import images
-from tests.programs import CC, need, package, refusal, told
+from tests.programs import CC, need, options, package, refusal, told
 
 # The parts of a small file with a Rich header, by their offsets: one entry under the key 1, before a signature.
 SMALL = [(0, b"MZ"), (0x3C, b"\x60"), (0x40, b"\x45\x61\x6E\x53\x01\0\0\0\x01\0\0\0\x01\0\0\0"),
@@ -94,7 +94,8 @@ HIGH = (0x1000, 0x200, 0x200, 0x800)
 LESS_DATA_THAN_MEMORY = (0x1000, 0x600, 0x400, 0x200)
 AT_NO_MULTIPLE = (0x1000, 0x100, 0x100, 0x210)
 WITHOUT_DATA = (0x1FB000, 0x28590, 0, 0)
-ROUNDED, AS_OFFSETS = {"rounds_raw_pointers": True}, {"resolve_rva": False}
+ROUNDED, BY_ALIGNMENT = ({"raw_pointer_rule": name} for name in ("ROUNDED_TO512", "BY_FILE_ALIGNMENT"))
+AS_OFFSETS = {"resolve_rva": False}
 # Sections, the file alignment, options, an address, and its offset in the file.
 OFFSETS = [
     ([LESS_DATA_THAN_MEMORY], 0x200, {}, 0x1123, 0x323),
@@ -110,6 +111,11 @@ OFFSETS = [
     ([AT_NO_MULTIPLE], 0x200, ROUNDED, 0x1000, 0x200),
     ([AT_NO_MULTIPLE], 0x200, ROUNDED, 0x11FF, 0x3FF),
     ([AT_NO_MULTIPLE], 0x200, ROUNDED, 0x1200, None),
+    ([AT_NO_MULTIPLE], 0x100, ROUNDED, 0x1000, 0x200),
+    ([AT_NO_MULTIPLE], 0x200, BY_ALIGNMENT, 0x1000, 0x200),
+    ([AT_NO_MULTIPLE], 0x1000, BY_ALIGNMENT, 0x1001, 0x201),
+    ([AT_NO_MULTIPLE], 0x100, BY_ALIGNMENT, 0x1000, 0x210),
+    ([AT_NO_MULTIPLE], 0, BY_ALIGNMENT, 0x1000, None),
     ([WIDE], 0, AS_OFFSETS, 0x1100, 0x1100),
     ([NARROW, WIDE], 0x200, {}, 0, None),
     ([NARROW, WIDE], 0x200, {}, 0xFFF, None),
@@ -122,6 +128,33 @@ OFFSETS = [
     ([LOW, HIGH], 0x200, {}, 0x1010, 0x410),
     ([HIGH, LOW], 0x200, {}, 0x1010, 0x810),
     ([], 0x200, {}, 0, None),
+]
+# Sections, options, an offset, its address, and the index of the section that this lies in.
+ADDRESSES = [
+    ([LESS_DATA_THAN_MEMORY], {}, 0x1FF, None, None),
+    ([LESS_DATA_THAN_MEMORY], {}, 0x200, 0x1000, 0),
+    ([LESS_DATA_THAN_MEMORY], {}, 0x5FF, 0x13FF, 0),
+    ([LESS_DATA_THAN_MEMORY], {}, 0x600, None, None),
+    ([AT_NO_MULTIPLE], {}, 0x20F, None, None),
+    ([AT_NO_MULTIPLE], ROUNDED, 0x200, 0x1000, 0),
+    ([WITHOUT_DATA], {}, 0, None, None),
+    ([NARROW, WIDE], {}, 0x450, 0x1250, 0),
+    ([NARROW, WIDE], {}, 0xA50, None, None),
+    ([NARROW, WIDE], {}, 0xD00, 0x1500, 1),
+    ([WIDE, NARROW], {}, 0x450, None, None),
+    ([LOW, HIGH], {}, 0x810, None, None),
+    ([WIDE], AS_OFFSETS, 0x1100, 0x1100, 0),
+    ([WIDE], AS_OFFSETS, 0x5000, 0x5000, None),
+]
+# Sections whose data begins at the file's end, where it has six bytes: one with zeros after them, one with more data than memory, one
+# without a virtual size, one without data, and one whose data is not there. An address, a size, and what a loader sees: bytes of the
+# file and a number of zeros.
+IN_MEMORY = [(0x1000, 16, 6, 0x210), (0x2000, 4, 6, 0x210), (0x3000, 0, 6, 0x210), (0x4000, 8, 0, 0), (0x5000, 8, 8, 0x210)]
+SEEN = [
+    (0x1000, 16, (b"stored", 10)), (0x1002, 3, (b"ore", 0)), (0x1004, 4, (b"ed", 2)), (0x1006, 10, (b"", 10)), (0x100F, 1, (b"", 1)),
+    (0x1000, 0, (b"", 0)), (0x1000, 17, None), (0x100F, 2, None), (0x1010, 0, None), (0xFFF, 1, None),
+    (0x2000, 4, (b"stor", 0)), (0x2000, 5, None), (0x2004, 1, None), (0x3000, 6, (b"stored", 0)), (0x3000, 7, None),
+    (0x4000, 8, (b"", 8)), (0x5000, 6, (b"stored", 0)), (0x5000, 7, None), (0x5000, 8, None),
 ]
 # Bytes at the end of a file, at the address 0x1000 of a section of 16 bytes; an address; a size; and the text and so many bytes there.
 CONTENTS = [
@@ -241,8 +274,24 @@ class Tables(unittest.TestCase):
     def test_an_address_belongs_to_the_first_section_whose_window_holds_it(self):
         for sections, alignment, how, rva, wanted in OFFSETS:
             with self.subTest(sections=sections, alignment=alignment, rva=hex(rva), **how):
-                pe = package().Pe(with_sections(sections, alignment), package().Options(**how))
+                pe = package().Pe(with_sections(sections, alignment), options(**how))
                 self.assertEqual(pe.find_offset(rva), wanted)
+                if wanted is not None:
+                    self.assertEqual(pe.find_offset(pe.find_rva(wanted)), wanted)
+
+    def test_the_address_of_an_offset_and_the_section_of_an_address(self):
+        for sections, how, offset, rva, section in ADDRESSES:
+            with self.subTest(sections=sections, offset=hex(offset), **how):
+                pe = package().Pe(with_sections(sections, 0x200), options(**how))
+                self.assertEqual(pe.find_rva(offset), rva)
+                if rva is not None:
+                    self.assertEqual(pe.section_at(rva), None if section is None else pe.sections[section])
+
+    def test_what_a_loader_sees_at_an_address(self):
+        for rva, size, wanted in SEEN:
+            with self.subTest(rva=hex(rva), size=size):
+                pe = package().Pe(with_sections(IN_MEMORY) + b"stored")
+                self.assertEqual(pe.memory_at(rva, size), wanted)
 
     def test_what_stands_at_an_address(self):
         for data, rva, size, text, wanted in CONTENTS:

@@ -108,7 +108,7 @@ static bool is_sound(void)
     return fault.status == GOBLIN_PE_STATUS_OK && damage.dos_stub.status == GOBLIN_PE_STATUS_OK &&
            damage.section_names.status == GOBLIN_PE_STATUS_OK && damage.imports.status == GOBLIN_PE_STATUS_OK &&
            damage.exports.status == GOBLIN_PE_STATUS_OK && damage.relocations.status == GOBLIN_PE_STATUS_OK &&
-           !damage.left_out_libraries && !damage.left_out_entries;
+           !damage.left_out_libraries && !damage.left_out_entries && !damage.left_out_exports;
 }
 
 /* Whether a header takes as many bytes as is told, in no less room, and the section table follows those that it has. */
@@ -234,7 +234,7 @@ static bool maps_by_records_of_zeros(void)
     if (goblin_pe_text_at(&image, 0x2034, &text).status != GOBLIN_PE_STATUS_OK || text.bytes != file + 0x634 || text.length != 5)
         return false;
     sections[1].pointer_to_raw_data += 0x34;
-    image.options.rounds_raw_pointers = true;
+    image.options.raw_pointer_rule = GOBLIN_PE_RAW_POINTER_RULE_ROUNDED_TO512;
     return goblin_pe_find_offset(&image, 0x2034, &offset) && offset == 0x634 &&
            goblin_pe_bytes_at(&image, 0x2034, 5, &found).status == GOBLIN_PE_STATUS_OK && found.bytes == file + 0x634 &&
            found.length == 5 && goblin_pe_read_section_data(&image, &sections[1], &data).status == GOBLIN_PE_STATUS_OK &&

@@ -298,6 +298,35 @@ static inline bool goblin_pe_find_offset(const struct goblin_pe_image *image, si
     return goblin_pe_raw_find_offset(&sound, rva, offset);
 }
 
+/* Puts the index of the section of an address into `index`, and answers whether it lies in one: the first by
+   which the address is mapped. The options are not looked at. */
+static inline bool goblin_pe_section_at(const struct goblin_pe_image *image, size_t rva, size_t *index)
+{
+    struct goblin_pe_image sound = goblin_pe_sound_image(image);
+    return goblin_pe_raw_section_at(&sound, rva, index);
+}
+
+/* Puts the address of a file offset into `rva`, and answers whether there is one, which goblin_pe_find_offset
+   maps to the offset: that in the first section that has one. Where the options say that addresses are offsets,
+   it is the offset itself. It takes one walk over the sections, and one more for each whose data holds the
+   offset. */
+static inline bool goblin_pe_find_rva(const struct goblin_pe_image *image, size_t offset, size_t *rva)
+{
+    struct goblin_pe_image sound = goblin_pe_sound_image(image);
+    return goblin_pe_raw_find_rva(&sound, offset, rva);
+}
+
+/* The bytes that a loader sees at an address: those that the file has, and how many zeros follow them. They lie
+   in the memory of the first section that holds the address, which has as many bytes as its virtual size says,
+   or its raw size where that is 0; a header lies in none. Refused are an address that no section's memory holds,
+   bytes that pass the section's memory, and bytes that the file does not have. No memory is taken. */
+static inline struct goblin_pe_fault goblin_pe_memory_at(
+    const struct goblin_pe_image *image, size_t rva, size_t size, struct goblin_pe_section_data *contents)
+{
+    struct goblin_pe_image sound = goblin_pe_sound_image(image);
+    return goblin_pe_raw_memory_at(&sound, rva, size, contents);
+}
+
 /* The text at an address, up to its NUL or the end of the file. Refused are an address without an offset in
    the file, an offset at or past the file's end, and bytes that are not UTF-8. No memory is taken. */
 static inline struct goblin_pe_fault goblin_pe_text_at(
@@ -308,9 +337,9 @@ static inline struct goblin_pe_fault goblin_pe_text_at(
 }
 
 /* So many bytes of the file from the offset of an address on. The end of its section is not looked at, so where they
-   pass that, what comes is what follows in the file, which a loader maps elsewhere or not at all. Refused are an
-   address without an offset in the file, an offset at or past the file's end, even if no bytes are asked for, and
-   bytes that pass that end. No memory is taken. */
+   pass that, what comes is what follows in the file, which a loader maps elsewhere or not at all; goblin_pe_memory_at
+   gives what a loader sees. Refused are an address without an offset in the file, an offset at or past the file's
+   end, even if no bytes are asked for, and bytes that pass that end. No memory is taken. */
 static inline struct goblin_pe_fault goblin_pe_bytes_at(
     const struct goblin_pe_image *image, size_t rva, size_t size, struct goblin_pe_text *bytes)
 {
@@ -318,10 +347,10 @@ static inline struct goblin_pe_fault goblin_pe_bytes_at(
     return goblin_pe_raw_bytes_at(&sound, rva, size, bytes);
 }
 
-/* The data of a section: its bytes in the file, from its raw pointer, as stored or rounded down to 512 as the
-   image's options say, and how many zeros follow them up to the size in memory; none where the file has at
-   least as many bytes, which are not cut then. Of the image only the bytes and the options are looked at, so
-   for an object one with its bytes and else zeros will do. Refused is a file that is too short for it, and one
+/* The data of a section: its bytes in the file, from its raw pointer, as stored or rounded down to 512 by the
+   rule of the image's options, and how many zeros follow them up to the size in memory; none where the file has
+   at least as many bytes, which are not cut then. Of the image only the bytes, the options and the file
+   alignment are looked at, so for an object one with its bytes and else zeros will do. Refused is a file that is too short for it, and one
    in which it begins past the end, even where it has no bytes. No memory is taken. */
 static inline struct goblin_pe_fault goblin_pe_read_section_data(
     const struct goblin_pe_image *image, const struct goblin_pe_section *section, struct goblin_pe_section_data *data)
@@ -329,6 +358,15 @@ static inline struct goblin_pe_fault goblin_pe_read_section_data(
     struct goblin_pe_image sound = goblin_pe_sound_image(image);
     struct goblin_pe_section sound_section = goblin_pe_sound_section(section);
     return goblin_pe_raw_read_section_data(&sound, &sound_section, data);
+}
+
+/* The checksum of an image, whose field, check_sum of the optional header, stands at the file offset `field`: 88 bytes after
+   pe_pointer. It is the sum of the little-endian words of two bytes, in 16 bits and with each carry added, and the
+   length, in 32 bits; the bytes of the field count as zeros. Whoever changes an image of which Windows tests it,
+   as of drivers, writes it anew. */
+static inline uint32_t goblin_pe_checksum(const uint8_t *bytes, size_t length, size_t field)
+{
+    return goblin_pe_raw_checksum(GOBLIN_PE_BYTES(bytes), length, field);
 }
 
 /* The file offset of the section table of an image, which follows the optional header. */

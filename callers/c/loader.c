@@ -159,7 +159,7 @@ static struct goblin_pe_fault open_image(struct module *m)
     if (fault.status != GOBLIN_PE_STATUS_OK)
         return fault;
     goblin_pe_free(&m->tables);
-    options.rounds_raw_pointers = is_in_pages(m);
+    options.raw_pointer_rule = is_in_pages(m) ? GOBLIN_PE_RAW_POINTER_RULE_ROUNDED_TO512 : GOBLIN_PE_RAW_POINTER_RULE_AS_STORED;
     fault = goblin_pe_open(m->bytes, m->length, &options, &m->file, NULL, 0, &m->tables);
     if (fault.status == GOBLIN_PE_STATUS_OK)
         m->image = goblin_pe_image_of(m->bytes, m->length, &options, &m->file, &m->tables);

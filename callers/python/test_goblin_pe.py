@@ -20,7 +20,7 @@ import unittest.mock
 
 import goblin_pe
 from goblin_pe import (AuxBeginAndEndFunction, AuxFunctionDefinition, AuxSectionDefinition, AuxWeakExternal, Cause, DataDirectory,
-                       DirectoryType, Kind, ObjectFile, Options, Pe, ReadFault, Refused, State, Status, Te, kind)
+                       DirectoryType, Kind, ObjectFile, Options, Pe, RawPointerRule, ReadFault, Refused, State, Status, Te, kind)
 from goblin_pe.records import Text
 from goblin_pe.rows import Rows
 
@@ -430,7 +430,7 @@ class Files(unittest.TestCase):
         headers = Pe(unaligned)
         table = headers.dos_header.pe_pointer + 24 + headers.coff_header.size_of_optional_header
         unaligned[table + 20] |= 0x10  # (the raw pointer of the first)
-        pe = Pe(unaligned, Options(rounds_raw_pointers=True))
+        pe = Pe(unaligned, Options(raw_pointer_rule=RawPointerRule.ROUNDED_TO512))
         first = pe.sections[0]
         self.assertEqual(pe.section_data(first).data[:16], pe.bytes_at(first.virtual_address, 16))
         self.assertNotEqual(first.pointer_to_raw_data, pe.find_offset(first.virtual_address))

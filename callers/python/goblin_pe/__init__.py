@@ -56,7 +56,8 @@ from ._library import LIB as _LIB, Data as Data, Kept as _Kept, held as _held, k
 from ._refused import Refused as Refused, named as _named, refusal as _refusal, test as _test
 from .constants import IMAGE_FILE_DLL as _IMAGE_FILE_DLL, MAGIC_64 as _MAGIC_64
 from .numbers import (
-    Cause as Cause, Counted as Counted, DirectoryType as DirectoryType, Kind as Kind, ReadFault as ReadFault,
+    Cause as Cause, Counted as Counted, DirectoryType as DirectoryType, Kind as Kind,
+    RawPointerRule as RawPointerRule, ReadFault as ReadFault,
     State as State, Status as Status)
 from .records import (
     AuxBeginAndEndFunction as AuxBeginAndEndFunction, AuxFunctionDefinition as AuxFunctionDefinition,
@@ -133,6 +134,14 @@ def kind(data: Data) -> Kind:
         return Kind(_LIB.goblin_pe_raw_kind_of(address, length))
 
 
+def checksum(data: Data, field: int) -> int:
+    """The checksum of an image, whose field stands at the file offset `field`: 88 bytes after pe_pointer. It is the sum of the
+    little-endian words of two bytes, in 16 bits and with each carry added, and the length, in 32 bits; the bytes of the field
+    count as zeros. Windows loads a driver only where the field has this value."""
+    with _held(_kept(data)) as (address, length):
+        return int(_LIB.goblin_pe_raw_checksum(address, length, _size(field)))
+
+
 class Damage(_t.NamedTuple):
     """What strict mode would refuse of an image, part by part, each for itself, as a Refused; None is no damage. A file
     without damage is one that strict mode reads, and permissive mode alike; but an import directory at file offset 0 is an
@@ -144,6 +153,8 @@ class Damage(_t.NamedTuple):
     relocations: of the base relocations: of their directory, not of its blocks.
     left_out_libraries: how many libraries permissive mode leaves out of the imports: those without an address table.
     left_out_entries: how many entries of the other libraries it leaves out.
+    left_out_exports: how many name pointers of the export directory give no export, in either mode: there is no ordinal, it lies
+        past the address table, or it leads to a forwarder whose text can't be read. 0 where the exports are refused.
     """
 
     dos_stub: _t.Optional[Refused]
@@ -153,30 +164,33 @@ class Damage(_t.NamedTuple):
     relocations: _t.Optional[Refused]
     left_out_libraries: int
     left_out_entries: int
+    left_out_exports: int
 
 
 @_dataclasses.dataclass(frozen=True)
 class Options:
-    """How a file is read; by default strictly, with all its tables. Each is a bool; TypeError is raised where it is not.
+    """How a file is read; by default strictly, with all its tables. Each but the rule is a bool; TypeError is raised
+    where one is not.
 
     is_permissive: whether damaged parts are passed over, in permissive mode; an import directory at file offset 0 is an
         empty list there, without damage.
     resolve_rva: whether an address is mapped to a file offset by the sections; where not, it is the offset.
-    rounds_raw_pointers: whether the raw pointer of a section is rounded down to 512, for addresses and for its data; where
-        not, it is taken as stored. Rounding is right where `section_alignment` is 4,096 or more, and pointers as stored where
-        it is less, since the Windows loader maps such an image as one flat view of the file.
+    raw_pointer_rule: where the raw data of a section begins, for addresses and for its data: a RawPointerRule. Rounding is
+        right where `section_alignment` is 4,096 or more, and pointers as stored where it is less, since the Windows loader
+        maps such an image as one flat view of the file; by the file alignment pefile maps.
     parse_imports: whether the imports are read; where not, their table is absent.
     """
 
     is_permissive: bool = False
     resolve_rva: bool = True
-    rounds_raw_pointers: bool = False
+    raw_pointer_rule: RawPointerRule = RawPointerRule.AS_STORED
     parse_imports: bool = True
 
     def __post_init__(self) -> None:
         for name, value in vars(self).items():
-            if not isinstance(value, bool):
-                raise TypeError("%s has to be a bool, not %r" % (name, value))
+            kind = RawPointerRule if name == "raw_pointer_rule" else bool
+            if not isinstance(value, kind):
+                raise TypeError("%s has to be a %s, not %r" % (name, kind.__name__, value))
 
 
 # The name before there was a class.
@@ -188,7 +202,7 @@ def _record_of(how: _t.Optional[Options]) -> records.Options:
     how = Options() if how is None else how
     if not isinstance(how, Options):
         raise TypeError("options have to be Options, not %r" % (how,))
-    return records.Options(how.is_permissive, how.resolve_rva, how.rounds_raw_pointers, how.parse_imports)
+    return records.Options(how.is_permissive, how.resolve_rva, how.raw_pointer_rule, how.parse_imports)
 
 
 class Pe:
@@ -422,15 +436,39 @@ class Pe:
             refused = _LIB.goblin_pe_raw_bytes_at(_c.byref(image), _size(rva), _size(size), _c.byref(text)).status
             return None if refused else _Rows(data, address).text(text)
 
+    def memory_at(self, rva: int, size: int) -> _t.Optional[SectionData]:
+        """The bytes that a loader sees at an address: those that the file has, and how many zeros follow them. They lie in the
+        memory of the first section that holds the address, which has as many bytes as its virtual size says, or its raw
+        size where that is 0; a header lies in none. None where no section's memory holds the address, the bytes pass the
+        section's memory, or the file does not have its bytes."""
+        seen, data = records.SectionData(), self._bytes()
+        with _held(data) as (address, length):
+            image = self._image(address, length)
+            refused = _LIB.goblin_pe_raw_memory_at(_c.byref(image), _size(rva), _size(size), _c.byref(seen)).status
+            return None if refused else SectionData(_Rows(data, address).text(seen.bytes), seen.zeros)
+
+    def section_at(self, rva: int) -> _t.Optional[Section]:
+        """The section of an address: the first by which it is mapped; None where there is none."""
+        index = _c.c_size_t()
+        is_found = _LIB.goblin_pe_raw_section_at(_c.byref(self._image(_laid_out.NOWHERE, 0)), _size(rva), _c.byref(index))
+        return self.sections[index.value] if is_found else None
+
+    def find_rva(self, offset: int) -> _t.Optional[int]:
+        """The address of a file offset, which find_offset maps to it: that in the first section that has one; None where
+        there is none."""
+        rva = _c.c_size_t()
+        is_found = _LIB.goblin_pe_raw_find_rva(_c.byref(self._image(_laid_out.NOWHERE, 0)), _size(offset), _c.byref(rva))
+        return rva.value if is_found else None
+
     def section_data(self, section: Section) -> SectionData:
         """The data of one of its sections, and how many zeros follow it in memory. It begins at the raw pointer, which the
         options may round down to 512, as they do for find_offset."""
-        return _data_of(section, self._bytes(), self._options)
+        return _data_of(section, self._bytes(), self._options, self._header.windows_fields.file_alignment)
 
     def _next_imports(self) -> _t.Callable[..., records.Fault]:
         # the call of walks over imports, by the options, but with imports
         how = self._options
-        asked = records.Options(how.is_permissive, how.resolve_rva, how.rounds_raw_pointers, True)
+        asked = records.Options(how.is_permissive, how.resolve_rva, how.raw_pointer_rule, True)
         return lambda address, length, *to: _LIB.goblin_pe_raw_next_imports(address, length, _c.byref(asked), *to)
 
     def _count_imports(self) -> _t.Optional[int]:
@@ -487,7 +525,7 @@ class Pe:
         with _held(self._bytes()) as (address, length):
             _test(_LIB.goblin_pe_raw_read_damage(address, length, _c.byref(self._options), _c.byref(d)))
         return Damage(_refusal(d.dos_stub), _refusal(d.section_names), _refusal(d.imports), _refusal(d.exports),
-                      _refusal(d.relocations), d.left_out_libraries, d.left_out_entries)
+                      _refusal(d.relocations), d.left_out_libraries, d.left_out_entries, d.left_out_exports)
 
     def imphash(self) -> str:
         """The hash of the imports that analysts compare: the MD5 in hexadecimal, or an empty text where there are no

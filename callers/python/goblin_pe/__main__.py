@@ -11,7 +11,7 @@ import sys
 from typing import Any, Callable, Iterator, List, Optional
 
 from ._described import described_file
-from . import Export, ObjectFile, Options, Pe, Refused, State, Te
+from . import Export, ObjectFile, Options, Pe, RawPointerRule, Refused, State, Te
 
 
 def shown(text: bytes) -> str:
@@ -116,7 +116,8 @@ def describe(paths: List[str], read: Callable[[bytes], Any]) -> int:
 
 
 # What the words --raw-pointers say.
-RAW_POINTERS = {"stored": False, "rounded": True}
+RAW_POINTERS = {"stored": RawPointerRule.AS_STORED, "rounded": RawPointerRule.ROUNDED_TO512,
+                "by-file-alignment": RawPointerRule.BY_FILE_ALIGNMENT}
 
 
 def asked_of(words: List[str]) -> argparse.Namespace:
@@ -127,7 +128,8 @@ def asked_of(words: List[str]) -> argparse.Namespace:
     kind.add_argument("--te", dest="how", action="store_const", const=(lambda data, how: Te(data), te), help="list a Terse Executable")
     parser.add_argument("--permissive", action="store_true", help="pass over damaged parts")
     parser.add_argument("--raw-pointers", choices=sorted(RAW_POINTERS), default="stored",
-                        help="how the raw pointers of sections are taken: as stored (as by default), or rounded down to 512")
+                        help="how the raw pointers of sections are taken: as stored (as by default), rounded down to 512, or "
+                             "rounded where the file alignment is at least 512, as pefile does")
     parser.add_argument("--no-imports", action="store_true", help="leave the imports out, of which a small file can list many")
     parser.add_argument("--json", action="store_true", help="write a line of JSON for each of many files")
     parser.add_argument("files", metavar="FILE", nargs="+")
@@ -143,7 +145,7 @@ def main(words: List[str]) -> int:
     if sys.stdout is None:
         return complain("write failed", OSError("standard output is closed"))
     asked = asked_of(words)
-    options = Options(is_permissive=asked.permissive, rounds_raw_pointers=RAW_POINTERS[asked.raw_pointers],
+    options = Options(is_permissive=asked.permissive, raw_pointer_rule=RAW_POINTERS[asked.raw_pointers],
                       parse_imports=not asked.no_imports)
     kind, lines = asked.how
     if not asked.json and kind is Pe:

@@ -137,16 +137,14 @@ class Options(Record):
         file offset 0 is an empty list there, without damage.
     resolve_rva: Whether an address is mapped to a file offset by the sections; where not, it is the
         offset.
-    rounds_raw_pointers: Whether the raw pointer of a section is rounded down to 512, for addresses
-        and for its data; where not, it is taken as stored. Rounding is right where
-        `section_alignment` is 4,096 or more, and pointers as stored where it is less, since the
-        Windows loader maps such an image as one flat view of the file.
+    raw_pointer_rule: Where the raw data of a section begins, for addresses and for its data: the
+        number of a `RawPointerRule`; any other number is taken as 0.
     parse_imports: Whether the imports are read; where not, their table is absent.
     """
 
     is_permissive: Annotated[bool, c.c_bool]
     resolve_rva: Annotated[bool, c.c_bool]
-    rounds_raw_pointers: Annotated[bool, c.c_bool]
+    raw_pointer_rule: Annotated[int, c.c_uint8]
     parse_imports: Annotated[bool, c.c_bool]
 
 
@@ -706,6 +704,9 @@ class Damage(Record):
     left_out_libraries: How many libraries permissive mode leaves out of the imports: those without
         an address table.
     left_out_entries: How many entries of the other libraries it leaves out.
+    left_out_exports: How many name pointers of the export directory give no export, in either mode:
+        there is no ordinal, the ordinal lies past the address table, or it leads to a forwarder
+        whose text cannot be read. 0 where the exports are refused.
     """
 
     dos_stub: Fault
@@ -715,6 +716,7 @@ class Damage(Record):
     relocations: Fault
     left_out_libraries: Annotated[int, c.c_size_t]
     left_out_entries: Annotated[int, c.c_size_t]
+    left_out_exports: Annotated[int, c.c_size_t]
 
 
 @record
@@ -901,6 +903,8 @@ CALLS: Dict[str, Tuple[Any, List[Any]]] = {
         (c.c_bool, [c.c_void_p, c.c_size_t, to(AuxSectionDefinition)]),
     "goblin_pe_raw_read_aux_file":
         (c.c_bool, [c.c_void_p, c.c_size_t, to(Text)]),
+    "goblin_pe_raw_checksum":
+        (c.c_uint32, [c.c_void_p, c.c_size_t, c.c_size_t]),
     "goblin_pe_raw_fault_text":
         (c.c_size_t, [to(Fault), c.c_void_p, c.c_size_t]),
     "goblin_pe_interface":
@@ -925,6 +929,12 @@ CALLS: Dict[str, Tuple[Any, List[Any]]] = {
         (Fault, [to(Image), c.c_size_t, c.c_size_t, to(Text)]),
     "goblin_pe_raw_read_section_data":
         (Fault, [to(Image), to(Section), to(SectionData)]),
+    "goblin_pe_raw_section_at":
+        (c.c_bool, [to(Image), c.c_size_t, to(c.c_size_t)]),
+    "goblin_pe_raw_find_rva":
+        (c.c_bool, [to(Image), c.c_size_t, to(c.c_size_t)]),
+    "goblin_pe_raw_memory_at":
+        (Fault, [to(Image), c.c_size_t, c.c_size_t, to(SectionData)]),
     "goblin_pe_raw_read_object":
         (Fault, [c.c_void_p, c.c_size_t, to(Options), to(Object), to(Section), c.c_size_t]),
     "goblin_pe_raw_next_symbols":

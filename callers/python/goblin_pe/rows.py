@@ -51,7 +51,7 @@ class Section(NamedTuple):
     def data(self, file: Data) -> SectionData:
         """Its data in the file: the bytes from the raw pointer as stored, and how many zeros follow them in memory. Refused is
         raised where the bytes pass the file, and where they begin past its end, even if there are none."""
-        return data_of(self, kept(file), records.Options())
+        return data_of(self, kept(file), records.Options(), 0)
 
     def relocations(self, file: Data) -> List[Relocation]:
         """Its relocations in the object: as many as number_of_relocations says, so at most 65,535. Where that is 65,535, and
@@ -218,11 +218,11 @@ def record_of(s: Section) -> records.Section:
     return record
 
 
-def data_of(s: Section, file: Kept, options: records.Options) -> SectionData:
+def data_of(s: Section, file: Kept, options: records.Options, file_alignment: int) -> SectionData:
     """The data of a section in the file, from where the options have its raw pointer."""
     found = records.SectionData()
     with held(file) as (address, length):
-        image = records.Image(records.Text(address, length), _laid_out.NOWHERE, 0, 0, options)
+        image = records.Image(records.Text(address, length), _laid_out.NOWHERE, 0, file_alignment, options)
         test(LIB.goblin_pe_raw_read_section_data(c.byref(image), c.byref(record_of(s)), c.byref(found)))
         return SectionData(Rows(file, address).text(found.bytes), found.zeros)
 

@@ -83,7 +83,9 @@ pub use iterators::{
     Sections, Symbols, WalkExports, WalkImports, WalkLibraries, Words,
 };
 pub use names::{DllFlags, FileFlags, Machine, SectionFlags, Subsystem};
-pub use numbers::{Cause, Counted, DirectoryType, ErrorKind, Kind, Part, ReadFault};
+pub use numbers::{
+    Cause, Counted, DirectoryType, ErrorKind, Kind, Part, RawPointerRule, ReadFault,
+};
 pub use object::Object;
 pub use pe::Pe;
 pub use records::{
@@ -114,6 +116,24 @@ pub use text::Text;
 #[must_use]
 pub fn kind(bytes: &[u8]) -> Kind {
     Kind::try_from(raw::kind(bytes)).unwrap_or(Kind::Unknown)
+}
+
+/// The checksum of an image, whose field stands at the file offset `field`: 88 bytes after `pe_pointer`. It
+/// is the sum of the little-endian words of two bytes, in 16 bits and with each carry added, and the
+/// length, in 32 bits; the bytes of the field count as zeros. Windows loads a driver only where the field
+/// has this value.
+///
+/// ```no_run
+/// # use goblin_pe::{Options, Pe};
+/// let mut bytes = std::fs::read("some.sys")?;
+/// let field = Pe::read(&bytes, &Options::default())?.dos_header().pe_pointer as usize + 88;
+/// let sum = goblin_pe::checksum(&bytes, field);
+/// bytes[field..][..4].copy_from_slice(&sum.to_le_bytes());
+/// # Ok::<(), Box<dyn std::error::Error>>(())
+/// ```
+#[must_use]
+pub fn checksum(bytes: &[u8], field: usize) -> u32 {
+    raw::checksum(bytes, field)
 }
 
 /// Whether the library that is linked has the interface that this crate declares. Each read asks so, and

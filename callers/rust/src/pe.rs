@@ -715,6 +715,57 @@ impl<'a> Pe<'a> {
         Ok(bytes.get())
     }
 
+    /// The pair (bytes in the file, how many zeros follow them) of the `size` bytes that a loader sees at an
+    /// address. They lie in the memory of the first section that holds the address, which has as many
+    /// bytes as its virtual size says, or its raw size where that is 0; a header lies in none.
+    ///
+    /// # Errors
+    /// Where no section's memory holds the address, where the bytes pass the section's memory, and where
+    /// the file does not have its bytes.
+    ///
+    /// ```no_run
+    /// # use goblin_pe::{Options, Pe};
+    /// # let bytes = [];
+    /// let pe = Pe::read(&bytes, &Options::default())?;
+    /// let (code, zeros) = pe.memory_at(0x1000, 64)?;
+    /// assert_eq!(code.len() + zeros, 64);
+    /// # Ok::<(), goblin_pe::Error>(())
+    /// ```
+    pub fn memory_at(&self, rva: usize, size: usize) -> Result<(&'a [u8], usize), Error> {
+        let mut data = raw::SectionData::default();
+        Error::test(raw::memory_at(&self.image(), rva, size, &mut data))?;
+        Ok((data.bytes.get(), data.zeros))
+    }
+
+    /// The section of an address: the first by which it is mapped; `None` where there is none.
+    ///
+    /// ```no_run
+    /// # use goblin_pe::{Options, Pe};
+    /// # let bytes = [];
+    /// let pe = Pe::read(&bytes, &Options::default())?;
+    /// let entry = pe.optional_header().map(|it| it.standard_fields.address_of_entry_point);
+    /// let section = entry.and_then(|entry| pe.section_at(entry as usize));
+    /// # Ok::<(), goblin_pe::Error>(())
+    /// ```
+    pub fn section_at(&self, rva: usize) -> Option<Section<'a>> {
+        let index = raw::section_at(&self.image(), rva)?;
+        self.sections().nth(index)
+    }
+
+    /// The address of a file offset, which [`Pe::find_offset`] maps to it: that in the first section that has
+    /// one; `None` where there is none.
+    ///
+    /// ```no_run
+    /// # use goblin_pe::{Options, Pe};
+    /// # let bytes = [];
+    /// let pe = Pe::read(&bytes, &Options::default())?;
+    /// let rva = pe.find_rva(0x400);
+    /// # Ok::<(), goblin_pe::Error>(())
+    /// ```
+    pub fn find_rva(&self, offset: usize) -> Option<usize> {
+        raw::find_rva(&self.image(), offset)
+    }
+
     fn image(&self) -> raw::Image<'_, 'a> {
         raw::Image {
             bytes: raw::Slice::from(self.bytes),

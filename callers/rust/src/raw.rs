@@ -1,6 +1,7 @@
 //! The library's calls over slices, what a slice and a table are in its records, and all else that is
 //! unsafe.
 
+use crate::numbers::RawPointerRule;
 use std::alloc::{Layout, handle_alloc_error};
 use std::ffi::c_void;
 use std::marker::PhantomData;
@@ -75,10 +76,10 @@ impl Options {
         self
     }
 
-    /// The same options, with raw pointers rounded down to 512 or not.
+    /// The same options, with addresses mapped by this rule.
     #[must_use]
-    pub const fn with_rounds_raw_pointers(mut self, rounds_raw_pointers: bool) -> Options {
-        self.rounds_raw_pointers = rounds_raw_pointers;
+    pub const fn with_raw_pointer_rule(mut self, rule: RawPointerRule) -> Options {
+        self.raw_pointer_rule = rule as u8;
         self
     }
 
@@ -459,6 +460,36 @@ pub fn find_offset(image: &Image<'_, '_>, rva: usize) -> Option<usize> {
     is_there.then_some(offset)
 }
 
+/// The index of the section of an address.
+pub fn section_at(image: &Image<'_, '_>, rva: usize) -> Option<usize> {
+    test_interface();
+    let mut index = 0;
+    // SAFETY: as in `kind`.
+    let is_there = unsafe { goblin_pe_raw_section_at(image, rva, &mut index) };
+    is_there.then_some(index)
+}
+
+/// The address of a file offset.
+pub fn find_rva(image: &Image<'_, '_>, offset: usize) -> Option<usize> {
+    test_interface();
+    let mut rva = 0;
+    // SAFETY: as in `kind`.
+    let is_there = unsafe { goblin_pe_raw_find_rva(image, offset, &mut rva) };
+    is_there.then_some(rva)
+}
+
+/// So many bytes that a loader sees at an address.
+pub fn memory_at<'a>(
+    image: &Image<'_, 'a>,
+    rva: usize,
+    size: usize,
+    data: &mut SectionData<'a>,
+) -> Fault {
+    test_interface();
+    // SAFETY: as in `open`.
+    unsafe { goblin_pe_raw_memory_at(image, rva, size, data) }
+}
+
 /// The text at an address.
 pub fn text_at<'a>(image: &Image<'_, 'a>, rva: usize, text: &mut Slice<'a>) -> Fault {
     test_interface();
@@ -487,6 +518,13 @@ pub fn section_data<'a>(
     test_interface();
     // SAFETY: as in `open`.
     unsafe { goblin_pe_raw_read_section_data(image, section, data) }
+}
+
+/// The checksum of an image.
+pub fn checksum(bytes: &[u8], field: usize) -> u32 {
+    test_interface();
+    // SAFETY: as in `kind`.
+    unsafe { goblin_pe_raw_checksum(bytes.as_ptr(), bytes.len(), field) }
 }
 
 /// Writes a header, and says how many bytes it has.

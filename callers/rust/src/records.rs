@@ -111,11 +111,9 @@ pub struct Options {
     pub is_permissive: bool,
     /// Whether an address is mapped to a file offset by the sections; where not, it is the offset.
     pub resolve_rva: bool,
-    /// Whether the raw pointer of a section is rounded down to 512, for addresses and for its data;
-    /// where not, it is taken as stored. Rounding is right where `section_alignment` is 4,096 or
-    /// more, and pointers as stored where it is less, since the Windows loader maps such an image
-    /// as one flat view of the file.
-    pub rounds_raw_pointers: bool,
+    /// Where the raw data of a section begins, for addresses and for its data: the number of a
+    /// `RawPointerRule`; any other number is taken as 0.
+    pub raw_pointer_rule: u8,
     /// Whether the imports are read; where not, their table is absent.
     pub parse_imports: bool,
 }
@@ -637,6 +635,10 @@ pub struct Damage {
     pub left_out_libraries: usize,
     /// How many entries of the other libraries it leaves out.
     pub left_out_entries: usize,
+    /// How many name pointers of the export directory give no export, in either mode: there is no
+    /// ordinal, the ordinal lies past the address table, or it leads to a forwarder whose text
+    /// cannot be read. 0 where the exports are refused.
+    pub left_out_exports: usize,
 }
 
 /// A range of the file.
@@ -793,7 +795,7 @@ impl Options {
     pub(crate) const DEFAULT: Options = Options {
         is_permissive: false,
         resolve_rva: true,
-        rounds_raw_pointers: false,
+        raw_pointer_rule: 0,
         parse_imports: true,
     };
 }
@@ -832,7 +834,7 @@ const _: () = {
     assert!(size_of::<Options>() == 4 && align_of::<Options>() == 1);
     assert!(offset_of!(Options, is_permissive) == 0);
     assert!(offset_of!(Options, resolve_rva) == 1);
-    assert!(offset_of!(Options, rounds_raw_pointers) == 2);
+    assert!(offset_of!(Options, raw_pointer_rule) == 2);
     assert!(offset_of!(Options, parse_imports) == 3);
     assert!(size_of::<StandardFields>() == 56 && align_of::<StandardFields>() == 8);
     assert!(offset_of!(StandardFields, magic) == 0);
@@ -1004,7 +1006,7 @@ const _: () = {
     assert!(size_of::<ImportPosition>() == 16 && align_of::<ImportPosition>() == 8);
     assert!(offset_of!(ImportPosition, record_offset) == 0);
     assert!(offset_of!(ImportPosition, slot_offset) == 8);
-    assert!(size_of::<Damage>() == 136 && align_of::<Damage>() == 8);
+    assert!(size_of::<Damage>() == 144 && align_of::<Damage>() == 8);
     assert!(offset_of!(Damage, dos_stub) == 0);
     assert!(offset_of!(Damage, section_names) == 24);
     assert!(offset_of!(Damage, imports) == 48);
@@ -1012,6 +1014,7 @@ const _: () = {
     assert!(offset_of!(Damage, relocations) == 96);
     assert!(offset_of!(Damage, left_out_libraries) == 120);
     assert!(offset_of!(Damage, left_out_entries) == 128);
+    assert!(offset_of!(Damage, left_out_exports) == 136);
     assert!(size_of::<Range>() == 16 && align_of::<Range>() == 8);
     assert!(offset_of!(Range, offset) == 0);
     assert!(offset_of!(Range, length) == 8);
@@ -1090,6 +1093,8 @@ unsafe extern "C" {
         name: &mut Slice<'_>,
     ) -> bool;
 
+    pub fn goblin_pe_raw_checksum(bytes: *const u8, byte_count: usize, field: usize) -> u32;
+
     pub fn goblin_pe_raw_fault_text(fault: &Fault, text: *mut u8, text_room: usize) -> usize;
 
     pub safe fn goblin_pe_interface() -> u32;
@@ -1162,6 +1167,17 @@ unsafe extern "C" {
     pub fn goblin_pe_raw_read_section_data<'a>(
         image: &Image<'_, 'a>,
         section: &Section<'_>,
+        contents: &mut SectionData<'a>,
+    ) -> Fault;
+
+    pub fn goblin_pe_raw_section_at(image: &Image<'_, '_>, rva: usize, index: &mut usize) -> bool;
+
+    pub fn goblin_pe_raw_find_rva(image: &Image<'_, '_>, offset: usize, rva: &mut usize) -> bool;
+
+    pub fn goblin_pe_raw_memory_at<'a>(
+        image: &Image<'_, 'a>,
+        rva: usize,
+        size: usize,
         contents: &mut SectionData<'a>,
     ) -> Fault;
 

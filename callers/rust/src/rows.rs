@@ -149,6 +149,10 @@ pub struct Damage {
     pub left_out_libraries: usize,
     /// How many entries of the other libraries it leaves out.
     pub left_out_entries: usize,
+    /// How many name pointers of the export directory give no export, in either mode: there is no
+    /// ordinal, the ordinal lies past the address table, or it leads to a forwarder whose text can't be
+    /// read. 0 where the exports are refused.
+    pub left_out_exports: usize,
 }
 
 impl Damage {
@@ -184,6 +188,7 @@ impl From<raw::Damage> for Damage {
             relocations: Error::of(damage.relocations),
             left_out_libraries: damage.left_out_libraries,
             left_out_entries: damage.left_out_entries,
+            left_out_exports: damage.left_out_exports,
         }
     }
 }

@@ -2,7 +2,7 @@
 use goblin_pe::constants::{COFF_MACHINE_X86_64, IMAGE_SCN_LNK_NRELOC_OVFL};
 use goblin_pe::{
     Cause, DirectoryType, ErrorKind, Forwarder, Imported, Kind, Object, Options, Part, Pe,
-    ReadFault, Te, Text,
+    RawPointerRule, ReadFault, Te, Text,
 };
 
 fn sample(name: &str) -> Vec<u8> {
@@ -120,7 +120,7 @@ fn addresses_are_mapped() {
     assert_eq!(pe.find_offset(0x9000), Some(0x9000));
     // from the raw pointer rounded down to 512, as it was asked for
     let bytes = sample("align16_x64.dll");
-    let options = Options::permissive().with_rounds_raw_pointers(true);
+    let options = Options::permissive().with_raw_pointer_rule(RawPointerRule::RoundedTo512);
     let pe = Pe::read(&bytes, &options).unwrap();
     let section = pe.sections().next().unwrap();
     let pointer = section.pointer_to_raw_data as usize;
@@ -137,7 +137,7 @@ fn place(bytes: &[u8], part: &[u8]) -> usize {
 #[test]
 fn the_data_of_a_section_begins_where_its_address_is_mapped() {
     let mut bytes = sample("align16_x64.dll");
-    let options = Options::permissive().with_rounds_raw_pointers(true);
+    let options = Options::permissive().with_raw_pointer_rule(RawPointerRule::RoundedTo512);
     let table = Pe::read(&bytes, &options).unwrap().header().section_table();
     bytes[table + 20] |= 0x10; // (the raw pointer of the first)
     let pe = Pe::read(&bytes, &options).unwrap();

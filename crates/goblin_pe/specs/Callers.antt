@@ -1,9 +1,6 @@
--- Words for callers: one table of a file, the section of an address, a refusal, and pieces of a
--- file.
-use Rattle.std.specs.Prelude.{◌-◌, ◌^◌, Bool, count_by, min}
-use Rattle.std.specs.Prelude.{◌≡◌, ◌≤◌, ℕ, List, Option, None, find, if◌then◌else◌, length}
+-- Words for callers: one table of a file, a refusal, and pieces of a file.
+use Rattle.std.specs.Prelude.{◌≡◌, ◌≤◌, ◌-◌, ◌^◌, ℕ, Bool, List, Option, None, count_by, length, min}
 use Rattle.std.specs.Prelude.{slice_range}
-use Rattle.std.specs.Int.{is_power_of_two}
 use Rattle.goblin_base.specs.declared.error.ErrorOf.{ErrorOf}
 use Rattle.goblin_base.specs.ErrorText.{error_text}
 use Rattle.goblin_base.specs.Footprints.{Range}
@@ -11,7 +8,6 @@ use Rattle.goblin_base.specs.Reading.{Reading}
 use Rattle.readings.specs.Reads.{◌>>=◌}
 use Rattle.goblin_pe_sect.specs.declared.options.ParseOptions.{ParseOptions}
 use Rattle.goblin_pe_sect.specs.Addresses.{offset_of}
-use Rattle.goblin_pe_sect.specs.Mapping.{is_in_window}
 use Rattle.goblin_pe_sect.specs.Options.{is_strict}
 use Rattle.goblin_pe_sect.specs.SectionTable.{Section}
 use Rattle.goblin_pe_head.specs.HeaderReadings.{pe_header}
@@ -46,12 +42,6 @@ file_table read opts =
 -- the same of a layout
 abbrev pub layout_table : {A : Type 0} → TableReader A → Layout → Reading A
 layout_table read l = let m = layout_map l in read m.opts (offset_of m) (layout_places l)
-
--- the first section whose window holds the address; there is none if the alignment is not a power
--- of two
-abbrev pub section_at : ℕ → ℕ → List Section → Option Section
-section_at alignment rva sections =
-    if is_power_of_two alignment then find (is_in_window alignment rva) sections else None
 
 -- what is made of a table that was read, and a default where it was not
 abbrev pub read_or : {A B : Type 0} → B → (A → B) → Part A → B

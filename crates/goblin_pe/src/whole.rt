@@ -29,7 +29,6 @@ mod layout;
 mod listed;
 mod places;
 mod reached;
-mod sections;
 
 pub use damage::Damage;
 pub use imports::FileImports;
@@ -37,7 +36,6 @@ pub use layout::Layout;
 use layout::sections_of;
 use listed::{ListedTables, export_parts};
 use places::Places;
-pub use sections::section_at;
 
 /// A table of a file, as [`Whole::read`] found it.
 #[derive(Debug, Drop)]

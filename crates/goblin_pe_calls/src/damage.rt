@@ -34,6 +34,10 @@ pub struct PeDamage {
     pub left_out_libraries: usize,
     /// How many entries of the other libraries it leaves out.
     pub left_out_entries: usize,
+    /// How many name pointers of the export directory give no export, in either mode: there is no
+    /// ordinal, the ordinal lies past the address table, or it leads to a forwarder whose text cannot
+    /// be read. 0 where the exports are refused.
+    pub left_out_exports: usize,
 }
 
 // The numbers of a part's damage.
@@ -58,6 +62,7 @@ fn damage_record(damage: &Damage) -> PeDamage
         relocations: part_fault(&damage.relocations),
         left_out_libraries: damage.left_out.libraries,
         left_out_entries: damage.left_out.entries,
+        left_out_exports: damage.left_out_exports,
     }
 }
 

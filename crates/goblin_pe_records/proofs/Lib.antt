@@ -4,4 +4,5 @@ pub mod Making
 pub mod Offsets
 pub mod Puts
 pub mod Symbols
+pub mod Viewed
 pub mod Written

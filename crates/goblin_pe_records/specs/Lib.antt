@@ -9,6 +9,7 @@ pub mod Headers
 pub mod Images
 pub mod Items
 pub mod Kinds
+pub mod Memory
 pub mod Options
 pub mod Relocations
 pub mod RichHeaders

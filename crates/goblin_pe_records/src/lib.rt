@@ -8,6 +8,7 @@
 //! crate does not, and is proved beside them.
 #![tactic(auto)]
 
+pub mod address;
 pub mod block;
 pub mod directory;
 pub mod fault;
@@ -18,6 +19,7 @@ pub mod headers;
 pub mod image;
 pub mod kind;
 mod mapping;
+pub mod memory;
 pub mod options;
 pub mod relocation;
 pub mod rich;

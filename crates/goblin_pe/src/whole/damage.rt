@@ -40,6 +40,10 @@ pub struct Damage {
     pub relocations: Option<Error>,
     /// How much permissive mode leaves out of the imports; nothing where they are not asked for.
     pub left_out: LeftOut,
+    /// How many name pointers of the export directory give no export, in either mode: there is no
+    /// ordinal, the ordinal lies past the address table, or it leads to a forwarder whose text cannot
+    /// be read. 0 where the exports are refused.
+    pub left_out_exports: usize,
 }
 
 // The refusal that ends a walk, if one does.
@@ -115,6 +119,7 @@ fn file_damage(alloc: Global, bytes: &[u8], opts: &ParseOptions) -> Result<Damag
 {
     let header = Header::parse_with_opts(bytes, opts)?;
     let layout = Layout::of(alloc, bytes, &header, opts)?;
+    let left_out_exports = layout.left_out_exports();
     let (imports, exports, relocations, left_out) = table_damage(layout);
     Ok(Damage {
         dos_stub: DosStub::parse(bytes, header.dos_header.pe_pointer).err(),
@@ -123,6 +128,7 @@ fn file_damage(alloc: Global, bytes: &[u8], opts: &ParseOptions) -> Result<Damag
         exports,
         relocations,
         left_out,
+        left_out_exports,
     })
 }
 
@@ -141,7 +147,6 @@ impl Whole<'_> {
     /// [`CoffHeader::sections_with_opts`](goblin_pe_head::CoffHeader::sections_with_opts);
     /// [`Error::Memory`] if memory is refused, and only of a file that has more than 96 sections, by
     /// whose windows addresses are mapped, and room for as many as its header says.
-    #[tactic(auto, using(crate::proofs::SoundFiles::sound_told))]
     pub fn damage(alloc: Global, bytes: &[u8], opts: &ParseOptions) -> Result<Damage>
         ensures tells { TellsDamage opts.now bytes.now result }
         ensures sound { IfOk result (λ d. IsSound d → IsReadByBoth opts.now bytes.now) }

@@ -12,7 +12,7 @@ ghost use Rattle.goblin_pe_head.specs.PeHeader.{header_value};
 ghost use Rattle.goblin_pe_head.specs.CoffHeader.{IsTooManySections};
 ghost use Rattle.goblin_pe_sect.specs.Addresses.{map_of, offset_of, strict_map};
 ghost use Rattle.goblin_pe_sect.specs.SectionTable.{recorded_sections, unnamed};
-ghost use Rattle.goblin_pe.specs.Damages.{left_out_of};
+ghost use Rattle.goblin_pe.specs.Damages.{exports_left_out, left_out_of};
 ghost use Rattle.goblin_pe.specs.LayoutPositions.{StartsAt, file_map, import_start};
 ghost use Rattle.goblin_pe.specs.Layouts.{IsExportWalk, IsFileImportsCause, IsLayoutOf, PartWalks};
 ghost use Rattle.goblin_pe.specs.Layouts.{file_imports_left, layout_bytes, layout_header};
@@ -297,6 +297,17 @@ impl<'a, 'h> Layout<'a, 'h> {
             (layout_bytes self.now) }
     {
         self.places.left_out(self.bytes, &self.address_map)
+    }
+
+    /// How many name pointers of the export directory give no export, in either mode: there is no
+    /// ordinal, the ordinal lies past the address table, or it leads to a forwarder whose text cannot
+    /// be read. None where the file has no export directory, or one that strict mode refuses.
+    pub fn left_out_exports(&self) -> usize
+        ensures { let m = layout_map self.now in
+            result ≡ exports_left_out (offset_of m) (layout_places self.now)
+            (layout_bytes self.now) }
+    {
+        self.places.left_out_exports(self.bytes, self.finder())
     }
 
     // Marks the positions on which the tables depend.

@@ -23,6 +23,8 @@ use goblin_pe_sect::address_map::{AddressMap, Finder};
 use std::fmt;
 use std::iter::FusedIterator;
 
+mod left_out;
+
 /// An export, as a walk yields it: without memory.
 #[derive(Debug, Drop)]
 pub struct WalkedExport<'a> {
