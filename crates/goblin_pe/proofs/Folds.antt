@@ -13,7 +13,7 @@ use Rattle.goblin_pe_import.specs.ImportWalks.{walked_value}
 use Rattle.goblin_pe_import.specs.Imports.{ImportValue}
 use Rattle.goblin_pe_import.specs.declared.import.imports.WalkedImport.{WalkedImport}
 use Rattle.goblin_pe.specs.declared.whole.imports.FileImports.{FileImports}
-use Rattle.goblin_pe.specs.Callers.{counted}
+use Rattle.goblin_pe.specs.Callers.{counted, has_any}
 use Rattle.goblin_pe.specs.LayoutPositions.{GivesFileImport}
 use Rattle.goblin_pe.specs.Layouts.{IsFileImportsCause, file_imports_left}
 use Rattle.goblin_pe.proofs.Walked.{AtMade, made-all, made-fault, made-more, made-start}
@@ -62,9 +62,10 @@ one-any p x false is = rw is refl
 
 -- whether one of the imports passes a test
 pub any_more : (p : ImportValue → Bool) (start now next : FileImports) (found more : Bool) (r : Result WalkedImport ErrorOf) (x : WalkedImport)
-    → Gathers (list_any p) start now found → GivesFileImport now (Some r) next → r ≡ Ok x → more ≡ (found || p (walked_value x)) → Gathers (list_any p) start next more
+    → Gathers (has_any p) start now found → GivesFileImport now (Some r) next → r ≡ Ok x → more ≡ (found || p (walked_value x)) → Gathers (has_any p) start next more
+unfolding has_any
 any_more p start now next found more r x h given is said =
-    gathers_more (list_any p) start now next found h r x more given is
+    gathers_more (has_any p) start now next found h r x more given is
     (said ∙ ap (λ (b : Bool). b || p (walked_value x)) h.said ∙ ap (λ (b : Bool). list_any p h.items || b) (sym (one-any p (walked_value x) (p (walked_value x)) refl)) ∙ sym (list_any-append p h.items (walked_value x ∷ [])))
 
 -- a count that stops at m goes on as the count does

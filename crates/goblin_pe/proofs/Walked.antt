@@ -1,19 +1,12 @@
 -- A loop that makes something of each item of a walk: what it has made so far, and what at each way out.
 use Rattle.std.proofs.Common.{◌≡◌, List, [], ◌∷◌, ◌++◌, map, Option, Some, None, Result, Ok, Err}
-use Rattle.std.proofs.Common.{refl, sym, ap, subst, ◌∙◌, append-nil}
+use Rattle.std.proofs.Common.{refl, sym, ap, subst, ◌∙◌}
 use Rattle.std.specs.Prelude.{IsSome, option_map}
-use Rattle.std.proofs.lemmas.List.{map-append, map-id}
+use Rattle.std.proofs.lemmas.List.{map-append}
 use Rattle.goblin_base.specs.declared.error.ErrorOf.{ErrorOf}
 use Rattle.goblin_base.specs.Answers.{all_of}
-use Rattle.goblin_base.specs.Tables.{join}
-use Rattle.goblin_base.proofs.Steps.{unmapped}
 use Rattle.goblin_pe.specs.Walks.{GivesNext}
-use Rattle.readings.proofs.WalkValues.{all_of-append, all_of-made}
-use Rattle.readings.proofs.Walked.{AtWalk, walk-more, walk-start}
-
-mapped-there : {A : Type 0} (o : Option (List A)) {xs : List A} → option_map (map (λ x. x)) o ≡ Some xs → IsSome o
-mapped-there None is = absurd cc
-mapped-there (Some xs) is = refl
+use Rattle.readings.proofs.Walked.{AtWalk, walk-all, walk-fault, walk-more, walk-start}
 
 module _ {S A B : Type 0} (left : S → List (Option A)) (IsCause : S → ErrorOf → Type 0) (item : A → B) (start : S) where
   -- the walk that began at `start` is now at `now`, and this was made of the items so far
@@ -38,22 +31,13 @@ module _ {S A B : Type 0} (left : S → List (Option A)) (IsCause : S → ErrorO
 
     -- the walk has ended
     pub made-all : GivesNext view left IsCause now None next → option_map (map item) (all_of (left start)) ≡ Some made
-    made-all given =
-        let all : left start ≡ map (λ x. Some x) h.items = h.at.yielded ∙ ap (λ (items : List (Option A)). map (λ x. Some x) h.items ++ items) given.0 ∙ append-nil (map (λ x. Some x) h.items) in
-        ap (λ (items : List (Option A)). option_map (map item) (all_of items)) all
-        ∙ ap (option_map (map item)) (all_of-made (λ x. x) h.items ∙ ap (λ (xs : List A). Some xs) (map-id h.items))
-        ∙ ap (λ (xs : List B). Some xs) (sym h.said)
+    made-all given = ap (option_map (map item)) (walk-all left IsCause start now h.items h.at view next given) ∙ ap (λ (xs : List B). Some xs) (sym h.said)
 
     -- it ends with a refusal
     pub made-fault : (r : Result X ErrorOf) → GivesNext view left IsCause now (Some r) next → (e : ErrorOf) → r ≡ Err e → (option_map (map item) (all_of (left start)) ≡ None) × IsCause start e
-    unfolding all_of join
     made-fault r given e is =
-        let one = subst (λ (q : Result X ErrorOf). GivesNext view left IsCause now (Some q) next) is given in
-        let all : left start ≡ map (λ x. Some x) h.items ++ None ∷ [] = h.at.yielded ∙ ap (λ (items : List (Option A)). map (λ x. Some x) h.items ++ items) one.0 in
-        let none : all_of (left start) ≡ None =
-        ap all_of all ∙ all_of-append (map (λ x. Some x) h.items) (None ∷ [])
-        ∙ ap (λ (made : Option (List A)). join made None) (all_of-made (λ x. x) h.items) in
-        (ap (option_map (map item)) none, h.at.cause e one.2)
+        let fault = walk-fault left IsCause start now h.items h.at view next r given e is in
+        (ap (option_map (map item)) fault.0, fault.1)
 
 -- A loop that makes nothing of the items of a walk.
 module _ {S A : Type 0} (left : S → List (Option A)) (IsCause : S → ErrorOf → Type 0) (start : S) where
@@ -66,9 +50,6 @@ module _ {S A : Type 0} (left : S → List (Option A)) (IsCause : S → ErrorOf 
   walked-start = record { items = []; at = walk-start left IsCause start }
 
   module _ (now : S) (h : IsWalked now) {X : Type 0} (view : X → A) (next : S) where
-    abbrev so_far : AtMade left IsCause (λ x. x) start now h.items
-    so_far = record { items = h.items; at = h.at; said = sym (map-id h.items) }
-
     pub walked-more : (r : Result X ErrorOf) → GivesNext view left IsCause now (Some r) next → (x : X) → r ≡ Ok x → IsWalked next
     walked-more r given x is =
         let one = subst (λ (q : Result X ErrorOf). GivesNext view left IsCause now (Some q) next) is given in
@@ -76,10 +57,8 @@ module _ {S A : Type 0} (left : S → List (Option A)) (IsCause : S → ErrorOf 
 
     -- all items have come
     pub walked-all : GivesNext view left IsCause now None next → IsSome (all_of (left start))
-    walked-all given = mapped-there (all_of (left start)) (made-all left IsCause (λ x. x) start now h.items so_far view next given)
+    walked-all given = rw (walk-all left IsCause start now h.items h.at view next given) refl
 
     -- it ends with a refusal
     pub walked-fault : (r : Result X ErrorOf) → GivesNext view left IsCause now (Some r) next → (e : ErrorOf) → r ≡ Err e → (all_of (left start) ≡ None) × IsCause start e
-    walked-fault r given e is =
-        let fault = made-fault left IsCause (λ x. x) start now h.items so_far view next r given e is in
-        (unmapped (map (λ x. x)) (all_of (left start)) fault.0, fault.1)
+    walked-fault r given e is = walk-fault left IsCause start now h.items h.at view next r given e is

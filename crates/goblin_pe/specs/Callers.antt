@@ -1,6 +1,7 @@
 -- Words for callers: one table of a file, a refusal, and pieces of a file.
 use Rattle.std.specs.Prelude.{◌≡◌, ◌≤◌, ◌-◌, ◌^◌, ℕ, Bool, List, Option, None, count_by, length, min}
 use Rattle.std.specs.Prelude.{slice_range}
+use Rattle.std.specs.List.{list_any}
 use Rattle.goblin_base.specs.declared.error.ErrorOf.{ErrorOf}
 use Rattle.goblin_base.specs.ErrorText.{error_text}
 use Rattle.goblin_base.specs.Footprints.{Range}
@@ -53,6 +54,10 @@ read_or default f Refused = default
 abbrev pub IsTest : (WalkedImport → Bool → Type 0) → (ImportValue → Bool) → Type 0
 IsTest Returns test =
     (x : WalkedImport) (found : Bool) → Returns x found → found ≡ test (walked_value x)
+
+-- whether one passes the test
+unfoldable pub has_any : {A : Type 0} → (A → Bool) → List A → Bool
+has_any test items = list_any test items
 
 -- how many pass the test, at most the greatest number of 64 bits
 abbrev pub counted : {A : Type 0} → (A → Bool) → List A → ℕ

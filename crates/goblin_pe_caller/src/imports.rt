@@ -1,9 +1,8 @@
 //! From which libraries a file imports.
 
 ghost use Rattle.std.specs.Prelude.{◌≡◌, IfErr, IsSomeAnd, false, option_map, true};
-ghost use Rattle.std.specs.List.{list_any};
 ghost use Rattle.goblin_pe.specs.Answers.{Answers, IsMemory, all_of};
-ghost use Rattle.goblin_pe.specs.Callers.{counted, layout_table, read_or};
+ghost use Rattle.goblin_pe.specs.Callers.{counted, has_any, layout_table, read_or};
 ghost use Rattle.goblin_pe.specs.HeaderReadings.{pe_header};
 ghost use Rattle.goblin_pe.specs.Layouts.{IsFileImportsCause, file_imports_left, layout_bytes};
 ghost use Rattle.goblin_pe.specs.Options.{default_options};
@@ -38,7 +37,7 @@ pub fn imports_from(alloc: Global, bytes: &[u8], library: &str) -> Result<bool>
 #[tactic(auto, unfolding(goblin_pe::specs::Whole::part_map))]
 fn layout_imports_from<'e>(layout: &Layout, library: &str) -> ResultOf<'e, bool>
     ensures { Reads (λ b. b) result
-        (mapped (read_or false (list_any (is_from library.now)))
+        (mapped (read_or false (has_any (is_from library.now)))
         (layout_table import_list layout.now)) (layout_bytes layout.now) }
 {
     match layout.imports()? {
@@ -54,7 +53,7 @@ fn layout_imports_from<'e>(layout: &Layout, library: &str) -> ResultOf<'e, bool>
 // The same of the imports that a walk gives.
 fn any_from<'a, 'm, 'e>(imports: FileImports<'a, 'm, 'e>, library: &str) -> ResultOf<'e, bool>
     ensures { Answers (λ b. b) result
-        (option_map (list_any (is_from library.now)) (all_of (file_imports_left imports.entry)))
+        (option_map (has_any (is_from library.now)) (all_of (file_imports_left imports.entry)))
         (IsFileImportsCause imports.entry) }
 {
     imports.any_import(|import| import.dll == library)

@@ -8,6 +8,7 @@ use Rattle.goblin_base.specs.Answers.{◌>>=◌, IsMemory, all_of}
 use Rattle.goblin_base.specs.Reading.{Reading}
 use Rattle.goblin_base.proofs.Steps.{same_value}
 use Rattle.readings.specs.Reads.{pair_of}
+use Rattle.readings.specs.Walks.{IsBegun}
 use Rattle.goblin_pe.specs.Walks.{GivesNext, IsWalkOf}
 use Rattle.goblin_pe_sect.specs.declared.options.ParseOptions.{ParseOptions}
 use Rattle.goblin_pe_sect.specs.Options.{is_strict}
@@ -33,7 +34,7 @@ use Rattle.goblin_pe.specs.Whole.{whole_file, whole_of, whole_with}
 use Rattle.goblin_pe.proofs.Layouts.{tables-value}
 use Rattle.goblin_pe.proofs.Walked.{AtMade}
 use Rattle.goblin_pe_calls.specs.Blocks.{blocks_in}
-use Rattle.goblin_pe_calls.specs.Growth.{FileBegins, HasEntries, HasRecords, HasTables, IsBegun}
+use Rattle.goblin_pe_calls.specs.Growth.{FileBegins, HasEntries, HasRecords, HasTables}
 use Rattle.goblin_pe_calls.specs.Growth.{StartBegins, TablesBegin, TakesRecords}
 use Rattle.goblin_pe_calls.specs.Opened.{RecordsOfFile}
 use Rattle.goblin_pe_records.specs.RichHeaders.{entries_of_rich}
@@ -82,21 +83,6 @@ pub walk-entries : {A : Type 0} (reading : Reading (Part (List A))) (bytes : Lis
 walk-entries {A} reading bytes items IsCause walk some =
     subst (λ (o : Option (Part (List A))). IfSome o HasEntries) walk.value
     (gathered-some items (all_of items) refl some)
-
-begun-more : {A : Type 0} (items : List A) (now : List (Option A)) → IsBegun now
-    → IsBegun (map (λ x. Some x) items ++ now)
-begun-more [] now h = h
-begun-more (x ∷ items) now h = tt
-
--- where a walk has another item, an item was the first to come
-pub walk-begins : {S A B X : Type 0} (left : S → List (Option A)) (IsCause : S → ErrorOf → Type 0)
-    (item : A → B) (start now : S) (made : List B) → AtMade left IsCause item start now made
-    → (view : X → A) (next : S) (r : Result X ErrorOf) → GivesNext view left IsCause now (Some r) next
-    → (x : X) → r ≡ Ok x → IsBegun (left start)
-walk-begins left IsCause item start now made h view next r given x is =
-    let one = subst (λ q. GivesNext view left IsCause now (Some q) next) is given in
-    subst IsBegun (sym h.at.yielded)
-    (begun-more h.items (left now) (subst IsBegun (sym one.0) tt))
 
 -- what holds where memory is refused, if it holds anyway
 pub wherever : {A : Type 0} (P : Type 0) (result : Result A ErrorOf) → P

@@ -1,5 +1,5 @@
 -- Where a call that keeps records of a file takes memory.
-use Rattle.std.specs.Prelude.{ℕ, ◌+◌, ◌<◌, ◌⊎◌, ⊤, List, [], ◌∷◌, Option, None, Some, IsSome}
+use Rattle.std.specs.Prelude.{ℕ, ◌+◌, ◌<◌, ◌⊎◌, List, [], Option, None, Some, IsSome}
 use Rattle.std.specs.Prelude.{IsSomeAnd, MatchOption, length}
 use Rattle.goblin_pe_sect.specs.declared.options.ParseOptions.{ParseOptions}
 use Rattle.goblin_pe.specs.Addresses.{MapOfAddresses, map_by, offset_of}
@@ -17,6 +17,7 @@ use Rattle.goblin_pe.specs.Whole.{part_map, places_in, whole_file}
 use Rattle.goblin_pe_calls.specs.Blocks.{blocks_in}
 use Rattle.goblin_pe_calls.specs.Files.{entries_of}
 use Rattle.goblin_pe_records.specs.RichHeaders.{entries_of_rich}
+use Rattle.readings.specs.Walks.{IsBegun}
 
 -- a table has an entry
 abbrev pub HasEntries : {A : Type 0} → Part (List A) → Type 0
@@ -47,12 +48,6 @@ HasRecords w =
     + length (blocks_in w.relocations)
 
 -- ---- what comes before a refusal
-
--- the first of these is there, and not a refusal
-abbrev pub IsBegun : {A : Type 0} → List (Option A) → Type 0
-IsBegun [] = ⊥
-IsBegun (None ∷ items) = ⊥
-IsBegun (Some x ∷ items) = ⊤
 
 -- the imports from where they start on begin with one
 abbrev pub StartBegins : MapOfAddresses → ℕ → List ℕ → Part (Option ImportPosition) → Type 0

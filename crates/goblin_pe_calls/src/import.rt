@@ -18,7 +18,8 @@ ghost use Rattle.goblin_pe.specs.Whole.{import_list};
 ghost use Rattle.goblin_pe.specs.Whole.{part_map};
 ghost use Rattle.goblin_pe_records.specs.Blocked.{HasLittleRoom};
 ghost use Rattle.goblin_pe_calls.specs.Blocked.{HasLittleRoomIn};
-ghost use Rattle.goblin_pe_calls.specs.Growth.{HasEntries, ImportsBegin, IsBegun};
+ghost use Rattle.readings.specs.Walks.{IsBegun};
+ghost use Rattle.goblin_pe_calls.specs.Growth.{HasEntries, ImportsBegin};
 ghost use Rattle.goblin_pe_calls.specs.Imports.{PushesHere, import_said, import_view, import_views};
 
 use goblin_pe::import::{Bitfield, Imports, SyntheticImportLookupTableEntry, WalkedImport};

@@ -8,12 +8,13 @@ use Rattle.std.specs.Prelude.{unwrap_or}
 use Rattle.goblin_base.specs.declared.error.ErrorOf.{ErrorOf}
 use Rattle.goblin_base.specs.Answers.{FirstFault, all_of}
 use Rattle.goblin_base.specs.Reading.{Reading}
-use Rattle.goblin_base.specs.Tables.{Format, or_left_out}
+use Rattle.std.specs.Option.{is_some}
+use Rattle.goblin_base.specs.Tables.{Format, ends_table, or_left_out}
 use Rattle.goblin_base.proofs.SlotTables.{reads}
 use Rattle.goblin_base.proofs.Steps.{unmapped}
 use Rattle.readings.specs.Reads.{given, pair_of, pick}
 use Rattle.readings.specs.Walks.{from_slot, refusal_of, until_refused}
-use Rattle.readings.proofs.Walks.{IsSlotCause, cause-slot, slot-end, slot-going, slot-last, slot-missing, slot-once}
+use Rattle.readings.proofs.Walks.{IsSlotCause, cause-slot, slot-end, slot-going, slot-missing, slot-once}
 use Rattle.readings.proofs.Walks.{walk-slot}
 use Rattle.goblin_pe_import.specs.declared.import.directory_entry.ImportDirectoryEntry.{ImportDirectoryEntry}
 use Rattle.goblin_pe_import.specs.declared.import.imports.ImportPosition.{ImportPosition}
@@ -386,12 +387,11 @@ module _ (strict : Bool) (format : Format EntryValue) (offset_of : ℕ → Optio
           (λ (entry : Option ImportDirectoryEntry).
           IsRecordCause strict format offset_of bytes next.slot_offset p entry e) (sym r) fault))
 
-      pub later-end : reads import_slots bytes p ≡ None → strict ≡ false → later (Some next) ≡ []
-      later-end r m = by_record None r ∙ slot-end strict is_last_record of_library from_next m
-
-      pub later-last : (v : ImportDirectoryEntry) → reads import_slots bytes p ≡ Some v
-          → is_last_record v ≡ true → later (Some next) ≡ []
-      later-last v r z = by_record (Some v) r ∙ slot-last strict is_last_record of_library from_next v z
+      pub later-end : (entry : Option ImportDirectoryEntry) → reads import_slots bytes p ≡ entry
+          → ends_table is_last_record entry ≡ true → (strict && not (is_some entry)) ≡ false
+          → later (Some next) ≡ []
+      later-end entry r z there =
+          by_record entry r ∙ slot-end strict is_last_record of_library from_next entry z there
 
       pub later-missing : (e : ErrorOf) → reads import_slots bytes p ≡ None → strict ≡ true
           → (import_record_at p).IsCause bytes e

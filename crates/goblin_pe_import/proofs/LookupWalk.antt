@@ -1,14 +1,15 @@
 -- The loop that looks for the next entry that a lookup table keeps.
 use Rattle.std.proofs.Common.{◌≡◌, ◌≤◌, ◌<◌, ◌+◌, ◌-◌, ◌/◌, ℕ, zero, suc, Bool, true, false, List, [], ◌∷◌, ◌++◌, map}
 use Rattle.std.proofs.Common.{Option, Some, None, Result, Ok, Err, refl, ap, sym, subst, ◌∙◌}
-use Rattle.std.proofs.Common.{◌*◌, append_assoc, arith, length}
+use Rattle.std.proofs.Common.{◌*◌, append_assoc, arith, length, not, ◌&&◌}
+use Rattle.std.specs.Option.{is_some}
 use Rattle.std.specs.Prelude.{IfSome, option_map}
 use Rattle.std.proofs.lemmas.List.{length-map, map-append}
 use Rattle.std.proofs.Math.Nat.{mul-div_cancel_left}
 use Rattle.goblin_base.specs.declared.error.ErrorOf.{ErrorOf}
 use Rattle.goblin_base.specs.Answers.{◌>>=◌, all_of}
 use Rattle.goblin_base.specs.Tables.{Format, SlotFormat, concat_below, kept_slots, made_of, slot_at, slot_place, slot_table}
-use Rattle.goblin_base.specs.Tables.{is_kept, stop}
+use Rattle.goblin_base.specs.Tables.{ends_table, is_kept, stop}
 use Rattle.goblin_base.proofs.SlotTables.{reads}
 use Rattle.goblin_base.proofs.Steps.{step}
 use Rattle.goblin_pe_import.specs.ImportEntries.{EntryValue, LookupEntry, entry_slots}
@@ -25,7 +26,7 @@ use Rattle.goblin_pe_import.specs.LookupReadings.{lookup_with_slots}
 use Rattle.goblin_pe_import.proofs.ImportBound.{kept_entry-few}
 use Rattle.goblin_pe_import.proofs.PermissiveReads.{entry-never}
 use Rattle.readings.proofs.WalkValues.{walk-value}
-use Rattle.readings.proofs.Walks.{IsSlotCause, cause-slot, concat_below-same, slot-end, slot-going, slot-last}
+use Rattle.readings.proofs.Walks.{IsSlotCause, cause-slot, concat_below-same, slot-end, slot-going}
 use Rattle.readings.proofs.Walks.{slot-missing, until_refused-later, until_refused-made, walk-slot}
 
 -- the kept entries, and the indexes of their slots
@@ -93,15 +94,12 @@ module _ (strict : Bool) (format : Format EntryValue) (offset_of : ℕ → Optio
         (cause-slot slots (kept_entry strict offset_of) bytes strict (lookup_entry_at format) wide
         place entry r e fault)
 
-    pub rest-last : (v : EntryValue) → reads slots bytes place ≡ Some v → slots.is_last v ≡ true
+    pub rest-end : (entry : Option EntryValue) → reads slots bytes place ≡ entry
+        → ends_table slots.is_last entry ≡ true → (strict && not (is_some entry)) ≡ false
         → (comes start ≡ []) × HasEnded
     unfolding entries_from
-    rest-last v r z = (by_slot (Some v) r ∙ slot-last strict slots.is_last (items place) (from (place + format.width)) v z, refl)
-
-    pub rest-end : reads slots bytes place ≡ None → strict ≡ false
-        → (comes start ≡ []) × HasEnded
-    unfolding entries_from
-    rest-end r m = (by_slot None r ∙ slot-end strict slots.is_last (items place) (from (place + format.width)) m, refl)
+    rest-end entry r z there =
+        (by_slot entry r ∙ slot-end strict slots.is_last (items place) (from (place + format.width)) entry z there, refl)
 
     pub rest-missing : (e : ErrorOf) → reads slots bytes place ≡ None → strict ≡ true
         → (lookup_entry_at format place).IsCause bytes e

@@ -5,7 +5,7 @@ use Rattle.std.specs.Int.{from_bool}
 use Rattle.std.proofs.Math.Nat.{mul-le-mul_left}
 use Rattle.std.proofs.lemmas.Bool.{cases_lt}
 use Rattle.goblin_base.specs.Tables.{SlotFormat, ends_table, slot_at, slot_place}
-use Rattle.goblin_base.proofs.SlotTables.{ends, reads, stop-is}
+use Rattle.goblin_base.proofs.SlotTables.{Reaches, reach-next, reach-start, reach-stop, reach-value, reads}
 use Rattle.goblin_pe_import.specs.LeftOut.{amount_of, sum_below, sum_of_slots}
 
 pub sum_below-zero : (f : ℕ → ℕ) → sum_below f 0 ≡ 0
@@ -29,71 +29,52 @@ from_bool-few false = omega arith
 -- the slot at `place` is reached, and `sum` is what the entries before it amount to
 pub record AtSum {V : Type 0} (slots : SlotFormat V) (amount : V → ℕ) (bytes : List ℕ)
     (o place sum : ℕ) : Type 0 where
-  pub index : ℕ
-  pub here : slot_place slots o index ≡ place
-  pub before : (j : ℕ) → j < index → ends slots bytes o j ≡ false
-  pub so_far : sum ≡ sum_below (λ i. amount_of amount (slot_at slots bytes o i)) index
+  pub wide : 1 ≤ slots.entry.width
+  pub at : Reaches slots bytes o place
+      (λ i. sum ≡ sum_below (λ i. amount_of amount (slot_at slots bytes o i)) i)
 
 module _ {V : Type 0} (slots : SlotFormat V) (amount : V → ℕ) (bytes : List ℕ) (o : ℕ) where
   abbrev amount_at : ℕ → ℕ
   amount_at i = amount_of amount (slot_at slots bytes o i)
 
-  pub sum-start : AtSum slots amount bytes o o 0
-  sum-start = record {
-    index = 0;
-    here = omega arith;
-    before = λ j l. absurd (omega arith);
-    so_far = sym (sum_below-zero amount_at);
-  }
+  pub sum-start : 1 ≤ slots.entry.width → AtSum slots amount bytes o o 0
+  sum-start wide =
+      record { wide = wide; at = reach-start slots bytes o _ (sym (sum_below-zero amount_at)) }
 
   module _ (place sum : ℕ) (h : AtSum slots amount bytes o place sum) where
-    sum_slot : (slot : Option V) → reads slots bytes place ≡ slot
-        → slot_at slots bytes o h.index ≡ slot
-    sum_slot slot r = ap (reads slots bytes) h.here ∙ r
-
     -- one slot further
     pub sum-next : (v : V) (more : ℕ) → reads slots bytes place ≡ Some v
         → slots.is_last v ≡ false → more ≡ amount v
         → AtSum slots amount bytes o (place + slots.entry.width) (sum + more)
     sum-next v more r z is =
-        let slot = sum_slot (Some v) r in
-        let going : ends slots bytes o h.index ≡ false = ap (ends_table slots.is_last) slot ∙ z in
+        let value = reach-value slots bytes o place _ h.at (Some v) r in
         record {
-          index = h.index + 1;
-          here = omega (arith, h.here);
-          before = λ j l. elim (cases_lt j h.index) [
-            | inl b ↦ h.before j b
-            | inr g ↦
-                let same : h.index ≡ j = omega arith in
-                ap (ends slots bytes o) (sym same) ∙ going
-          ];
-          so_far =
-              ap (λ (n : ℕ). n + more) h.so_far
-              ∙ ap (λ (n : ℕ). sum_below amount_at h.index + n)
-              (is ∙ ap (amount_of amount) (sym slot))
-              ∙ sym (sum_below-next amount_at h.index);
+          wide = h.wide;
+          at = reach-next slots bytes o place _ h.at (Some v) r _ z
+              (ap (λ (n : ℕ). n + more) h.at.so_far
+              ∙ ap (λ (n : ℕ). sum_below amount_at h.at.index + n)
+              (is ∙ ap (amount_of amount) (sym value))
+              ∙ sym (sum_below-next amount_at h.at.index));
         }
 
     -- the slot that is reached ends the table
-    pub sum-stop : (slot : Option V) → 1 ≤ slots.entry.width → reads slots bytes place ≡ slot
-        → ends_table slots.is_last slot ≡ true → sum ≡ sum_of_slots slots amount bytes o
+    pub sum-stop : ends_table slots.is_last (reads slots bytes place) ≡ true
+        → sum ≡ sum_of_slots slots amount bytes o
     unfolding sum_of_slots
-    sum-stop slot wide r z =
-        let last = ap (ends_table slots.is_last) (sum_slot slot r) ∙ z in
-        let same = stop-is slots bytes o h.index wide h.before last in
-        h.so_far ∙ ap (sum_below amount_at) (sym same)
+    sum-stop z =
+        h.at.so_far
+        ∙ ap (sum_below amount_at) (sym (reach-stop slots bytes o place _ h.at _ refl h.wide z))
 
 -- the number of those that pass a test is at most the place
 pub sum-few : {V : Type 0} (slots : SlotFormat V) (test : V → Bool) (bytes : List ℕ)
-    (o place sum : ℕ) → 1 ≤ slots.entry.width
-    → AtSum slots (λ v. from_bool (test v)) bytes o place sum → sum ≤ place
-sum-few {V} slots test bytes o place sum wide h =
+    (o place sum : ℕ) → AtSum slots (λ v. from_bool (test v)) bytes o place sum → sum ≤ place
+sum-few {V} slots test bytes o place sum h =
     omega (
       arith,
-      h.so_far,
-      h.here,
-      sum_below-few amount_at h.index few_at,
-      mul-le-mul_left h.index wide,
+      h.at.so_far,
+      h.at.here,
+      sum_below-few amount_at h.at.index few_at,
+      mul-le-mul_left h.at.index h.wide,
     )
   where
     amount_at : ℕ → ℕ

@@ -1,8 +1,10 @@
 -- The entries of lookup tables and of address tables, and what a lookup table keeps of them.
-use Rattle.std.specs.Prelude.{ℕ, ◌%◌, ◌^◌, ◌==◌, nat_le, Bool, List}
+use Rattle.std.specs.Prelude.{◌≡◌, ℕ, ◌%◌, ◌^◌, ◌==◌, nat_le, Bool, false, true, List, Option, None}
+use Rattle.std.specs.Prelude.{Some}
 use Rattle.goblin_base.specs.declared.endian.Endian.TheVariants.{Little}
 use Rattle.goblin_base.specs.Bytes.{number}
-use Rattle.goblin_base.specs.Tables.{Format, SlotFormat}
+use Rattle.goblin_base.specs.Record.{record_at}
+use Rattle.goblin_base.specs.Tables.{Format, SlotFormat, ends_table}
 
 -- Source: PE Format, "Import Lookup Table", "Hint/Name Table" and "Import Address Table".
 
@@ -39,6 +41,14 @@ entries_64 = record {
 -- tables of such entries, up to one of number 0
 abbrev pub entry_slots : Format EntryValue → SlotFormat EntryValue
 entry_slots format = record { entry = format; is_last = λ entry. entry.number == 0 }
+
+-- A call gives the entry in the slot at p, or nothing, since the table ends there.
+abbrev pub GivesSlot : {T V : Type 0} → (T → V) → SlotFormat V → List ℕ → ℕ → Option T → Type 0
+GivesSlot view slots bytes p None =
+    ends_table slots.is_last (record_at slots.entry.width slots.entry.value_of bytes p) ≡ true
+GivesSlot view slots bytes p (Some x) =
+    (record_at slots.entry.width slots.entry.value_of bytes p ≡ Some (view x))
+    × (slots.is_last (view x) ≡ false)
 
 -- a hint, and the name after it
 pub record HintName : Type 0 where

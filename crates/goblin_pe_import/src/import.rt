@@ -15,7 +15,7 @@ ghost use Rattle.goblin_pe_import.specs.ImportDirectory.{KeepsImports, TakesLibr
 ghost use Rattle.goblin_pe_import.specs.ImportDirectory.{TakesLibrary};
 ghost use Rattle.goblin_pe_import.specs.ImportReadings as reading;
 
-use goblin_base::{Cause, Endian, Error, Record, ResultOf, is_passed_over};
+use goblin_base::{Cause, Error, ResultOf, is_passed_over};
 use goblin_pe_sect::address_map::{AddressMap, Finder};
 use goblin_pe_sect::data_directories::DataDirectory;
 use goblin_pe_sect::options::ParseOptions;
@@ -32,9 +32,9 @@ mod left_out;
 mod library;
 mod listed;
 mod lookup_table;
+mod slots;
 
 pub use address_table::ImportAddressTable;
-pub(crate) use bitfield::read_entry;
 pub use bitfield::{
     Bitfield, IMPORT_BY_ORDINAL_32, IMPORT_BY_ORDINAL_64, IMPORT_RVA_MASK_32, IMPORT_RVA_MASK_64,
 };
@@ -46,6 +46,8 @@ use library::directory_offset;
 pub(crate) use library::{address_table_rva, lookup_offset};
 pub use listed::Import;
 pub use lookup_table::{HintNameTableEntry, ImportLookupTable, SyntheticImportLookupTableEntry};
+use slots::may_end;
+pub(crate) use slots::{next_entry, next_record};
 
 /// The imports of an image, library by library.
 ///
@@ -123,22 +125,17 @@ fn libraries<'a, 'e, T: Bitfield<'a>>(
         IfErr result (λ e. IsMemory e
         → TakesLibraries (reads_strictly m) T.format (offset_of m) bytes.now offset) }
 {
+    let size = SIZEOF_IMPORT_DIRECTORY_ENTRY;
     let mut libraries = Vec::new(alloc);
     let mut place = offset;
-    'records: loop {
-        let Ok(record) = ImportDirectoryEntry::read_at(bytes, place, Endian::Little) else {
-            if address_map.is_permissive() {
-                break 'records;
-            }
-            return Err(Error::Malformed(Cause::ImportRecordEnd(place)));
-        };
-        if !record.is_possibly_valid() {
-            break 'records;
-        }
+    'records: while let Some(record) = next_record(bytes, place) {
         add_library::<T>(&mut libraries, bytes, record, address_map)?;
-        place += SIZEOF_IMPORT_DIRECTORY_ENTRY;
+        place += size;
     }
-    Ok(libraries)
+    if may_end(bytes, place, size, address_map.is_permissive()) {
+        return Ok(libraries);
+    }
+    Err(Error::Malformed(Cause::ImportRecordEnd(place)))
 }
 
 impl<'a> ImportData<'a> {

@@ -1,12 +1,13 @@
 -- The loop that reads a table of slots: what it answers at each way out, value and cause at once.
 use Rattle.std.proofs.Common.{◌≡◌, ◌<◌, ◌≤◌, ◌+◌, ℕ, Bool, true, false}
 use Rattle.std.proofs.Common.{Option, Some, None, List, [], ◌++◌, ap, ◌∙◌, inl, inr}
-use Rattle.std.proofs.Common.{IsSomeAnd, subst, sym}
+use Rattle.std.proofs.Common.{IsSomeAnd, subst, sym, not, ◌&&◌}
+use Rattle.std.specs.Option.{is_some}
 use Rattle.goblin_base.specs.declared.error.ErrorOf.{ErrorOf}
 use Rattle.goblin_base.specs.Footprints.{Range}
 use Rattle.goblin_base.specs.Reading.{Reading}
 use Rattle.goblin_base.specs.Tables.{SlotFormat, ends_table, slot_at, stop}
-use Rattle.goblin_base.proofs.SlotTables.{AtSlot, at-end, at-last, at-missing}
+use Rattle.goblin_base.proofs.SlotTables.{AtSlot, at-end, at-missing}
 use Rattle.goblin_base.proofs.SlotTables.{at-missing_first, at-next, at-refused, at-start}
 use Rattle.goblin_base.proofs.SlotTables.{at-refused_cause, reads, stop-after}
 use Rattle.readings.specs.Reads.{table}
@@ -45,21 +46,15 @@ module _ {V A : Type 0} (slots : SlotFormat V) (piece : V → Reading (List A)) 
     read-next ys v r z k =
         record { wide = h.wide; at = at-next slots made bytes o place xs ys v h.at r z k }
 
-    -- a last entry is reached
-    pub read-last : (needs_end : Bool) (missing : ℕ → Reading V) (v : V)
-        → reads slots bytes place ≡ Some v → slots.is_last v ≡ true
+    -- the table ends at the slot that is reached
+    pub read-end : (needs_end : Bool) (missing : ℕ → Reading V) (slot : Option V)
+        → reads slots bytes place ≡ slot → ends_table slots.is_last slot ≡ true
+        → (needs_end && not (is_some slot)) ≡ false
         → (table slots needs_end missing piece o).value bytes ≡ Some xs
-    read-last needs_end missing v r z =
-        at-last slots needs_end made bytes o place xs v h.wide h.at r z
+    read-end needs_end missing slot r z there =
+        at-end slots needs_end made bytes o place xs h.wide h.at slot r z there
 
-    -- the end of the file is reached, and no end of the table is needed
-    pub read-end : (needs_end : Bool) (missing : ℕ → Reading V)
-        → reads slots bytes place ≡ None → needs_end ≡ false
-        → (table slots needs_end missing piece o).value bytes ≡ Some xs
-    read-end needs_end missing r m =
-        at-end slots needs_end made bytes o place xs h.wide h.at r m
-
-    -- the same where one is needed
+    -- an end is needed that is not in the file
     pub read-missing : (needs_end : Bool) (missing : ℕ → Reading V) (e : ErrorOf)
         → reads slots bytes place ≡ None → needs_end ≡ true → (missing place).IsCause bytes e
         → IsRefused (table slots needs_end missing piece o) e

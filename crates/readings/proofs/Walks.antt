@@ -1,8 +1,9 @@
 -- A walk over a table of slots, slot by slot.
 use Rattle.std.proofs.Common.{◌≡◌, ◌<◌, ◌≤◌, ◌+◌, ◌*◌, ℕ, zero, suc, Bool, true, false, List, []}
 use Rattle.std.proofs.Common.{◌∷◌, ◌++◌, map, length, Option, Some, None, refl, sym, ap, subst, ◌∙◌}
-use Rattle.std.proofs.Common.{append-nil, append_assoc, arith, if◌then◌else◌, inl, inr}
+use Rattle.std.proofs.Common.{append-nil, append_assoc, arith, if◌then◌else◌, inl, inr, not, ◌&&◌}
 use Rattle.std.specs.Prelude.{IsSomeAnd}
+use Rattle.std.specs.Option.{is_some}
 use Rattle.std.proofs.lemmas.Bool.{cases_Bool}
 use Rattle.goblin_base.specs.declared.error.ErrorOf.{ErrorOf}
 use Rattle.goblin_base.specs.Answers.{FirstFault, ◌>>=◌}
@@ -76,14 +77,17 @@ module _ {V B : Type 0} (needs_end : Bool) (is_last : V → Bool) (items : V →
   abbrev going_on : V → Bool → List (Option B)
   going_on v last = if last then [] else until_refused (items v ++ later)
 
-  pub slot-end : needs_end ≡ false → from None ≡ []
-  slot-end m = ap end m
+  pub slot-end : (entry : Option V) → ends_table is_last entry ≡ true
+      → (needs_end && not (is_some entry)) ≡ false → from entry ≡ []
+  slot-end None z there = unneeded needs_end there
+    where
+      unneeded : (needed : Bool) → (needed && true) ≡ false → end needed ≡ []
+      unneeded true there = absurd cc
+      unneeded false there = refl
+  slot-end (Some v) z there = ap (going_on v) z
 
   pub slot-missing : needs_end ≡ true → from None ≡ None ∷ []
   slot-missing m = ap end m
-
-  pub slot-last : (v : V) → is_last v ≡ true → from (Some v) ≡ []
-  slot-last v z = ap (going_on v) z
 
   pub slot-going : (v : V) → is_last v ≡ false
       → from (Some v) ≡ until_refused (items v ++ later)

@@ -2,13 +2,12 @@
 
 ghost use Rattle.std.specs.Prelude.{◌≡◌, ◌<◌, ◌^◌, ℕ, Bool, IfSome, IsSome, List, option_map};
 ghost use Rattle.std.specs.Fn.{FnReturnsAt};
-ghost use Rattle.std.specs.List.{list_any};
 ghost use Rattle.std.specs.Iterator.{UpTo, at_most};
 ghost use Rattle.std.specs.Iterator.SizeHint.{IsWithinCount};
 ghost use Rattle.goblin_base.specs.declared.error.ErrorOf.{ErrorOf};
 ghost use Rattle.goblin_base.specs.Answers.{Answers, all_of};
 ghost use Rattle.goblin_pe_import.specs.Imports.{ImportValue};
-ghost use Rattle.goblin_pe.specs.Callers.{IsTest, counted};
+ghost use Rattle.goblin_pe.specs.Callers.{IsTest, counted, has_any};
 ghost use Rattle.goblin_pe_sect.specs.Addresses.{MapOfAddresses, map_of};
 ghost use Rattle.goblin_pe.specs.LayoutPositions.{GivesFileImport, IsFileFaultAt, IsImportWalk};
 ghost use Rattle.goblin_pe.specs.LayoutPositions.{file_imports_at, file_map, file_position};
@@ -61,7 +60,7 @@ impl<'a, 'm, 'e> FileImports<'a, 'm, 'e> {
         requires { F.IsAlwaysCallable test }
         ensures { (p : ImportValue → Bool) → IsTest (FnReturnsAt F.Fn test) p
             → Answers (λ b. b) result
-            (option_map (list_any p) (all_of (file_imports_left self.entry)))
+            (option_map (has_any p) (all_of (file_imports_left self.entry)))
             (IsFileImportsCause self.entry) }
     {
         let mut found = false;

@@ -42,7 +42,8 @@ use crate::import::directory_entry::{ImportDirectoryEntry, SIZEOF_IMPORT_DIRECTO
 use crate::import::kept::{KeptEntry, next_kept, plain_kept};
 use crate::import::library::{address_table_rva, directory_offset, library_name, lookup_offset};
 use crate::import::lookup_table::SyntheticImportLookupTableEntry;
-use goblin_base::{Cause, Endian, Error, Record, ResultOf};
+use crate::import::slots::{may_end, next_record};
+use goblin_base::{Cause, Error, ResultOf};
 use goblin_pe_sect::address_map::{AddressMap, Finder};
 use goblin_pe_sect::data_directories::DataDirectory;
 use std::fmt;
@@ -321,18 +322,14 @@ impl<'a, 'm> Walk<'a, 'm> {
         let Some(at) = self.next else {
             return None;
         };
-        let Ok(record) = ImportDirectoryEntry::read_at(self.bytes, at.record_offset, Endian::Little)
-        else {
-            if self.finder.is_permissive() {
+        let size = SIZEOF_IMPORT_DIRECTORY_ENTRY;
+        let Some(record) = next_record(self.bytes, at.record_offset) else {
+            if may_end(self.bytes, at.record_offset, size, self.finder.is_permissive()) {
                 return None;
             }
             return Some(Err(Error::Malformed(Cause::ImportRecordEnd(at.record_offset))));
         };
-        if !record.is_possibly_valid() {
-            return None;
-        }
-        let after = at.record_offset + SIZEOF_IMPORT_DIRECTORY_ENTRY;
-        Some(self.enter::<T>(&record, at.slot_offset, after))
+        Some(self.enter::<T>(&record, at.slot_offset, at.record_offset + size))
     }
 
     // Where the walk is.

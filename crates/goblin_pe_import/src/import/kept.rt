@@ -6,8 +6,9 @@ ghost use Rattle.goblin_pe_import.specs.ImportWalks.{IsEntriesCause, entries_fro
 ghost use Rattle.goblin_pe_import.specs.ImportWalks.{place_after};
 ghost use Rattle.readings.specs.Walks.{GivesNext};
 
-use crate::import::bitfield::{Bitfield, read_entry};
+use crate::import::bitfield::Bitfield;
 use crate::import::lookup_table::SyntheticImportLookupTableEntry;
+use crate::import::slots::{may_end, next_entry};
 use goblin_base::{Cause, Error, ResultOf};
 use goblin_pe_sect::address_map::Finder;
 
@@ -47,15 +48,12 @@ pub(super) fn next_kept<'a, 'e, T: Bitfield<'a>>(
     let size = T::size_of();
     let mut place = place?;
     'slots: loop {
-        let Ok(entry) = read_entry::<T>(bytes, place) else {
-            if finder.is_permissive() {
+        let Some(entry) = next_entry::<T>(bytes, place) else {
+            if may_end(bytes, place, size, finder.is_permissive()) {
                 return None;
             }
             return Some(Err(Error::Malformed(Cause::LookupEnd(place))));
         };
-        if entry.is_zero() {
-            return None;
-        }
         match SyntheticImportLookupTableEntry::kept(&entry, bytes, finder) {
             Ok(Some(entry)) => {
                 let slot = place.saturating_sub(offset) / size;
@@ -86,12 +84,9 @@ pub(super) fn plain_kept<'a, T: Bitfield<'a>>(
     ensures inside { IfSome result (λ kept. place + T.format.width ≤ length bytes.now) }
     ensures short { IfSome result (λ kept. kept.place + T.format.width < 2 ^ 63) }
 {
-    let Ok(entry) = read_entry::<T>(bytes, place) else {
+    let Some(entry) = next_entry::<T>(bytes, place) else {
         return None;
     };
-    if entry.is_zero() {
-        return None;
-    }
     let Some(entry) = SyntheticImportLookupTableEntry::plain(&entry, bytes, finder) else {
         return None;
     };

@@ -6,10 +6,11 @@ ghost use Rattle.goblin_pe_sect.specs.Addresses.{map_of, offset_of};
 ghost use Rattle.goblin_pe_import.specs.LeftOut as left_out;
 
 use crate::import::address_table::test_address_table;
-use crate::import::bitfield::{Bitfield, read_entry};
+use crate::import::bitfield::Bitfield;
 use crate::import::directory_entry::{ImportDirectoryEntry, SIZEOF_IMPORT_DIRECTORY_ENTRY};
 use crate::import::library::lookup_offset;
-use goblin_base::{Endian, Record, pread_slice};
+use crate::import::slots::{next_entry, next_record};
+use goblin_base::pread_slice;
 use goblin_pe_sect::address_map::{AddressMap, Finder};
 use goblin_pe_sect::data_directories::DataDirectory;
 
@@ -58,16 +59,11 @@ fn entries_of_table<'a, T: Bitfield<'a>>(
     let size = T::size_of();
     let mut entries = 0;
     let mut place = offset;
-    'slots: loop {
-        let Ok(entry) = read_entry::<T>(bytes, place) else {
-            return entries;
-        };
-        if entry.is_zero() {
-            return entries;
-        }
+    'slots: while let Some(entry) = next_entry::<T>(bytes, place) {
         entries += usize::from(is_entry_left_out(&entry, bytes, address_map));
         place += size;
     }
+    entries
 }
 
 // Whether the library of a record is left out: it has no address table.
@@ -127,13 +123,7 @@ fn of_directory<'a, T: Bitfield<'a>>(
     let mut libraries = 0;
     let mut entries = 0usize;
     let mut place = offset;
-    'records: loop {
-        let Ok(record) = ImportDirectoryEntry::read_at(bytes, place, Endian::Little) else {
-            break 'records;
-        };
-        if !record.is_possibly_valid() {
-            break 'records;
-        }
+    'records: while let Some(record) = next_record(bytes, place) {
         let more = of_record::<T>(bytes, &record, address_map);
         libraries += more.libraries;
         entries = entries.saturating_add(more.entries);

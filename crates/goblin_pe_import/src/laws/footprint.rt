@@ -1,9 +1,11 @@
 //! Which bytes of a file its imports depend on.
 
-ghost use Rattle.std.specs.Prelude.{◌≡◌, ◌+◌, ◌<◌, ◌⊎◌, ◌++◌, IfErr, IfOk, OnErr, length};
+ghost use Rattle.std.specs.Prelude.{◌≡◌, ◌+◌, ◌<◌, ◌⊎◌, ◌++◌, IfErr, IfOk, OnErr, if◌then◌else◌, length};
+ghost use Rattle.std.specs.Option.{is_some};
 ghost use Rattle.goblin_base.specs.Answers.{IsMemory};
 ghost use Rattle.goblin_base.specs.Marks.{IsFootprint, marked};
-ghost use Rattle.goblin_base.specs.Footprints.{led_to, slice_footprint, stretch_footprint};
+ghost use Rattle.goblin_base.specs.Bytes.{slice_at};
+ghost use Rattle.goblin_base.specs.Footprints.{led_to, positions, slice_footprint, stretch_footprint};
 ghost use Rattle.goblin_pe_sect.specs.Addresses.{TakesMap, map_by, map_of, offset_of};
 ghost use Rattle.goblin_pe_sect.specs.Addresses.{reads_strictly};
 ghost use Rattle.goblin_pe_import.specs.ImportReadings.{import_data, libraries_at, library_of};
@@ -12,10 +14,10 @@ ghost use Rattle.goblin_pe_import.specs.LookupReadings.{address_table, kept_entr
 
 use crate::import::{
     Bitfield, ImportDirectoryEntry, SIZEOF_IMPORT_DIRECTORY_ENTRY, address_table_rva,
-    lookup_offset, read_entry,
+    lookup_offset, next_entry, next_record,
 };
 use goblin_base::footprint::{Marks, add_stretch};
-use goblin_base::{Endian, Record, ResultOf, pread_slice};
+use goblin_base::{ResultOf, pread_slice};
 use goblin_pe_sect::address_map::{AddressMap, Finder};
 use goblin_pe_sect::data_directories::DataDirectory;
 use goblin_pe_sect::options::ParseOptions;
@@ -59,6 +61,18 @@ fn add_entry<'a, T: Bitfield<'a>>(
     }
 }
 
+// Marks the slots of `width` bytes from an offset on, and the one at `last` if the file has all of it.
+#[tactic(auto, using(goblin_base::proofs::Marks::marking))]
+fn add_slots(marks: &mut Marks, bytes: &[u8], offset: usize, last: usize, width: usize)
+    ensures { let is_whole = is_some (slice_at bytes.now last width) in
+        marks.new ≡ marked marks.old (positions offset (if is_whole then last + width else last)) }
+{
+    match pread_slice(bytes, last, width) {
+        Ok(slot) => marks.add(offset, last + slot.len()),
+        Err(_) => marks.add(offset, last),
+    }
+}
+
 // Marks the footprint of the lookup table at an offset.
 #[tactic(auto, using(goblin_base::proofs::Marks::marking))]
 fn add_lookup_table<'a, T: Bitfield<'a>>(
@@ -74,16 +88,11 @@ fn add_lookup_table<'a, T: Bitfield<'a>>(
 {
     let size = T::size_of();
     let mut place = offset;
-    'slots: loop {
-        let Ok(entry) = read_entry::<T>(bytes, place) else {
-            return marks.add(offset, place);
-        };
-        if entry.is_zero() {
-            return marks.add(offset, place + size);
-        }
+    'slots: while let Some(entry) = next_entry::<T>(bytes, place) {
         add_entry(marks, &entry, bytes, address_map);
         place += size;
     }
+    add_slots(marks, bytes, offset, place, size)
 }
 
 // Marks the footprint of the address table at an offset.
@@ -94,15 +103,10 @@ fn add_address_table<'a, T: Bitfield<'a>>(marks: &mut Marks, bytes: &'a [u8], of
 {
     let size = T::size_of();
     let mut place = offset;
-    'slots: loop {
-        let Ok(entry) = read_entry::<T>(bytes, place) else {
-            return marks.add(offset, place);
-        };
+    'slots: while let Some(_) = next_entry::<T>(bytes, place) {
         place += size;
-        if entry.is_zero() {
-            return marks.add(offset, place);
-        }
     }
+    add_slots(marks, bytes, offset, place, size)
 }
 
 // Marks the text at a place, where there is one.
@@ -182,17 +186,13 @@ fn add_libraries<'a, T: Bitfield<'a>>(
         (libraries_at (reads_strictly m) T.format (offset_of m) offset).reaches bytes.now in
         marks.new ≡ marked marks.old reached }
 {
+    let size = SIZEOF_IMPORT_DIRECTORY_ENTRY;
     let mut place = offset;
-    'records: loop {
-        let Ok(record) = ImportDirectoryEntry::read_at(bytes, place, Endian::Little) else {
-            return marks.add(offset, place);
-        };
-        if !record.is_possibly_valid() {
-            return marks.add(offset, place + SIZEOF_IMPORT_DIRECTORY_ENTRY);
-        }
+    'records: while let Some(record) = next_record(bytes, place) {
         add_library::<T>(marks, bytes, &record, address_map);
-        place += SIZEOF_IMPORT_DIRECTORY_ENTRY;
+        place += size;
     }
+    add_slots(marks, bytes, offset, place, size)
 }
 
 /// Marks the footprint of the import data of a directory at the address `rva`.

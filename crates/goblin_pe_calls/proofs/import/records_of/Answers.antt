@@ -4,7 +4,8 @@ use Rattle.std.proofs.lemmas.Result.{err_from_is_err_and}
 use Rattle.goblin_pe_import.specs.ImportWalks.{IsImportsCause, imports_left, walked_value}
 use Rattle.goblin_pe_calls.specs.Imports.{import_said}
 use Rattle.goblin_pe.proofs.Walked.{made-all, made-fault, made-more}
-use Rattle.goblin_pe_calls.proofs.Growth.{walk-begins, wherever}
+use Rattle.readings.proofs.Walked.{walk-begins}
+use Rattle.goblin_pe_calls.proofs.Growth.{wherever}
 use Rattle.goblin_pe_calls.proofs.Pushed.{made-pushed}
 use Rattle.goblin_pe_calls.proofs.import.records_of.Goals as goal
 
@@ -16,7 +17,7 @@ returns-in_err-import-clause-value g c =
 
 pub returns-in_err-push_import-clause-begun : goal.returns-in_err-push_import-clause-begun
 returns-in_err-push_import-clause-begun g c =
-    wherever _ _ (walk-begins (imports_left g.T.Bitfield.format) (IsImportsCause g.T.Bitfield.format) import_said c.args.imports _ _ c.libraries.invariant.0 walked_value _ _ c.in-Some.ensures.steps.0 _ c.in_ok-import.was)
+    wherever _ _ (walk-begins (imports_left g.T.Bitfield.format) (IsImportsCause g.T.Bitfield.format) c.args.imports _ _ c.libraries.invariant.0.at walked_value _ _ c.in-Some.ensures.steps.0 _ c.in_ok-import.was)
 
 pub libraries-preserved : goal.libraries-preserved
 libraries-preserved g c =

@@ -1,6 +1,6 @@
-use Rattle.std.proofs.Common.{◌≤◌, sym, ◌∙◌, arith, refl}
+use Rattle.std.proofs.Common.{◌≤◌, Some, sym, ◌∙◌, arith, refl}
 use Rattle.std.proofs.lemmas.Result.{err_from_is_err_and}
-use Rattle.readings.proofs.Loops.{read-last, read-missing, read-more, read-next, read-start}
+use Rattle.readings.proofs.Loops.{read-end, read-missing, read-more, read-next, read-start}
 use Rattle.goblin_pe_import.specs.LookupReadings.{entry_value_at}
 use Rattle.goblin_pe_import.proofs.import.address_table.address_table.Goals as goal
 
@@ -16,7 +16,7 @@ returns-in_err-entry-clause-value g c =
 
 pub returns-then-is_zero-clause-value : goal.returns-then-is_zero-clause-value
 returns-then-is_zero-clause-value g c =
-    rw (c.from.ensures) (read-last _ _ _ _ _ _ c.slots.invariant _ (entry_value_at g.T.Bitfield.format) _ c.in_ok-entry.ensures (sym c.is_zero.ensures ∙ c.if-is_zero.true))
+    rw (c.from.ensures) (read-end _ _ _ _ _ _ c.slots.invariant _ (entry_value_at g.T.Bitfield.format) (Some _) c.in_ok-entry.ensures (sym c.is_zero.ensures ∙ c.if-is_zero.true) refl)
 
 pub slots-preserved : goal.slots-preserved
 slots-preserved g c =

@@ -1,7 +1,7 @@
-use Rattle.std.proofs.Common.{◌≡◌, ◌+◌, ◌≤◌, length, true, [], sym, ap, ◌∙◌, arith, refl}
+use Rattle.std.proofs.Common.{◌≡◌, ◌+◌, ◌≤◌, length, true, [], Some, sym, ap, ◌∙◌, arith, refl}
 use Rattle.std.specs.Prelude.{option_map}
 use Rattle.std.proofs.lemmas.Result.{err_from_is_err_and}
-use Rattle.readings.proofs.Loops.{read-last, read-missing, read-next, read-start}
+use Rattle.readings.proofs.Loops.{read-end, read-missing, read-next, read-start}
 use Rattle.goblin_base.specs.declared.error.ErrorOf.TheVariants.{Read}
 use Rattle.goblin_base.specs.declared.error.ReadFault.TheVariants.{BadOffset}
 use Rattle.goblin_pe_import.specs.ImportEntries.{entry_slots}
@@ -27,7 +27,7 @@ pub returns-then-is_zero : goal.returns-then-is_zero
 returns-then-is_zero g c =
     let width : c.size_of-size.result ≡ g.T.Bitfield.format.width = c.size_of-size.ensures.width in
     let read = entry_there g.T.Bitfield.format.width c.size_of-size.result g.T.Bitfield.format.value_of g.T.Bitfield.value c.args.bytes.now c.slots.place c.read.result width c.size_of-size.ensures.positive c.slots-test.true c.slots.invariant.0 c.read.ensures in
-    ap (option_map _) (read-last _ _ _ _ _ _ c.slots.invariant.2 _ (entry_value_at g.T.Bitfield.format) _ read (sym c.is_zero.ensures ∙ c.if-is_zero.true))
+    ap (option_map _) (read-end _ _ _ _ _ _ c.slots.invariant.2 _ (entry_value_at g.T.Bitfield.format) (Some _) read (sym c.is_zero.ensures ∙ c.if-is_zero.true) refl)
 
 pub slots-preserved : goal.slots-preserved
 slots-preserved g c =

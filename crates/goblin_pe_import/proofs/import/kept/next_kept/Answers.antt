@@ -1,9 +1,9 @@
 use Rattle.std.proofs.Common.{◌≤◌, sym, ◌∙◌, arith, refl}
 use Rattle.goblin_base.specs.declared.error.ErrorOf.TheVariants.{Malformed}
 use Rattle.goblin_base.specs.declared.error.CauseOf.TheVariants.{LookupEnd}
-use Rattle.goblin_pe_import.proofs.LookupWalk.{none-left, refused-strictly, rest-end, rest-kept, rest-last}
+use Rattle.goblin_pe_import.proofs.LookupWalk.{none-left, refused-strictly, rest-end, rest-kept}
 use Rattle.goblin_pe_import.proofs.LookupWalk.{rest-missing, rest-refused, rest-skip, rest-start}
-use Rattle.goblin_pe_import.proofs.Modes.{strict, permissive}
+use Rattle.goblin_pe_import.proofs.Modes.{ends, lacks_end}
 use Rattle.goblin_pe_import.proofs.import.kept.next_kept.Goals as goal
 
 pub returns-in_err-place-clause-steps : goal.returns-in_err-place-clause-steps
@@ -12,38 +12,38 @@ returns-in_err-place-clause-steps g c = rw c.from_residual.ensures (none-left _ 
 pub slots-init : goal.slots-init
 slots-init g c = (rest-start _ _ _ _ _ _ _ c.in_ok-place.was, refl)
 
-pub returns-then-is_permissive-clause-steps : goal.returns-then-is_permissive-clause-steps
-returns-then-is_permissive-clause-steps g c =
+pub returns-then-may_end-clause-steps : goal.returns-then-may_end-clause-steps
+returns-then-may_end-clause-steps g c =
     let wide : 1 ≤ g.T.Bitfield.format.width = omega (arith, c.size_of-size.ensures.width, c.size_of-size.ensures.positive) in
-    rest-end _ _ _ _ _ _ _ c.slots.invariant.0 wide c.in_default.ensures.0 (permissive _ _ (rw c.slots.invariant.1 at c.is_permissive.ensures) c.if-is_permissive.true)
+    let may = sym (rw c.size_of-size.ensures.width at c.may_end.ensures) ∙ c.if-may_end.true in
+    rest-end _ _ _ _ _ _ _ c.slots.invariant.0 wide _ refl c.in_default.ensures (ends _ _ (rw c.slots.invariant.1 at c.is_permissive.ensures) _ _ may)
 
 pub returns-in_default-clause-steps : goal.returns-in_default-clause-steps
 returns-in_default-clause-steps g c =
     let wide : 1 ≤ g.T.Bitfield.format.width = omega (arith, c.size_of-size.ensures.width, c.size_of-size.ensures.positive) in
-    rest-missing _ _ _ _ _ _ _ c.slots.invariant.0 wide (Malformed (LookupEnd c.slots.place)) c.in_default.ensures.0 (strict _ _ (rw c.slots.invariant.1 at c.is_permissive.ensures) c.if-is_permissive.false) refl
-
-pub returns-then-is_zero-clause-steps : goal.returns-then-is_zero-clause-steps
-returns-then-is_zero-clause-steps g c =
-    let wide : 1 ≤ g.T.Bitfield.format.width = omega (arith, c.size_of-size.ensures.width, c.size_of-size.ensures.positive) in
-    rest-last _ _ _ _ _ _ _ c.slots.invariant.0 wide _ c.in-Ok.ensures (sym c.is_zero.ensures ∙ c.if-is_zero.true)
+    let not = sym (rw c.size_of-size.ensures.width at c.may_end.ensures) ∙ c.if-may_end.false in
+    let lacks = lacks_end _ _ (rw c.slots.invariant.1 at c.is_permissive.ensures) g.T.Bitfield.format.value_of _ not in
+    rest-missing _ _ _ _ _ _ _ c.slots.invariant.0 wide (Malformed (LookupEnd c.slots.place)) lacks.1 lacks.0 refl
 
 pub returns-in-Ok-Some-clause-steps : goal.returns-in-Ok-Some-clause-steps
 returns-in-Ok-Some-clause-steps g c =
     let wide : 1 ≤ g.T.Bitfield.format.width = omega (arith, c.size_of-size.ensures.width, c.size_of-size.ensures.positive) in
-    rw (c.saturating_sub.ensures, c.size_of-size.ensures.width) (rest-kept _ _ _ _ _ _ _ c.slots.invariant.0 wide _ c.in-Ok.ensures (sym c.is_zero.ensures ∙ c.if-is_zero.false) _ (rw c.slots.invariant.1 at c.in-Ok-Some.ensures.value) _ c.in-Ok-Some.field-0-is)
+    rw (c.saturating_sub.ensures, c.size_of-size.ensures.width) (rest-kept _ _ _ _ _ _ _ c.slots.invariant.0 wide _ c.in-Some.ensures.0 c.in-Some.ensures.1 _ (rw c.slots.invariant.1 at c.in-Ok-Some.ensures.value) _ c.in-Ok-Some.field-0-is)
 
 pub returns-in-Err-clause-steps : goal.returns-in-Err-clause-steps
 returns-in-Err-clause-steps g c =
     let wide : 1 ≤ g.T.Bitfield.format.width = omega (arith, c.size_of-size.ensures.width, c.size_of-size.ensures.positive) in
-    rest-refused _ _ _ _ _ _ _ c.slots.invariant.0 wide _ c.in-Ok.ensures (sym c.is_zero.ensures ∙ c.if-is_zero.false) _ (rw c.slots.invariant.1 at c.in-Err.ensures.value)
+    rest-refused _ _ _ _ _ _ _ c.slots.invariant.0 wide _ c.in-Some.ensures.0 c.in-Some.ensures.1 _ (rw c.slots.invariant.1 at c.in-Err.ensures.value)
 
 pub slots-preserved : goal.slots-preserved
 slots-preserved g c =
     let wide : 1 ≤ g.T.Bitfield.format.width = omega (arith, c.size_of-size.ensures.width, c.size_of-size.ensures.positive) in
-    rw c.size_of-size.ensures.width (rest-skip _ _ _ _ _ _ _ c.slots.invariant.0 wide _ c.in-Ok.ensures (sym c.is_zero.ensures ∙ c.if-is_zero.false) _ (rw c.slots.invariant.1 at c.in-Ok-None.ensures.value) c.in-Ok-None.field-0-is, c.in-Ok-None.ensures.same ∙ c.slots.invariant.1)
+    rw c.size_of-size.ensures.width (rest-skip _ _ _ _ _ _ _ c.slots.invariant.0 wide _ c.in-Some.ensures.0 c.in-Some.ensures.1 _ (rw c.slots.invariant.1 at c.in-Ok-None.ensures.value) c.in-Ok-None.field-0-is, c.in-Ok-None.ensures.same ∙ c.slots.invariant.1)
 
 pub returns-in_default-clause-strictly : goal.returns-in_default-clause-strictly
-returns-in_default-clause-strictly g c = strict _ _ (rw c.slots.invariant.1 at c.is_permissive.ensures) c.if-is_permissive.false
+returns-in_default-clause-strictly g c =
+    let not = sym (rw c.size_of-size.ensures.width at c.may_end.ensures) ∙ c.if-may_end.false in
+    (lacks_end _ _ (rw c.slots.invariant.1 at c.is_permissive.ensures) g.T.Bitfield.format.value_of _ not).0
 
 pub returns-in-Err-clause-strictly : goal.returns-in-Err-clause-strictly
 returns-in-Err-clause-strictly g c = refused-strictly _ _ _ _ (rw c.slots.invariant.1 at c.in-Err.ensures.value).0

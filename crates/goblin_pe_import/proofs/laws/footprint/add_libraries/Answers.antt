@@ -1,17 +1,12 @@
-use Rattle.std.proofs.Common.{true, false, lit≤}
-use Rattle.goblin_base.proofs.SlotFootprints.{ranges-end, ranges-last, ranges-next, ranges-start}
-use Rattle.goblin_pe_import.proofs.Imports.{opposite}
+use Rattle.std.proofs.Common.{lit≤}
+use Rattle.goblin_base.proofs.SlotFootprints.{ranges-end, ranges-next, ranges-start}
 use Rattle.goblin_pe_import.proofs.laws.footprint.add_libraries.Goals as goal
 
 pub records-init : goal.records-init
-records-init g c = ranges-start _ _ _ _ _
+records-init g c = ranges-start _ _ _ _ _ (lit≤ tt)
 
 pub records-preserved : goal.records-preserved
-records-preserved g c = ranges-next _ _ _ _ _ _ _ _ _ c.records.invariant c.in-Ok.ensures (opposite _ _ false c.is_possibly_valid.ensures c.if-not-is_possibly_valid.false) c.add_library.ensures
+records-preserved g c = ranges-next _ _ _ _ _ _ _ c.records.invariant _ _ c.in-Some.ensures.0 c.in-Some.ensures.1 c.add_library.ensures
 
-pub returns-in_default : goal.returns-in_default
-returns-in_default g c = rw (← ranges-end _ _ _ _ _ _ _ (lit≤ tt) c.records.invariant c.in_default.ensures.0) c.add.ensures
-
-pub returns-then-not-is_possibly_valid : goal.returns-then-not-is_possibly_valid
-returns-then-not-is_possibly_valid g c =
-    rw (← ranges-last _ _ _ _ _ _ _ _ (lit≤ tt) c.records.invariant c.in-Ok.ensures (opposite _ _ true c.is_possibly_valid.ensures c.if-not-is_possibly_valid.true)) c.add-then-not-is_possibly_valid.ensures
+pub returns : goal.returns
+returns g c = rw (← ranges-end _ _ _ _ _ _ _ c.records.invariant c.in_default.ensures) c.add_slots.ensures

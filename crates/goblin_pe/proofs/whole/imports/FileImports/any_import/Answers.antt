@@ -1,13 +1,14 @@
 use Rattle.std.proofs.Common.{Bool, false, ◌||◌, ap, refl}
-use Rattle.std.specs.List.{list_any}
 use Rattle.std.proofs.lemmas.Result.{err_from_is_err_and}
 use Rattle.std.proofs.lemmas.Fn.{says_at}
+use Rattle.goblin_pe.specs.Callers.{has_any}
 use Rattle.goblin_pe.proofs.Folds.{any_more, gathers_all, gathers_fault, gathers_start}
 use Rattle.goblin_pe.proofs.whole.imports.FileImports.any_import.Goals as goal
 
 pub imports-init : goal.imports-init
+unfolding has_any
 imports-init g c = λ p is.
-    rw c.into_iter-import-iterator.ensures.into_iter_gives (gathers_start (list_any p) c.args.self false refl)
+    rw c.into_iter-import-iterator.ensures.into_iter_gives (gathers_start (has_any p) c.args.self false refl)
 
 pub returns-in_err-import : goal.returns-in_err-import
 returns-in_err-import g c = λ p is.
