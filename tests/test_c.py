@@ -328,6 +328,24 @@ class Patch(Case):
                 data[header + 8: header + 12], data[place: place + 8] = b"\x78\x56\x34\x12", b".code\0\0\0"
                 self.assertEqual(to.read_bytes(), data)
 
+    def test_an_image_with_a_checksum(self):
+        """The sum of its words in 16 bits, with each carry added, and its length."""
+        def checksum(data, field):
+            padded = data[:field] + bytes(4) + data[field + 4:] + bytes(len(data) % 2)
+            found = sum(struct.unpack("<%dH" % (len(padded) // 2), padded))
+            while found >> 16:
+                found = (found & 0xFFFF) + (found >> 16)
+            return found + len(data)
+
+        for more in 0, 1:  # (a byte that is left is a word, too)
+            data, to = bytearray(BY_NAME.read_bytes() + b"\x07" * more), self.folder / "patched.dll"
+            header = int.from_bytes(data[0x3C:0x40], "little")
+            data[header + 88: header + 92] = checksum(data, header + 88).to_bytes(4, "little")
+            self.assert_runs([built("patch"), self.written("summed.dll", data), "0x12345678", ".text", ".code", to], (0, b"0x12345678 .code\n", b""))
+            made = to.read_bytes()
+            self.assertNotEqual(made[header + 88: header + 92], data[header + 88: header + 92])
+            self.assertEqual(int.from_bytes(made[header + 88: header + 92], "little"), checksum(made, header + 88))
+
     def test_an_image_with_few_directories(self):
         """The section table follows the six directories that it has."""
         data, to = bytearray(BY_NAME.read_bytes()), self.folder / "patched.dll"

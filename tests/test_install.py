@@ -103,6 +103,10 @@ class Crate(Case):
         status, _, said = run(["cargo", *CARGO[2:], "build", "--manifest-path", self.manifest], env=env)
         self.assertNotEqual(status, 0)
         self.assertIn(b"run callers/build", said)
+        # it is built as soon as there is one
+        (self.folder / "lib").mkdir()
+        shutil.copy(library() / "libgoblin_pe.a", self.folder / "lib")
+        self.assert_lists_by(PKG_CONFIG_LIBDIR=str(self.other))
 
     def test_for_another_target(self):
         """What is beside the crate is this machine's, and not taken; what is named is."""

@@ -266,7 +266,12 @@ class Package(Case):
             self.assertEqual(told.read(1000), b"\r1 of 2 files\r2 of 2 files\r\n")
 
     def test_the_programs_of_its_readme(self):
-        told = self.told_by(CALLERS / "python/README.md")
+        """Of an image one section of which is all zeros."""
+        pe, data = package().Pe(BY_NAME.read_bytes()), bytearray(BY_NAME.read_bytes())
+        zeros, = (s for s in pe.sections if s.name == b".data")
+        data[zeros.pointer_to_raw_data: zeros.pointer_to_raw_data + zeros.size_of_raw_data] = bytes(zeros.size_of_raw_data)
+        told = self.told_by(CALLERS / "python/README.md", data)
+        self.assertIn("b'.data' 0.00", told)
         self.assertEqual(told[:3], ["b'KERNEL32.dll' b'GetTickCount'", "COFF_MACHINE_X86_64", "b'.text' 1.23"])
         self.assertEqual(told[-1], "0 []")
 
@@ -275,10 +280,10 @@ class Package(Case):
         self.assertEqual(first, "b'KERNEL32.dll' b'GetTickCount'")
         self.assertRegex(last, "^None [0-9a-f]{64}$")
 
-    def told_by(self, readme):
+    def told_by(self, readme, data=BY_NAME.read_bytes()):
         """What the programs of a text print, of a file that they name."""
         programs = re.findall(r"(?s)```python\n(.*?)```", readme.read_text("utf-8"))
-        self.written("some.dll", BY_NAME.read_bytes())
+        self.written("some.dll", data)
         return succeed([sys.executable, "-c", "\n".join(programs)], env=self.env, cwd=self.folder).splitlines()
 
     def test_fields_of_headers(self):

@@ -49,8 +49,10 @@ class Crate(Case):
         """Each has a line, in the order of the words: it counts what stands in the listing beside a sample."""
         data = BY_NAME.read_bytes()
         damaged, lost = self.written("damaged.dll", images.with_directory(data, 0, 0x9000, 40)), self.folder / "lost.dll"
-        hostile = self.written("hostile.dll", images.own_tables(1609))
-        files = [*IMAGES, *IMAGES, hostile, damaged, CALLERS / "build", lost]
+        hostile = [self.written(f"{name}.dll", image) for name, image in (
+            ("own", images.own_tables(1609)), ("shared", images.shared_image(libraries=20000, functions=50000)),
+            ("nowhere", images.pointers_to_nowhere(1000000)), ("sections", images.one_long_name(60000, 1 << 16)))]
+        files = [*IMAGES, *IMAGES, *hostile, damaged, CALLERS / "build", lost]
         lines = succeed(with_memory(200000, [example("scan"), *files])).splitlines()
         for sample, line in zip(IMAGES * 2, lines):
             listed = beside(sample, "permissive").splitlines()
@@ -58,9 +60,11 @@ class Crate(Case):
             imphash = f", imphash {HASHES[sample.name]}" if imports else ""
             self.assertEqual(line, f"{sample}: {imports} imports, {exports} exports{imphash}")
         self.assertEqual(len(lines), len(files))
-        wanted = (f"{hostile}: more than 100000 imports$", f"{damaged}: 1 imports, 0 exports, imphash {HASHES[BY_NAME.name]}, exports: .",
+        told = ("more than 100000 imports$", "more than 100000 imports$", "0 imports, 1 exports$", "0 imports, 0 exports$")
+        wanted = (*(f"{it}: {line}" for it, line in zip(hostile, told)),
+                  f"{damaged}: 1 imports, 0 exports, imphash {HASHES[BY_NAME.name]}, exports: .",
                   f"{CALLERS}/build: refused: .", f"{lost}: read failed: .")
-        for line, it in zip(lines[-4:], wanted):
+        for line, it in zip(lines[-7:], wanted, strict=True):
             self.assertRegex(line, f"^{it}")
 
     def test_its_fingerprints_are_those_of_the_package_for_python(self):

@@ -21,8 +21,9 @@ fn main() {
         println!("cargo::rustc-link-lib={kind}=goblin_pe");
         println!("cargo::rerun-if-changed={}", folder.join(name).display());
     } else {
-        // (what has to be linked then is not found)
+        // (what has to be linked then is not found, and as no such file is there, the next build looks again)
         println!("cargo::rustc-link-lib=static=goblin_pe");
+        println!("cargo::rerun-if-changed=lib/libgoblin_pe.a");
         println!(
             "cargo::warning=the library libgoblin_pe for {} is not there: run callers/build of its repository, \
              or name the folder with libgoblin_pe.a by the variable GOBLIN_PE_LIB",

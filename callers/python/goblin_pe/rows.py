@@ -247,17 +247,18 @@ class Rows:
 
     def text(self, text: records.Text) -> bytes:
         """A text, copied the first time."""
-        begin, length = self._begin(text), text.length
-        if not length:
-            return b""
-        found = self._texts.get((begin, length))
-        if found is None:
-            found = bytes(self._data[begin: begin + length])
-            self._kept += length
-            if self._most_kept is not None and self._kept > self._most_kept:
-                self._texts.clear()
-                self._kept = length
-            self._texts[begin, length] = found
+        place = text.bytes - self._address, text.length
+        found = self._texts.get(place)
+        return self._taken(*place) if found is None else found
+
+    def _taken(self, begin: int, length: int) -> bytes:
+        # a text that is not kept yet
+        found = bytes(self._data[begin: begin + length]) if length else b""
+        self._kept += length
+        if self._most_kept is not None and self._kept > self._most_kept:
+            self._texts.clear()
+            self._kept = length
+        self._texts[begin, length] = found
         return found
 
     def section(self, s: records.Section) -> Section:

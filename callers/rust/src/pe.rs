@@ -747,6 +747,7 @@ impl<'a> Pe<'a> {
     /// let section = entry.and_then(|entry| pe.section_at(entry as usize));
     /// # Ok::<(), goblin_pe::Error>(())
     /// ```
+    #[must_use]
     pub fn section_at(&self, rva: usize) -> Option<Section<'a>> {
         let index = raw::section_at(&self.image(), rva)?;
         self.sections().nth(index)
@@ -762,6 +763,7 @@ impl<'a> Pe<'a> {
     /// let rva = pe.find_rva(0x400);
     /// # Ok::<(), goblin_pe::Error>(())
     /// ```
+    #[must_use]
     pub fn find_rva(&self, offset: usize) -> Option<usize> {
         raw::find_rva(&self.image(), offset)
     }
