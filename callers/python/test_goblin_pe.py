@@ -302,7 +302,8 @@ class HowFilesAreRead(unittest.TestCase):
     def test_options_are_those_of_the_library_but_for_what_is_said(self):
         with open(os.path.join(HERE, "../c/goblin_pe_records.h"), encoding="ascii") as file:
             stored = re.search(r"GOBLIN_PE_DEFAULT_OPTIONS \{(.*)\}", file.read()).group(1)
-        self.assertEqual(str(dataclasses.astuple(Options())).lower().strip("()"), stored.strip())
+        values = ", ".join("%d" % it if isinstance(it, RawPointerRule) else str(it).lower() for it in dataclasses.astuple(Options()))
+        self.assertEqual(values, stored.strip())
         data = sample("imports_by_name_x64.dll")
         self.assertEqual(Pe(data, Options(is_permissive=True)).imports, Pe(data).imports)
         self.assertEqual(Pe(data, Options(parse_imports=False)).import_table, State.ABSENT)
@@ -397,7 +398,7 @@ class Files(unittest.TestCase):
             next(walk)
         self.assertEqual((caught.exception.cause, caught.exception.first), (Cause.UNMAPPED, 0x9000))
         damage = Pe(data, Options(is_permissive=True)).damage
-        self.assertEqual((str(damage.imports), damage[:2], damage[3:]), (str(caught.exception), (None, None), (None, None, 0, 0)))
+        self.assertEqual((str(damage.imports), damage[:2], damage[3:]), (str(caught.exception), (None, None), (None, None, 0, 0, 0)))
 
     def test_what_permissive_mode_counts_as_read(self):
         data = sample("imports_by_name_x64.dll")
@@ -505,7 +506,7 @@ class Files(unittest.TestCase):
         with self.assertRaises(Refused) as caught:
             Pe(data)
         pe = Pe(data, Options(is_permissive=True))
-        self.assertEqual((str(pe.damage.dos_stub), pe.damage[1:]), (str(caught.exception), (None, None, None, None, 0, 0)))
+        self.assertEqual((str(pe.damage.dos_stub), pe.damage[1:]), (str(caught.exception), (None, None, None, None, 0, 0, 0)))
         self.assertEqual(caught.exception.cause, Cause.STUB_BEFORE_START)
         self.assertRaises(ValueError, pe.write)
 
